@@ -1,0 +1,6 @@
+pub mod Callers
+pub mod Each
+pub mod OtherOperands
+pub mod Push
+pub mod Rows
+pub mod Unique

@@ -1,0 +1,13 @@
+-- The info of a function after one more use of a global.
+use Rattle.std.specs.Prelude.{ℕ, slice_get, slice_set, bit_or, Option, None, Some}
+use Rattle.naga_below.specs.declared.valid.flags.GlobalUse.{GlobalUse}
+use Rattle.naga_below.specs.declared.valid.info.FunctionInfo.{FunctionInfo}
+
+-- the uses of a global, with one more joined in
+abbrev pub joined : Option GlobalUse → GlobalUse → GlobalUse
+joined None more = more
+joined (Some uses) more = record { 0 = bit_or uses.0 more.0 }
+
+abbrev pub with_global_use : FunctionInfo → GlobalUse → ℕ → FunctionInfo
+with_global_use info more k =
+    record info { global_uses = slice_set info.global_uses k (joined (slice_get info.global_uses k) more) }

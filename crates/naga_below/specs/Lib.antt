@@ -1,0 +1,14 @@
+pub mod Tree
+pub mod View
+pub mod Types
+pub mod Formats
+pub mod Operands
+pub mod Subgroups
+pub mod PreEmitted
+pub mod Infos
+pub mod Each
+pub mod FitsBody
+pub mod Fits
+pub mod Unique
+pub mod EqualBuiltIns
+pub mod EqualTypes

@@ -1,0 +1,29 @@
+-- The expressions that an expression is made from.
+use Rattle.std.specs.Prelude.{ℕ, List, [], ◌∷◌}
+use Rattle.naga_below.specs.declared.ir.expressions.Expression.{Expression}
+use Rattle.naga_below.specs.declared.ir.expressions.Expression.TheVariants as e
+
+-- in the order in which they are written
+abbrev pub operands_of : Expression → List ℕ
+operands_of (e.Compose t hs) = hs
+operands_of (e.Access b i) = b ∷ i ∷ []
+operands_of (e.AccessIndex b i) = b ∷ []
+operands_of (e.Load p) = p ∷ []
+operands_of (e.Splat hs d) = hs
+operands_of (e.Swizzle hs d) = hs
+operands_of (e.ImageSample hs d) = hs
+operands_of (e.ImageLoad hs d) = hs
+operands_of (e.ImageQuery hs d) = hs
+operands_of (e.Unary hs d) = hs
+operands_of (e.Binary hs d) = hs
+operands_of (e.Select hs d) = hs
+operands_of (e.Derivative hs d) = hs
+operands_of (e.Relational hs d) = hs
+operands_of (e.Math hs d) = hs
+operands_of (e.As hs d) = hs
+operands_of (e.ArrayLength hs d) = hs
+operands_of (e.RayQueryGetIntersection hs d) = hs
+operands_of (e.RayQueryVertexPositions hs d) = hs
+operands_of (e.CooperativeLoad hs d) = hs
+operands_of (e.CooperativeMultiplyAdd hs d) = hs
+operands_of _ = []

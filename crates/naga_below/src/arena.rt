@@ -1,0 +1,98 @@
+//! Arenas: lists of values that are read by handles.
+
+ghost use Rattle.std.specs.Prelude.{◌≡◌, ◌↔◌, ◌<◌, ◌≤◌, ◌++◌, ◌∷◌, [], IsTrue, IfOk, OnOk, OnErr, Some, length, slice_get};
+
+pub mod handle;
+pub mod range;
+pub mod tag;
+pub mod unique_arena;
+
+use crate::arena::handle::{Handle, Tagged};
+use crate::span::Span;
+use std::alloc::{AllocError, Global};
+use std::marker::Model;
+use std::ops::Index;
+
+/// A list of at most 4294967295 values, each with its span. A handle is the place of a value, and contracts see
+/// the list of the values.
+#[derive(Drop)]
+pub struct Arena<T: Tagged> {
+    values: Vec<T>,
+    spans: Vec<Span>,
+}
+
+impl<T: Tagged> Model for Arena<T> {
+    ghost use Rattle.std.specs.Prelude.{◌≡◌, ◌≤◌, List, length};
+
+    ghost Value = { List T };
+
+    ghost view = { λ a. a.values.items };
+
+    ghost invariant = { (λ a. (length a.values.items ≡ length a.spans.items) × (length a.values.items ≤ 4294967295)) };
+}
+
+impl<T: Tagged + Drop> Arena<T> {
+    /// An empty arena, which keeps the allocator.
+    pub fn new(alloc: Global) -> Self
+        ensures { result ≡ [] }
+    {
+        Arena {
+            values: Vec::new(alloc),
+            spans: Vec::new(alloc),
+        }
+    }
+
+    pub fn len(&self) -> usize
+        ensures len { result ≡ length self.now }
+        ensures small { result ≤ 4294967295 }
+    {
+        self.values.len()
+    }
+
+    pub fn is_empty(&self) -> bool
+        ensures { IsTrue result ↔ (self.now ≡ []) }
+    {
+        self.values.is_empty()
+    }
+
+    /// Puts a value last.
+    pub fn append(&mut self, value: T, span: Span) -> Result<Handle<T::Tag>, AllocError>
+        requires { length self.old < 4294967295 }
+        ensures appended { OnOk result (self.new ≡ self.old ++ value ∷ []) }
+        ensures place { IfOk result (λ h. h ≡ length self.old) }
+        ensures err { OnErr result (self.new ≡ self.old) }
+    {
+        let index = self.values.len() as u32;
+        self.spans.push(span)?;
+        if let Err(refused) = self.values.push(value) {
+            let _ = self.spans.pop();
+            return Err(AllocError::from(refused));
+        }
+        Ok(Handle::new(index))
+    }
+
+    /// The span that the value was given.
+    pub fn get_span(&self, handle: Handle<T::Tag>) -> Span
+        requires { handle < length self.now }
+    {
+        self.spans[handle.index()]
+    }
+
+    pub fn as_slice(&self) -> &[T]
+        ensures { result.now ≡ self.now }
+    {
+        self.values.as_slice()
+    }
+}
+
+impl<T: Tagged + Drop> Index<Handle<T::Tag>> for Arena<T> {
+    type Output = T;
+
+    ghost can_index = { λ a h. h < length a };
+
+    ghost index_gives = { λ a h value. slice_get a h ≡ Some value };
+
+    fn index(&self, handle: Handle<T::Tag>) -> &T {
+        &self.values[handle.index()]
+    }
+}

@@ -1,0 +1,10 @@
+//! The shader IR: types, expressions, statements, functions, modules.
+
+pub mod built_in;
+pub mod expressions;
+pub mod flags;
+pub mod functions;
+pub mod module;
+pub mod name;
+pub mod statements;
+pub mod types;

@@ -1,0 +1,107 @@
+//! Sets of named bits in the IR. `bitflags` gives the operations; contracts see the bits as field `0`.
+
+ghost use Rattle.std.specs.Prelude.{⊤, [], ◌∷◌, codes};
+
+use bitflags::{Flag, Flags, bitflag_items};
+
+/// What may be done with storage: bit 0 load, bit 1 store, bit 2 atomic operations.
+#[derive(Clone, Copy, PartialEq, Eq, PartialOrd, Ord, Hash, Debug)]
+pub struct StorageAccess(pub u8);
+
+bitflag_items! {
+    impl StorageAccess: u8 {
+        const LOAD = 0x1;
+        const STORE = 0x2;
+        const ATOMIC = 0x4;
+    }
+}
+
+impl Flags for StorageAccess {
+    type Bits = u8;
+
+    ghost exact = { ⊤ };
+
+    ghost table = { (codes "LOAD", 1) ∷ (codes "STORE", 2) ∷ (codes "ATOMIC", 4) ∷ [] };
+
+    ghost set_of = { λ p. p.0 };
+
+    fn flags<'a>() -> &'a [Flag<StorageAccess>] {
+        StorageAccess::FLAGS
+    }
+
+    fn bits(&self) -> u8 {
+        self.0
+    }
+
+    fn from_bits_retain(bits: u8) -> StorageAccess {
+        StorageAccess(bits)
+    }
+}
+
+/// Which memory a barrier orders: bit 0 storage, bit 1 work group, bit 2 subgroup, bit 3 textures.
+#[derive(Clone, Copy, PartialEq, Eq, PartialOrd, Ord, Hash, Debug)]
+pub struct Barrier(pub u8);
+
+bitflag_items! {
+    impl Barrier: u8 {
+        const STORAGE = 0x1;
+        const WORK_GROUP = 0x2;
+        const SUB_GROUP = 0x4;
+        const TEXTURE = 0x8;
+    }
+}
+
+impl Flags for Barrier {
+    type Bits = u8;
+
+    ghost exact = { ⊤ };
+
+    ghost table = { (codes "STORAGE", 1) ∷ (codes "WORK_GROUP", 2) ∷ (codes "SUB_GROUP", 4) ∷ (codes "TEXTURE", 8) ∷ [] };
+
+    ghost set_of = { λ p. p.0 };
+
+    fn flags<'a>() -> &'a [Flag<Barrier>] {
+        Barrier::FLAGS
+    }
+
+    fn bits(&self) -> u8 {
+        self.0
+    }
+
+    fn from_bits_retain(bits: u8) -> Barrier {
+        Barrier(bits)
+    }
+}
+
+/// How a global is decorated in SPIR-V's terms: bit 0 `Coherent`, bit 1 `Volatile`.
+#[derive(Clone, Copy, PartialEq, Eq, PartialOrd, Ord, Hash, Debug)]
+pub struct MemoryDecorations(pub u8);
+
+bitflag_items! {
+    impl MemoryDecorations: u8 {
+        const COHERENT = 0x1;
+        const VOLATILE = 0x2;
+    }
+}
+
+impl Flags for MemoryDecorations {
+    type Bits = u8;
+
+    ghost exact = { ⊤ };
+
+    ghost table = { (codes "COHERENT", 1) ∷ (codes "VOLATILE", 2) ∷ [] };
+
+    ghost set_of = { λ p. p.0 };
+
+    fn flags<'a>() -> &'a [Flag<MemoryDecorations>] {
+        MemoryDecorations::FLAGS
+    }
+
+    fn bits(&self) -> u8 {
+        self.0
+    }
+
+    fn from_bits_retain(bits: u8) -> MemoryDecorations {
+        MemoryDecorations(bits)
+    }
+}

@@ -1,0 +1,132 @@
+//! Globals, entry points and modules.
+
+use crate::arena::handle::{Handle, Tagged};
+use crate::arena::unique_arena::{Identical, UniqueArena};
+use crate::arena::{Arena, tag};
+use crate::ir::expressions::Expression;
+use crate::ir::flags::MemoryDecorations;
+use crate::ir::functions::Function;
+use crate::ir::types::{AddressSpace, Type};
+
+impl Identical for Type {
+    ghost use Rattle.naga_below.specs.EqualTypes.{type_same};
+
+    ghost identical = { type_same };
+}
+
+/// Where a resource is bound in the pipeline.
+#[derive(Clone, Copy, PartialEq, Eq, PartialOrd, Ord, Hash, Debug)]
+pub struct ResourceBinding {
+    pub group: u32,
+    pub binding: u32,
+}
+
+/// A variable of a module.
+#[derive(Clone, Copy, PartialEq, Eq, Hash, Debug)]
+pub struct GlobalVariable {
+    pub space: AddressSpace,
+    pub binding: Option<ResourceBinding>,
+    pub ty: Handle<tag::Type>,
+    /// A global expression.
+    pub init: Option<Handle<tag::Expression>>,
+    pub memory_decorations: MemoryDecorations,
+}
+
+impl Tagged for GlobalVariable {
+    type Tag = tag::GlobalVariable;
+}
+
+/// A constant of a module; its value is carried by another layer.
+#[derive(Clone, Copy, PartialEq, Eq, Hash, Debug)]
+pub struct Constant {
+    pub ty: Handle<tag::Type>,
+}
+
+impl Tagged for Constant {
+    type Tag = tag::Constant;
+}
+
+/// A constant that the pipeline may override.
+#[derive(Clone, Copy, PartialEq, Eq, Hash, Debug)]
+pub struct Override {
+    pub ty: Handle<tag::Type>,
+}
+
+impl Tagged for Override {
+    type Tag = tag::Override;
+}
+
+/// Types that an expression or a statement needs although no other type names them.
+#[derive(Clone, Copy, PartialEq, Eq, Hash, Debug)]
+pub struct SpecialTypes {
+    /// The type of the descriptor of a ray.
+    pub ray_desc: Option<Handle<tag::Type>>,
+}
+
+/// A stage of a pipeline.
+#[derive(Clone, Copy, PartialEq, Eq, PartialOrd, Ord, Hash, Debug)]
+pub enum ShaderStage {
+    Vertex,
+    Fragment,
+    Compute,
+    Mesh,
+    Task,
+    RayGeneration,
+    AnyHit,
+    ClosestHit,
+    Miss,
+}
+
+/// A request to test depth before the fragment stage runs; the number is its kind, which is carried unread.
+#[derive(Clone, Copy, PartialEq, Eq, PartialOrd, Ord, Hash, Debug)]
+pub struct EarlyDepthTest(pub u32);
+
+/// What the primitives of a mesh are.
+#[derive(Clone, Copy, PartialEq, Eq, PartialOrd, Ord, Hash, Debug)]
+pub enum MeshOutputTopology {
+    Points,
+    Lines,
+    Triangles,
+}
+
+/// What a mesh entry point puts out. The overrides are global expressions, the output variable is a global.
+#[derive(Clone, Copy, PartialEq, Eq, Hash, Debug)]
+pub struct MeshStageInfo {
+    pub topology: MeshOutputTopology,
+    pub max_vertices: u32,
+    pub max_vertices_override: Option<Handle<tag::Expression>>,
+    pub max_primitives: u32,
+    pub max_primitives_override: Option<Handle<tag::Expression>>,
+    pub vertex_output_type: Handle<tag::Type>,
+    pub primitive_output_type: Handle<tag::Type>,
+    pub output_variable: Handle<tag::GlobalVariable>,
+}
+
+/// A function that a pipeline runs at a stage.
+#[derive(Drop)]
+pub struct EntryPoint {
+    pub stage: ShaderStage,
+    pub early_depth_test: Option<EarlyDepthTest>,
+    /// The invocations of a work group in its three dimensions; all 0 at stages without work groups.
+    pub workgroup_size: [u32; 3],
+    pub function: Function,
+    /// Present exactly at the mesh stage.
+    pub mesh_info: Option<MeshStageInfo>,
+    pub task_payload: Option<Handle<tag::GlobalVariable>>,
+}
+
+/// A whole shader.
+#[derive(Drop)]
+pub struct Module {
+    /// Each type names only earlier ones.
+    pub types: UniqueArena<Type>,
+    pub special_types: SpecialTypes,
+    pub constants: Arena<Constant>,
+    pub overrides: Arena<Override>,
+    pub global_variables: Arena<GlobalVariable>,
+    /// Each global expression names only earlier ones.
+    pub global_expressions: Arena<Expression>,
+    /// A function calls only earlier ones.
+    pub functions: Arena<Function>,
+    pub entry_points: Vec<EntryPoint>,
+}

@@ -1,0 +1,407 @@
+//! Statements and blocks.
+
+ghost use Rattle.std.specs.Prelude.{◌≡◌, IfOk};
+ghost use Rattle.naga_below.specs.View.{no_operands, tree_of, body_of, list_body, list_cases};
+ghost use Rattle.naga_below.specs.declared.span.Span.{Span as SpanOf};
+
+use crate::arena::handle::Handle;
+use crate::arena::range::Range;
+use crate::arena::tag;
+use crate::ir::expressions::Operands;
+use crate::ir::flags::Barrier;
+use crate::span::Span;
+use std::alloc::{AllocError, Global};
+
+/// The value of a case. A value of one sign never equals one of the other.
+#[derive(Clone, Copy, PartialEq, Eq, PartialOrd, Ord, Hash, Debug)]
+pub enum SwitchValue {
+    I32(i32),
+    U32(u32),
+    Default,
+}
+
+/// What an atomic operation does with the old value. `Exchange` with `compare` stores only where the old value equals it.
+#[derive(Clone, Copy, PartialEq, Eq, Hash, Debug)]
+pub enum AtomicFunction {
+    Add,
+    Subtract,
+    And,
+    ExclusiveOr,
+    InclusiveOr,
+    Min,
+    Max,
+    Exchange {
+        compare: Option<Handle<tag::Expression>>,
+    },
+}
+
+/// What is computed over the values of a subgroup.
+#[derive(Clone, Copy, PartialEq, Eq, Hash, Debug)]
+pub enum SubgroupOperation {
+    All,
+    Any,
+    Add,
+    Mul,
+    Min,
+    Max,
+    And,
+    Or,
+    Xor,
+}
+
+/// Over which invocations: all, those up to this one, those before this one.
+#[derive(Clone, Copy, PartialEq, Eq, Hash, Debug)]
+pub enum CollectiveOperation {
+    Reduce,
+    InclusiveScan,
+    ExclusiveScan,
+}
+
+/// From which invocation a value comes: the expressions are its index, or a distance to it. The number of `QuadSwap` is
+/// its direction, which is carried unread.
+#[derive(Clone, Copy, PartialEq, Eq, Hash, Debug)]
+pub enum GatherMode {
+    BroadcastFirst,
+    QuadSwap(u32),
+    Broadcast(Handle<tag::Expression>),
+    Shuffle(Handle<tag::Expression>),
+    ShuffleDown(Handle<tag::Expression>),
+    ShuffleUp(Handle<tag::Expression>),
+    ShuffleXor(Handle<tag::Expression>),
+    QuadBroadcast(Handle<tag::Expression>),
+}
+
+/// What is done with a ray query.
+#[derive(Clone, Copy, PartialEq, Eq, Hash, Debug)]
+pub enum RayQueryFunction {
+    Initialize {
+        acceleration_structure: Handle<tag::Expression>,
+        descriptor: Handle<tag::Expression>,
+    },
+    Proceed {
+        result: Handle<tag::Expression>,
+    },
+    GenerateIntersection {
+        hit_t: Handle<tag::Expression>,
+    },
+    ConfirmIntersection,
+    Terminate,
+}
+
+/// What a ray pipeline does.
+#[derive(Clone, Copy, PartialEq, Eq, Hash, Debug)]
+pub enum RayPipelineFunction {
+    TraceRay {
+        acceleration_structure: Handle<tag::Expression>,
+        descriptor: Handle<tag::Expression>,
+        payload: Handle<tag::Expression>,
+    },
+}
+
+/// Where the data of a cooperative matrix lie; `detail` stands for stride and order, which are carried unread.
+#[derive(Clone, Copy, PartialEq, Eq, Hash, Debug)]
+pub struct CooperativeData {
+    pub pointer: Handle<tag::Expression>,
+    pub detail: u32,
+}
+
+/// A statement and where it stood.
+#[cycle(statement)]
+#[derive(PartialEq, Debug, Drop)]
+pub struct Located {
+    pub statement: Statement,
+    pub span: Span,
+}
+
+/// A list of statements.
+#[cycle(statement)]
+#[derive(PartialEq, Debug, Drop)]
+pub struct Block {
+    pub list: Vec<Located>,
+}
+
+/// A case of a switch; where it falls through, the next case runs after its body.
+#[cycle(statement)]
+#[derive(PartialEq, Debug, Drop)]
+pub struct SwitchCase {
+    pub value: SwitchValue,
+    pub body: Block,
+    pub fall_through: bool,
+}
+
+/// A statement. The kinds and their fields are naga's.
+#[cycle(statement)]
+#[derive(PartialEq, Debug, Drop)]
+pub enum Statement {
+    Emit(Range),
+    Block(Block),
+    If {
+        condition: Handle<tag::Expression>,
+        accept: Block,
+        reject: Block,
+    },
+    Switch {
+        selector: Handle<tag::Expression>,
+        cases: Vec<SwitchCase>,
+    },
+    Loop {
+        body: Block,
+        continuing: Block,
+        break_if: Option<Handle<tag::Expression>>,
+    },
+    Break,
+    Continue,
+    Return {
+        value: Option<Handle<tag::Expression>>,
+    },
+    Kill,
+    ControlBarrier(Barrier),
+    MemoryBarrier(Barrier),
+    Store {
+        pointer: Handle<tag::Expression>,
+        value: Handle<tag::Expression>,
+    },
+    ImageStore {
+        image: Handle<tag::Expression>,
+        coordinate: Handle<tag::Expression>,
+        array_index: Option<Handle<tag::Expression>>,
+        value: Handle<tag::Expression>,
+    },
+    Atomic {
+        pointer: Handle<tag::Expression>,
+        fun: AtomicFunction,
+        value: Handle<tag::Expression>,
+        result: Option<Handle<tag::Expression>>,
+    },
+    ImageAtomic {
+        image: Handle<tag::Expression>,
+        coordinate: Handle<tag::Expression>,
+        array_index: Option<Handle<tag::Expression>>,
+        fun: AtomicFunction,
+        value: Handle<tag::Expression>,
+    },
+    WorkGroupUniformLoad {
+        pointer: Handle<tag::Expression>,
+        result: Handle<tag::Expression>,
+    },
+    Call {
+        function: Handle<tag::Function>,
+        arguments: Operands,
+        result: Option<Handle<tag::Expression>>,
+    },
+    RayQuery {
+        query: Handle<tag::Expression>,
+        fun: RayQueryFunction,
+    },
+    SubgroupBallot {
+        result: Handle<tag::Expression>,
+        predicate: Option<Handle<tag::Expression>>,
+    },
+    SubgroupCollectiveOperation {
+        op: SubgroupOperation,
+        collective_op: CollectiveOperation,
+        argument: Handle<tag::Expression>,
+        result: Handle<tag::Expression>,
+    },
+    SubgroupGather {
+        mode: GatherMode,
+        argument: Handle<tag::Expression>,
+        result: Handle<tag::Expression>,
+    },
+    CooperativeStore {
+        target: Handle<tag::Expression>,
+        source: CooperativeData,
+    },
+    RayPipelineFunction(RayPipelineFunction),
+}
+
+impl Block {
+    /// An equal block.
+    #[cycle(clone)]
+    pub fn clone(&self, alloc: Global) -> Result<Self, AllocError>
+        ensures { IfOk result (λ made. body_of no_operands made ≡ body_of no_operands self.now) }
+    {
+        let list = clone_list(self.list.as_slice(), alloc)?;
+        Ok(Block { list })
+    }
+}
+
+#[cycle(clone)]
+fn clone_list(list: &[Located], alloc: Global) -> Result<Vec<Located>, AllocError>
+    ensures { IfOk result (λ made. list_body no_operands made.items ≡ list_body no_operands list.now) }
+{
+    let mut made = Vec::new(alloc);
+    for located in list {
+        let statement = located.statement.clone(alloc)?;
+        made.push(Located {
+            statement,
+            span: located.span,
+        })?;
+    }
+    Ok(made)
+}
+
+#[cycle(clone)]
+fn clone_cases(cases: &[SwitchCase], alloc: Global) -> Result<Vec<SwitchCase>, AllocError>
+    ensures { IfOk result (λ made. list_cases no_operands made.items ≡ list_cases no_operands cases.now) }
+{
+    let mut made = Vec::new(alloc);
+    for case in cases {
+        let body = case.body.clone(alloc)?;
+        made.push(SwitchCase {
+            value: case.value,
+            body,
+            fall_through: case.fall_through,
+        })?;
+    }
+    Ok(made)
+}
+
+impl Statement {
+    /// An equal statement.
+    #[cycle(clone)]
+    pub fn clone(&self, alloc: Global) -> Result<Self, AllocError>
+        ensures { IfOk result (λ made. (span : SpanOf) → tree_of no_operands made span ≡ tree_of no_operands self.now span) }
+    {
+        match self {
+            Statement::Emit(range) => Ok(Statement::Emit(*range)),
+            Statement::Block(block) => {
+                let block = block.clone(alloc)?;
+                Ok(Statement::Block(block))
+            }
+            Statement::If {
+                condition,
+                accept,
+                reject,
+            } => {
+                let accept = accept.clone(alloc)?;
+                let reject = reject.clone(alloc)?;
+                Ok(Statement::If {
+                    condition: *condition,
+                    accept,
+                    reject,
+                })
+            }
+            Statement::Switch { selector, cases } => {
+                let cases = clone_cases(cases.as_slice(), alloc)?;
+                Ok(Statement::Switch {
+                    selector: *selector,
+                    cases,
+                })
+            }
+            Statement::Loop {
+                body,
+                continuing,
+                break_if,
+            } => {
+                let body = body.clone(alloc)?;
+                let continuing = continuing.clone(alloc)?;
+                Ok(Statement::Loop {
+                    body,
+                    continuing,
+                    break_if: *break_if,
+                })
+            }
+            Statement::Break => Ok(Statement::Break),
+            Statement::Continue => Ok(Statement::Continue),
+            Statement::Return { value } => Ok(Statement::Return { value: *value }),
+            Statement::Kill => Ok(Statement::Kill),
+            Statement::ControlBarrier(barrier) => Ok(Statement::ControlBarrier(*barrier)),
+            Statement::MemoryBarrier(barrier) => Ok(Statement::MemoryBarrier(*barrier)),
+            Statement::Store { pointer, value } => Ok(Statement::Store {
+                pointer: *pointer,
+                value: *value,
+            }),
+            Statement::ImageStore {
+                image,
+                coordinate,
+                array_index,
+                value,
+            } => Ok(Statement::ImageStore {
+                image: *image,
+                coordinate: *coordinate,
+                array_index: *array_index,
+                value: *value,
+            }),
+            Statement::Atomic {
+                pointer,
+                fun,
+                value,
+                result: answer,
+            } => Ok(Statement::Atomic {
+                pointer: *pointer,
+                fun: *fun,
+                value: *value,
+                result: *answer,
+            }),
+            Statement::ImageAtomic {
+                image,
+                coordinate,
+                array_index,
+                fun,
+                value,
+            } => Ok(Statement::ImageAtomic {
+                image: *image,
+                coordinate: *coordinate,
+                array_index: *array_index,
+                fun: *fun,
+                value: *value,
+            }),
+            Statement::WorkGroupUniformLoad {
+                pointer,
+                result: answer,
+            } => Ok(Statement::WorkGroupUniformLoad {
+                pointer: *pointer,
+                result: *answer,
+            }),
+            Statement::Call {
+                function,
+                arguments,
+                result: answer,
+            } => {
+                let arguments = arguments.clone(alloc)?;
+                Ok(Statement::Call {
+                    function: *function,
+                    arguments,
+                    result: *answer,
+                })
+            }
+            Statement::RayQuery { query, fun } => Ok(Statement::RayQuery {
+                query: *query,
+                fun: *fun,
+            }),
+            Statement::SubgroupBallot {
+                result: answer,
+                predicate,
+            } => Ok(Statement::SubgroupBallot {
+                result: *answer,
+                predicate: *predicate,
+            }),
+            Statement::SubgroupCollectiveOperation {
+                op,
+                collective_op,
+                argument,
+                result: answer,
+            } => Ok(Statement::SubgroupCollectiveOperation {
+                op: *op,
+                collective_op: *collective_op,
+                argument: *argument,
+                result: *answer,
+            }),
+            Statement::SubgroupGather {
+                mode,
+                argument,
+                result: answer,
+            } => Ok(Statement::SubgroupGather {
+                mode: *mode,
+                argument: *argument,
+                result: *answer,
+            }),
+            Statement::CooperativeStore { target, source } => Ok(Statement::CooperativeStore {
+                target: *target,
+                source: *source,
+            }),
+            Statement::RayPipelineFunction(fun) => Ok(Statement::RayPipelineFunction(*fun)),
+        }
+    }
+}

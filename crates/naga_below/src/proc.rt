@@ -1,0 +1,6 @@
+//! Questions about types and expressions.
+
+pub mod expression_kinds;
+pub mod expressions;
+pub mod type_methods;
+pub mod typifier;

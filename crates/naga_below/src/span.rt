@@ -1,0 +1,101 @@
+//! Where something stood in the source, and faults with such places.
+
+ghost use Rattle.std.specs.Prelude.{◌≡◌, IfOk};
+ghost use Rattle.naga_below.specs.declared.span.Refusal.TheVariants.{Memory};
+
+use std::alloc::{AllocError, AllocFailed, Global};
+use std::marker::Model;
+
+/// A stretch of the source: two byte offsets, `end` excluded.
+#[derive(Clone, Copy, PartialEq, Eq, Hash, Debug)]
+pub struct Span {
+    pub start: u32,
+    pub end: u32,
+}
+
+/// A fault and the places that it is about. Contracts see the fault alone, and `==` compares it alone.
+#[derive(Debug, Drop)]
+pub struct WithSpan<E> {
+    inner: E,
+    spans: Vec<Span>,
+}
+
+impl<E> Model for WithSpan<E> {
+    ghost use Rattle.std.specs.Prelude.{List};
+
+    ghost Value = { E };
+
+    ghost view = { λ w. w.inner };
+}
+
+impl<E> WithSpan<E> {
+    /// A fault without places, which keeps the allocator.
+    pub fn new(alloc: Global, inner: E) -> Self
+        ensures { result ≡ inner }
+    {
+        WithSpan {
+            inner,
+            spans: Vec::new(alloc),
+        }
+    }
+
+    /// The fault with one more place, which goes last.
+    pub fn with_span(mut self, span: Span) -> Result<Self, AllocError>
+    where
+        E: Drop,
+        ensures { IfOk result (λ w. w ≡ self) }
+    {
+        self.spans.push(span)?;
+        Ok(self)
+    }
+
+    pub fn as_inner(&self) -> &E
+        ensures { result.now ≡ self.now }
+    {
+        &self.inner
+    }
+
+    pub fn into_inner(self) -> E
+        ensures { result ≡ self }
+    {
+        self.inner
+    }
+
+    /// The places, in the order in which they were added.
+    pub fn spans(&self) -> &[Span] {
+        self.spans.as_slice()
+    }
+}
+
+impl<E: PartialEq> PartialEq for WithSpan<E> {
+    ghost eq = { λ a b. E.eq a b };
+
+    ghost laws = { E.laws };
+
+    fn eq(&self, other: &Self) -> bool {
+        self.inner == other.inner
+    }
+}
+
+/// Why a call didn't do what it was asked for: a fault in its input, or want of memory.
+#[derive(PartialEq, Debug, Drop)]
+pub enum Refusal<E> {
+    Fault(WithSpan<E>),
+    Memory,
+}
+
+impl<E> From<AllocError> for Refusal<E> {
+    ghost from_gives = { λ _ e. e ≡ Memory };
+
+    fn from(_e: AllocError) -> Refusal<E> {
+        Refusal::Memory
+    }
+}
+
+impl<E, T: Drop> From<AllocFailed<T>> for Refusal<E> {
+    ghost from_gives = { λ _ e. e ≡ Memory };
+
+    fn from(_e: AllocFailed<T>) -> Refusal<E> {
+        Refusal::Memory
+    }
+}

@@ -1,0 +1,151 @@
+//! Questions about types, by worked rows.
+
+use crate::arena::handle::Handle;
+use crate::arena::unique_arena::UniqueArena;
+use crate::fits::types::{fits_types, names_types_below};
+use crate::ir::expressions::Expression;
+use crate::ir::flags::StorageAccess;
+use crate::ir::name::Name;
+use crate::ir::statements::{GatherMode, SubgroupOperation};
+use crate::ir::types::{
+    AddressSpace, ImageDimension, Scalar, ScalarKind, StorageFormat, StructMember, TypeInner,
+    VectorSize,
+};
+use crate::proc::expression_kinds::{ExpressionKind, ExpressionKindTracker};
+use crate::proc::type_methods::compare_types;
+use crate::proc::typifier::TypeResolution;
+use crate::sequence::Sequence;
+use crate::tests::{NOWHERE, empty_module, scalar_type};
+use crate::valid::flags::SubgroupOperationSet;
+use bitflags::Flags;
+use std::alloc::{AllocError, Global};
+use std::test::Fail;
+
+/// A pointer to u32 in Function and the value pointer of u32 there are the same type.
+#[test]
+#[tactic(auto, using(crate::proofs::Callers::types_name_each_other))]
+fn a_pointer_to_a_scalar_is_a_value_pointer(rt: HostRuntime) -> Result<(), Fail> {
+    let mut module = empty_module(rt.alloc());
+    let base = module.types.insert(scalar_type(Scalar::U32), NOWHERE)?;
+    assert!(rt; base.index() < module.types.len());
+    let pointer = TypeInner::Pointer {
+        base,
+        space: AddressSpace::Function,
+    };
+    let value_pointer = TypeInner::ValuePointer {
+        size: None,
+        scalar: Scalar::U32,
+        space: AddressSpace::Function,
+    };
+    let types = &module.types;
+    assert!(rt; pointer != value_pointer);
+    assert!(rt; pointer.canonical_form(types) == Some(value_pointer.clone(rt.alloc())?));
+    assert!(rt; value_pointer.canonical_form(types) == None);
+    assert!(rt; pointer.equivalent(&value_pointer, types));
+    assert_eq!(rt; pointer.pointer_space(), Some(AddressSpace::Function));
+    assert!(rt; pointer.pointer_base_type() == Some(TypeResolution::Handle(base)));
+    assert!(rt; fits_types(&module));
+    let first = TypeResolution::Value(pointer);
+    let second = TypeResolution::Value(value_pointer);
+    assert!(rt; compare_types(&first, &second, &module.types));
+    let third = TypeResolution::Handle(base);
+    assert!(rt; *third.inner_with(&module.types) == TypeInner::Scalar(Scalar::U32));
+    Ok(())
+}
+
+#[test]
+fn storage_images_take_integer_coordinates(rt: HostRuntime) {
+    let vector = |size| TypeInner::Vector {
+        size,
+        scalar: Scalar::U32,
+    };
+    let coordinates = |inner: TypeInner| inner.image_storage_coordinates();
+    assert_eq!(rt; coordinates(vector(VectorSize::Quad)), None);
+    assert_eq!(rt;
+        coordinates(vector(VectorSize::Tri)),
+        Some(ImageDimension::D3)
+    );
+    assert_eq!(rt;
+        coordinates(vector(VectorSize::Bi)),
+        Some(ImageDimension::D2)
+    );
+    assert_eq!(rt;
+        coordinates(TypeInner::Scalar(Scalar::I32)),
+        Some(ImageDimension::D1)
+    );
+    assert_eq!(rt; coordinates(TypeInner::Scalar(Scalar::F32)), None);
+    assert_eq!(rt; vector(VectorSize::Bi).scalar(), Some(Scalar::U32));
+    assert_eq!(rt;
+        vector(VectorSize::Bi).scalar_kind(),
+        Some(ScalarKind::Uint)
+    );
+}
+
+#[test]
+fn texels_have_scalars(rt: HostRuntime) {
+    for (format, scalar) in [
+        (StorageFormat::R64Uint, Scalar::U64),
+        (StorageFormat::Rgb10a2Uint, Scalar::U32),
+        (StorageFormat::Rg16Sint, Scalar::I32),
+        (StorageFormat::Rg11b10Ufloat, Scalar::F32),
+        (StorageFormat::Bgra8Unorm, Scalar::F32),
+    ] {
+        assert_eq!(rt; Scalar::from(format), scalar);
+    }
+}
+
+#[test]
+fn spaces_and_statements_require(rt: HostRuntime) {
+    let both = StorageAccess::LOAD.union(StorageAccess::STORE);
+    assert_eq!(rt; AddressSpace::WorkGroup.access(), both);
+    assert_eq!(rt; AddressSpace::Uniform.access(), StorageAccess::LOAD);
+    let access = StorageAccess::ATOMIC;
+    assert_eq!(rt; AddressSpace::Storage { access }.access(), access);
+    assert_eq!(rt;
+        SubgroupOperation::Xor.required_operations(),
+        SubgroupOperationSet::ARITHMETIC
+    );
+    assert_eq!(rt;
+        GatherMode::QuadSwap(0).required_operations(),
+        SubgroupOperationSet::QUAD
+    );
+}
+
+fn member(alloc: Global, name: &str, ty: u32) -> Result<StructMember, AllocError> {
+    Ok(StructMember {
+        name: Some(Name::from(String::from_str(alloc, name)?)),
+        ty: Handle::new(ty),
+        binding: None,
+        offset: 0,
+    })
+}
+
+#[test]
+fn a_compare_exchange_gives_a_struct(rt: HostRuntime) -> Result<(), Fail> {
+    let mut types = UniqueArena::new(rt.alloc());
+    types.insert(scalar_type(Scalar::I32), NOWHERE)?;
+    assert!(rt; types.len() == 1);
+    types.insert(scalar_type(Scalar::BOOL), NOWHERE)?;
+    assert!(rt; types.len() == 2);
+    let mut members = Sequence::new(rt.alloc());
+    members.push(member(rt.alloc(), "old_value", 0)?)?;
+    members.push(member(rt.alloc(), "exchanged", 1)?)?;
+    let outcome = TypeInner::Struct { members, span: 8 };
+    assert!(rt; names_types_below(&outcome, types.len()));
+    assert!(rt; outcome.is_compare_exchange_struct(Scalar::I32, &types));
+    assert!(rt; !outcome.is_compare_exchange_struct(Scalar::U32, &types));
+    Ok(())
+}
+
+#[test]
+fn kinds_are_tracked(rt: HostRuntime) -> Result<(), Fail> {
+    let mut kinds = ExpressionKindTracker::new(rt.alloc());
+    assert!(rt; kinds.is_empty());
+    kinds.push(ExpressionKind::Override)?;
+    assert_eq!(rt; kinds.len(), 1);
+    assert!(rt; !kinds.is_const(Handle::new(0)));
+    assert!(rt; kinds.is_const_or_override(Handle::new(0)));
+    assert!(rt; Expression::FunctionArgument(0).needs_pre_emit());
+    assert!(rt; !Expression::SubgroupBallotResult.needs_pre_emit());
+    Ok(())
+}

@@ -1,0 +1,44 @@
+//! What is known of functions, entry points and modules that were validated.
+
+ghost use Rattle.std.specs.Prelude.{◌≡◌, ◌<◌, length};
+
+use crate::arena::handle::Handle;
+use crate::arena::tag;
+use crate::proc::typifier::TypeResolution;
+use crate::sequence::Sequence;
+use crate::valid::flags::{GlobalUse, ShaderStages};
+use bitflags::Flags;
+
+/// What is known of a function: `expression_types` is indexed by its expressions, `global_uses` by the module's
+/// globals.
+#[derive(PartialEq, Debug, Drop)]
+pub struct FunctionInfo {
+    pub expression_types: Sequence<TypeResolution>,
+    pub global_uses: Sequence<GlobalUse>,
+    /// The stages that every statement and expression of the function may run in.
+    pub available_stages: ShaderStages,
+    /// Whether an entry point puts out two colors that are blended.
+    pub dual_source_blending: bool,
+}
+
+impl FunctionInfo {
+    ghost use Rattle.naga_below.specs.Infos.{with_global_use};
+
+    /// Joins a use to those of a global.
+    pub fn insert_global_use(&mut self, global_use: GlobalUse, global: Handle<tag::GlobalVariable>)
+        requires { global < length self.old.global_uses }
+        ensures { self.new ≡ with_global_use self.old global_use global }
+    {
+        let joined = self.global_uses[global.index()].union(global_use);
+        self.global_uses.set(global.index(), joined);
+    }
+}
+
+/// What is known of a module: `functions` and `entry_points` are indexed as the module's are, `global_types` by
+/// its global expressions.
+#[derive(PartialEq, Debug, Drop)]
+pub struct ModuleInfo {
+    pub functions: Sequence<FunctionInfo>,
+    pub entry_points: Sequence<FunctionInfo>,
+    pub global_types: Sequence<TypeResolution>,
+}

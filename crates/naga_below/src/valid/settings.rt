@@ -1,0 +1,14 @@
+//! The settings of a validator.
+
+use crate::valid::capabilities::Capabilities;
+use crate::valid::flags::{ShaderStages, SubgroupOperationSet, ValidationFlags};
+
+/// Which checks are made, and what the target can do.
+#[derive(Clone, Copy, PartialEq, Eq, Hash, Debug)]
+pub struct Settings {
+    pub flags: ValidationFlags,
+    pub capabilities: Capabilities,
+    /// The stages at which subgroup operations may be used.
+    pub subgroup_stages: ShaderStages,
+    pub subgroup_operations: SubgroupOperationSet,
+}
