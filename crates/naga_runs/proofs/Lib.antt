@@ -1,0 +1,16 @@
+pub mod Tallies
+pub mod Induction
+pub mod EveryPosition
+pub mod Laws
+pub mod VisitsByTree
+pub mod VisitOrders
+pub mod Joins
+pub mod Paths
+pub mod UnionsAre
+pub mod SkippedIs
+pub mod LastSteps
+pub mod Points
+pub mod Reading
+pub mod Judgements
+pub mod WithoutMust
+pub mod PlainRulesGuard

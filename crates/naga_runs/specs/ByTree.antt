@@ -1,0 +1,173 @@
+-- Lemma-level work for proofs about code, no promise of its own: the visits and the judgement once more, along the
+-- tree instead of the positions, with one equation for each form of statement. The law says that they are the same.
+use Rattle.std.specs.Prelude.{ℕ, Bool, true, false, List, Option, Some, None, Result, Ok, Err, ◌≡◌, ◌∷◌, ◌++◌, []}
+use Rattle.naga_below.specs.Tree.{Act, Stmt, Body, Cases, Leaf, Block, Branch, Switch, Loop, Break, Continue, Return, Kill, Done, Then, NoCase, OneCase}
+use Rattle.naga_below.specs.declared.ir.statements.Statement.{Statement}
+use Rattle.naga_below.specs.declared.ir.statements.SwitchValue.{SwitchValue}
+use Rattle.naga_below.specs.declared.span.Span.{Span}
+use Rattle.naga_runs.specs.Handles.{Handles}
+use Rattle.naga_runs.specs.Judgement.{first_fault, Rules, answer, judgement}
+use Rattle.naga_runs.specs.Must.{with_sure}
+use Rattle.naga_runs.specs.Positions.{Node, StatementNode, BreakIfNode}
+use Rattle.naga_runs.specs.PutsAndUses.{acts_of, with_acts, with_body}
+use Rattle.naga_runs.specs.Visits.{Place, Visit, at_begin, visits_of}
+use Rattle.naga_runs.specs.declared.Abilities.{Abilities}
+
+-- behind a statement
+abbrev pub past : Stmt → Place → Place
+past x c = record c { scope = with_acts c.scope (acts_of x); must = with_acts c.must (acts_of x) }
+
+abbrev pub case_abilities : Abilities → Abilities
+case_abilities a = record { can_return = a.can_return; can_break = true; can_continue = a.can_continue }
+
+abbrev pub loop_abilities : Abilities → Abilities
+loop_abilities a = record { can_return = a.can_return; can_break = true; can_continue = true }
+
+abbrev pub continuing_abilities : Abilities
+continuing_abilities = record { can_return = false; can_break = false; can_continue = false }
+
+-- in a case of a Switch
+abbrev pub in_case : Place → Place
+in_case c = record c { abilities = case_abilities c.abilities }
+
+-- in the body list of a Loop
+abbrev pub in_loop : Place → Place
+in_loop c = record c { abilities = loop_abilities c.abilities }
+
+-- in the continuing list of a Loop with the body list b
+abbrev pub in_continuing : Body → Place → Place
+in_continuing b c =
+    record { abilities = continuing_abilities; scope = with_body c.scope b; must = with_sure c.must b }
+
+-- at the break condition of a Loop with the body list b and the continuing list d
+abbrev pub at_break_if : Body → Body → Place → Place
+at_break_if b d c =
+    record {
+      abilities = c.abilities;
+      scope = with_body (with_body c.scope b) d;
+      must = with_body (with_sure c.must b) d;
+    }
+
+abbrev pub break_if_visits : Place → Option ℕ → List Visit
+break_if_visits c None = []
+break_if_visits c (Some h) = record { place = c; node = BreakIfNode h } ∷ []
+
+-- the visits of a list of statements, of the parts of a statement, and of the cases of a Switch
+abbrev mutual
+  pub body_visits : Place → Body → List Visit
+  body_visits c Done = []
+  body_visits c (Then x b) =
+      record { place = c; node = StatementNode x } ∷ (part_visits c x ++ body_visits (past x c) b)
+
+  pub part_visits : Place → Stmt → List Visit
+  part_visits c (Block b) = body_visits c b
+  part_visits c (Branch h a r) = body_visits c a ++ body_visits c r
+  part_visits c (Switch h cs) = case_visits (in_case c) cs
+  part_visits c (Loop b d q) =
+      body_visits (in_loop c) b ++ (body_visits (in_continuing b c) d ++ break_if_visits (at_break_if b d c) q)
+  part_visits c _ = []
+
+  pub case_visits : Place → Cases → List Visit
+  case_visits c NoCase = []
+  case_visits c (OneCase v falls b cs) = body_visits c b ++ case_visits c cs
+
+-- The visits read off the positions are those along the tree.
+abbrev pub VisitsAreByTree : Type 0
+VisitsAreByTree = (pre : Handles) (b : Body) → visits_of pre b ≡ body_visits (at_begin pre) b
+
+-- the next from the state that the first leaves, unless that is a fault
+abbrev pub then_on : {State Fault : Type 0} → Result State Fault → (State → Result State Fault) → Result State Fault
+then_on (Ok st) next = next st
+then_on (Err f) next = Err f
+
+-- one visit
+unfoldable pub judge : {State Fault : Type 0} → Rules State Fault → State → Visit → Result State Fault
+judge R st v = answer (first_fault (R.points st v)) (R.advance st v)
+
+-- visits one by one
+unfoldable pub judge_visits : {State Fault : Type 0} → Rules State Fault → State → List Visit → Result State Fault
+judge_visits R st [] = Ok st
+judge_visits R st (v ∷ vs) = then_on (judge R st v) (λ s. judge_visits R s vs)
+
+-- a list of statements
+unfoldable pub judge_body : {State Fault : Type 0} → Rules State Fault → State → Place → Body → Result State Fault
+judge_body R st c b = judge_visits R st (body_visits c b)
+
+-- a statement with its parts
+unfoldable pub judge_stmt : {State Fault : Type 0} → Rules State Fault → State → Place → Stmt → Result State Fault
+judge_stmt R st c x = judge_visits R st (record { place = c; node = StatementNode x } ∷ part_visits c x)
+
+-- the parts of a statement
+unfoldable pub judge_parts : {State Fault : Type 0} → Rules State Fault → State → Place → Stmt → Result State Fault
+judge_parts R st c x = judge_visits R st (part_visits c x)
+
+-- the cases of a Switch
+unfoldable pub judge_cases : {State Fault : Type 0} → Rules State Fault → State → Place → Cases → Result State Fault
+judge_cases R st c cs = judge_visits R st (case_visits c cs)
+
+-- a break condition, if there is one
+unfoldable pub judge_break_if : {State Fault : Type 0} →
+    Rules State Fault → State → Place → Option ℕ → Result State Fault
+judge_break_if R st c q = judge_visits R st (break_if_visits c q)
+
+-- The judgement by positions is the one along the tree.
+abbrev pub JudgementIsByTree : {State Fault : Type 0} → Rules State Fault → Type 0
+JudgementIsByTree {State} {Fault} R =
+    (st : State) (pre : Handles) (b : Body) → judgement R st pre b ≡ judge_body R st (at_begin pre) b
+
+-- The judgement along the tree, one equation for each form. A statement without parts is its own visit alone.
+pub record Compositional {State Fault : Type 0} (R : Rules State Fault) : Type 0 where
+  pub done : (st : State) (c : Place) → judge_body R st c Done ≡ Ok st
+  pub more : (st : State) (c : Place) (x : Stmt) (b : Body) →
+      judge_body R st c (Then x b) ≡ then_on (judge_stmt R st c x) (λ s. judge_body R s (past x c) b)
+  pub stmt : (st : State) (c : Place) (x : Stmt) →
+      judge_stmt R st c x
+      ≡ then_on (judge R st (record { place = c; node = StatementNode x })) (λ s. judge_parts R s c x)
+  pub leaf : (st : State) (c : Place) (acts : List Act) (x : Statement) (span : Span) →
+      judge_parts R st c (Leaf acts x span) ≡ Ok st
+  pub block : (st : State) (c : Place) (b : Body) → judge_parts R st c (Block b) ≡ judge_body R st c b
+  pub branch : (st : State) (c : Place) (h : ℕ) (a r : Body) →
+      judge_parts R st c (Branch h a r) ≡ then_on (judge_body R st c a) (λ s. judge_body R s c r)
+  pub switch : (st : State) (c : Place) (h : ℕ) (cs : Cases) →
+      judge_parts R st c (Switch h cs) ≡ judge_cases R st (in_case c) cs
+  pub loop : (st : State) (c : Place) (b d : Body) (q : Option ℕ) →
+      judge_parts R st c (Loop b d q)
+      ≡ then_on (judge_body R st (in_loop c) b)
+      (λ s. then_on (judge_body R s (in_continuing b c) d)
+      (λ t. judge_break_if R t (at_break_if b d c) q))
+  pub break : (st : State) (c : Place) → judge_parts R st c Break ≡ Ok st
+  pub continue : (st : State) (c : Place) → judge_parts R st c Continue ≡ Ok st
+  pub return : (st : State) (c : Place) (value : Option ℕ) → judge_parts R st c (Return value) ≡ Ok st
+  pub kill : (st : State) (c : Place) → judge_parts R st c Kill ≡ Ok st
+  pub no_case : (st : State) (c : Place) → judge_cases R st c NoCase ≡ Ok st
+  pub one_case : (st : State) (c : Place) (v : SwitchValue) (falls : Bool) (b : Body) (cs : Cases) →
+      judge_cases R st c (OneCase v falls b cs) ≡ then_on (judge_body R st c b) (λ s. judge_cases R s c cs)
+  pub no_break_if : (st : State) (c : Place) → judge_break_if R st c None ≡ Ok st
+  pub break_if : (st : State) (c : Place) (h : ℕ) →
+      judge_break_if R st c (Some h) ≡ judge R st (record { place = c; node = BreakIfNode h })
+
+abbrev pub place_with : Abilities → Handles → Handles → Place
+place_with a s m = record { abilities = a; scope = s; must = m }
+
+-- Rules that don't ask what every run has put.
+pub record IgnoresMust {State Fault : Type 0} (R : Rules State Fault) : Type 0 where
+  pub points : (st : State) (a : Abilities) (s m n : Handles) (x : Node) →
+      R.points st (record { place = place_with a s m; node = x })
+      ≡ R.points st (record { place = place_with a s n; node = x })
+  pub advance : (st : State) (a : Abilities) (s m n : Handles) (x : Node) →
+      R.advance st (record { place = place_with a s m; node = x })
+      ≡ R.advance st (record { place = place_with a s n; node = x })
+
+-- They give the same answer whatever it is.
+pub record MustIsFree (State Fault : Type 0) : Type 0 where
+  pub body : (R : Rules State Fault) → IgnoresMust R → (st : State) (a : Abilities) (s m n : Handles) (b : Body) →
+      judge_body R st (place_with a s m) b ≡ judge_body R st (place_with a s n) b
+  pub stmt : (R : Rules State Fault) → IgnoresMust R → (st : State) (a : Abilities) (s m n : Handles) (x : Stmt) →
+      judge_stmt R st (place_with a s m) x ≡ judge_stmt R st (place_with a s n) x
+  pub parts : (R : Rules State Fault) → IgnoresMust R → (st : State) (a : Abilities) (s m n : Handles) (x : Stmt) →
+      judge_parts R st (place_with a s m) x ≡ judge_parts R st (place_with a s n) x
+  pub cases : (R : Rules State Fault) → IgnoresMust R → (st : State) (a : Abilities) (s m n : Handles) (cs : Cases) →
+      judge_cases R st (place_with a s m) cs ≡ judge_cases R st (place_with a s n) cs
+  pub break_if : (R : Rules State Fault) → IgnoresMust R →
+      (st : State) (a : Abilities) (s m n : Handles) (q : Option ℕ) →
+      judge_break_if R st (place_with a s m) q ≡ judge_break_if R st (place_with a s n) q

@@ -1,0 +1,83 @@
+//! What stands at each position of a body, what a judgement along its positions is, and what its runs do: definitions,
+//! and the laws between them. The laws compute nothing; a crate that judges bodies calls them to cite them.
+#![tactic(auto)]
+
+pub mod worked;
+
+ghost use Rattle.naga_runs.specs.Abilities.{AbilitiesByLastStep};
+ghost use Rattle.naga_runs.specs.VisitOrder.{PositionsAreVisits};
+ghost use Rattle.naga_runs.specs.Skipped.{SkippedIsUnion};
+ghost use Rattle.naga_runs.specs.Unions.{ScopeIsUnion, MustIsUnion};
+ghost use Rattle.naga_runs.specs.Judgement.{Rules, FollowedAgrees, EarlierAgrees, EarlierIsAll};
+ghost use Rattle.naga_runs.specs.ByTree.{VisitsAreByTree, JudgementIsByTree, Compositional, MustIsFree};
+ghost use Rattle.naga_runs.specs.Soundness.{FitIsSound, SurelyFitIsSure};
+ghost use Rattle.naga_runs.specs.Guards.{AcceptedIsSound, AcceptedIsSure, AcceptedBlockIsSound, AcceptedBlockIsSure, BlocksAreRead};
+ghost use Rattle.naga_runs.specs.PlainRules.{PlainRulesGuard};
+ghost use Rattle.naga_runs.specs.SkippedEmission.{SkippingLoopIsFit, SkippedIsUsed, PutIsUsed, StopsAtTurnTwo, SkippingLoopIsNotSure, SureLoopIsSurelyFit};
+
+/// Which jumps a place in a body allows: a `Return`, a `Break`, a `Continue`.
+#[derive(Clone, Copy, PartialEq, Eq, Debug)]
+pub struct Abilities {
+    pub can_return: bool,
+    pub can_break: bool,
+    pub can_continue: bool,
+}
+
+/// The law over runs. Where the conditions hold at every position of a body, each of its runs is sound; and sure, where
+/// each use is among the handles that every run has put. Then what two bodies do, so that the law isn't empty; and that
+/// the scope is the union of what earlier siblings and the lists of Loops put.
+pub fn runs_law()
+    ensures sound { FitIsSound }
+    ensures sure { SurelyFitIsSure }
+    ensures fit { SkippingLoopIsFit }
+    ensures skipped { SkippedIsUsed }
+    ensures put { PutIsUsed }
+    ensures stops { StopsAtTurnTwo }
+    ensures not_sure { SkippingLoopIsNotSure }
+    ensures surely_fit { SureLoopIsSurelyFit }
+    ensures scope { ScopeIsUnion }
+{}
+
+/// What else is read off a position, word by word: the positions of a body are those where something stands, in visit
+/// order; what every run has put and what a run skipped are unions as the scope is; the abilities go by the last step
+/// of some parts.
+pub fn positions_law()
+    ensures visits { PositionsAreVisits }
+    ensures must { MustIsUnion }
+    ensures skipped { SkippedIsUnion }
+    ensures abilities { AbilitiesByLastStep }
+{}
+
+/// The law over judgements, for every state that goes along the visits of a body and every list of points that asks for
+/// it. The judgement by positions is the one along the tree, which has one equation for each form of statement; what
+/// rules accept that guard the acts and the jump of each visit has sound runs, and sure ones where they guard surely.
+/// Of a block of the IR it is enough that they guard what has the acts that are read off its statement.
+pub fn judgement_law<State, Fault>()
+    ensures by_tree { (R : Rules State Fault) → JudgementIsByTree R }
+    ensures compositional { (R : Rules State Fault) → Compositional R }
+    ensures sound { (R : Rules State Fault) → AcceptedIsSound R }
+    ensures sure { (R : Rules State Fault) → AcceptedIsSure R }
+    ensures block_sound { (R : Rules State Fault) → AcceptedBlockIsSound R }
+    ensures block_sure { (R : Rules State Fault) → AcceptedBlockIsSure R }
+    ensures without_must { MustIsFree State Fault }
+{}
+
+/// Judgements over two states of which one is a view of the other agree; so do one over the earlier visits themselves
+/// and one over a view of them.
+pub fn view_law<State, Seen, Fault>()
+    ensures follows { FollowedAgrees State Seen Fault }
+    ensures earlier { EarlierAgrees Seen Fault }
+    ensures all { EarlierIsAll Fault }
+{}
+
+/// The visits that are read off the positions are those along the tree; and in the tree of a block every leaf has the
+/// acts that are read off its statement.
+pub fn visits_law()
+    ensures by_tree { VisitsAreByTree }
+    ensures read { BlocksAreRead }
+{}
+
+/// There are rules that guard what stands at a visit, and that accept some bodies and refuse others.
+pub fn plain_rules_law()
+    ensures { PlainRulesGuard }
+{}
