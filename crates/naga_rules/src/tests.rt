@@ -1,0 +1,6 @@
+//! Tests of what no clause says: printed names, and calls with ample memory.
+
+mod bools;
+mod clones;
+mod laws;
+mod names;
