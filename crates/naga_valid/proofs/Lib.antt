@@ -1,0 +1,13 @@
+pub mod Scopes
+pub mod Lists
+pub mod Values
+pub mod Refusals
+pub mod SameTypes
+pub mod InRange
+pub mod Walk
+pub mod Parts
+pub mod Own
+pub mod PreEmitted
+pub mod Judged
+pub mod Guarded
+pub mod KindsOf

@@ -1,0 +1,65 @@
+-- A part of a body that is ready to be judged is ready.
+use Rattle.std.proofs.Common.{◌≡◌, ℕ, ◌+◌, ◌<◌, Bool, true, false, Option, List, ◌∷◌, drop, get_or, length, subst, refl, sym, ap, ◌∙◌}
+use Rattle.std.proofs.lemmas.List.{at_drop_more}
+use Rattle.std.specs.Prelude.{◌&&◌}
+use Rattle.naga_below.specs.Fits.{FitsFunction}
+use Rattle.naga_below.specs.Tree.{Stmt, Block, Branch, Switch, Loop, Body, Then, Cases, OneCase}
+use Rattle.naga_below.specs.declared.ir.statements.Located.{Located}
+use Rattle.naga_below.specs.declared.ir.statements.SwitchCase.{SwitchCase, out-SwitchCase}
+use Rattle.naga_below.specs.declared.ir.statements.SwitchValue.{SwitchValue}
+use Rattle.naga_valid.specs.Blocks.{tree_of, body_of, statement_list, case_list}
+use Rattle.naga_valid.specs.Context.{Context}
+use Rattle.naga_valid.specs.Kinds.{has_kind, body_has_kinds, parts_have_kinds}
+use Rattle.naga_valid.specs.Ready.{IsStatementReady, IsBodyReady, AreCasesReady}
+
+pub both_hold : (a b : Bool) → (a && b) ≡ true → (a ≡ true) × (b ≡ true)
+both_hold true b e = (refl, e)
+both_hold false b e = cc
+
+pub hold_both : (a b : Bool) → a ≡ true → b ≡ true → (a && b) ≡ true
+hold_both a b e f = ap (λ x. x && b) e ∙ f
+
+module _ (context : Context) where
+  pub in_block : (b : Body) → IsStatementReady context (Block b) → IsBodyReady context b
+  unfolding IsStatementReady IsBodyReady body_has_kinds
+  in_block b r = (r.0, r.1)
+
+  pub in_branch : (h : ℕ) (p q : Body) → IsStatementReady context (Branch h p q) → IsBodyReady context p × IsBodyReady context q
+  unfolding IsStatementReady IsBodyReady body_has_kinds
+  in_branch h p q r = let kinds = both_hold _ _ r.1 in ((r.0.1, kinds.0), (r.0.2, kinds.1))
+
+  pub in_switch : (h : ℕ) (cs : Cases) → IsStatementReady context (Switch h cs) → AreCasesReady context cs
+  unfolding IsStatementReady AreCasesReady body_has_kinds
+  in_switch h cs r = (r.0.1, r.1)
+
+  pub in_lists : (b d : Body) (q : Option ℕ) → IsStatementReady context (Loop b d q) → IsBodyReady context b × IsBodyReady context d
+  unfolding IsStatementReady IsBodyReady body_has_kinds
+  in_lists b d q r = let kinds = both_hold _ _ r.1 in ((r.0.0, kinds.0), (r.0.1, kinds.1))
+
+  first_and_rest : (x : Stmt) (b : Body) → IsBodyReady context (Then x b) → IsStatementReady context x × IsBodyReady context b
+  unfolding IsStatementReady IsBodyReady body_has_kinds
+  first_and_rest x b r =
+      let first = both_hold (has_kind x) _ r.1 in
+      let rest = both_hold (parts_have_kinds x) _ first.1 in
+      ((r.0.0, hold_both _ _ first.0 rest.0), (r.0.1, rest.1))
+
+  first_case_and_rest : (v : SwitchValue) (f : Bool) (b : Body) (cs : Cases) → AreCasesReady context (OneCase v f b cs) → IsBodyReady context b × AreCasesReady context cs
+  unfolding IsBodyReady AreCasesReady body_has_kinds
+  first_case_and_rest v f b cs r = let kinds = both_hold (body_has_kinds b) _ r.1 in ((r.0.0, kinds.0), (r.0.1, kinds.1))
+
+  pub in_list : (xs : List Located) (i : ℕ) (x : Located) → i < length xs → x ≡ get_or xs i x → IsBodyReady context (statement_list (drop i xs)) →
+      IsStatementReady context (tree_of x) × IsBodyReady context (statement_list (drop (i + 1) xs))
+  in_list xs i x lt is r =
+      let same = at_drop_more statement_list xs i x lt ∙ ap (λ z. statement_list (z ∷ drop (i + 1) xs)) (sym is) in
+      first_and_rest (tree_of x) (statement_list (drop (i + 1) xs)) (subst (IsBodyReady context) same r)
+
+  pub in_cases : (cs : List SwitchCase) (i : ℕ) (c : SwitchCase) → i < length cs → c ≡ get_or cs i c → AreCasesReady context (case_list (drop i cs)) →
+      IsBodyReady context (body_of (out-SwitchCase c).body) × AreCasesReady context (case_list (drop (i + 1) cs))
+  in_cases cs i c lt is r =
+      let same = at_drop_more case_list cs i c lt ∙ ap (λ z. case_list (z ∷ drop (i + 1) cs)) (sym is) in
+      first_case_and_rest _ _ _ _ (subst (AreCasesReady context) same r)
+
+-- the body of a function that fits, where each statement has a kind that is judged by now
+pub ready : (context : Context) → FitsFunction context.fun context.program (length context.earlier.functions) → body_has_kinds (body_of context.fun.body) ≡ true → IsBodyReady context (body_of context.fun.body)
+unfolding IsBodyReady
+ready context fits kinds = (fits.body, kinds)

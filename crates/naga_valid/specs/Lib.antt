@@ -1,0 +1,15 @@
+pub mod Context
+pub mod Types
+pub mod State
+pub mod Scope
+pub mod Points
+pub mod Kinds
+pub mod Rules
+pub mod Answers
+pub mod Walk
+pub mod Control
+pub mod Ready
+pub mod Blocks
+pub mod Seen
+pub mod Judged
+pub mod Parts

@@ -1,0 +1,54 @@
+//! Uses, and refusals with the place of their statement.
+
+ghost use Rattle.std.specs.Prelude.{◌≡◌, [], ◌∷◌};
+ghost use Rattle.std.specs.Result.{result_err};
+ghost use Rattle.naga_runs.specs.Judgement.{first_fault};
+ghost use Rattle.naga_valid.specs.Answers.{AnswersPoints, IsRefusalFor};
+ghost use Rattle.naga_valid.specs.Points.{Points, use_point};
+ghost use Rattle.naga_valid.specs.Scope.{known};
+
+use crate::scope::Scope;
+use naga_below::arena::handle::Handle;
+use naga_below::arena::tag;
+use naga_below::span::{Refusal, Span, WithSpan};
+use naga_below::valid::expression_error::ExpressionError;
+use naga_rules::function::FunctionError;
+use std::alloc::Global;
+
+/// A use: the expression is in scope.
+pub fn check_use(scope: &Scope, handle: Handle<tag::Expression>) -> Result<(), FunctionError>
+    ensures { result_err result ≡ first_fault (use_point (known scope.now) handle ∷ []) }
+{
+    if !scope.contains(handle) {
+        return Err(FunctionError::Expression {
+            handle,
+            source: ExpressionError::NotInScope,
+        });
+    }
+    Ok(())
+}
+
+/// The refusal for a fault of the statement at a place.
+pub fn refusal(alloc: Global, fault: FunctionError, span: Span) -> Refusal<FunctionError>
+    ensures { IsRefusalFor fault result }
+{
+    match WithSpan::new(alloc, fault).with_span(span) {
+        Ok(fault) => Refusal::Fault(fault),
+        Err(_) => Refusal::Memory,
+    }
+}
+
+/// The answer of a check of the statement at a place.
+#[tactic(auto, using(crate::proofs::Refusals::refuses_fault))]
+pub fn answer(
+    alloc: Global,
+    checked: Result<(), FunctionError>,
+    span: Span,
+) -> Result<(), Refusal<FunctionError>>
+    ensures { (points : Points) → result_err checked ≡ first_fault points → AnswersPoints points result }
+{
+    match checked {
+        Ok(()) => Ok(()),
+        Err(fault) => Err(refusal(alloc, fault, span)),
+    }
+}

@@ -1,0 +1,316 @@
+//! The judgement of a body of statements: naga's `validate_block`.
+
+ghost use Rattle.std.specs.Prelude.{◌≡◌, ◌++◌, [], OnOk};
+ghost use Rattle.naga_runs.specs.ByTree.{case_abilities, loop_abilities, continuing_abilities};
+ghost use Rattle.naga_rules.specs.Answers.{Answers};
+ghost use Rattle.naga_valid.specs.Answers.{AnswersLeaving, AnswersPoints};
+ghost use Rattle.naga_valid.specs.Blocks.{tree_of, body_of, case_list};
+ghost use Rattle.naga_runs.specs.Soundness.{RunsAreSound};
+ghost use Rattle.naga_valid.specs.Context.{ContextFits, pre_emitted};
+ghost use Rattle.naga_valid.specs.Judged.{body_judgement};
+ghost use Rattle.naga_valid.specs.Ready.{IsStatementReady, IsBodyReady, AreCasesReady};
+ghost use Rattle.naga_valid.specs.Rules.{statement_points, with_statement, stages_of};
+ghost use Rattle.naga_valid.specs.Seen.{context_of};
+ghost use Rattle.naga_valid.specs.State.{all_stages, meet};
+ghost use Rattle.naga_valid.specs.Walk.{place, pre_emitted_from, puts, body_puts, parts_answer, stmt_answer, body_answer, cases_answer, break_if_answer, body_abilities};
+
+use crate::checks::control;
+use crate::checks::refuse::answer;
+use crate::context::BlockContext;
+use crate::scope::Scope;
+use crate::state::BodyState;
+use bitflags::Flags;
+use naga_below::arena::handle::Handle;
+use naga_below::arena::tag;
+use naga_below::ir::statements::{Block, Located, Statement, SwitchCase};
+use naga_below::span::{Refusal, Span};
+use naga_below::valid::flags::ShaderStages;
+use naga_rules::function::FunctionError;
+use naga_runs::Abilities;
+use std::alloc::{AllocError, Global};
+
+/// Judges the body of a function: the first fault in visit order, else what its statements leave.
+pub fn validate_function_body(
+    alloc: Global,
+    context: &BlockContext,
+) -> Result<BodyState, Refusal<FunctionError>>
+    requires context { ContextFits (context_of context.now) }
+    requires ready { IsBodyReady (context_of context.now) (body_of (context_of context.now).fun.body) }
+    ensures judged { Answers (body_judgement (context_of context.now)) result }
+    ensures sound { OnOk result (RunsAreSound (pre_emitted (context_of context.now)) (body_of (context_of context.now).fun.body)) }
+{
+    let mut scope = Scope::new(alloc);
+    put_pre_emitted(&mut scope, context)?;
+    let mut state = BodyState {
+        stages: context.info.available_stages,
+    };
+    let abilities = at_begin();
+    validate_statements(
+        &mut scope,
+        &mut state,
+        context,
+        abilities,
+        &context.fun.body,
+    )?;
+    Ok(state)
+}
+
+/// Puts in scope what is there before the first statement.
+fn put_pre_emitted(scope: &mut Scope, context: &BlockContext) -> Result<(), AllocError>
+    requires { scope.old ≡ [] }
+    ensures { OnOk result (scope.new ≡ pre_emitted_from 0 (context_of context.now).fun.expressions) }
+{
+    let count = context.fun.expressions.len() as u32;
+    for index in 0..count {
+        let handle = Handle::new(index);
+        if context.fun.expressions[handle].needs_pre_emit() {
+            scope.put(handle)?;
+        }
+    }
+    Ok(())
+}
+
+/// The check list of a statement itself. What it puts is in scope afterwards.
+fn check_points(
+    scope: &mut Scope,
+    context: &BlockContext,
+    abilities: Abilities,
+    located: &Located,
+) -> Result<(), Refusal<FunctionError>>
+    requires context { ContextFits (context_of context.now) }
+    requires statement { IsStatementReady (context_of context.now) (tree_of located.now) }
+    ensures fault { AnswersPoints (statement_points (context_of context.now) (place abilities scope.old) (tree_of located.now)) result }
+    ensures scope { OnOk result (scope.new ≡ scope.old ++ puts (tree_of located.now)) }
+{
+    let span = located.span;
+    let alloc = scope.allocator();
+    match &located.statement {
+        Statement::Emit(range) => control::check_emit(scope, context, *range, span),
+        Statement::If { condition, .. } => {
+            answer(
+                alloc,
+                control::check_condition(scope, context, *condition),
+                span,
+            )
+        }
+        Statement::Switch { selector, cases } => {
+            control::check_switch(scope, context, *selector, cases.as_slice(), span)
+        }
+        Statement::Break => answer(alloc, control::check_break(abilities), span),
+        Statement::Continue => answer(alloc, control::check_continue(abilities), span),
+        Statement::Return { value } => {
+            let checked = control::check_return(scope, context, abilities, *value);
+            answer(alloc, checked, span)
+        }
+        _ => Ok(()),
+    }
+}
+
+/// Every stage.
+#[tactic(auto, unfolding(bitflags::proofs::OnLiterals::bitflags_on_literals))]
+fn all_stages() -> ShaderStages
+    ensures { result ≡ all_stages }
+{
+    ShaderStages::all()
+}
+
+/// The stages that a statement may run in.
+fn stages_of(located: &Located) -> ShaderStages
+    ensures { result ≡ stages_of (tree_of located.now) }
+{
+    match &located.statement {
+        Statement::Kill => ShaderStages::FRAGMENT,
+        _ => all_stages(),
+    }
+}
+
+/// What a statement leaves where none of its checks fails.
+fn advance(state: &mut BodyState, located: &Located)
+    ensures { state.new ≡ with_statement state.old (tree_of located.now) }
+{
+    state.stages = state.stages.intersection(stages_of(located));
+}
+
+/// The break condition of a Loop, if it has one. A fault has the place of the Loop.
+#[tactic(auto, unfolding(crate::specs::Walk::break_if_answer, naga_runs::specs::ByTree::judge_break_if, naga_runs::specs::ByTree::judge_visits, naga_runs::specs::ByTree::judge))]
+fn check_break_if(
+    scope: &Scope,
+    state: &mut BodyState,
+    context: &BlockContext,
+    abilities: Abilities,
+    break_if: Option<Handle<tag::Expression>>,
+    span: Span,
+) -> Result<(), Refusal<FunctionError>>
+    ensures { AnswersLeaving (break_if_answer (context_of context.now) state.old abilities scope.now break_if) state.new result }
+{
+    match break_if {
+        Some(condition) => {
+            let checked = control::check_condition(scope, context, condition);
+            answer(scope.allocator(), checked, span)
+        }
+        None => Ok(()),
+    }
+}
+
+/// The parts of a statement.
+#[tactic(auto, using(crate::proofs::Walk::walking))]
+#[cycle(walk)]
+fn validate_parts(
+    scope: &mut Scope,
+    state: &mut BodyState,
+    context: &BlockContext,
+    abilities: Abilities,
+    located: &Located,
+) -> Result<(), Refusal<FunctionError>>
+    requires context { ContextFits (context_of context.now) }
+    requires ready { IsStatementReady (context_of context.now) (tree_of located.now) }
+    ensures fault { AnswersLeaving (parts_answer (context_of context.now) state.old abilities scope.old (tree_of located.now)) state.new result }
+    ensures scope { OnOk result (scope.new ≡ scope.old) }
+{
+    match &located.statement {
+        Statement::Block(body) => validate_block(scope, state, context, abilities, body),
+        Statement::If { accept, reject, .. } => {
+            validate_block(scope, state, context, abilities, accept)?;
+            validate_block(scope, state, context, abilities, reject)
+        }
+        Statement::Switch { cases, .. } => {
+            let abilities = in_case(abilities);
+            validate_cases(scope, state, context, abilities, cases.as_slice())
+        }
+        Statement::Loop {
+            body,
+            continuing,
+            break_if,
+        } => {
+            let mark = scope.len();
+            validate_statements(scope, state, context, in_loop(abilities), body)?;
+            validate_statements(scope, state, context, in_continuing(), continuing)?;
+            check_break_if(scope, state, context, abilities, *break_if, located.span)?;
+            scope.shorten(mark);
+            Ok(())
+        }
+        _ => Ok(()),
+    }
+}
+
+/// A list of statements, whose puts stay in scope: naga's `validate_block_impl`.
+#[cycle(walk)]
+fn validate_statements(
+    scope: &mut Scope,
+    state: &mut BodyState,
+    context: &BlockContext,
+    abilities: Abilities,
+    block: &Block,
+) -> Result<(), Refusal<FunctionError>>
+    requires context { ContextFits (context_of context.now) }
+    requires ready { IsBodyReady (context_of context.now) (body_of block.now) }
+    ensures fault { AnswersLeaving (body_answer (context_of context.now) state.old abilities scope.old (body_of block.now)) state.new result }
+    ensures scope { OnOk result (scope.new ≡ scope.old ++ body_puts (body_of block.now)) }
+{
+    for located in &block.list {
+        validate_statement(scope, state, context, abilities, located)?;
+    }
+    Ok(())
+}
+
+/// One statement: its own check list, its stages, and then its parts.
+#[cycle(walk)]
+fn validate_statement(
+    scope: &mut Scope,
+    state: &mut BodyState,
+    context: &BlockContext,
+    abilities: Abilities,
+    located: &Located,
+) -> Result<(), Refusal<FunctionError>>
+    requires context { ContextFits (context_of context.now) }
+    requires ready { IsStatementReady (context_of context.now) (tree_of located.now) }
+    ensures fault { AnswersLeaving (stmt_answer (context_of context.now) state.old abilities scope.old (tree_of located.now)) state.new result }
+    ensures scope { OnOk result (scope.new ≡ scope.old ++ puts (tree_of located.now)) }
+{
+    check_points(scope, context, abilities, located)?;
+    advance(state, located);
+    validate_parts(scope, state, context, abilities, located)
+}
+
+/// A list of statements in a scope of its own: naga's `validate_block`.
+#[cycle(walk)]
+fn validate_block(
+    scope: &mut Scope,
+    state: &mut BodyState,
+    context: &BlockContext,
+    abilities: Abilities,
+    block: &Block,
+) -> Result<(), Refusal<FunctionError>>
+    requires context { ContextFits (context_of context.now) }
+    requires ready { IsBodyReady (context_of context.now) (body_of block.now) }
+    ensures fault { AnswersLeaving (body_answer (context_of context.now) state.old abilities scope.old (body_of block.now)) state.new result }
+    ensures scope { OnOk result (scope.new ≡ scope.old) }
+{
+    let mark = scope.len();
+    validate_statements(scope, state, context, abilities, block)?;
+    scope.shorten(mark);
+    Ok(())
+}
+
+/// The bodies of a Switch's cases, in order.
+#[cycle(walk)]
+fn validate_cases(
+    scope: &mut Scope,
+    state: &mut BodyState,
+    context: &BlockContext,
+    abilities: Abilities,
+    cases: &[SwitchCase],
+) -> Result<(), Refusal<FunctionError>>
+    requires context { ContextFits (context_of context.now) }
+    requires ready { AreCasesReady (context_of context.now) (case_list cases.now) }
+    ensures fault { AnswersLeaving (cases_answer (context_of context.now) state.old abilities scope.old (case_list cases.now)) state.new result }
+    ensures scope { OnOk result (scope.new ≡ scope.old) }
+{
+    for case in cases {
+        validate_block(scope, state, context, abilities, &case.body)?;
+    }
+    Ok(())
+}
+
+/// In a case of a Switch.
+fn in_case(abilities: Abilities) -> Abilities
+    ensures { result ≡ case_abilities abilities }
+{
+    Abilities {
+        can_break: true,
+        ..abilities
+    }
+}
+
+/// In the body of a Loop.
+fn in_loop(abilities: Abilities) -> Abilities
+    ensures { result ≡ loop_abilities abilities }
+{
+    Abilities {
+        can_break: true,
+        can_continue: true,
+        ..abilities
+    }
+}
+
+/// In the continuing part of a Loop.
+fn in_continuing() -> Abilities
+    ensures { result ≡ continuing_abilities }
+{
+    Abilities {
+        can_return: false,
+        can_break: false,
+        can_continue: false,
+    }
+}
+
+/// Where the body of a function begins.
+fn at_begin() -> Abilities
+    ensures { result ≡ body_abilities }
+{
+    Abilities {
+        can_return: true,
+        can_break: false,
+        can_continue: false,
+    }
+}

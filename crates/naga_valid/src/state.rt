@@ -1,0 +1,10 @@
+//! What goes along the statements of a body.
+
+use naga_below::valid::flags::ShaderStages;
+
+/// What the statements so far leave.
+#[derive(Drop)]
+pub struct BodyState {
+    /// The stages that all of them may run in.
+    pub stages: ShaderStages,
+}
