@@ -20,8 +20,8 @@ FitsCount n = n ≤ 4294967295
 
 -- the types of the arguments and of the result are there, and the number of arguments fits 32 bits
 pub record SignatureFits (m : Module) (f : Function) : Type 0 where
-  pub count : FitsCount (length f.arguments.items)
-  pub arguments : All (λ a. a.ty < length m.types) f.arguments.items
+  pub count : FitsCount (length f.arguments)
+  pub arguments : All (λ a. a.ty < length m.types) f.arguments
   pub result_type : IfSome f.result (λ r. r.ty < length m.types)
 
 -- the function is there, and its signature fits

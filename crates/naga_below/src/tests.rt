@@ -15,6 +15,7 @@ use crate::ir::functions::Function;
 use crate::ir::module::{Module, SpecialTypes};
 use crate::ir::statements::{Block, Located, Statement};
 use crate::ir::types::{Scalar, Type, TypeInner};
+use crate::sequence::Sequence;
 use crate::span::Span;
 use std::alloc::{AllocError, Global};
 
@@ -42,7 +43,7 @@ fn empty_module(alloc: Global) -> Module
         global_variables: Arena::new(alloc),
         global_expressions: Arena::new(alloc),
         functions: Arena::new(alloc),
-        entry_points: Vec::new(alloc),
+        entry_points: Sequence::new(alloc),
     }
 }
 
@@ -50,7 +51,7 @@ fn empty_function(alloc: Global) -> Function
     ensures { result.expressions ≡ [] }
 {
     Function {
-        arguments: Vec::new(alloc),
+        arguments: Sequence::new(alloc),
         result: None,
         local_variables: Arena::new(alloc),
         expressions: Arena::new(alloc),

@@ -8,6 +8,7 @@ use crate::ir::expressions::Expression;
 use crate::ir::name::{Name, clone_name};
 use crate::ir::statements::Block;
 use crate::ir::types::Binding;
+use crate::sequence::Sequence;
 use std::alloc::{AllocError, Global};
 
 /// A variable of a function; `init` is one of the function's expressions.
@@ -42,7 +43,7 @@ pub struct FunctionResult {
 /// A function, of a module or of an entry point.
 #[derive(Drop)]
 pub struct Function {
-    pub arguments: Vec<FunctionArgument>,
+    pub arguments: Sequence<FunctionArgument>,
     pub result: Option<FunctionResult>,
     pub local_variables: Arena<LocalVariable>,
     /// Each expression names only earlier ones.

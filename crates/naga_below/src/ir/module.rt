@@ -7,6 +7,7 @@ use crate::ir::expressions::Expression;
 use crate::ir::flags::MemoryDecorations;
 use crate::ir::functions::Function;
 use crate::ir::types::{AddressSpace, Type};
+use crate::sequence::Sequence;
 
 impl Identical for Type {
     ghost use Rattle.naga_below.specs.EqualTypes.{type_same};
@@ -128,5 +129,5 @@ pub struct Module {
     pub global_expressions: Arena<Expression>,
     /// A function calls only earlier ones.
     pub functions: Arena<Function>,
-    pub entry_points: Vec<EntryPoint>,
+    pub entry_points: Sequence<EntryPoint>,
 }

@@ -34,7 +34,10 @@ fn values_are_appended(rt: HostRuntime) -> Result<(), Fail> {
     assert_eq!(rt; constants.len(), 1);
     assert_eq!(rt; constants[handle].ty.index(), 7);
     assert_eq!(rt; constants.get_span(handle), FIRST);
-    assert_eq!(rt; constants.as_slice().len(), 1);
+    let other = constants.append(constant(), SECOND)?;
+    assert_eq!(rt; constants.get_span(other), SECOND);
+    assert_eq!(rt; constants.get_span(handle), FIRST);
+    assert_eq!(rt; constants.as_slice().len(), 2);
     Ok(())
 }
 
@@ -58,6 +61,7 @@ fn types_are_stored_once(rt: HostRuntime) -> Result<(), Fail> {
     assert_eq!(rt; types.len(), 2);
     assert!(rt; types.as_slice().len() == 2);
     assert_eq!(rt; types.get_span(first), FIRST);
+    assert_eq!(rt; types.get_span(other), SECOND);
     assert_eq!(rt; types[other].inner, TypeInner::Scalar(Scalar::I32));
     Ok(())
 }

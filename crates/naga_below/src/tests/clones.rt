@@ -19,7 +19,11 @@ const SPAN: Span = Span { start: 4, end: 9 };
 #[test]
 fn a_block_with_an_emit(rt: HostRuntime) -> Result<(), Fail> {
     let emit = Statement::Emit(Range { start: 1, end: 3 });
-    let body = block_of(rt.alloc(), emit)?;
+    let mut body = block_of(rt.alloc(), emit)?;
+    body.list.push(Located {
+        statement: Statement::Continue,
+        span: SPAN,
+    })?;
     let copy = body.clone(rt.alloc())?;
     assert!(rt; copy == body);
     let statement = Statement::Loop {

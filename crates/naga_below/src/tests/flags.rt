@@ -56,8 +56,11 @@ fn errors_are_written_and_placed(rt: HostRuntime) -> Result<(), Fail> {
     let text = format!(in rt.alloc(); "{fault}")?;
     assert_eq!(rt; text.as_str(), "InvalidImageArrayIndexType");
     let span = Span { start: 1, end: 2 };
-    let placed = WithSpan::new(rt.alloc(), fault).with_span(span)?;
-    assert_eq!(rt; placed.spans(), [span].as_slice());
+    let other = Span { start: 7, end: 9 };
+    let placed = WithSpan::new(rt.alloc(), fault)
+        .with_span(span)?
+        .with_span(other)?;
+    assert_eq!(rt; placed.spans(), [span, other].as_slice());
     assert_eq!(rt; *placed.as_inner(), fault);
     let bare = WithSpan::new(rt.alloc(), fault);
     assert!(rt; bare.spans().is_empty());
