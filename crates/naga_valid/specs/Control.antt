@@ -23,15 +23,6 @@ use Rattle.naga_valid.specs.Context.{Context}
 use Rattle.naga_valid.specs.Points.{Points, use_point, put_point}
 use Rattle.naga_valid.specs.Types.{expression_at, resolution_at, type_at, scalar_kind_at, is_same_type}
 
--- n handles from the first on
-abbrev pub handles_from : ℕ → ℕ → List ℕ
-handles_from first zero = []
-handles_from first (suc n) = first ∷ handles_from (suc first) n
-
--- the handles of a range, its end excluded
-abbrev pub handles_between : ℕ → ℕ → List ℕ
-handles_between start end = handles_from start (end - start)
-
 -- the kinds of expression that another statement than Emit puts
 abbrev pub is_result : Option Expression → Bool
 is_result (Some (e.CallResult f)) = true

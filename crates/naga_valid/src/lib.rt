@@ -1,12 +1,12 @@
 //! The validator of whole functions.
 #![tactic(auto)]
 
-pub mod checks;
-pub mod context;
-pub mod function;
+mod checks;
+mod context;
+mod function;
 pub mod kinds;
-pub mod scope;
-pub mod state;
+mod scope;
+mod state;
 #[cfg(test)]
 mod tests;
 pub mod trace;

@@ -43,7 +43,7 @@ fn empty_module(alloc: Global) -> Module {
         global_variables: Arena::new(alloc),
         global_expressions: Arena::new(alloc),
         functions: Arena::new(alloc),
-        entry_points: Vec::new(alloc),
+        entry_points: Sequence::new(alloc),
     }
 }
 
@@ -78,7 +78,7 @@ fn function_of(alloc: Global, statement: Statement) -> Result<Function, AllocErr
         span: HERE,
     })?;
     Ok(Function {
-        arguments: Vec::new(alloc),
+        arguments: Sequence::new(alloc),
         result: None,
         local_variables: Arena::new(alloc),
         expressions,

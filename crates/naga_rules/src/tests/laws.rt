@@ -127,7 +127,7 @@ fn module_of_bool(alloc: Global) -> Result<Module, AllocError> {
         global_variables,
         global_expressions: Arena::new(alloc),
         functions: Arena::new(alloc),
-        entry_points: Vec::new(alloc),
+        entry_points: Sequence::new(alloc),
     })
 }
 
@@ -140,7 +140,7 @@ fn function_of_bool(alloc: Global) -> Result<Function, AllocError> {
     };
     expressions.append(Expression::Literal(literal), NOWHERE)?;
     Ok(Function {
-        arguments: Vec::new(alloc),
+        arguments: Sequence::new(alloc),
         result: None,
         local_variables: Arena::new(alloc),
         expressions,
