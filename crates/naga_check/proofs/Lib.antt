@@ -1,0 +1,10 @@
+pub mod Reading
+pub mod Scopes
+pub mod Lists
+pub mod Values
+pub mod Refusals
+pub mod Walk
+pub mod KnownKinds
+pub mod PreEmitted
+pub mod Judged
+pub mod Cases

@@ -1,0 +1,105 @@
+-- Lists of handles and of cases.
+use Rattle.std.proofs.Common.{◌≡◌, ℕ, zero, suc, ◌+◌, ◌-◌, ◌<◌, ◌≤◌, ◌==◌, Bool, true, false, not, ◌||◌, Option, Some, None, List, [], ◌∷◌, ◌++◌, map, cond, slice_get, length, refl, sym, ap, ◌∙◌, arith, add-zero}
+use Rattle.std.proofs.lemmas.Bool.Decides.{nat_tests}
+use Rattle.std.proofs.lemmas.List.Folds.{list_any-append}
+use Rattle.std.specs.List.{list_any}
+use Rattle.std.specs.Option.{option_or}
+use Rattle.naga_below.specs.declared.ir.statements.SwitchCase.{SwitchCase, out-SwitchCase}
+use Rattle.naga_below.specs.declared.ir.statements.SwitchValue.{SwitchValue}
+use Rattle.naga_below.specs.View.{emitted, no_operands}
+use Rattle.naga_runs.specs.Judgement.{first_fault}
+use Rattle.naga_check.specs.Blocks.{case_list}
+use Rattle.naga_check.specs.Scope.{in_scope, known}
+use Rattle.naga_runs.specs.PutsAndUses.{puts_of}
+use Rattle.naga_check.specs.Points.{Points, handles_from, handles_between, emit_points, values_of, last_falls_through}
+use Rattle.naga_check.specs.declared.valid.error.FunctionError.{FunctionError}
+use Rattle.naga_check.specs.declared.valid.error.FunctionError.TheVariants.{ExpressionAlreadyInScope}
+
+pub any_value : (f : SwitchValue → Bool) (cs : List SwitchCase) → list_any f (values_of (case_list cs)) ≡ list_any (λ c. f (out-SwitchCase c).value) cs
+any_value f [] = refl
+any_value f (c ∷ cs) = ap (λ b. f (out-SwitchCase c).value || b) (any_value f cs)
+
+abbrev pub falls_through : Option SwitchCase → Bool
+falls_through None = false
+falls_through (Some c) = (out-SwitchCase c).fall_through
+
+pub last_case : (cs : List SwitchCase) → last_falls_through (case_list cs) ≡ falls_through (slice_get cs (length cs - 1))
+last_case [] = refl
+last_case (c ∷ []) = refl
+last_case (c ∷ d ∷ cs) =
+    let this : suc (length cs) - 1 ≡ length cs = omega arith in
+    let more : suc (suc (length cs)) - 1 ≡ suc (length cs) = omega arith in
+    last_case (d ∷ cs)
+    ∙ ap (λ k. falls_through (slice_get (d ∷ cs) k)) this
+    ∙ sym (ap (λ k. falls_through (slice_get (c ∷ d ∷ cs) k)) more)
+
+-- the handles from one on do not have a later one
+other_from : (first n h : ℕ) → first + n ≤ h → in_scope (handles_from first n) h ≡ false
+other_from first zero h le = refl
+other_from first (suc n) h le =
+    let other : (first == h) ≡ false = grind (arith, nat_tests) in
+    ap (λ b. b || in_scope (handles_from (suc first) n) h) other ∙ other_from (suc first) n h (omega arith)
+
+or_false : (b : Bool) → (b || false) ≡ b
+or_false true = refl
+or_false false = refl
+
+-- what is in scope after the handles before h, at h
+pub in_scope_before : (s : List ℕ) (start h : ℕ) → start ≤ h → in_scope (s ++ handles_between start h) h ≡ in_scope s h
+in_scope_before s start h le =
+    list_any-append (λ x. x == h) s (handles_between start h)
+    ∙ ap (λ b. in_scope s h || b) (other_from start (h - start) h (omega arith))
+    ∙ or_false (in_scope s h)
+
+from_more : (first n : ℕ) → handles_from first (suc n) ≡ handles_from first n ++ ((first + n) ∷ [])
+from_more first zero = ap (λ x. x ∷ []) (sym (add-zero first))
+from_more first (suc n) =
+    let same : suc first + n ≡ first + suc n = omega arith in
+    ap (λ l. first ∷ l) (from_more (suc first) n ∙ ap (λ x. handles_from (suc first) n ++ (x ∷ [])) same)
+
+pub between_more : (start h : ℕ) → start ≤ h → handles_between start (h + 1) ≡ handles_between start h ++ (h ∷ [])
+between_more start h le =
+    let count : (h + 1) - start ≡ suc (h - start) = omega arith in
+    let last : start + (h - start) ≡ h = omega arith in
+    ap (handles_from start) count ∙ from_more start (h - start) ∙ ap (λ x. handles_from start (h - start) ++ (x ∷ [])) last
+
+between_next : (h end : ℕ) → h < end → handles_between h end ≡ h ∷ handles_between (h + 1) end
+between_next h end lt =
+    let count : end - h ≡ suc (end - (h + 1)) = omega arith in
+    let next : suc h ≡ h + 1 = omega arith in
+    ap (handles_from h) count ∙ ap (λ k. h ∷ handles_from k (end - (h + 1))) next
+
+pub between_end : (start h end : ℕ) → start ≤ h → end ≤ h → (end ≤ start → h ≡ start) → (start ≤ end → h ≤ end) → handles_between start h ≡ handles_between start end
+between_end start h end le below stays bound =
+    let count : h - start ≡ end - start = grind arith in ap (handles_from start) count
+
+module _ (s : List ℕ) (h end : ℕ) (lt : h < end) where
+  emit_here : emit_points (known s) h end ≡ (not (in_scope s h), ExpressionAlreadyInScope h) ∷ emit_points (known s) (h + 1) end
+  emit_here = ap (map (λ x. (not (in_scope s x), ExpressionAlreadyInScope x))) (between_next h end lt)
+
+  pub emit_fault : in_scope s h ≡ true → first_fault (emit_points (known s) h end) ≡ Some (ExpressionAlreadyInScope h)
+  emit_fault e =
+      ap first_fault emit_here
+      ∙ ap (λ b. cond (not b) (first_fault (emit_points (known s) (h + 1) end)) (Some (ExpressionAlreadyInScope h))) e
+
+  pub emit_next : in_scope s h ≡ false → first_fault (emit_points (known s) h end) ≡ first_fault (emit_points (known s) (h + 1) end)
+  emit_next e =
+      ap first_fault emit_here
+      ∙ ap (λ b. cond (not b) (first_fault (emit_points (known s) (h + 1) end)) (Some (ExpressionAlreadyInScope h))) e
+
+pub emit_none : (s : List ℕ) (h end : ℕ) → end ≤ h → first_fault (emit_points (known s) h end) ≡ None
+emit_none s h end le = let none : end - h ≡ 0 = omega arith in
+    ap (λ n. first_fault (map (λ x. (not (in_scope s x), ExpressionAlreadyInScope x)) (handles_from h n))) none
+
+first_step : (b : Bool) (f : FunctionError) (ps qs : Points) → first_fault (ps ++ qs) ≡ option_or (first_fault ps) (first_fault qs) → first_fault ((b, f) ∷ ps ++ qs) ≡ option_or (first_fault ((b, f) ∷ ps)) (first_fault qs)
+first_step true f ps qs rest = rest
+first_step false f ps qs rest = refl
+
+pub first_fault-append : (ps qs : Points) → first_fault (ps ++ qs) ≡ option_or (first_fault ps) (first_fault qs)
+first_fault-append [] qs = refl
+first_fault-append (p ∷ ps) qs = first_step p.0 p.1 ps qs (first_fault-append ps qs)
+
+-- what an Emit puts are the handles of its range
+pub emit_puts : (start n : ℕ) → puts_of (emitted no_operands start n) ≡ handles_from start n
+emit_puts start zero = refl
+emit_puts start (suc n) = ap (λ l. start ∷ l) (emit_puts (suc start) n)

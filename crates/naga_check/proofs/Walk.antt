@@ -1,0 +1,189 @@
+-- The judgement by the tree over the scope's list: one equation for each form of statement.
+use Rattle.std.proofs.Common.{Vec, Global, ◌≡◌, ℕ, ◌+◌, ◌<◌, ◌≤◌, Bool, true, false, Option, None, Result, Ok, List, [], ◌∷◌, ◌++◌, drop, get_or, length, refl, sym, ap, ◌∙◌, append-nil, append_assoc}
+use Rattle.std.proofs.lemmas.List.{at_drop_more, at_drop_all}
+use Rattle.std.proofs.lemmas.List.Folds.{list_any-append}
+use Rattle.std.specs.Prelude.{◌||◌, ◌==◌, if◌then◌else◌}
+use Rattle.naga_below.specs.Tree.{Act, Use, Put, Stmt, Leaf, Block, Branch, Switch, Loop, Break, Continue, Return, Kill, Body, Done, Then, Cases, NoCase, OneCase}
+use Rattle.naga_below.specs.declared.valid.flags.ShaderStages.{ShaderStages}
+use Rattle.naga_below.specs.View as view
+use Rattle.naga_below.specs.View.{no_operands}
+use Rattle.naga_below.specs.declared.ir.statements.Block.{Block as Block_of}
+use Rattle.naga_below.specs.declared.ir.statements.Statement as ir
+use Rattle.naga_below.specs.declared.ir.statements.Statement.{Statement, Switch'}
+use Rattle.naga_below.specs.declared.ir.statements.Statement.TheBlock.{shown-the_row-SwitchCase-0, backs-Statement}
+use Rattle.naga_below.specs.declared.span.Span.{Span}
+use Rattle.naga_below.specs.declared.span.Refusal.{Refusal}
+use Rattle.naga_below.specs.declared.span.Refusal.TheVariants as refusal
+use Rattle.naga_below.specs.declared.ir.statements.Located.{Located}
+use Rattle.naga_below.specs.declared.ir.statements.SwitchCase.{SwitchCase, out-SwitchCase}
+use Rattle.naga_below.specs.declared.ir.statements.SwitchValue.{SwitchValue}
+use Rattle.naga_runs.specs.declared.Abilities.{Abilities}
+use Rattle.naga_runs.specs.Handles.{Handles, no_handles, with_handle}
+use Rattle.naga_runs.specs.Must.{with_sure}
+use Rattle.naga_runs.specs.PutsAndUses.{with_acts, with_body, acts_of, puts_of}
+use Rattle.naga_runs.specs.Judgement.{answer, first_fault}
+use Rattle.naga_runs.specs.ByTree.{then_on, judge_visits, judge_body, judge_stmt, judge_parts, judge_cases, judge_break_if, IgnoresMust, case_abilities, loop_abilities, continuing_abilities}
+use Rattle.naga_runs.proofs.Judgements.{judge_done, judge_more, judge_own, judge_block, judge_branch, judge_switch, judge_loop, judge_no_case, judge_one_case}
+use Rattle.naga_runs.proofs.WithoutMust.{must_is_free}
+use Rattle.naga_check.specs.Answers.{IsFirstFault, Refuses}
+use Rattle.naga_check.specs.Blocks.{tree_of, body_of, statement_list, case_list}
+use Rattle.naga_check.specs.Context.{Context}
+use Rattle.naga_check.specs.Points.{statement_points}
+use Rattle.naga_check.specs.Rules.{body_rules, mask_of, meet}
+use Rattle.naga_check.specs.Scope.{in_scope, known}
+use Rattle.naga_check.specs.Walk.{puts, body_puts, place, own_answer, parts_answer, stmt_answer, body_answer, cases_answer, break_if_answer}
+use Rattle.naga_check.proofs.Refusals.{passes, stops_first, stops_next, answers_next}
+use Rattle.naga_check.specs.declared.valid.error.FunctionError.{FunctionError}
+
+or_put : (b c : Bool) → (c || (b || false)) ≡ (if b then true else c)
+or_put true true = refl
+or_put true false = refl
+or_put false true = refl
+or_put false false = refl
+
+known_put : (s : List ℕ) (h : ℕ) → known (s ++ h ∷ []) ≡ with_handle (known s) h
+known_put s h i x = (list_any-append (λ y. y == x) s (h ∷ []) ∙ or_put (h == x) (in_scope s x)) i
+
+known_acts : (acts : List Act) (s : List ℕ) → known (s ++ puts_of acts) ≡ with_acts (known s) acts
+known_acts [] s = ap known (append-nil s)
+known_acts (Use h ∷ acts) s = known_acts acts s
+known_acts (Put h ∷ acts) s =
+    ap known (sym (append_assoc s (h ∷ []) (puts_of acts))) ∙ known_acts acts (s ++ h ∷ []) ∙ ap (λ k. with_acts k acts) (known_put s h)
+
+known_body : (b : Body) (s : List ℕ) → known (s ++ body_puts b) ≡ with_body (known s) b
+unfolding body_puts
+known_body Done s = ap known (append-nil s)
+known_body (Then x b) s =
+    ap known (sym (append_assoc s (puts x) (body_puts b))) ∙ known_body b (s ++ puts x) ∙ ap (λ k. with_body k b) (known_acts (acts_of x) s)
+
+module _ (context : Context) where
+  ignores : IgnoresMust (body_rules context)
+  ignores = record { points = λ st a s m n x. refl; advance = λ st a s m n x. refl }
+
+  -- at another spelling of the scope, whatever every run has put
+  pub moved : (k : ShaderStages) (a : Abilities) (s : List ℕ) (t m : Handles) (b : Body) → known s ≡ t →
+      judge_body (body_rules context) k (record { abilities = a; scope = t; must = m }) b ≡ body_answer context k a s b
+  unfolding body_answer
+  moved k a s t m b e =
+      ap (λ h. judge_body (body_rules context) k (record { abilities = a; scope = h; must = m }) b) (sym e)
+      ∙ must_is_free.body (body_rules context) ignores k a (known s) m no_handles b
+
+  moved_break_if : (k : ShaderStages) (a : Abilities) (s : List ℕ) (t m : Handles) (q : Option ℕ) → known s ≡ t →
+      judge_break_if (body_rules context) k (record { abilities = a; scope = t; must = m }) q ≡ break_if_answer context k a s q
+  unfolding break_if_answer judge_break_if judge_visits Rattle.naga_runs.specs.ByTree.judge
+  moved_break_if k a s t m None e = refl
+  moved_break_if k a s t m q e =
+      ap (λ h. judge_break_if (body_rules context) k (record { abilities = a; scope = h; must = no_handles }) q) (sym e)
+
+module _ (context : Context) (k : ShaderStages) (a : Abilities) (s : List ℕ) where
+  pub body_done : body_answer context k a s Done ≡ Ok k
+  unfolding body_answer
+  body_done = judge_done (body_rules context) k (place a s)
+
+  pub body_more : (x : Stmt) (b : Body) → body_answer context k a s (Then x b) ≡ then_on (stmt_answer context k a s x) (λ l. body_answer context l a (s ++ puts x) b)
+  unfolding body_answer stmt_answer
+  body_more x b =
+      judge_more (body_rules context) k (place a s) x b
+      ∙ ap (λ (f : ShaderStages → Result ShaderStages FunctionError). then_on (judge_stmt (body_rules context) k (place a s) x) f) (λ i l. moved context l a (s ++ puts x) (with_acts (known s) (acts_of x)) (with_acts no_handles (acts_of x)) b (known_acts (acts_of x) s) i)
+
+  pub stmt_more : (x : Stmt) → stmt_answer context k a s x ≡ then_on (own_answer context k a s x) (λ l. parts_answer context l a s x)
+  unfolding own_answer parts_answer stmt_answer
+  stmt_more x = judge_own (body_rules context) k (place a s) x
+
+  pub parts_block : (b : Body) → parts_answer context k a s (Block b) ≡ body_answer context k a s b
+  unfolding parts_answer body_answer
+  parts_block b = judge_block (body_rules context) k (place a s) b
+
+  pub parts_branch : (h : ℕ) (p q : Body) → parts_answer context k a s (Branch h p q) ≡ then_on (body_answer context k a s p) (λ l. body_answer context l a s q)
+  unfolding parts_answer body_answer
+  parts_branch h p q = judge_branch (body_rules context) k (place a s) h p q
+
+  pub parts_switch : (h : ℕ) (cs : Cases) → parts_answer context k a s (Switch h cs) ≡ cases_answer context k (case_abilities a) s cs
+  unfolding parts_answer cases_answer
+  parts_switch h cs = judge_switch (body_rules context) k (place a s) h cs
+
+  pub parts_loop : (b d : Body) (q : Option ℕ) → parts_answer context k a s (Loop b d q)
+      ≡ then_on (body_answer context k (loop_abilities a) s b) (λ l. then_on (body_answer context l continuing_abilities (s ++ body_puts b) d) (λ m. break_if_answer context m a ((s ++ body_puts b) ++ body_puts d) q))
+  unfolding parts_answer body_answer
+  parts_loop b d q =
+      judge_loop (body_rules context) k (place a s) b d q
+      ∙ ap (λ (f : ShaderStages → Result ShaderStages FunctionError). then_on (body_answer context k (loop_abilities a) s b) f) (λ i l. then_on (moved context l continuing_abilities (s ++ body_puts b) (with_body (known s) b) (with_sure no_handles b) d (known_body b s) i) (λ m. moved_break_if context m a ((s ++ body_puts b) ++ body_puts d) (with_body (with_body (known s) b) d) (with_body (with_sure no_handles b) d) q (known_body d (s ++ body_puts b) ∙ ap (λ t. with_body t d) (known_body b s)) i))
+
+  pub cases_done : cases_answer context k a s NoCase ≡ Ok k
+  unfolding cases_answer
+  cases_done = judge_no_case (body_rules context) k (place a s)
+
+  pub cases_more : (v : SwitchValue) (f : Bool) (b : Body) (cs : Cases) → cases_answer context k a s (OneCase v f b cs) ≡ then_on (body_answer context k a s b) (λ l. cases_answer context l a s cs)
+  unfolding cases_answer body_answer
+  cases_more v f b cs = judge_one_case (body_rules context) k (place a s) v f b cs
+
+  -- a statement with parts puts nothing itself
+  pub parts_later : (x : Stmt) → parts_answer context k a (s ++ puts x) x ≡ parts_answer context k a s x
+  unfolding parts_answer judge_parts judge_visits
+  parts_later (Leaf acts st span) = refl
+  parts_later (Return v) = refl
+  parts_later (Block b) = ap (λ l. parts_answer context k a l (Block b)) (append-nil s)
+  parts_later (Branch h p q) = ap (λ l. parts_answer context k a l (Branch h p q)) (append-nil s)
+  parts_later (Switch h cs) = ap (λ l. parts_answer context k a l (Switch h cs)) (append-nil s)
+  parts_later (Loop b d q) = ap (λ l. parts_answer context k a l (Loop b d q)) (append-nil s)
+  parts_later Break = refl
+  parts_later Continue = refl
+  parts_later Kill = refl
+
+-- what is left of a list, one step on and at the end
+module _ (xs : List Located) (i : ℕ) where
+  pub body_turn : (context : Context) (k : ShaderStages) (a : Abilities) (s : List ℕ) (x : Located) → i < length xs → x ≡ get_or xs i x →
+      body_answer context k a s (statement_list (drop i xs)) ≡ then_on (stmt_answer context k a s (tree_of x)) (λ l. body_answer context l a (s ++ puts (tree_of x)) (statement_list (drop (i + 1) xs)))
+  body_turn context k a s x lt e =
+      at_drop_more (λ l. body_answer context k a s (statement_list l)) xs i x lt
+      ∙ ap (λ z. body_answer context k a s (statement_list (z ∷ drop (i + 1) xs))) (sym e)
+      ∙ body_more context k a s (tree_of x) (statement_list (drop (i + 1) xs))
+
+  pub puts_turn : (x : Located) → i < length xs → x ≡ get_or xs i x →
+      body_puts (statement_list (drop i xs)) ≡ puts (tree_of x) ++ body_puts (statement_list (drop (i + 1) xs))
+  unfolding body_puts
+  puts_turn x lt e =
+      at_drop_more (λ l. body_puts (statement_list l)) xs i x lt ∙ ap (λ z. body_puts (statement_list (z ∷ drop (i + 1) xs))) (sym e)
+
+  pub puts_end : length xs ≤ i → body_puts (statement_list (drop i xs)) ≡ []
+  unfolding body_puts
+  puts_end le = at_drop_all (λ l. body_puts (statement_list l)) xs i le
+
+  pub body_end : (context : Context) (k : ShaderStages) (a : Abilities) (s : List ℕ) → length xs ≤ i → body_answer context k a s (statement_list (drop i xs)) ≡ Ok k
+  body_end context k a s le = at_drop_all (λ l. body_answer context k a s (statement_list l)) xs i le ∙ body_done context k a s
+
+module _ (cs : List SwitchCase) (i : ℕ) where
+  pub cases_turn : (context : Context) (k : ShaderStages) (a : Abilities) (s : List ℕ) (c : SwitchCase) → i < length cs → c ≡ get_or cs i c →
+      cases_answer context k a s (case_list (drop i cs)) ≡ then_on (body_answer context k a s (body_of (out-SwitchCase c).body)) (λ l. cases_answer context l a s (case_list (drop (i + 1) cs)))
+  cases_turn context k a s c lt e =
+      at_drop_more (λ l. cases_answer context k a s (case_list l)) cs i c lt
+      ∙ ap (λ z. cases_answer context k a s (case_list (z ∷ drop (i + 1) cs))) (sym e)
+      ∙ cases_more context k a s (out-SwitchCase c).value (out-SwitchCase c).fall_through (body_of (out-SwitchCase c).body) (case_list (drop (i + 1) cs))
+
+  pub cases_end : (context : Context) (k : ShaderStages) (a : Abilities) (s : List ℕ) → length cs ≤ i → cases_answer context k a s (case_list (drop i cs)) ≡ Ok k
+  cases_end context k a s le = at_drop_all (λ l. cases_answer context k a s (case_list l)) cs i le ∙ cases_done context k a s
+
+-- a statement's own check list, and its stages
+module _ (context : Context) (k : ShaderStages) (a : Abilities) (s : List ℕ) (x : Stmt) where
+  pub own_passes : first_fault (statement_points context (place a s) x) ≡ None → own_answer context k a s x ≡ Ok (meet k (mask_of x))
+  unfolding own_answer Rattle.naga_runs.specs.ByTree.judge
+  own_passes e = ap (λ o. answer o (meet k (mask_of x))) e
+
+  pub own_refuses : (e : Refusal FunctionError) → IsFirstFault e (statement_points context (place a s) x) → Refuses e (own_answer context k a s x)
+  unfolding own_answer Rattle.naga_runs.specs.ByTree.judge
+  own_refuses (refusal.Fault f) h = ap (λ o. answer o (meet k (mask_of x))) h
+  own_refuses refusal.Memory h = tt
+
+-- a statement that is none of the kinds with parts
+pub no_parts : (context : Context) (k : ShaderStages) (a : Abilities) (s : List ℕ) (st : Statement) (span : Span) →
+    ((b : Block_of) → st ≡ ir.Block b → ⊥) → ((h : ℕ) (p q : Block_of) → st ≡ ir.If h p q → ⊥) → ((h : ℕ) (cases : Vec SwitchCase Global) → st ≡ ir.Switch h cases → ⊥) → ((p q : Block_of) (last : Option ℕ) → st ≡ ir.Loop p q last → ⊥) →
+    parts_answer context k a s (view.tree_of no_operands st span) ≡ Ok k
+unfolding parts_answer judge_parts judge_visits
+no_parts context k a s (ir.Block b) span nb ni ns nl = absurd (nb b refl)
+no_parts context k a s (ir.If h p q) span nb ni ns nl = absurd (ni h p q refl)
+no_parts context k a s (Switch' h shape row) span nb ni ns nl =
+    absurd (ns h (shown-the_row-SwitchCase-0 shape row) (sym (backs-Statement (Switch' h shape row))))
+no_parts context k a s (ir.Loop p q last) span nb ni ns nl = absurd (nl p q last refl)
+no_parts context k a s _ span nb ni ns nl = refl
+
+pub ruleset walking = (parts_block, parts_branch, parts_switch, parts_loop, stmt_more, own_passes, own_refuses, passes, stops_first, stops_next, answers_next)

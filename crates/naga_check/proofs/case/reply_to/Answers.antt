@@ -1,0 +1,16 @@
+use Rattle.std.proofs.Common.{◌≡◌, Err, ap}
+use Rattle.naga_check.specs.Notation.Case.{case_of}
+use Rattle.naga_check.specs.declared.notation.ReadError.TheVariants.{Unreadable}
+use Rattle.naga_check.proofs.Cases.{replies_none, replies_accepted, replies_fault}
+use Rattle.naga_check.proofs.case.reply_to.Goals as goal
+
+pub returns-in-Err-Unreadable : goal.returns-in-Err-Unreadable
+returns-in-Err-Unreadable c = replies_none _ (c.in-Err-Unreadable.ensures.none (let same : c.in-Err-Unreadable.field-0 ≡ Unreadable = cc in ap Err same))
+
+pub returns-in-Ok-answer : goal.returns-in-Ok-answer
+returns-in-Ok-answer c = replies_accepted _ (case_of c.in-Ok.case) _ c.in-Ok.ensures.found c.in-Ok-answer.ensures
+
+pub returns-in-Err-Fault : goal.returns-in-Err-Fault
+returns-in-Err-Fault c =
+    let due = rw c.in-Err-Fault.field-0-is at c.in-Err-Fault.ensures in
+    replies_fault _ (case_of c.in-Ok.case) _ c.in-Ok.ensures.found (rw c.into_inner.ensures due)

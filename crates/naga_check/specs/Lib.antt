@@ -1,0 +1,13 @@
+pub mod Bench
+pub mod Notation
+pub mod Context
+pub mod BenchContext
+pub mod Points
+pub mod Rules
+pub mod Judged
+pub mod Answers
+pub mod Scope
+pub mod Blocks
+pub mod Walk
+pub mod Kinds
+pub mod Line

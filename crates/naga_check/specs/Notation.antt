@@ -1,0 +1,11 @@
+-- The notation in which a case is written.
+pub mod Words
+pub mod Text
+pub mod Grammar
+pub mod Head
+pub mod Lookup
+pub mod Case
+pub mod Plain
+pub mod Feeding
+pub mod Reading
+pub mod Views

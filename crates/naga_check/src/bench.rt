@@ -1,0 +1,50 @@
+//! The benches: modules that are the same for each input, into whose one function the body of a case is put.
+
+ghost use Rattle.std.specs.Prelude.{◌≡◌};
+ghost use Rattle.naga_check.specs.Bench.{bench_of, index_of};
+
+/// A bench.
+#[derive(Clone, Copy, PartialEq, Eq, Debug)]
+pub enum Bench {
+    /// Types bool, u32 and i32; one function without arguments or result; expressions 0 `t` a bool literal, 1 `u` a u32
+    /// literal, 2 `i` an i32 literal, 3 `e1` a Unary of `t`, 4 `v` a local of u32, 5 `x1` a Load of `v`.
+    P,
+}
+
+impl Bench {
+    /// The bench that a word names.
+    pub fn named(word: &[u8]) -> Option<Bench>
+        ensures { result ≡ bench_of word.now }
+    {
+        if word == b"P".as_slice() {
+            Some(Bench::P)
+        } else {
+            None
+        }
+    }
+
+    /// The index of the expression that has this name.
+    pub fn index_of(self, name: &[u8]) -> Option<u8>
+        ensures { result ≡ index_of self name.now }
+    {
+        match self {
+            Bench::P => {
+                if name == b"t".as_slice() {
+                    Some(0)
+                } else if name == b"u".as_slice() {
+                    Some(1)
+                } else if name == b"i".as_slice() {
+                    Some(2)
+                } else if name == b"e1".as_slice() {
+                    Some(3)
+                } else if name == b"v".as_slice() {
+                    Some(4)
+                } else if name == b"x1".as_slice() {
+                    Some(5)
+                } else {
+                    None
+                }
+            }
+        }
+    }
+}

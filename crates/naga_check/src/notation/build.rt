@@ -1,0 +1,94 @@
+//! Statements and blocks of the IR, as the reader makes them. Each statement has the same span, which tells nothing.
+
+ghost use Rattle.std.specs.Prelude.{◌≡◌, ◌++◌, ◌∷◌, [], OnOk};
+ghost use Rattle.naga_below.specs.Tree.{Branch, Loop, Switch};
+ghost use Rattle.naga_check.specs.Notation.Grammar.{emission};
+ghost use Rattle.naga_check.specs.Notation.Reading.{Clause, body_from, cases_from};
+ghost use Rattle.naga_check.specs.Notation.Views.{body_of, stmt_of, list_of, clause_of, clauses_of};
+
+use naga_below::arena::handle::Handle;
+use naga_below::arena::range::Range;
+use naga_below::arena::tag;
+use naga_below::ir::statements::{Block, Located, Statement, SwitchCase, SwitchValue};
+use naga_below::span::Span;
+use std::alloc::AllocError;
+
+/// The expression of a bench at this index.
+pub fn expression(index: u8) -> Handle<tag::Expression>
+    ensures { result ≡ index }
+{
+    Handle::new(index as u32)
+}
+
+/// Puts a statement behind the others.
+pub fn push(list: &mut Vec<Located>, statement: Statement) -> Result<(), AllocError>
+    ensures { OnOk result (list_of list.new.items ≡ list_of list.old.items ++ stmt_of statement ∷ []) }
+{
+    let span = Span { start: 0, end: 0 };
+    list.push(Located { statement, span })?;
+    Ok(())
+}
+
+/// A block of these statements.
+pub fn block_of(list: Vec<Located>) -> Block
+    ensures { body_of result ≡ body_from (list_of list.items) }
+{
+    Block { list }
+}
+
+/// An Emit of the expressions from `first` to `last`, both included.
+pub fn emission(first: u8, last: u8) -> Statement
+    ensures { stmt_of result ≡ emission first last }
+{
+    Statement::Emit(Range {
+        start: first as u32,
+        end: last as u32 + 1,
+    })
+}
+
+/// A case of a Switch.
+pub fn case_of(value: SwitchValue, body: Block, fall_through: bool) -> SwitchCase
+    ensures { clause_of result ≡ record { value = value; falls = fall_through; body = body_of body } }
+{
+    SwitchCase {
+        value,
+        body,
+        fall_through,
+    }
+}
+
+/// A choice between two blocks.
+pub fn choice(condition: u8, accept: Block, reject: Block) -> Statement
+    ensures { stmt_of result ≡ Branch condition (body_of accept) (body_of reject) }
+{
+    Statement::If {
+        condition: expression(condition),
+        accept,
+        reject,
+    }
+}
+
+/// A loop over two blocks, left where `break_if` holds, if it names an expression.
+pub fn repetition(body: Block, continuing: Block, break_if: Option<u8>) -> Statement
+    ensures { stmt_of result ≡ Loop (body_of body) (body_of continuing) break_if }
+{
+    let break_if = match break_if {
+        Some(name) => Some(expression(name)),
+        None => None,
+    };
+    Statement::Loop {
+        body,
+        continuing,
+        break_if,
+    }
+}
+
+/// A choice among cases.
+pub fn switch(selector: u8, cases: Vec<SwitchCase>) -> Statement
+    ensures { stmt_of result ≡ Switch selector (cases_from (clauses_of cases.items)) }
+{
+    Statement::Switch {
+        selector: expression(selector),
+        cases,
+    }
+}

@@ -1,0 +1,253 @@
+//! Whole runs of the program.
+use crate::case::run_case;
+use std::alloc::Global;
+use std::io;
+use std::io::Read;
+use std::test::Fail;
+
+const ACCEPTED: [(&str, &str); 19] = [
+    ("P :", "ok 1ff\n"),
+    (
+        "P : loop { switch u { default { continue } } } { }",
+        "ok 1ff\n",
+    ),
+    (
+        "P : loop { } { switch u { default { break } } }",
+        "ok 1ff\n",
+    ),
+    ("P : if t { emit e1 } { emit e1 } emit e1", "ok 1ff\n"),
+    (
+        "P : loop { if t { continue } { } emit e1 } { } break_if e1",
+        "ok 1ff\n",
+    ),
+    ("P : loop { break emit e1 if e1 { } { } } { }", "ok 1ff\n"),
+    ("P : kill", "ok 002\n"),
+    ("P : return", "ok 1ff\n"),
+    ("P : if t { kill } { }", "ok 002\n"),
+    ("P -blocks : kill emit t", "ok 1ff\n"),
+    ("P -expressions : kill", "ok 002\n"),
+    ("P : loop { } { emit e1 } break_if e1", "ok 1ff\n"),
+    ("P : loop { emit e1 } { } emit e1", "ok 1ff\n"),
+    ("P : switch i { -2147483648i { } default { } }", "ok 1ff\n"),
+    (
+        "P : switch u { 1 fall { emit e1 } default { emit e1 } } emit e1",
+        "ok 1ff\n",
+    ),
+    ("P : loop { emit e1 } { } break_if e1", "ok 1ff\n"),
+    ("P : switch u { 7 { kill } default { } }", "ok 002\n"),
+    ("P : loop { } { block { kill } }", "ok 002\n"),
+    ("P : block { emit e1 if e1 { return } { } }", "ok 1ff\n"),
+];
+
+const FAULTS: [(&str, &str); 30] = [
+    ("P : break", "fault BreakOutsideOfLoopOrSwitch\n"),
+    (
+        "P : loop { } { switch u { default { continue } } }",
+        "fault ContinueOutsideOfLoop\n",
+    ),
+    (
+        "P : loop { } { loop { return } { } }",
+        "fault InvalidReturnSpot\n",
+    ),
+    (
+        "P : loop { } { break }",
+        "fault BreakOutsideOfLoopOrSwitch\n",
+    ),
+    ("P : emit e1 emit e1", "fault ExpressionAlreadyInScope 3\n"),
+    (
+        "P : block { emit e1 } if e1 { } { }",
+        "fault Expression/NotInScope 3\n",
+    ),
+    ("P : emit t", "fault ExpressionAlreadyInScope 0\n"),
+    (
+        "P : switch u { 1 fall { emit e1 } default { if e1 { } { } } }",
+        "fault Expression/NotInScope 3\n",
+    ),
+    (
+        "P : switch u { default fall { } }",
+        "fault LastCaseFallTrough\n",
+    ),
+    ("P : switch u { }", "fault MissingDefaultCase\n"),
+    (
+        "P : switch u { 1 { } 1 { } default { } }",
+        "fault ConflictingSwitchCase\n",
+    ),
+    (
+        "P : switch u { 1i { } 1 { } 1 { } }",
+        "fault ConflictingCaseType\n",
+    ),
+    ("P : return u", "fault InvalidReturnType 1\n"),
+    ("P : return x1", "fault Expression/NotInScope 5\n"),
+    ("P : if u { emit t } { }", "fault InvalidIfType 1\n"),
+    ("P : emit e1 .. x1", "fault ExpressionAlreadyInScope 4\n"),
+    (
+        "P : loop { emit e1 } { emit e1 }",
+        "fault ExpressionAlreadyInScope 3\n",
+    ),
+    (
+        "P : loop { } { kill break } break_if x1",
+        "fault BreakOutsideOfLoopOrSwitch\n",
+    ),
+    (
+        "P : loop { break } { } break_if u",
+        "fault InvalidIfType 1\n",
+    ),
+    (
+        "P : switch t { default { } }",
+        "fault InvalidSwitchType 0\n",
+    ),
+    (
+        "P : switch u { 1 { continue } 1 { } }",
+        "fault ConflictingSwitchCase\n",
+    ),
+    (
+        "P : switch u { default { } default { } }",
+        "fault MultipleDefaultCases\n",
+    ),
+    ("P : continue", "fault ContinueOutsideOfLoop\n"),
+    ("P : switch x1 { }", "fault Expression/NotInScope 5\n"),
+    ("P : if e1 { } { }", "fault Expression/NotInScope 3\n"),
+    (
+        "P : switch v { default { } }",
+        "fault InvalidSwitchType 4\n",
+    ),
+    (
+        "P : loop { } { } break_if e1",
+        "fault Expression/NotInScope 3\n",
+    ),
+    ("P : loop { } { return }", "fault InvalidReturnSpot\n"),
+    (
+        "P : if t { } { break }",
+        "fault BreakOutsideOfLoopOrSwitch\n",
+    ),
+    ("P : emit x1 return x1", "fault InvalidReturnType 5\n"),
+];
+
+const UNREADABLE: [&str; 14] = [
+    "",
+    "P : emit",
+    "P : emit r1",
+    "P : if t { }",
+    "P : emit x1 .. e1",
+    "P:",
+    "P -blocks -blocks :",
+    "P : switch u { 4294967296 { } default { } }",
+    "P : switch i { -0i { } default { } }",
+    "P : kill barrier",
+    "P : store v i",
+    "P : call f",
+    "C :",
+    "D :",
+];
+
+/// Whether a run over a writer that takes no memory gives this status and line, and no more.
+fn says(alloc: Global, input: &[u8], status: u8, line: &str) -> io::Result<bool> {
+    let mut reader = input;
+    let mut room = [0u8; 64];
+    let mut writer = room.as_mut_slice();
+    let found = run_case(alloc, &mut reader, &mut writer)?;
+    let left = writer.len();
+    let written = &room[..64usize.saturating_sub(left)];
+    Ok(found == status && written == line.as_bytes())
+}
+
+/// Whether an input gets this status and line. Where a request for memory is refused, that is said, and the same run
+/// again gives them.
+fn gets(alloc: Global, input: &[u8], status: u8, line: &str) -> io::Result<bool> {
+    if says(alloc, input, status, line)? {
+        return Ok(true);
+    }
+    Ok(says(alloc, input, 3, "memory\n")? && says(alloc, input, status, line)?)
+}
+
+#[test]
+fn rows(rt: HostRuntime) -> Result<(), Fail> {
+    for (input, line) in ACCEPTED {
+        assert!(rt;
+            gets(rt.alloc(), input.as_bytes(), 0, line)?,
+            "at {input:?}"
+        );
+    }
+    for (input, line) in FAULTS {
+        assert!(rt;
+            gets(rt.alloc(), input.as_bytes(), 1, line)?,
+            "at {input:?}"
+        );
+    }
+    for input in UNREADABLE {
+        assert!(rt;
+            gets(rt.alloc(), input.as_bytes(), 2, "unreadable\n")?,
+            "at {input:?}"
+        );
+    }
+    Ok(())
+}
+
+/// `P :` and spaces, so many bytes in all.
+fn spaces(alloc: Global, len: usize) -> Result<Vec<u8>, Fail> {
+    let mut input = Vec::from_slice(alloc, b"P :")?;
+    for _ in input.len()..len {
+        input.push(b' ')?;
+    }
+    Ok(input)
+}
+
+#[test]
+fn longest_input(rt: HostRuntime) -> Result<(), Fail> {
+    let input = spaces(rt.alloc(), 65536)?;
+    assert!(rt; gets(rt.alloc(), input.as_slice(), 0, "ok 1ff\n")?);
+    let input = spaces(rt.alloc(), 65537)?;
+    assert!(rt; gets(rt.alloc(), input.as_slice(), 2, "unreadable\n")?);
+    Ok(())
+}
+
+/// A reader that gives three bytes at each read, and fails at one.
+#[derive(Drop)]
+struct FailingReader<'a> {
+    bytes: &'a [u8],
+    reads_left: u32,
+}
+
+impl Read for FailingReader<'_> {
+    fn read(&mut self, buf: &mut [u8]) -> io::Result<usize> {
+        if self.reads_left == 0 {
+            return Err(io::Error::other("no read"));
+        }
+        self.reads_left -= 1;
+        let count = self.bytes.len().min(buf.len()).min(3);
+        buf[..count].copy_from_slice(&self.bytes[..count]);
+        self.bytes = &self.bytes[count..];
+        Ok(count)
+    }
+}
+
+#[test]
+fn failed_read(rt: HostRuntime) -> Result<(), Fail> {
+    for reads_left in 0..4 {
+        let bytes = b"P : break";
+        let mut reader = FailingReader { bytes, reads_left };
+        let mut room = [0u8; 64];
+        let mut writer = room.as_mut_slice();
+        assert!(rt; run_case(rt.alloc(), &mut reader, &mut writer).is_err());
+        assert!(rt; writer.len() == 64);
+    }
+    let bytes = b"P : break";
+    let mut reader = FailingReader {
+        bytes,
+        reads_left: 4,
+    };
+    let mut room = [0u8; 64];
+    let mut writer = room.as_mut_slice();
+    assert!(rt; run_case(rt.alloc(), &mut reader, &mut writer)? == 1);
+    Ok(())
+}
+
+#[test]
+fn failed_write(rt: HostRuntime) {
+    for size in [0usize, 3, 6, 9, 28, 29] {
+        let mut room = [0u8; 64];
+        let mut writer = &mut room[..size];
+        let mut reader = b"P : block { emit e1 } if e1 { } { }".as_slice();
+        assert!(rt; run_case(rt.alloc(), &mut reader, &mut writer).is_err());
+    }
+}
