@@ -1,4 +1,4 @@
-//! Worked rows, each public call once with ample memory, and refused growth.
+//! Tables of cases, each public call once with ample memory, and refused growth.
 
 ghost use Rattle.std.specs.Prelude.{◌≡◌, []};
 

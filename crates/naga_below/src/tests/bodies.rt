@@ -1,4 +1,4 @@
-//! The test of conditions on functions, by worked rows.
+//! The test of conditions on functions, by tables of cases.
 
 use crate::arena::handle::Handle;
 use crate::arena::range::Range;

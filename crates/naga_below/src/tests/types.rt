@@ -1,4 +1,4 @@
-//! Questions about types, by worked rows.
+//! Questions about types, by tables of cases.
 
 use crate::arena::handle::Handle;
 use crate::arena::unique_arena::UniqueArena;
