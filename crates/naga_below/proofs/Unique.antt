@@ -1,7 +1,8 @@
 -- A test that finds only identical values equal, over lists.
-use Rattle.std.proofs.Common.{◌≡◌, ℕ, zero, suc, Bool, true, false, ◌||◌, List, [], ◌∷◌, ◌++◌, length, Some, slice_get, Contains, refl, sym, ap, subst, ◌∙◌, true≢false, if◌then◌else◌}
+use Rattle.std.proofs.Common.{◌≡◌, ◌<◌, ℕ, zero, suc, Bool, true, false, ◌||◌, List, [], ◌∷◌, ◌++◌, length, Some, slice_get, Contains, refl, sym, ap, subst, ◌∙◌, true≢false, if◌then◌else◌, take, arith}
 use Rattle.std.specs.List.{list_any, IsDistinct, AllByRecursion}
-use Rattle.std.proofs.lemmas.Option.{slice_get_read}
+use Rattle.std.proofs.lemmas.List.{get_or-take, length-take-le}
+use Rattle.std.proofs.lemmas.Option.{slice_get_read, slice_get_within}
 use Rattle.indexmap.specs.IndexSet.{insert_key}
 use Rattle.indexmap.proofs.CallerLemmas.{Contains-list_any}
 use Rattle.naga_below.specs.Unique.{AreDistinct}
@@ -57,3 +58,13 @@ module _ {T : Type 0} (eq : T → T → Bool) (self_equal : (a : T) → eq a a �
   -- a value that the test finds nowhere is not there
   pub absent : (xs : List T) (x : T) → list_any (eq x) xs ≡ false → Contains xs x → ⊥
   absent xs x e c = true≢false (sym (found_at xs x c.0 (slice_get_read xs (length xs) c.0 x refl c.1 (sym c.2))) ∙ e)
+
+-- a value of a list without repeats stands at no place before its own
+pub none_before : {T : Type 0} (xs : List T) (k : ℕ) (x : T) → AreDistinct xs → slice_get xs k ≡ Some x → Contains (take k xs) x → ⊥
+none_before xs k x d e c =
+    let within : k < length xs = slice_get_within xs k x e in
+    let long : length (take k xs) ≡ k = length-take-le k xs (omega arith) in
+    let before : c.0 < k = omega arith in
+    let there : slice_get xs c.0 ≡ Some x = slice_get_read xs (length xs) c.0 x refl (omega arith) (sym c.2 ∙ get_or-take k xs c.0 x before) in
+    let same : c.0 ≡ k = d c.0 k x there e in
+    omega arith

@@ -1,6 +1,7 @@
 //! Arenas: lists of values that are read by handles.
 
 ghost use Rattle.std.specs.Prelude.{◌≡◌, ◌↔◌, ◌<◌, ◌≤◌, ◌++◌, ◌∷◌, [], IsTrue, IfOk, OnOk, OnErr, Some, length, slice_get};
+ghost use Rattle.std.specs.List.{AllZip};
 
 pub mod handle;
 pub mod range;
@@ -8,6 +9,7 @@ pub mod tag;
 pub mod unique_arena;
 
 use crate::arena::handle::{Handle, Tagged};
+use crate::duplicate::{Duplicate, duplicates};
 use crate::span::Span;
 use std::alloc::{AllocError, Global};
 use std::marker::Model;
@@ -42,6 +44,7 @@ impl<T: Tagged + Drop> Arena<T> {
         }
     }
 
+    /// How many values there are; a handle of the arena has a lower index.
     pub fn len(&self) -> usize
         ensures len { result ≡ length self.now }
         ensures small { result ≤ 4294967295 }
@@ -49,6 +52,7 @@ impl<T: Tagged + Drop> Arena<T> {
         self.values.len()
     }
 
+    /// Whether there is no value, so that no handle is in range.
     pub fn is_empty(&self) -> bool
         ensures { IsTrue result ↔ (self.now ≡ []) }
     {
@@ -78,10 +82,24 @@ impl<T: Tagged + Drop> Arena<T> {
         self.spans[handle.index()]
     }
 
+    /// The values, indexed by their handles.
     pub fn as_slice(&self) -> &[T]
         ensures { result.now ≡ self.now }
     {
         self.values.as_slice()
+    }
+}
+
+impl<T: Tagged + Duplicate> Arena<T> {
+    /// An arena of equal values, each with the same span.
+    #[tactic(auto, using(std::proofs::lemmas::List::Elements::length_all_zip))]
+    pub fn clone(&self, alloc: Global) -> Result<Self, AllocError>
+        ensures { IfOk result (AllZip T.alike self.now) }
+    {
+        Ok(Arena {
+            values: duplicates(self.values.as_slice(), alloc)?,
+            spans: self.spans.as_slice().to_vec(alloc)?,
+        })
     }
 }
 

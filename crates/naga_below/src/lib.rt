@@ -4,6 +4,7 @@
 #![tactic(auto)]
 
 pub mod arena;
+pub mod duplicate;
 pub mod fits;
 pub mod ir;
 pub mod proc;

@@ -49,12 +49,14 @@ impl<E> WithSpan<E> {
         Ok(self)
     }
 
+    /// The fault without its places.
     pub fn as_inner(&self) -> &E
         ensures { result.now ≡ self.now }
     {
         &self.inner
     }
 
+    /// The fault; its places are let go.
     pub fn into_inner(self) -> E
         ensures { result ≡ self }
     {

@@ -10,6 +10,7 @@ mod modules;
 mod types;
 
 use crate::arena::Arena;
+use crate::arena::handle::Tagged;
 use crate::arena::unique_arena::UniqueArena;
 use crate::ir::functions::Function;
 use crate::ir::module::{Module, SpecialTypes};
@@ -59,6 +60,13 @@ fn empty_function(alloc: Global) -> Function
             list: Vec::new(alloc),
         },
     }
+}
+
+/// An arena of one value.
+fn arena_of<T: Tagged + Drop>(alloc: Global, span: Span, value: T) -> Result<Arena<T>, AllocError> {
+    let mut arena = Arena::new(alloc);
+    arena.append(value, span)?;
+    Ok(arena)
 }
 
 /// A block of one statement.

@@ -4,6 +4,7 @@ ghost use Rattle.std.specs.Prelude.{◌≡◌, ◌↔◌, ◌<◌, ◌≤◌, �
 ghost use Rattle.naga_below.specs.Unique.{AreDistinct};
 
 use crate::arena::handle::{Handle, Tagged};
+use crate::ir::types::Type;
 use crate::span::Span;
 use indexmap::IndexSet;
 use std::alloc::{AllocError, Global};
@@ -46,6 +47,7 @@ impl<T: Tagged + Eq + Hash + Drop> UniqueArena<T> {
         }
     }
 
+    /// How many values there are; a handle of the arena has a lower index.
     pub fn len(&self) -> usize
         ensures len { result ≡ length self.now }
         ensures small { result ≤ 4294967295 }
@@ -53,6 +55,7 @@ impl<T: Tagged + Eq + Hash + Drop> UniqueArena<T> {
         self.set.len()
     }
 
+    /// Whether there is no value, so that no handle is in range.
     pub fn is_empty(&self) -> bool
         ensures { IsTrue result ↔ (self.now ≡ []) }
     {
@@ -92,11 +95,27 @@ impl<T: Tagged + Identical + Hash + Drop> UniqueArena<T> {
         }
     }
 
+    /// The values in the order of their first insertion, indexed by their handles.
     pub fn as_slice(&self) -> &[T]
         ensures values { result.now ≡ self.now }
         ensures distinct { AreDistinct self.now }
     {
         self.set.as_slice()
+    }
+}
+
+impl UniqueArena<Type> {
+    /// An arena of equal types, each with the same span.
+    pub fn clone(&self, alloc: Global) -> Result<Self, AllocError>
+        ensures { IfOk result (λ made. made ≡ self.now) }
+    {
+        let mut made = UniqueArena::new(alloc);
+        let types = self.as_slice();
+        for index in 0..self.len() {
+            let span = self.get_span(Handle::new(index as u32));
+            made.insert(types[index].clone(alloc)?, span)?;
+        }
+        Ok(made)
     }
 }
 

@@ -4,6 +4,7 @@ ghost use Rattle.std.specs.Prelude.{◌≡◌, IfOk};
 
 use crate::arena::handle::{Handle, Tagged};
 use crate::arena::tag;
+use crate::duplicate::Duplicate;
 use crate::ir::types::Scalar;
 use crate::sequence::Sequence;
 use std::alloc::{AllocError, Global};
@@ -245,5 +246,13 @@ impl Expression {
                 },
             ),
         }
+    }
+}
+
+impl Duplicate for Expression {
+    ghost alike = { λ x y. y ≡ x };
+
+    fn duplicate(&self, alloc: Global) -> Result<Self, AllocError> {
+        self.clone(alloc)
     }
 }

@@ -1,9 +1,11 @@
 //! Functions.
 
 ghost use Rattle.std.specs.Prelude.{◌≡◌, IfOk};
+ghost use Rattle.naga_below.specs.Clones.{IsSameFunction};
 
 use crate::arena::handle::{Handle, Tagged};
 use crate::arena::{Arena, tag};
+use crate::duplicate::{Duplicate, duplicates};
 use crate::ir::expressions::Expression;
 use crate::ir::name::{Name, clone_name};
 use crate::ir::statements::Block;
@@ -78,5 +80,48 @@ impl FunctionArgument {
             ty: self.ty,
             binding: self.binding,
         })
+    }
+}
+
+impl Duplicate for LocalVariable {
+    ghost alike = { λ x y. y ≡ x };
+
+    fn duplicate(&self, alloc: Global) -> Result<Self, AllocError> {
+        self.clone(alloc)
+    }
+}
+
+impl Duplicate for FunctionArgument {
+    ghost alike = { λ x y. y ≡ x };
+
+    fn duplicate(&self, alloc: Global) -> Result<Self, AllocError> {
+        self.clone(alloc)
+    }
+}
+
+impl Function {
+    /// An equal function.
+    #[tactic(auto, using(std::proofs::lemmas::List::Elements::same_from_all_zip))]
+    pub fn clone(&self, alloc: Global) -> Result<Self, AllocError>
+        ensures { IfOk result (IsSameFunction self.now) }
+    {
+        let arguments = duplicates(self.arguments.as_slice(), alloc)?;
+        Ok(Function {
+            arguments: Sequence::from(arguments),
+            result: self.result,
+            local_variables: self.local_variables.clone(alloc)?,
+            expressions: self.expressions.clone(alloc)?,
+            body: self.body.clone(alloc)?,
+        })
+    }
+}
+
+impl Duplicate for Function {
+    ghost use Rattle.naga_below.specs.Clones.{IsSameFunction};
+
+    ghost alike = { IsSameFunction };
+
+    fn duplicate(&self, alloc: Global) -> Result<Self, AllocError> {
+        self.clone(alloc)
     }
 }

@@ -1,13 +1,18 @@
 //! Globals, entry points and modules.
 
+ghost use Rattle.std.specs.Prelude.{◌≡◌, IfOk};
+ghost use Rattle.naga_below.specs.Clones.{IsSameEntryPoint, IsSameModule};
+
 use crate::arena::handle::{Handle, Tagged};
 use crate::arena::unique_arena::{Identical, UniqueArena};
 use crate::arena::{Arena, tag};
+use crate::duplicate::{Duplicate, duplicates};
 use crate::ir::expressions::Expression;
 use crate::ir::flags::MemoryDecorations;
 use crate::ir::functions::Function;
 use crate::ir::types::{AddressSpace, Type};
 use crate::sequence::Sequence;
+use std::alloc::{AllocError, Global};
 
 impl Identical for Type {
     ghost use Rattle.naga_below.specs.EqualTypes.{type_same};
@@ -130,4 +135,73 @@ pub struct Module {
     /// A function calls only earlier ones.
     pub functions: Arena<Function>,
     pub entry_points: Sequence<EntryPoint>,
+}
+
+impl Duplicate for GlobalVariable {
+    ghost alike = { λ x y. y ≡ x };
+
+    fn duplicate(&self, _alloc: Global) -> Result<Self, AllocError> {
+        Ok(*self)
+    }
+}
+
+impl Duplicate for Constant {
+    ghost alike = { λ x y. y ≡ x };
+
+    fn duplicate(&self, _alloc: Global) -> Result<Self, AllocError> {
+        Ok(*self)
+    }
+}
+
+impl Duplicate for Override {
+    ghost alike = { λ x y. y ≡ x };
+
+    fn duplicate(&self, _alloc: Global) -> Result<Self, AllocError> {
+        Ok(*self)
+    }
+}
+
+impl EntryPoint {
+    /// An equal entry point.
+    pub fn clone(&self, alloc: Global) -> Result<Self, AllocError>
+        ensures { IfOk result (IsSameEntryPoint self.now) }
+    {
+        Ok(EntryPoint {
+            stage: self.stage,
+            early_depth_test: self.early_depth_test,
+            workgroup_size: self.workgroup_size,
+            function: self.function.clone(alloc)?,
+            mesh_info: self.mesh_info,
+            task_payload: self.task_payload,
+        })
+    }
+}
+
+impl Duplicate for EntryPoint {
+    ghost use Rattle.naga_below.specs.Clones.{IsSameEntryPoint};
+
+    ghost alike = { IsSameEntryPoint };
+
+    fn duplicate(&self, alloc: Global) -> Result<Self, AllocError> {
+        self.clone(alloc)
+    }
+}
+
+impl Module {
+    /// An equal module.
+    pub fn clone(&self, alloc: Global) -> Result<Self, AllocError>
+        ensures { IfOk result (IsSameModule self.now) }
+    {
+        let entry_points = duplicates(self.entry_points.as_slice(), alloc)?;
+        Ok(Module {
+            types: self.types.clone(alloc)?,
+            special_types: self.special_types,
+            constants: self.constants.clone(alloc)?,
+            overrides: self.overrides.clone(alloc)?,
+            global_variables: self.global_variables.clone(alloc)?,
+            global_expressions: self.global_expressions.clone(alloc)?,
+            functions: self.functions.clone(alloc)?,
+            entry_points: Sequence::from(entry_points),
+        })
+    }
 }

@@ -21,12 +21,14 @@ impl Model for Name {
 }
 
 impl Name {
+    /// The text, which need not be an identifier and may be empty.
     pub fn as_str(&self) -> &str
         ensures { result.now ≡ self.now }
     {
         self.text.as_str()
     }
 
+    /// The text, in the memory that the name had.
     pub fn into_string(self) -> String
         ensures { string_bytes result ≡ self }
     {

@@ -1,6 +1,6 @@
 //! Statements and blocks.
 
-ghost use Rattle.std.specs.Prelude.{◌≡◌, IfOk};
+ghost use Rattle.std.specs.Prelude.{◌≡◌, ◌∷◌, [], IfOk};
 ghost use Rattle.naga_below.specs.View.{no_operands, tree_of, body_of, list_body, list_cases};
 ghost use Rattle.naga_below.specs.declared.span.Span.{Span as SpanOf};
 
@@ -247,14 +247,24 @@ fn clone_cases(cases: &[SwitchCase], alloc: Global) -> Result<Vec<SwitchCase>, A
 {
     let mut made = Vec::new(alloc);
     for case in cases {
-        let body = case.body.clone(alloc)?;
-        made.push(SwitchCase {
-            value: case.value,
-            body,
-            fall_through: case.fall_through,
-        })?;
+        made.push(case.clone(alloc)?)?;
     }
     Ok(made)
+}
+
+impl SwitchCase {
+    /// An equal case.
+    #[cycle(clone)]
+    pub fn clone(&self, alloc: Global) -> Result<Self, AllocError>
+        ensures { IfOk result (λ made. list_cases no_operands (made ∷ []) ≡ list_cases no_operands (self.now ∷ [])) }
+    {
+        let body = self.body.clone(alloc)?;
+        Ok(SwitchCase {
+            value: self.value,
+            body,
+            fall_through: self.fall_through,
+        })
+    }
 }
 
 impl Statement {

@@ -4,6 +4,7 @@ ghost use Rattle.std.specs.Prelude.{◌≡◌, IfOk};
 
 use crate::arena::handle::{Handle, Tagged};
 use crate::arena::tag;
+use crate::duplicate::{Duplicate, duplicates};
 use crate::ir::built_in::BuiltIn;
 use crate::ir::flags::StorageAccess;
 use crate::ir::name::{Name, clone_name};
@@ -31,31 +32,37 @@ pub struct Scalar {
 }
 
 impl Scalar {
+    /// A signed integer of 32 bits.
     pub const I32: Scalar = Scalar {
         kind: ScalarKind::Sint,
         width: 4,
     };
 
+    /// An unsigned integer of 32 bits.
     pub const U32: Scalar = Scalar {
         kind: ScalarKind::Uint,
         width: 4,
     };
 
+    /// A float of 32 bits.
     pub const F32: Scalar = Scalar {
         kind: ScalarKind::Float,
         width: 4,
     };
 
+    /// A signed integer of 64 bits.
     pub const I64: Scalar = Scalar {
         kind: ScalarKind::Sint,
         width: 8,
     };
 
+    /// An unsigned integer of 64 bits.
     pub const U64: Scalar = Scalar {
         kind: ScalarKind::Uint,
         width: 8,
     };
 
+    /// A bool, of one byte.
     pub const BOOL: Scalar = Scalar {
         kind: ScalarKind::Bool,
         width: 1,
@@ -291,15 +298,20 @@ impl StructMember {
     }
 }
 
-/// The same members once more.
+impl Duplicate for StructMember {
+    ghost alike = { λ x y. y ≡ x };
+
+    fn duplicate(&self, alloc: Global) -> Result<Self, AllocError> {
+        self.clone(alloc)
+    }
+}
+
+/// Equal members.
+#[tactic(auto, using(std::proofs::lemmas::List::Elements::same_from_all_zip))]
 fn clone_members(members: &Members, alloc: Global) -> Result<Members, AllocError>
     ensures { IfOk result (λ made. made ≡ members.now) }
 {
-    let mut items = Vec::with_capacity(alloc, members.len())?;
-    for member in members.as_slice() {
-        items.push(member.clone(alloc)?)?;
-    }
-    Ok(Members::from(items))
+    Ok(Members::from(duplicates(members.as_slice(), alloc)?))
 }
 
 impl TypeInner {
@@ -386,5 +398,13 @@ impl Type {
             name: clone_name(&self.name, alloc)?,
             inner: self.inner.clone(alloc)?,
         })
+    }
+}
+
+impl Duplicate for Type {
+    ghost alike = { λ x y. y ≡ x };
+
+    fn duplicate(&self, alloc: Global) -> Result<Self, AllocError> {
+        self.clone(alloc)
     }
 }

@@ -54,12 +54,14 @@ impl ExpressionKindTracker {
         }
     }
 
+    /// How many expressions have a kind so far.
     pub fn len(&self) -> usize
         ensures { result ≡ length self.now }
     {
         self.kinds.len()
     }
 
+    /// Whether no expression has a kind yet.
     pub fn is_empty(&self) -> bool
         ensures { IsTrue result ↔ (self.now ≡ []) }
     {
@@ -75,6 +77,7 @@ impl ExpressionKindTracker {
         Ok(())
     }
 
+    /// Whether the value is known as the module is made.
     pub fn is_const(&self, handle: Handle<tag::Expression>) -> bool
         requires { handle < length self.now }
         ensures { IsTrue result ↔ (slice_get self.now handle ≡ Some kind.Const) }
@@ -82,6 +85,7 @@ impl ExpressionKindTracker {
         self.kinds[handle.index()] == ExpressionKind::Const
     }
 
+    /// Whether the value is known before the pipeline runs.
     pub fn is_const_or_override(&self, handle: Handle<tag::Expression>) -> bool
         requires { handle < length self.now }
         ensures { IsTrue result ↔ (slice_get self.now handle ≡ Some kind.Const) ⊎ (slice_get self.now handle ≡ Some kind.Override) }

@@ -27,6 +27,7 @@ impl TypeInner {
         }
     }
 
+    /// The kind of that scalar.
     pub fn scalar_kind(&self) -> Option<ScalarKind>
         ensures { result ≡ scalar_kind_of self.now }
     {

@@ -1,16 +1,24 @@
 //! Clones are equal, spans included.
 
+use crate::arena::Arena;
 use crate::arena::handle::Handle;
 use crate::arena::range::Range;
+use crate::arena::unique_arena::UniqueArena;
 use crate::ir::expressions::Expression;
-use crate::ir::functions::{FunctionArgument, LocalVariable};
+use crate::ir::flags::MemoryDecorations;
+use crate::ir::functions::{Function, FunctionArgument, FunctionResult, LocalVariable};
+use crate::ir::module::{
+    Constant, EntryPoint, GlobalVariable, Module, Override, ShaderStage, SpecialTypes,
+};
 use crate::ir::name::{Name, clone_name};
-use crate::ir::statements::{Block, Located, Statement};
-use crate::ir::types::{StructMember, Type, TypeInner};
+use crate::ir::statements::{Block, Located, Statement, SwitchCase, SwitchValue};
+use crate::ir::types::{AddressSpace, Scalar, StructMember, Type, TypeInner};
 use crate::proc::typifier::TypeResolution;
 use crate::sequence::Sequence;
 use crate::span::Span;
-use crate::tests::block_of;
+use crate::tests::{NOWHERE, arena_of, block_of, scalar_type};
+use bitflags::Flags;
+use std::alloc::{AllocError, Global};
 use std::test::Fail;
 
 const SPAN: Span = Span { start: 4, end: 9 };
@@ -91,5 +99,198 @@ fn variables_and_arguments(rt: HostRuntime) -> Result<(), Fail> {
         Some(name) => assert_eq!(rt; name.into_string().as_str(), "i"),
         None => assert!(rt; false),
     }
+    Ok(())
+}
+
+/// A case that falls through.
+#[test]
+fn a_case(rt: HostRuntime) -> Result<(), Fail> {
+    let case = SwitchCase {
+        value: SwitchValue::I32(-3),
+        body: block_of(rt.alloc(), Statement::Kill)?,
+        fall_through: true,
+    };
+    let copy = case.clone(rt.alloc())?;
+    assert!(rt; copy == case);
+    assert_eq!(rt; copy.value, SwitchValue::I32(-3));
+    assert!(rt; copy.fall_through);
+    assert!(rt; copy.body == block_of(rt.alloc(), Statement::Kill)?);
+    Ok(())
+}
+
+#[test]
+fn an_arena_with_spans(rt: HostRuntime) -> Result<(), Fail> {
+    let mut constants = Arena::new(rt.alloc());
+    constants.append(Constant { ty: Handle::new(7) }, SPAN)?;
+    constants.append(Constant { ty: Handle::new(3) }, NOWHERE)?;
+    let copy = constants.clone(rt.alloc())?;
+    assert!(rt; copy.len() == 2);
+    let (first, second) = (Handle::new(0), Handle::new(1));
+    assert_eq!(rt; (copy[first].ty.index(), copy[second].ty.index()), (7, 3));
+    assert_eq!(rt;
+        (copy.get_span(first), copy.get_span(second)),
+        (SPAN, NOWHERE)
+    );
+    Ok(())
+}
+
+/// The clone also finds the values that are there.
+#[test]
+fn a_unique_arena_with_spans(rt: HostRuntime) -> Result<(), Fail> {
+    let mut types = UniqueArena::new(rt.alloc());
+    types.insert(scalar_type(Scalar::U32), SPAN)?;
+    assert!(rt; types.len() < 10);
+    types.insert(scalar_type(Scalar::I32), NOWHERE)?;
+    let mut copy = types.clone(rt.alloc())?;
+    assert!(rt; copy.len() == 2);
+    let (first, second) = (Handle::new(0), Handle::new(1));
+    assert_eq!(rt; copy[first].inner, TypeInner::Scalar(Scalar::U32));
+    assert_eq!(rt; copy[second].inner, TypeInner::Scalar(Scalar::I32));
+    assert_eq!(rt;
+        (copy.get_span(first), copy.get_span(second)),
+        (SPAN, NOWHERE)
+    );
+    let again = copy.insert(scalar_type(Scalar::I32), SPAN)?;
+    assert_eq!(rt; (again.index(), copy.len()), (1, 2));
+    Ok(())
+}
+
+/// A function with one of each: argument, local, expression and statement.
+fn function_of_each(alloc: Global) -> Result<Function, AllocError> {
+    let mut arguments = Sequence::new(alloc);
+    arguments.push(FunctionArgument {
+        name: None,
+        ty: Handle::new(1),
+        binding: None,
+    })?;
+    let local = LocalVariable {
+        name: None,
+        ty: Handle::new(3),
+        init: None,
+    };
+    Ok(Function {
+        arguments,
+        result: Some(FunctionResult {
+            ty: Handle::new(2),
+            binding: None,
+        }),
+        local_variables: arena_of(alloc, SPAN, local)?,
+        expressions: arena_of(alloc, SPAN, Expression::FunctionArgument(4))?,
+        body: block_of(alloc, Statement::Kill)?,
+    })
+}
+
+/// Whether the function is that of `function_of_each`, whose body is given.
+fn is_of_each(fun: &Function, body: &Block) -> bool {
+    fun.arguments.len() == 1
+        && fun.arguments[0].ty.index() == 1
+        && matches!(fun.result, Some(FunctionResult { ty, binding: None }) if ty.index() == 2)
+        && fun.local_variables.len() == 1
+        && fun.local_variables[Handle::new(0)].ty.index() == 3
+        && fun.local_variables.get_span(Handle::new(0)) == SPAN
+        && fun.expressions.len() == 1
+        && fun.expressions[Handle::new(0)] == Expression::FunctionArgument(4)
+        && fun.expressions.get_span(Handle::new(0)) == SPAN
+        && fun.body == *body
+}
+
+#[test]
+fn a_function(rt: HostRuntime) -> Result<(), Fail> {
+    let body = block_of(rt.alloc(), Statement::Kill)?;
+    let fun = function_of_each(rt.alloc())?;
+    let copy = fun.clone(rt.alloc())?;
+    assert!(rt; is_of_each(&copy, &body));
+    Ok(())
+}
+
+fn entry_point_of_each(alloc: Global) -> Result<EntryPoint, AllocError> {
+    Ok(EntryPoint {
+        stage: ShaderStage::Task,
+        early_depth_test: None,
+        workgroup_size: [8, 4, 2],
+        function: function_of_each(alloc)?,
+        mesh_info: None,
+        task_payload: Some(Handle::new(6)),
+    })
+}
+
+/// Whether the entry point is that of `entry_point_of_each`, whose body is given.
+fn is_entry_of_each(ep: &EntryPoint, body: &Block) -> bool {
+    ep.stage == ShaderStage::Task
+        && ep.early_depth_test.is_none()
+        && ep.workgroup_size == [8, 4, 2]
+        && is_of_each(&ep.function, body)
+        && ep.mesh_info.is_none()
+        && ep.task_payload == Some(Handle::new(6))
+}
+
+#[test]
+fn an_entry_point(rt: HostRuntime) -> Result<(), Fail> {
+    let body = block_of(rt.alloc(), Statement::Kill)?;
+    let ep = entry_point_of_each(rt.alloc())?;
+    let copy = ep.clone(rt.alloc())?;
+    assert!(rt; is_entry_of_each(&copy, &body));
+    Ok(())
+}
+
+fn module_of_each(alloc: Global) -> Result<Module, AllocError> {
+    let mut types = UniqueArena::new(alloc);
+    types.insert(scalar_type(Scalar::F32), SPAN)?;
+    let mut entry_points = Sequence::new(alloc);
+    entry_points.push(entry_point_of_each(alloc)?)?;
+    let global = GlobalVariable {
+        space: AddressSpace::Private,
+        binding: None,
+        ty: Handle::new(5),
+        init: None,
+        memory_decorations: MemoryDecorations::empty(),
+    };
+    Ok(Module {
+        types,
+        special_types: SpecialTypes {
+            ray_desc: Some(Handle::new(0)),
+        },
+        constants: arena_of(alloc, SPAN, Constant { ty: Handle::new(7) })?,
+        overrides: arena_of(alloc, SPAN, Override { ty: Handle::new(8) })?,
+        global_variables: arena_of(alloc, SPAN, global)?,
+        global_expressions: arena_of(alloc, SPAN, Expression::ZeroValue(Handle::new(9)))?,
+        functions: arena_of(alloc, SPAN, function_of_each(alloc)?)?,
+        entry_points,
+    })
+}
+
+/// Whether types and globals are those of `module_of_each`.
+fn has_globals_of_each(module: &Module) -> bool {
+    module.types.len() == 1
+        && module.types[Handle::new(0)].inner == TypeInner::Scalar(Scalar::F32)
+        && module.types.get_span(Handle::new(0)) == SPAN
+        && module.special_types.ray_desc == Some(Handle::new(0))
+        && module.constants.len() == 1
+        && module.constants[Handle::new(0)].ty.index() == 7
+        && module.overrides.len() == 1
+        && module.overrides[Handle::new(0)].ty.index() == 8
+        && module.global_variables.len() == 1
+        && module.global_variables[Handle::new(0)].ty.index() == 5
+        && module.global_variables.get_span(Handle::new(0)) == SPAN
+        && module.global_expressions.len() == 1
+        && module.global_expressions[Handle::new(0)] == Expression::ZeroValue(Handle::new(9))
+}
+
+/// Whether functions and entry points are those of `module_of_each`, with bodies as given.
+fn has_functions_of_each(module: &Module, body: &Block) -> bool {
+    module.functions.len() == 1
+        && is_of_each(&module.functions[Handle::new(0)], body)
+        && module.functions.get_span(Handle::new(0)) == SPAN
+        && module.entry_points.len() == 1
+        && is_entry_of_each(&module.entry_points[0], body)
+}
+
+#[test]
+fn a_module(rt: HostRuntime) -> Result<(), Fail> {
+    let body = block_of(rt.alloc(), Statement::Kill)?;
+    let module = module_of_each(rt.alloc())?;
+    let copy = module.clone(rt.alloc())?;
+    assert!(rt; has_globals_of_each(&copy));
+    assert!(rt; has_functions_of_each(&copy, &body));
     Ok(())
 }

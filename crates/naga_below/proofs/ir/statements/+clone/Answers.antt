@@ -1,7 +1,6 @@
 use Rattle.std.proofs.Common.{rules, ap, ◌∙◌, sym}
 use Rattle.std.proofs.lemmas.List.{take_more}
 use Rattle.naga_below.specs.declared.ir.statements.Located.{the_lemmas}
-use Rattle.naga_below.specs.declared.ir.statements.SwitchCase.{the_lemmas as case_lemmas}
 use Rattle.naga_below.specs.View.{no_operands, tree_of, list_body, list_cases}
 use Rattle.naga_below.specs.Tree.{Switch}
 use Rattle.naga_below.proofs.Rows.{body_of-list, tree_of-switch}
@@ -25,8 +24,7 @@ clone_cases-loop-case-preserved t c =
     let e = c.in_ok-push.ensures.items in
     let f = take_more c.args.cases.now c.loop-case.case-index c.case-item.result c.loop-case-test.true in
     let g = c.case-item.is in
-    let h = c.in_ok-body.ensures in
-    rw (e, f, ← g) (list_cases-more no_operands _ _ _ _ c.loop-case.invariant (search (rules, case_lemmas)) (search (rules, case_lemmas)) (search (rules, case_lemmas)))
+    rw (e, f, ← g) (list_cases-more no_operands _ _ _ _ c.loop-case.invariant c.in_ok-clone.ensures)
 
 pub Statement::clone-returns-in_ok-cases-in-Switch : goal.Statement::clone-returns-in_ok-cases-in-Switch
 Statement::clone-returns-in_ok-cases-in-Switch t c span =
