@@ -1,17 +1,19 @@
 -- Where no point of a visit fails, its uses are in scope, its puts are not, and its jump is allowed; so the runs of
 -- an accepted body are sound.
-use Rattle.std.proofs.Common.{◌≡◌, ℕ, zero, suc, ◌≤◌, ◌==◌, ◌-◌, Bool, true, false, [], ◌∷◌, ◌++◌, None, Some, Ok, subst, refl, sym, ap, ◌∙◌, arith}
-use Rattle.std.specs.Prelude.{not, is_none, if◌then◌else◌}
+use Rattle.std.proofs.Common.{◌≡◌, ℕ, zero, suc, ◌≤◌, ◌==◌, ◌-◌, true, false, [], ◌∷◌, ◌++◌, None, Some, Ok, subst, refl, sym, ap, ◌∙◌, arith}
+use Rattle.std.specs.Prelude.{IfSome, not, is_none, if◌then◌else◌}
 use Rattle.std.proofs.lemmas.Bool.Decides.{nat_tests}
-use Rattle.naga_below.specs.Tree.{Leaf, Block, Branch, Switch, Loop, Break, Continue, Return, Kill}
+use Rattle.naga_below.specs.Tree.{Stmt, Leaf, Block, Branch, Switch, Loop, Break, Continue, Return, Kill}
 use Rattle.naga_below.specs.View.{emitted, no_operands}
 use Rattle.naga_below.specs.declared.ir.statements.Statement as ir
+use Rattle.naga_below.specs.declared.valid.expression_error.ExpressionError.TheVariants.{NotInScope}
 use Rattle.naga_rules.specs.declared.function.FunctionError.{FunctionError}
-use Rattle.naga_rules.specs.declared.function.FunctionError.TheVariants.{EmitResult, InvalidIfType, InvalidSwitchType, BreakOutsideOfLoopOrSwitch, ContinueOutsideOfLoop, InvalidReturnSpot, InvalidReturnType}
+use Rattle.naga_rules.specs.declared.function.FunctionError.TheVariants.{EmitResult, Expression, ExpressionAlreadyInScope, InvalidIfType, InvalidSwitchType, BreakOutsideOfLoopOrSwitch, ContinueOutsideOfLoop, InvalidReturnSpot, InvalidReturnType}
 use Rattle.naga_runs.proofs.Judgements.{accepted_block_is_sound}
+use Rattle.naga_runs.proofs.Points.{first_holds, not_holds}
 use Rattle.naga_runs.specs.Guards.{ReadGuards, IsRead}
 use Rattle.naga_runs.specs.Handles.{Handles, with_handle}
-use Rattle.naga_runs.specs.Judgement.{Point, first_fault}
+use Rattle.naga_runs.specs.Judgement.{Point, first_fault, viewed}
 use Rattle.naga_runs.specs.Abilities.{node_jump}
 use Rattle.naga_runs.specs.Positions.{Node, NoNode, StatementNode, BreakIfNode}
 use Rattle.naga_runs.specs.PutsAndUses.{node_acts}
@@ -20,31 +22,30 @@ use Rattle.naga_runs.specs.Visits.{Place}
 use Rattle.naga_valid.specs.Blocks.{body_of}
 use Rattle.naga_valid.specs.Context.{Context, pre_emitted}
 use Rattle.naga_valid.specs.Control.{emit_points_from, is_result, is_bool_scalar, is_integer, value_points, values_of, cases_points, declared_type, is_returned_as}
-use Rattle.naga_valid.specs.Judged.{body_judgement, begin_state}
+use Rattle.naga_valid.specs.Judged.{body_judgement}
 use Rattle.naga_valid.specs.Points.{Points, use_point, put_point}
-use Rattle.naga_valid.specs.Rules.{points_at, body_rules}
-use Rattle.naga_valid.specs.State.{State}
+use Rattle.naga_valid.specs.Results.{result_of}
+use Rattle.naga_valid.specs.Rules.{statement_points, points_at}
+use Rattle.naga_valid.specs.Scope.{known}
+use Rattle.naga_valid.specs.State.{State, kept_rules, begin_state, state_left}
 use Rattle.naga_valid.specs.Types.{expression_at, type_at, scalar_kind_at}
-
--- the first of some points, and those behind it
-first_holds : (p : Point FunctionError) (ps : Points) → first_fault (p ∷ ps) ≡ None → (p.0 ≡ true) × (first_fault ps ≡ None)
-first_holds p ps e = split p.0 p.1 ps e
-  where
-    split : (c : Bool) (f : FunctionError) (qs : Points) → first_fault ((c, f) ∷ qs) ≡ None → (c ≡ true) × (first_fault qs ≡ None)
-    split true f qs h = (refl, h)
-    split false f qs h = cc
-
-not_holds : (c : Bool) → not c ≡ true → c ≡ false
-not_holds true e = cc
-not_holds false e = refl
+use Rattle.naga_valid.proofs.Atomics.{atomic_named, atomic_fits}
+use Rattle.naga_valid.proofs.Calls.{call_holds, call_fits}
+use Rattle.naga_valid.proofs.Fillings.{unfilled}
+use Rattle.naga_valid.proofs.ImageAtomics.{image_atomic_fits}
+use Rattle.naga_valid.proofs.Images.{image_store_fits}
+use Rattle.naga_valid.proofs.Judged.{kept}
+use Rattle.naga_valid.proofs.Cooperative.{cooperative_fits}
+use Rattle.naga_valid.proofs.Loads.{load_fits}
+use Rattle.naga_valid.proofs.Stores.{store_fits}
 
 -- the handles of an Emit are new, each also beside those before it
 emit_fits : (context : Context) (n first : ℕ) (s t : Handles) → ((k : ℕ) → first ≤ k → t k ≡ s k) → first_fault (emit_points_from context s first n) ≡ None → Fit t t (emitted no_operands first n)
 emit_fits context zero first s t same e = tt
 emit_fits context (suc n) first s t same e =
     let rest = emit_points_from context s (suc first) n in
-    let kind = first_holds (not (is_result (expression_at context first)), EmitResult first) (put_point s first ∷ rest) e in
-    let new = first_holds (put_point s first) rest kind.1 in (
+    let kind = first_holds (not (is_result (expression_at context first))) (EmitResult first) (put_point s first ∷ rest) e in
+    let new = first_holds (not (s first)) (ExpressionAlreadyInScope first) rest kind.1 in (
       same first (omega arith) ∙ not_holds (s first) new.0,
       emit_fits context n (suc first) s (with_handle t first) (λ k le. later t s first k le same) new.1,
     )
@@ -55,33 +56,53 @@ emit_fits context (suc n) first s t same e =
         ap (λ b. if b then true else t k) other ∙ same k (omega arith)
 
 use_fits : (scope : Handles) (h : ℕ) (ps : Points) → first_fault (use_point scope h ∷ ps) ≡ None → (scope h ≡ true)
-use_fits scope h ps e = (first_holds (use_point scope h) ps e).0
+use_fits scope h ps e = (first_holds (scope h) (Expression h NotInScope) ps e).0
 
-node_fits : (context : Context) (place : Place) (node : Node) → IsRead no_operands node → first_fault (points_at context place node) ≡ None → Fit place.scope place.scope (node_acts node) × Allowed (node_jump node) place.abilities.can_return place.abilities.can_break place.abilities.can_continue
-node_fits context place NoNode made e = (tt, tt)
-node_fits context place (BreakIfNode h) made e = ((use_fits place.scope h ((is_bool_scalar (type_at context h), InvalidIfType h) ∷ []) e, tt), tt)
-node_fits context place (StatementNode (Leaf acts (ir.Emit r) span)) made e =
+node_fits : (context : Context) (filled : Handles) (place : Place) (node : Node) → IsRead no_operands node → first_fault (points_at context filled place node) ≡ None → Fit place.scope place.scope (node_acts node) × Allowed (node_jump node) place.abilities.can_return place.abilities.can_break place.abilities.can_continue
+node_fits context filled place NoNode made e = (tt, tt)
+node_fits context filled place (BreakIfNode h) made e = ((use_fits place.scope h ((is_bool_scalar (type_at context h), InvalidIfType h) ∷ []) e, tt), tt)
+node_fits context filled place (StatementNode (Leaf acts (ir.Emit r) span)) made e =
     (subst (Fit place.scope place.scope) (sym made) (emit_fits context (r.end - r.start) r.start place.scope place.scope (λ k le. refl) e), tt)
-node_fits context place (StatementNode (Leaf acts _ span)) made e = cc
-node_fits context place (StatementNode (Block b)) made e = (tt, tt)
-node_fits context place (StatementNode (Branch h x y)) made e = ((use_fits place.scope h ((is_bool_scalar (type_at context h), InvalidIfType h) ∷ []) e, tt), tt)
-node_fits context place (StatementNode (Switch h cs)) made e =
+node_fits context filled place (StatementNode (Leaf acts (ir.Call f xs r) span)) made e =
+    (subst (Fit place.scope place.scope) (sym made) (call_fits context filled place.scope f xs r e), tt)
+node_fits context filled place (StatementNode (Leaf acts (ir.Atomic p f v r) span)) made e =
+    (subst (Fit place.scope place.scope) (sym made) (atomic_fits context filled place.scope p f v r e), tt)
+node_fits context filled place (StatementNode (Leaf acts (ir.Store p v) span)) made e =
+    (subst (Fit place.scope place.scope) (sym made) (store_fits context place.scope p v e), tt)
+node_fits context filled place (StatementNode (Leaf acts (ir.WorkGroupUniformLoad p r) span)) made e =
+    (subst (Fit place.scope place.scope) (sym made) (load_fits context place.scope p r e), tt)
+node_fits context filled place (StatementNode (Leaf acts (ir.CooperativeStore t d) span)) made e =
+    (subst (Fit place.scope place.scope) (sym made) (cooperative_fits context place.scope t d.pointer e), tt)
+node_fits context filled place (StatementNode (Leaf acts (ir.ImageStore i k a v) span)) made e =
+    (subst (Fit place.scope place.scope) (sym made) (image_store_fits context place.scope i (record { coordinate = k; array_index = a }) v e), tt)
+node_fits context filled place (StatementNode (Leaf acts (ir.ImageAtomic i k a f v) span)) made e =
+    (subst (Fit place.scope place.scope) (sym made) (image_atomic_fits context place.scope f v i (record { coordinate = k; array_index = a }) e), tt)
+node_fits context filled place (StatementNode (Leaf acts _ span)) made e = cc
+node_fits context filled place (StatementNode (Block b)) made e = (tt, tt)
+node_fits context filled place (StatementNode (Branch h x y)) made e = ((use_fits place.scope h ((is_bool_scalar (type_at context h), InvalidIfType h) ∷ []) e, tt), tt)
+node_fits context filled place (StatementNode (Switch h cs)) made e =
     ((use_fits place.scope h ((is_integer (scalar_kind_at context h), InvalidSwitchType h) ∷ (value_points (scalar_kind_at context h) [] (values_of cs) ++ cases_points cs)) e, tt), tt)
-node_fits context place (StatementNode (Loop b c q)) made e = (tt, tt)
-node_fits context place (StatementNode Break) made e = (tt, (first_holds (place.abilities.can_break, BreakOutsideOfLoopOrSwitch) [] e).0)
-node_fits context place (StatementNode Continue) made e = (tt, (first_holds (place.abilities.can_continue, ContinueOutsideOfLoop) [] e).0)
-node_fits context place (StatementNode (Return None)) made e =
-    (tt, (first_holds (place.abilities.can_return, InvalidReturnSpot) ((is_none (declared_type context), InvalidReturnType None (declared_type context)) ∷ []) e).0)
-node_fits context place (StatementNode (Return (Some v))) made e =
+node_fits context filled place (StatementNode (Loop b c q)) made e = (tt, tt)
+node_fits context filled place (StatementNode Break) made e = (tt, (first_holds place.abilities.can_break BreakOutsideOfLoopOrSwitch [] e).0)
+node_fits context filled place (StatementNode Continue) made e = (tt, (first_holds place.abilities.can_continue ContinueOutsideOfLoop [] e).0)
+node_fits context filled place (StatementNode (Return None)) made e =
+    (tt, (first_holds place.abilities.can_return InvalidReturnSpot ((is_none (declared_type context), InvalidReturnType None (declared_type context)) ∷ []) e).0)
+node_fits context filled place (StatementNode (Return (Some v))) made e =
     let type_point : Point FunctionError = (is_returned_as context v (declared_type context), InvalidReturnType (Some v) (declared_type context)) in
-    let able = first_holds (place.abilities.can_return, InvalidReturnSpot) (use_point place.scope v ∷ type_point ∷ []) e in
+    let able = first_holds place.abilities.can_return InvalidReturnSpot (use_point place.scope v ∷ type_point ∷ []) e in
     ((use_fits place.scope v (type_point ∷ []) able.1, tt), able.0)
-node_fits context place (StatementNode Kill) made e = (tt, tt)
+node_fits context filled place (StatementNode Kill) made e = (tt, tt)
 
-pub guards : (context : Context) → ReadGuards (body_rules context) no_operands
-guards context st v made e = node_fits context v.place v.node made e
+-- a result that a statement names is not filled yet
+pub names_unfilled : (context : Context) (filled : Handles) (place : Place) (x : Stmt) → first_fault (statement_points context filled place x) ≡ None → IfSome (result_of (StatementNode x)) (λ r. filled r ≡ false)
+names_unfilled context filled place (Leaf acts (ir.Call f xs (Some r)) span) e = unfilled context filled r (call_holds context filled place.scope f xs r e).2
+names_unfilled context filled place (Leaf acts (ir.Atomic p f v (Some r)) span) e =
+    unfilled context filled r (atomic_named context filled place.scope p f v (Some r) e).fresh
+names_unfilled context filled place _ e = tt
 
-pub accepted_is_sound : (context : Context) (end : State) → body_judgement context ≡ Ok end → RunsAreSound (pre_emitted context) (body_of context.fun.body)
-unfolding body_judgement
-accepted_is_sound context end e =
-    (accepted_block_is_sound (body_rules context) no_operands (guards context) (begin_state context) end (pre_emitted context) context.fun.body e).1
+pub guards : (context : Context) → ReadGuards (kept_rules context) no_operands
+guards context st v made e = node_fits context (known st.filled) v.place v.node made e
+
+pub accepted_is_sound : (context : Context) (state : State) → viewed (state_left context) (body_judgement context) ≡ Ok state → RunsAreSound (pre_emitted context) (body_of context.fun.body)
+accepted_is_sound context state e =
+    (accepted_block_is_sound (kept_rules context) no_operands (guards context) (begin_state context) state (pre_emitted context) context.fun.body (kept context ∙ e)).1

@@ -1,16 +1,63 @@
--- The judgement by positions is that of the walk from the begin of a body.
-use Rattle.std.proofs.Common.{◌≡◌, ◌∙◌}
-use Rattle.naga_runs.proofs.Judgements.{by_tree}
+-- The judgement by positions, over the visits themselves, is that of the walk from the begin of a body, over what the
+-- code keeps of them.
+use Rattle.std.proofs.Common.{◌≡◌, None, Result, Ok, Err, List, sym, ap, ◌∙◌}
+use Rattle.std.specs.Prelude.{IsErr}
+use Rattle.naga_below.specs.declared.valid.flags.ShaderStages.{ShaderStages}
+use Rattle.naga_below.specs.declared.span.Refusal.{Refusal}
+use Rattle.naga_below.specs.declared.span.Refusal.TheVariants as refusal
+use Rattle.naga_rules.specs.Answers.{Answers, Refuses}
+use Rattle.naga_rules.specs.declared.function.FunctionError.{FunctionError}
+use Rattle.naga_runs.proofs.Judgements.{by_tree, earlier_agrees}
+use Rattle.naga_runs.specs.Judgement.{Follows, answer, first_fault, judgement, viewed}
+use Rattle.naga_runs.specs.Visits.{Visit}
+use Rattle.naga_valid.specs.Answers.{AnswersPoints}
 use Rattle.naga_valid.specs.Blocks.{body_of}
 use Rattle.naga_valid.specs.Context.{Context, pre_emitted}
-use Rattle.naga_valid.specs.Judged.{body_judgement, begin_state}
-use Rattle.naga_valid.specs.Rules.{body_rules}
+use Rattle.naga_valid.specs.Judged.{body_judgement, stages_after}
+use Rattle.naga_valid.specs.Results.{filled_before, filled_points}
+use Rattle.naga_valid.specs.Rules.{points_at, body_rules, stages_left}
+use Rattle.naga_valid.specs.Scope.{known}
+use Rattle.naga_valid.specs.State.{State, kept_rules, begin_state, state_left}
 use Rattle.naga_valid.specs.Walk.{body_answer, pre_emitted_from, body_abilities}
+use Rattle.naga_valid.proofs.Fillings.{known_filled, state_more}
 use Rattle.naga_valid.proofs.PreEmitted.{known_pre_emitted}
 use Rattle.naga_valid.proofs.Walk.{moved}
 
-pub judged : (context : Context) → body_judgement context ≡ body_answer context (begin_state context) body_abilities (pre_emitted_from 0 context.fun.expressions) (body_of context.fun.body)
+follows : (context : Context) → Follows (body_rules context) (kept_rules context) (state_left context)
+follows context = record { points = λ visits v. ap (λ filled. points_at context filled v.place v.node) (sym (known_filled visits)); advance = λ visits v. state_more context visits v }
+
+pub kept : (context : Context) →
+    judgement (kept_rules context) (begin_state context) (pre_emitted context) (body_of context.fun.body) ≡ viewed (state_left context) (body_judgement context)
 unfolding body_judgement
+kept context =
+    earlier_agrees (λ earlier v. points_at context (filled_before earlier) v.place v.node) (kept_rules context) (state_left context) (follows context) (pre_emitted context) (body_of context.fun.body)
+
+pub judged : (context : Context) → viewed (state_left context) (body_judgement context) ≡ body_answer context (begin_state context) body_abilities (pre_emitted_from 0 context.fun.expressions) (body_of context.fun.body)
 judged context =
-    by_tree (body_rules context) (begin_state context) (pre_emitted context) (body_of context.fun.body)
+    sym (kept context)
+    ∙ by_tree (kept_rules context) (begin_state context) (pre_emitted context) (body_of context.fun.body)
     ∙ moved context (begin_state context) body_abilities (pre_emitted_from 0 context.fun.expressions) (pre_emitted context) (pre_emitted context) (body_of context.fun.body) (known_pre_emitted context)
+
+-- the stages behind a body, from what the code keeps
+pub stages_after_is : (context : Context) (judgement : Result (List Visit) FunctionError) (state : State) → viewed (state_left context) judgement ≡ Ok state →
+    stages_after context judgement ≡ answer (first_fault (filled_points context (known state.filled))) state.stages
+stages_after_is context (Ok visits) state e =
+    let same : state_left context visits ≡ state = cc in
+    ap (λ filled. answer (first_fault (filled_points context filled)) (stages_left context.earlier context.info.available_stages visits)) (sym (known_filled visits))
+    ∙ ap (λ (z : State). answer (first_fault (filled_points context (known z.filled))) z.stages) same
+stages_after_is context (Err fault) state e = cc
+
+pub stages_after_refuses : (context : Context) (judgement : Result (List Visit) FunctionError) (e : Refusal FunctionError) → Refuses (viewed (state_left context) judgement) e → Refuses (stages_after context judgement) e
+stages_after_refuses context (Ok visits) (refusal.Fault f) h = cc
+stages_after_refuses context (Err fault) (refusal.Fault f) h = let same : fault ≡ f = cc in ap Err same
+stages_after_refuses context judgement refusal.Memory h = tt
+
+-- a result that is not filled
+pub unfilled_refuses : (context : Context) (judgement : Result (List Visit) FunctionError) (state : State) (r : Result ShaderStages (Refusal FunctionError)) → viewed (state_left context) judgement ≡ Ok state → IsErr r → AnswersPoints (filled_points context (known state.filled)) r → Answers (stages_after context judgement) r
+unfilled_refuses context judgement state (Err (refusal.Fault f)) is err h =
+    stages_after_is context judgement state is ∙ ap (λ o. answer o state.stages) h
+unfilled_refuses context judgement state (Err refusal.Memory) is err h = tt
+unfilled_refuses context judgement state (Ok t) is err h = cc
+
+pub all_filled : (context : Context) (judgement : Result (List Visit) FunctionError) (state : State) → viewed (state_left context) judgement ≡ Ok state → first_fault (filled_points context (known state.filled)) ≡ None → stages_after context judgement ≡ Ok state.stages
+all_filled context judgement state is h = stages_after_is context judgement state is ∙ ap (λ o. answer o state.stages) h

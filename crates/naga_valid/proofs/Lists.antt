@@ -3,17 +3,17 @@ use Rattle.std.proofs.Common.{◌≡◌, ℕ, zero, suc, ◌+◌, ◌-◌, ◌<�
 use Rattle.std.proofs.lemmas.Bool.Decides.{nat_tests}
 use Rattle.std.proofs.lemmas.List.Folds.{list_any-append}
 use Rattle.std.specs.List.{list_any}
-use Rattle.std.specs.Option.{option_or}
+use Rattle.std.specs.Option.{option_or, option_map}
 use Rattle.naga_below.specs.declared.ir.statements.SwitchCase.{SwitchCase, out-SwitchCase}
 use Rattle.naga_below.specs.declared.ir.statements.SwitchValue.{SwitchValue}
 use Rattle.naga_below.specs.View.{emitted, no_operands}
-use Rattle.naga_runs.specs.Judgement.{first_fault}
+use Rattle.naga_runs.specs.Judgement.{Point, first_fault}
 use Rattle.naga_valid.specs.Blocks.{case_list}
 use Rattle.naga_valid.specs.Scope.{in_scope, known}
 use Rattle.naga_valid.specs.Walk.{puts_of, handles_from, handles_between}
 use Rattle.naga_valid.specs.Context.{Context}
 use Rattle.naga_valid.specs.Control.{emit_points, emit_points_from, is_result, values_of, last_falls_through}
-use Rattle.naga_valid.specs.Points.{Points}
+use Rattle.naga_valid.specs.Points.{within}
 use Rattle.naga_valid.specs.Types.{expression_at}
 use Rattle.naga_rules.specs.declared.function.FunctionError.{FunctionError}
 use Rattle.naga_rules.specs.declared.function.FunctionError.TheVariants.{EmitResult, ExpressionAlreadyInScope}
@@ -103,13 +103,22 @@ pub emit_none : (context : Context) (s : List ℕ) (h end : ℕ) → end ≤ h �
 emit_none context s h end le =
     let none : end - h ≡ 0 = omega arith in ap (λ n. first_fault (emit_points_from context (known s) h n)) none
 
-first_step : (b : Bool) (f : FunctionError) (ps qs : Points) → first_fault (ps ++ qs) ≡ option_or (first_fault ps) (first_fault qs) → first_fault ((b, f) ∷ ps ++ qs) ≡ option_or (first_fault ((b, f) ∷ ps)) (first_fault qs)
+first_step : {Fault : Type 0} (b : Bool) (f : Fault) (ps qs : List (Point Fault)) → first_fault (ps ++ qs) ≡ option_or (first_fault ps) (first_fault qs) → first_fault ((b, f) ∷ ps ++ qs) ≡ option_or (first_fault ((b, f) ∷ ps)) (first_fault qs)
 first_step true f ps qs rest = rest
 first_step false f ps qs rest = refl
 
-pub first_fault-append : (ps qs : Points) → first_fault (ps ++ qs) ≡ option_or (first_fault ps) (first_fault qs)
+pub first_fault-append : {Fault : Type 0} (ps qs : List (Point Fault)) → first_fault (ps ++ qs) ≡ option_or (first_fault ps) (first_fault qs)
 first_fault-append [] qs = refl
 first_fault-append (p ∷ ps) qs = first_step p.0 p.1 ps qs (first_fault-append ps qs)
+
+within_step : {Inner : Type 0} (outer : Inner → FunctionError) (b : Bool) (f : Inner) (ps : List (Point Inner)) → first_fault (within outer ps) ≡ option_map outer (first_fault ps) → first_fault (within outer ((b, f) ∷ ps)) ≡ option_map outer (first_fault ((b, f) ∷ ps))
+within_step outer true f ps rest = rest
+within_step outer false f ps rest = refl
+
+-- points whose faults stand inside another
+pub first_fault-within : {Inner : Type 0} (outer : Inner → FunctionError) (ps : List (Point Inner)) → first_fault (within outer ps) ≡ option_map outer (first_fault ps)
+first_fault-within outer [] = refl
+first_fault-within outer (p ∷ ps) = within_step outer p.0 p.1 ps (first_fault-within outer ps)
 
 -- what an Emit puts are the handles of its range
 pub emit_puts : (start n : ℕ) → puts_of (emitted no_operands start n) ≡ handles_from start n

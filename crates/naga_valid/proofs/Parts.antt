@@ -3,8 +3,11 @@ use Rattle.std.proofs.Common.{◌≡◌, ℕ, ◌+◌, ◌<◌, Bool, true, fals
 use Rattle.std.proofs.lemmas.List.{at_drop_more}
 use Rattle.std.specs.Prelude.{◌&&◌}
 use Rattle.naga_below.specs.Fits.{FitsFunction}
-use Rattle.naga_below.specs.Tree.{Stmt, Block, Branch, Switch, Loop, Body, Then, Cases, OneCase}
+use Rattle.naga_below.specs.FitsBody.{CalleeFits}
+use Rattle.naga_below.specs.Tree.{Act, Stmt, Leaf, Block, Branch, Switch, Loop, Body, Then, Cases, OneCase}
 use Rattle.naga_below.specs.declared.ir.statements.Located.{Located}
+use Rattle.naga_below.specs.declared.ir.statements.Statement as ir
+use Rattle.naga_below.specs.declared.span.Span.{Span}
 use Rattle.naga_below.specs.declared.ir.statements.SwitchCase.{SwitchCase, out-SwitchCase}
 use Rattle.naga_below.specs.declared.ir.statements.SwitchValue.{SwitchValue}
 use Rattle.naga_valid.specs.Blocks.{tree_of, body_of, statement_list, case_list}
@@ -35,6 +38,10 @@ module _ (context : Context) where
   pub in_lists : (b d : Body) (q : Option ℕ) → IsStatementReady context (Loop b d q) → IsBodyReady context b × IsBodyReady context d
   unfolding IsStatementReady IsBodyReady body_has_kinds
   in_lists b d q r = let kinds = both_hold _ _ r.1 in ((r.0.0, kinds.0), (r.0.1, kinds.1))
+
+  pub in_call : (acts : List Act) (f : ℕ) (xs : List ℕ) (r : Option ℕ) (span : Span) → IsStatementReady context (Leaf acts (ir.Call f xs r) span) → CalleeFits context.program f
+  unfolding IsStatementReady
+  in_call acts f xs r span ready = ready.0.1
 
   first_and_rest : (x : Stmt) (b : Body) → IsBodyReady context (Then x b) → IsStatementReady context x × IsBodyReady context b
   unfolding IsStatementReady IsBodyReady body_has_kinds

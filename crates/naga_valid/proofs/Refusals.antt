@@ -1,13 +1,14 @@
 -- What an answer says of points that stand one behind another, and of judgements that follow each other.
-use Rattle.std.proofs.Common.{◌≡◌, None, Some, Ok, Err, Result, ◌++◌, sym, ap, ◌∙◌}
+use Rattle.std.proofs.Common.{◌≡◌, List, Option, None, Some, Ok, Err, Result, ◌++◌, sym, ap, ◌∙◌}
 use Rattle.std.specs.Prelude.{IsErr}
 use Rattle.std.specs.Option.{option_or}
+use Rattle.std.specs.Result.{result_err}
 use Rattle.naga_below.specs.declared.span.Refusal.{Refusal}
 use Rattle.naga_below.specs.declared.span.Refusal.TheVariants as refusal
 use Rattle.naga_rules.specs.Answers.{Refuses}
 use Rattle.naga_rules.specs.declared.function.FunctionError.{FunctionError}
 use Rattle.naga_runs.specs.ByTree.{then_on}
-use Rattle.naga_runs.specs.Judgement.{first_fault}
+use Rattle.naga_runs.specs.Judgement.{Point, first_fault}
 use Rattle.naga_valid.specs.Answers.{AnswersPoints, AnswersLeaving, IsFirstFault, IsRefusalFor}
 use Rattle.naga_valid.specs.Points.{Points}
 use Rattle.naga_valid.proofs.Lists.{first_fault-append}
@@ -47,3 +48,12 @@ answers_next (Err x) o f st end e h = stops_next x o f st e h
 -- where the first leaves a state, the next from there is the whole
 pub next_is : {S : Type 0} (whole o : Result S FunctionError) (f : S → Result S FunctionError) (st : S) → whole ≡ then_on o f → o ≡ Ok st → f st ≡ whole
 next_is whole o f st e n = sym (e ∙ ap (λ z. then_on z f) n)
+
+-- a fault of the first points, and one behind them
+pub fault_first : {T Fault : Type 0} (r : Result T Fault) (ps qs : List (Point Fault)) → IsErr r → result_err r ≡ first_fault ps → result_err r ≡ first_fault (ps ++ qs)
+fault_first (Ok t) ps qs err e = cc
+fault_first (Err f) ps qs err e = ap (λ o. option_or o (first_fault qs)) e ∙ sym (first_fault-append ps qs)
+
+pub fault_second : {Fault : Type 0} (o : Option Fault) (ps qs : List (Point Fault)) → first_fault ps ≡ None → o ≡ first_fault qs → o ≡ first_fault (ps ++ qs)
+fault_second o ps qs none e =
+    e ∙ sym (first_fault-append ps qs ∙ ap (λ z. option_or z (first_fault qs)) none)

@@ -4,7 +4,7 @@ use Rattle.std.proofs.lemmas.List.{at_drop_more, at_drop_all}
 use Rattle.std.proofs.lemmas.List.Folds.{list_any-append}
 use Rattle.std.specs.Prelude.{◌||◌, ◌==◌, if◌then◌else◌}
 use Rattle.naga_below.specs.Tree.{Act, Use, Put, Stmt, Leaf, Block, Branch, Switch, Loop, Break, Continue, Return, Kill, Body, Done, Then, Cases, NoCase, OneCase}
-use Rattle.naga_valid.specs.State.{State}
+use Rattle.naga_valid.specs.State.{State, kept_rules, with_statement}
 use Rattle.naga_below.specs.View as view
 use Rattle.naga_below.specs.View.{no_operands}
 use Rattle.naga_below.specs.declared.ir.statements.Block.{Block as Block_of}
@@ -30,7 +30,7 @@ use Rattle.naga_valid.specs.Answers.{IsFirstFault, AnswersPoints, AnswersLeaving
 use Rattle.naga_valid.specs.Blocks.{tree_of, body_of, statement_list, case_list}
 use Rattle.naga_valid.specs.Context.{Context}
 use Rattle.naga_valid.specs.Control.{condition_points}
-use Rattle.naga_valid.specs.Rules.{body_rules, statement_points, with_statement}
+use Rattle.naga_valid.specs.Rules.{statement_points}
 use Rattle.naga_valid.specs.Scope.{in_scope, known}
 use Rattle.naga_valid.specs.Walk.{puts_of, puts, body_puts, place, own_answer, parts_answer, stmt_answer, body_answer, cases_answer, break_if_answer}
 use Rattle.naga_valid.proofs.Refusals.{passes, stops_first, stops_next, answers_next}
@@ -58,65 +58,65 @@ known_body (Then x b) s =
     ap known (sym (append_assoc s (puts x) (body_puts b))) ∙ known_body b (s ++ puts x) ∙ ap (λ k. with_body k b) (known_acts (acts_of x) s)
 
 module _ (context : Context) where
-  ignores : IgnoresMust (body_rules context)
+  ignores : IgnoresMust (kept_rules context)
   ignores = record { points = λ st a s m n x. refl; advance = λ st a s m n x. refl }
 
   -- at another spelling of the scope, whatever every run has put
   pub moved : (k : State) (a : Abilities) (s : List ℕ) (t m : Handles) (b : Body) → known s ≡ t →
-      judge_body (body_rules context) k (record { abilities = a; scope = t; must = m }) b ≡ body_answer context k a s b
+      judge_body (kept_rules context) k (record { abilities = a; scope = t; must = m }) b ≡ body_answer context k a s b
   unfolding body_answer
   moved k a s t m b e =
-      ap (λ h. judge_body (body_rules context) k (record { abilities = a; scope = h; must = m }) b) (sym e)
-      ∙ must_is_free.body (body_rules context) ignores k a (known s) m no_handles b
+      ap (λ h. judge_body (kept_rules context) k (record { abilities = a; scope = h; must = m }) b) (sym e)
+      ∙ must_is_free.body (kept_rules context) ignores k a (known s) m no_handles b
 
   moved_break_if : (k : State) (a : Abilities) (s : List ℕ) (t m : Handles) (q : Option ℕ) → known s ≡ t →
-      judge_break_if (body_rules context) k (record { abilities = a; scope = t; must = m }) q ≡ break_if_answer context k a s q
+      judge_break_if (kept_rules context) k (record { abilities = a; scope = t; must = m }) q ≡ break_if_answer context k a s q
   unfolding break_if_answer judge_break_if judge_visits Rattle.naga_runs.specs.ByTree.judge
   moved_break_if k a s t m None e = refl
   moved_break_if k a s t m q e =
-      ap (λ h. judge_break_if (body_rules context) k (record { abilities = a; scope = h; must = no_handles }) q) (sym e)
+      ap (λ h. judge_break_if (kept_rules context) k (record { abilities = a; scope = h; must = no_handles }) q) (sym e)
 
 module _ (context : Context) (k : State) (a : Abilities) (s : List ℕ) where
   pub body_done : body_answer context k a s Done ≡ Ok k
   unfolding body_answer
-  body_done = judge_done (body_rules context) k (place a s)
+  body_done = judge_done (kept_rules context) k (place a s)
 
   pub body_more : (x : Stmt) (b : Body) → body_answer context k a s (Then x b) ≡ then_on (stmt_answer context k a s x) (λ l. body_answer context l a (s ++ puts x) b)
   unfolding body_answer stmt_answer
   body_more x b =
-      judge_more (body_rules context) k (place a s) x b
-      ∙ ap (λ (f : State → Result State FunctionError). then_on (judge_stmt (body_rules context) k (place a s) x) f) (λ i l. moved context l a (s ++ puts x) (with_acts (known s) (acts_of x)) (with_acts no_handles (acts_of x)) b (known_acts (acts_of x) s) i)
+      judge_more (kept_rules context) k (place a s) x b
+      ∙ ap (λ (f : State → Result State FunctionError). then_on (judge_stmt (kept_rules context) k (place a s) x) f) (λ i l. moved context l a (s ++ puts x) (with_acts (known s) (acts_of x)) (with_acts no_handles (acts_of x)) b (known_acts (acts_of x) s) i)
 
   pub stmt_more : (x : Stmt) → stmt_answer context k a s x ≡ then_on (own_answer context k a s x) (λ l. parts_answer context l a s x)
   unfolding own_answer parts_answer stmt_answer
-  stmt_more x = judge_own (body_rules context) k (place a s) x
+  stmt_more x = judge_own (kept_rules context) k (place a s) x
 
   pub parts_block : (b : Body) → parts_answer context k a s (Block b) ≡ body_answer context k a s b
   unfolding parts_answer body_answer
-  parts_block b = judge_block (body_rules context) k (place a s) b
+  parts_block b = judge_block (kept_rules context) k (place a s) b
 
   pub parts_branch : (h : ℕ) (p q : Body) → parts_answer context k a s (Branch h p q) ≡ then_on (body_answer context k a s p) (λ l. body_answer context l a s q)
   unfolding parts_answer body_answer
-  parts_branch h p q = judge_branch (body_rules context) k (place a s) h p q
+  parts_branch h p q = judge_branch (kept_rules context) k (place a s) h p q
 
   pub parts_switch : (h : ℕ) (cs : Cases) → parts_answer context k a s (Switch h cs) ≡ cases_answer context k (case_abilities a) s cs
   unfolding parts_answer cases_answer
-  parts_switch h cs = judge_switch (body_rules context) k (place a s) h cs
+  parts_switch h cs = judge_switch (kept_rules context) k (place a s) h cs
 
   pub parts_loop : (b d : Body) (q : Option ℕ) → parts_answer context k a s (Loop b d q)
       ≡ then_on (body_answer context k (loop_abilities a) s b) (λ l. then_on (body_answer context l continuing_abilities (s ++ body_puts b) d) (λ m. break_if_answer context m a ((s ++ body_puts b) ++ body_puts d) q))
   unfolding parts_answer body_answer
   parts_loop b d q =
-      judge_loop (body_rules context) k (place a s) b d q
+      judge_loop (kept_rules context) k (place a s) b d q
       ∙ ap (λ (f : State → Result State FunctionError). then_on (body_answer context k (loop_abilities a) s b) f) (λ i l. then_on (moved context l continuing_abilities (s ++ body_puts b) (with_body (known s) b) (with_sure no_handles b) d (known_body b s) i) (λ m. moved_break_if context m a ((s ++ body_puts b) ++ body_puts d) (with_body (with_body (known s) b) d) (with_body (with_sure no_handles b) d) q (known_body d (s ++ body_puts b) ∙ ap (λ t. with_body t d) (known_body b s)) i))
 
   pub cases_done : cases_answer context k a s NoCase ≡ Ok k
   unfolding cases_answer
-  cases_done = judge_no_case (body_rules context) k (place a s)
+  cases_done = judge_no_case (kept_rules context) k (place a s)
 
   pub cases_more : (v : SwitchValue) (f : Bool) (b : Body) (cs : Cases) → cases_answer context k a s (OneCase v f b cs) ≡ then_on (body_answer context k a s b) (λ l. cases_answer context l a s cs)
   unfolding cases_answer body_answer
-  cases_more v f b cs = judge_one_case (body_rules context) k (place a s) v f b cs
+  cases_more v f b cs = judge_one_case (kept_rules context) k (place a s) v f b cs
 
   -- a statement with parts puts nothing itself
   pub parts_later : (x : Stmt) → parts_answer context k a (s ++ puts x) x ≡ parts_answer context k a s x
@@ -166,13 +166,13 @@ module _ (cs : List SwitchCase) (i : ℕ) where
 
 -- a statement's own check list, and what it leaves
 module _ (context : Context) (k : State) (a : Abilities) (s : List ℕ) (x : Stmt) where
-  pub own_passes : first_fault (statement_points context (place a s) x) ≡ None → own_answer context k a s x ≡ Ok (with_statement k x)
+  pub own_passes : first_fault (statement_points context (known k.filled) (place a s) x) ≡ None → own_answer context k a s x ≡ Ok (with_statement context k x)
   unfolding own_answer Rattle.naga_runs.specs.ByTree.judge
-  own_passes e = ap (λ o. answer o (with_statement k x)) e
+  own_passes e = ap (λ o. answer o (with_statement context k x)) e
 
-  pub own_refuses : (e : Refusal FunctionError) → IsFirstFault (statement_points context (place a s) x) e → Refuses (own_answer context k a s x) e
+  pub own_refuses : (e : Refusal FunctionError) → IsFirstFault (statement_points context (known k.filled) (place a s) x) e → Refuses (own_answer context k a s x) e
   unfolding own_answer Rattle.naga_runs.specs.ByTree.judge
-  own_refuses (refusal.Fault f) h = ap (λ o. answer o (with_statement k x)) h
+  own_refuses (refusal.Fault f) h = ap (λ o. answer o (with_statement context k x)) h
   own_refuses refusal.Memory h = tt
 
 -- a break condition

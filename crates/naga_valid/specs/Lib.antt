@@ -1,5 +1,6 @@
 pub mod Context
 pub mod Types
+pub mod Stages
 pub mod State
 pub mod Scope
 pub mod Points
@@ -8,8 +9,19 @@ pub mod Rules
 pub mod Answers
 pub mod Walk
 pub mod Control
+pub mod Flags
+pub mod Results
+pub mod Calls
+pub mod Atomics
+pub mod Stores
+pub mod Loads
+pub mod Cooperative
+pub mod Images
+pub mod ImageAtomics
 pub mod Ready
 pub mod Blocks
 pub mod Seen
 pub mod Judged
 pub mod Parts
+pub mod Accepted
+pub mod Sample

@@ -1,18 +1,58 @@
--- What goes along the visits of a body.
-use Rattle.std.specs.Int.RustNames.{bit_and}
+-- What the code keeps along the visits of a body: the stages that are left, and the results that are filled. Work of
+-- lemmas, which private functions alone cite.
+use Rattle.std.specs.Prelude.{List, [], ◌∷◌, ◌++◌, Option, None, Some, ℕ}
+use Rattle.naga_below.specs.Tree.{Stmt}
+use Rattle.naga_rules.specs.declared.function.FunctionError.{FunctionError}
+use Rattle.naga_runs.specs.Judgement.{Rules}
+use Rattle.naga_runs.specs.Positions.{Node, StatementNode}
+use Rattle.naga_runs.specs.Visits.{Visit}
+use Rattle.naga_valid.specs.Context.{Context}
+use Rattle.naga_valid.specs.Results.{result_of}
+use Rattle.naga_valid.specs.Rules.{points_at, stages_behind, stages_left}
+use Rattle.naga_valid.specs.Scope.{known}
 use Rattle.naga_valid.specs.declared.state.BodyState.{BodyState}
-use Rattle.naga_below.specs.declared.valid.flags.ShaderStages.{ShaderStages}
 
--- the stages that are in both sets
-abbrev pub meet : ShaderStages → ShaderStages → ShaderStages
-meet a b = record { 0 = bit_and a.0 b.0 }
-
-abbrev pub all_stages : ShaderStages
-all_stages = record { 0 = 511 }
-
-abbrev pub fragment_stage : ShaderStages
-fragment_stage = record { 0 = 2 }
-
--- what the statements so far leave
 abbrev pub State : Type 0
 State = BodyState
+
+-- the results that visits fill, in order
+abbrev pub with_result : List ℕ → Option ℕ → List ℕ
+with_result filled None = filled
+with_result filled (Some r) = filled ++ r ∷ []
+
+abbrev pub filled_from : List ℕ → List Visit → List ℕ
+filled_from filled [] = filled
+filled_from filled (v ∷ visits) = filled_from (with_result filled (result_of v.node)) visits
+
+-- the state behind a statement
+abbrev pub with_statement : Context → State → Stmt → State
+with_statement context state x =
+    record {
+      stages = stages_behind context.earlier state.stages (StatementNode x);
+      filled = with_result state.filled (result_of (StatementNode x));
+    }
+
+-- a break condition is no statement
+abbrev pub state_behind : Context → State → Node → State
+state_behind context state (StatementNode x) = with_statement context state x
+state_behind context state _ = state
+
+-- the rules of a body over this state
+abbrev pub kept_rules : Context → Rules State FunctionError
+kept_rules context =
+    record {
+      points = λ state visit. points_at context (known state.filled) visit.place visit.node;
+      advance = λ state visit. state_behind context state visit.node;
+    }
+
+-- what a body begins with: the stages that the lower layer leaves the function
+abbrev pub begin_state : Context → State
+begin_state context = record { stages = context.info.available_stages; filled = [] }
+
+-- what visits leave
+abbrev pub state_left : Context → List Visit → State
+state_left context visits =
+    record {
+      stages = stages_left context.earlier context.info.available_stages visits;
+      filled = filled_from [] visits;
+    }

@@ -11,9 +11,8 @@ use Rattle.naga_runs.specs.PutsAndUses.{acts_of}
 use Rattle.naga_runs.specs.Visits.{Place}
 use Rattle.naga_runs.specs.declared.Abilities.{Abilities}
 use Rattle.naga_valid.specs.Context.{Context, if_pre_emitted}
-use Rattle.naga_valid.specs.Rules.{body_rules}
 use Rattle.naga_valid.specs.Scope.{known}
-use Rattle.naga_valid.specs.State.{State}
+use Rattle.naga_valid.specs.State.{State, kept_rules}
 
 -- n handles from the first on
 abbrev pub handles_from : ℕ → ℕ → List ℕ
@@ -43,22 +42,22 @@ place abilities scope = record { abilities = abilities; scope = known scope; mus
 
 module _ (context : Context) (state : State) (abilities : Abilities) (scope : List ℕ) where
   unfoldable pub own_answer : Stmt → Result State FunctionError
-  own_answer x = judge (body_rules context) state (record { place = place abilities scope; node = StatementNode x })
+  own_answer x = judge (kept_rules context) state (record { place = place abilities scope; node = StatementNode x })
 
   unfoldable pub parts_answer : Stmt → Result State FunctionError
-  parts_answer x = judge_parts (body_rules context) state (place abilities scope) x
+  parts_answer x = judge_parts (kept_rules context) state (place abilities scope) x
 
   unfoldable pub stmt_answer : Stmt → Result State FunctionError
-  stmt_answer x = judge_stmt (body_rules context) state (place abilities scope) x
+  stmt_answer x = judge_stmt (kept_rules context) state (place abilities scope) x
 
   unfoldable pub body_answer : Body → Result State FunctionError
-  body_answer b = judge_body (body_rules context) state (place abilities scope) b
+  body_answer b = judge_body (kept_rules context) state (place abilities scope) b
 
   unfoldable pub cases_answer : Cases → Result State FunctionError
-  cases_answer cs = judge_cases (body_rules context) state (place abilities scope) cs
+  cases_answer cs = judge_cases (kept_rules context) state (place abilities scope) cs
 
   unfoldable pub break_if_answer : Option ℕ → Result State FunctionError
-  break_if_answer q = judge_break_if (body_rules context) state (place abilities scope) q
+  break_if_answer q = judge_break_if (kept_rules context) state (place abilities scope) q
 
 abbrev pub body_abilities : Abilities
 body_abilities = record { can_return = true; can_break = false; can_continue = false }

@@ -1,5 +1,14 @@
 //! The check list of each kind of statement.
 
+pub mod atomic;
+pub mod call;
 pub mod control;
+pub mod cooperative;
+pub mod image;
+pub mod image_atomic;
+pub mod image_store;
+pub mod load;
 pub mod refuse;
+pub mod results;
+pub mod store;
 pub mod types;

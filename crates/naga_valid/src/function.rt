@@ -1,23 +1,39 @@
 //! The judgement of a body of statements: naga's `validate_block`.
 
-ghost use Rattle.std.specs.Prelude.{◌≡◌, ◌++◌, [], OnOk};
+ghost use Rattle.std.specs.Prelude.{◌≡◌, ◌++◌, [], OnOk, IfOk, IfSome, true, false};
 ghost use Rattle.naga_runs.specs.ByTree.{case_abilities, loop_abilities, continuing_abilities};
+ghost use Rattle.naga_runs.specs.Judgement.{viewed};
+ghost use Rattle.naga_runs.specs.Positions.{StatementNode};
 ghost use Rattle.naga_rules.specs.Answers.{Answers};
+ghost use Rattle.naga_valid.specs.Accepted.{ResultsAreFilledOnce, StagesAreOfAll};
 ghost use Rattle.naga_valid.specs.Answers.{AnswersLeaving, AnswersPoints};
 ghost use Rattle.naga_valid.specs.Blocks.{tree_of, body_of, case_list};
 ghost use Rattle.naga_runs.specs.Soundness.{RunsAreSound};
 ghost use Rattle.naga_valid.specs.Context.{ContextFits, pre_emitted};
-ghost use Rattle.naga_valid.specs.Judged.{body_judgement};
+ghost use Rattle.naga_valid.specs.Flags.{checks_expressions};
+ghost use Rattle.naga_valid.specs.Judged.{body_judgement, stages_after};
 ghost use Rattle.naga_valid.specs.Ready.{IsStatementReady, IsBodyReady, AreCasesReady};
-ghost use Rattle.naga_valid.specs.Rules.{statement_points, with_statement, stages_of};
+ghost use Rattle.naga_valid.specs.Results.{result_of};
+ghost use Rattle.naga_valid.specs.Rules.{statement_points, callee_stages, stages_of};
+ghost use Rattle.naga_valid.specs.Scope.{in_scope, known};
 ghost use Rattle.naga_valid.specs.Seen.{context_of};
-ghost use Rattle.naga_valid.specs.State.{all_stages, meet};
+ghost use Rattle.naga_valid.specs.Stages.{all_stages};
+ghost use Rattle.naga_valid.specs.State.{state_left, with_statement};
 ghost use Rattle.naga_valid.specs.Walk.{place, pre_emitted_from, puts, body_puts, parts_answer, stmt_answer, body_answer, cases_answer, break_if_answer, body_abilities};
 
+use crate::checks::atomic::check_atomic;
+use crate::checks::call::check_call;
 use crate::checks::control;
-use crate::checks::refuse::answer;
+use crate::checks::cooperative::check_cooperative_store;
+use crate::checks::image::Texel;
+use crate::checks::image_atomic::check_image_atomic;
+use crate::checks::image_store::check_image_store;
+use crate::checks::load::check_load;
+use crate::checks::refuse::{answer, answer_of_function};
+use crate::checks::results::check_filled;
+use crate::checks::store::check_store;
 use crate::context::BlockContext;
-use crate::scope::Scope;
+use crate::handle_set::HandleSet;
 use crate::state::BodyState;
 use bitflags::Flags;
 use naga_below::arena::handle::Handle;
@@ -29,20 +45,38 @@ use naga_rules::function::FunctionError;
 use naga_runs::Abilities;
 use std::alloc::{AllocError, Global};
 
-/// Judges the body of a function: the first fault in visit order, else what its statements leave.
+/// Judges the body of a function: the first fault in visit order, else the lowest result that is not filled, else the
+/// stages that are left.
 pub fn validate_function_body(
+    alloc: Global,
+    context: &BlockContext,
+) -> Result<ShaderStages, Refusal<FunctionError>>
+    requires context { ContextFits (context_of context.now) }
+    requires ready { IsBodyReady (context_of context.now) (body_of (context_of context.now).fun.body) }
+    ensures judged { Answers (stages_after (context_of context.now) (body_judgement (context_of context.now))) result }
+    ensures sound { OnOk result (RunsAreSound (pre_emitted (context_of context.now)) (body_of (context_of context.now).fun.body)) }
+    ensures filled { OnOk result (checks_expressions (context_of context.now).settings.flags ≡ true → ResultsAreFilledOnce (context_of context.now).fun) }
+    ensures stages { IfOk result (λ stages. StagesAreOfAll (context_of context.now).earlier (body_of (context_of context.now).fun.body) stages) }
+{
+    let state = validate_body_statements(alloc, context)?;
+    answer_of_function(alloc, check_filled(&state.filled, context))?;
+    Ok(state.stages)
+}
+
+/// Judges the statements of a function's body.
+fn validate_body_statements(
     alloc: Global,
     context: &BlockContext,
 ) -> Result<BodyState, Refusal<FunctionError>>
     requires context { ContextFits (context_of context.now) }
     requires ready { IsBodyReady (context_of context.now) (body_of (context_of context.now).fun.body) }
-    ensures judged { Answers (body_judgement (context_of context.now)) result }
-    ensures sound { OnOk result (RunsAreSound (pre_emitted (context_of context.now)) (body_of (context_of context.now).fun.body)) }
+    ensures { Answers (viewed (state_left (context_of context.now)) (body_judgement (context_of context.now))) result }
 {
-    let mut scope = Scope::new(alloc);
+    let mut scope = HandleSet::new(alloc);
     put_pre_emitted(&mut scope, context)?;
     let mut state = BodyState {
         stages: context.info.available_stages,
+        filled: HandleSet::new(alloc),
     };
     let abilities = at_begin();
     validate_statements(
@@ -56,7 +90,7 @@ pub fn validate_function_body(
 }
 
 /// Puts in scope what is there before the first statement.
-fn put_pre_emitted(scope: &mut Scope, context: &BlockContext) -> Result<(), AllocError>
+fn put_pre_emitted(scope: &mut HandleSet, context: &BlockContext) -> Result<(), AllocError>
     requires { scope.old ≡ [] }
     ensures { OnOk result (scope.new ≡ pre_emitted_from 0 (context_of context.now).fun.expressions) }
 {
@@ -72,14 +106,15 @@ fn put_pre_emitted(scope: &mut Scope, context: &BlockContext) -> Result<(), Allo
 
 /// The check list of a statement itself. What it puts is in scope afterwards.
 fn check_points(
-    scope: &mut Scope,
+    scope: &mut HandleSet,
+    filled: &HandleSet,
     context: &BlockContext,
     abilities: Abilities,
     located: &Located,
 ) -> Result<(), Refusal<FunctionError>>
     requires context { ContextFits (context_of context.now) }
     requires statement { IsStatementReady (context_of context.now) (tree_of located.now) }
-    ensures fault { AnswersPoints (statement_points (context_of context.now) (place abilities scope.old) (tree_of located.now)) result }
+    ensures fault { AnswersPoints (statement_points (context_of context.now) (known filled.now) (place abilities scope.old) (tree_of located.now)) result }
     ensures scope { OnOk result (scope.new ≡ scope.old ++ puts (tree_of located.now)) }
 {
     let span = located.span;
@@ -87,11 +122,8 @@ fn check_points(
     match &located.statement {
         Statement::Emit(range) => control::check_emit(scope, context, *range, span),
         Statement::If { condition, .. } => {
-            answer(
-                alloc,
-                control::check_condition(scope, context, *condition),
-                span,
-            )
+            let checked = control::check_condition(scope, context, *condition);
+            answer(alloc, checked, span)
         }
         Statement::Switch { selector, cases } => {
             control::check_switch(scope, context, *selector, cases.as_slice(), span)
@@ -100,6 +132,62 @@ fn check_points(
         Statement::Continue => answer(alloc, control::check_continue(abilities), span),
         Statement::Return { value } => {
             let checked = control::check_return(scope, context, abilities, *value);
+            answer(alloc, checked, span)
+        }
+        Statement::Store { pointer, value } => {
+            let checked = check_store(scope, context, *pointer, *value);
+            answer(alloc, checked, span)
+        }
+        Statement::ImageStore {
+            image,
+            coordinate,
+            array_index,
+            value,
+        } => {
+            let texel = Texel {
+                coordinate: *coordinate,
+                array_index: *array_index,
+            };
+            check_image_store(scope, context, *image, texel, *value, span)
+        }
+        Statement::Atomic {
+            pointer,
+            fun,
+            value,
+            result,
+        } => check_atomic(scope, filled, context, *pointer, fun, *value, result, span),
+        Statement::ImageAtomic {
+            image,
+            coordinate,
+            array_index,
+            fun,
+            value,
+        } => {
+            let texel = Texel {
+                coordinate: *coordinate,
+                array_index: *array_index,
+            };
+            let checked = check_image_atomic(scope, context, *image, texel, fun, *value);
+            answer(alloc, checked, span)
+        }
+        Statement::WorkGroupUniformLoad { pointer, result } => {
+            check_load(scope, context, *pointer, *result, span)
+        }
+        Statement::Call {
+            function,
+            arguments,
+            result,
+        } => check_call(
+            scope,
+            filled,
+            context,
+            *function,
+            arguments.as_slice(),
+            result,
+            span,
+        ),
+        Statement::CooperativeStore { target, source } => {
+            let checked = check_cooperative_store(scope, context, *target, source.pointer);
             answer(alloc, checked, span)
         }
         _ => Ok(()),
@@ -115,26 +203,58 @@ fn all_stages() -> ShaderStages
 }
 
 /// The stages that a statement may run in.
-fn stages_of(located: &Located) -> ShaderStages
-    ensures { result ≡ stages_of (tree_of located.now) }
+fn stages_of(context: &BlockContext, located: &Located) -> ShaderStages
+    ensures { result ≡ stages_of (context_of context.now).earlier (tree_of located.now) }
 {
     match &located.statement {
         Statement::Kill => ShaderStages::FRAGMENT,
+        Statement::WorkGroupUniformLoad { .. } => ShaderStages::COMPUTE_LIKE,
+        Statement::CooperativeStore { .. } => ShaderStages::COMPUTE,
+        Statement::Call { function, .. } => callee_stages(context, *function),
         _ => all_stages(),
     }
 }
 
-/// What a statement leaves where none of its checks fails.
-fn advance(state: &mut BodyState, located: &Located)
-    ensures { state.new ≡ with_statement state.old (tree_of located.now) }
+/// The stages that an earlier function may run in.
+fn callee_stages(context: &BlockContext, function: Handle<tag::Function>) -> ShaderStages
+    ensures { result ≡ callee_stages (context_of context.now).earlier function }
 {
-    state.stages = state.stages.intersection(stages_of(located));
+    match context.earlier.functions.as_slice().get(function.index()) {
+        Some(info) => info.available_stages,
+        None => all_stages(),
+    }
+}
+
+/// The result that a Call or an Atomic names.
+fn result_of(located: &Located) -> Option<Handle<tag::Expression>>
+    ensures { result ≡ result_of (StatementNode (tree_of located.now)) }
+{
+    match &located.statement {
+        Statement::Call { result, .. } | Statement::Atomic { result, .. } => *result,
+        _ => None,
+    }
+}
+
+/// What a statement leaves where none of its checks fails.
+fn advance(
+    state: &mut BodyState,
+    context: &BlockContext,
+    located: &Located,
+) -> Result<(), AllocError>
+    requires { IfSome (result_of (StatementNode (tree_of located.now))) (λ r. in_scope state.old.filled r ≡ false) }
+    ensures { OnOk result (state.new ≡ with_statement (context_of context.now) state.old (tree_of located.now)) }
+{
+    if let Some(handle) = result_of(located) {
+        state.filled.put(handle)?;
+    }
+    state.stages = state.stages.intersection(stages_of(context, located));
+    Ok(())
 }
 
 /// The break condition of a Loop, if it has one. A fault has the place of the Loop.
 #[tactic(auto, unfolding(crate::specs::Walk::break_if_answer, naga_runs::specs::ByTree::judge_break_if, naga_runs::specs::ByTree::judge_visits, naga_runs::specs::ByTree::judge))]
 fn check_break_if(
-    scope: &Scope,
+    scope: &HandleSet,
     state: &mut BodyState,
     context: &BlockContext,
     abilities: Abilities,
@@ -156,7 +276,7 @@ fn check_break_if(
 #[tactic(auto, using(crate::proofs::Walk::walking))]
 #[cycle(walk)]
 fn validate_parts(
-    scope: &mut Scope,
+    scope: &mut HandleSet,
     state: &mut BodyState,
     context: &BlockContext,
     abilities: Abilities,
@@ -196,7 +316,7 @@ fn validate_parts(
 /// A list of statements, whose puts stay in scope: naga's `validate_block_impl`.
 #[cycle(walk)]
 fn validate_statements(
-    scope: &mut Scope,
+    scope: &mut HandleSet,
     state: &mut BodyState,
     context: &BlockContext,
     abilities: Abilities,
@@ -216,7 +336,7 @@ fn validate_statements(
 /// One statement: its own check list, its stages, and then its parts.
 #[cycle(walk)]
 fn validate_statement(
-    scope: &mut Scope,
+    scope: &mut HandleSet,
     state: &mut BodyState,
     context: &BlockContext,
     abilities: Abilities,
@@ -227,15 +347,15 @@ fn validate_statement(
     ensures fault { AnswersLeaving (stmt_answer (context_of context.now) state.old abilities scope.old (tree_of located.now)) state.new result }
     ensures scope { OnOk result (scope.new ≡ scope.old ++ puts (tree_of located.now)) }
 {
-    check_points(scope, context, abilities, located)?;
-    advance(state, located);
+    check_points(scope, &state.filled, context, abilities, located)?;
+    advance(state, context, located)?;
     validate_parts(scope, state, context, abilities, located)
 }
 
 /// A list of statements in a scope of its own: naga's `validate_block`.
 #[cycle(walk)]
 fn validate_block(
-    scope: &mut Scope,
+    scope: &mut HandleSet,
     state: &mut BodyState,
     context: &BlockContext,
     abilities: Abilities,
@@ -255,7 +375,7 @@ fn validate_block(
 /// The bodies of a Switch's cases, in order.
 #[cycle(walk)]
 fn validate_cases(
-    scope: &mut Scope,
+    scope: &mut HandleSet,
     state: &mut BodyState,
     context: &BlockContext,
     abilities: Abilities,

@@ -8,7 +8,8 @@ use naga_below::ir::functions::Function;
 use naga_below::ir::statements::{Block, Located, Statement, SwitchCase};
 
 /// Whether each statement of a function, at any depth, is of a kind that is judged by now: Emit, Block, If, Switch,
-/// Loop, Break, Continue, Return or Kill.
+/// Loop, Break, Continue, Return, Kill, Store, ImageStore, Atomic, ImageAtomic, WorkGroupUniformLoad, Call or
+/// CooperativeStore.
 pub fn has_kinds(fun: &Function) -> bool
     ensures { result ≡ body_has_kinds (body_of fun.now.body) }
 {
@@ -53,6 +54,13 @@ fn has_kind(located: &Located) -> bool
             | Statement::Continue
             | Statement::Return { .. }
             | Statement::Kill
+            | Statement::Store { .. }
+            | Statement::ImageStore { .. }
+            | Statement::Atomic { .. }
+            | Statement::ImageAtomic { .. }
+            | Statement::WorkGroupUniformLoad { .. }
+            | Statement::Call { .. }
+            | Statement::CooperativeStore { .. }
     )
 }
 

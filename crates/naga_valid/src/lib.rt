@@ -4,8 +4,8 @@
 mod checks;
 mod context;
 mod function;
+mod handle_set;
 pub mod kinds;
-mod scope;
 mod state;
 #[cfg(test)]
 mod tests;

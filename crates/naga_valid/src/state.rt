@@ -1,5 +1,6 @@
 //! What goes along the statements of a body.
 
+use crate::handle_set::HandleSet;
 use naga_below::valid::flags::ShaderStages;
 
 /// What the statements so far leave.
@@ -7,4 +8,6 @@ use naga_below::valid::flags::ShaderStages;
 pub struct BodyState {
     /// The stages that all of them may run in.
     pub stages: ShaderStages,
+    /// The results that they fill, none of them twice.
+    pub filled: HandleSet,
 }

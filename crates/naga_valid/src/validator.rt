@@ -1,12 +1,14 @@
 //! The validator of functions.
 
-ghost use Rattle.std.specs.Prelude.{◌≡◌, ◌↔◌, ◌<◌, IsTrue, [], true, OnOk, OnErr, IfErr, All, length, if◌then◌else◌};
+ghost use Rattle.std.specs.Prelude.{◌≡◌, ◌↔◌, ◌<◌, IsTrue, [], true, OnOk, OnErr, IfOk, IfErr, All, length, if◌then◌else◌};
 ghost use Rattle.naga_below.specs.Fits.{FitsTypes, FitsFunction};
 ghost use Rattle.naga_rules.specs.Answers.{Answers};
 ghost use Rattle.naga_runs.specs.Soundness.{RunsAreSound};
+ghost use Rattle.naga_valid.specs.Accepted.{ResultsAreFilledOnce, StagesAreOfAll};
 ghost use Rattle.naga_valid.specs.Blocks.{body_of};
 ghost use Rattle.naga_valid.specs.Context.{pre_emitted_of};
-ghost use Rattle.naga_valid.specs.Judged.{checks_blocks, function_judgement};
+ghost use Rattle.naga_valid.specs.Flags.{checks_blocks, checks_expressions};
+ghost use Rattle.naga_valid.specs.Judged.{function_judgement};
 ghost use Rattle.naga_valid.specs.Kinds.{body_has_kinds};
 ghost use Rattle.naga_valid.specs.Parts.{Parts, first_settings, no_traces, NamesTypes, AreInfosOf};
 
@@ -118,6 +120,13 @@ impl<B: Below> Validator<B> {
         // In every run of an accepted body that was looked at, what is used is live or was skipped by a Continue, no
         // live handle is put, and jumps have targets.
         ensures sound { OnOk result (checks_blocks self.old.settings.flags ≡ true → RunsAreSound (pre_emitted_of fun.now) (body_of fun.now.body)) }
+
+        // Where results were looked at too, each CallResult of an accepted body is filled by one Call, which is of its
+        // function, and by no Atomic; each AtomicResult by one Atomic and by no Call.
+        ensures filled { OnOk result (checks_blocks self.old.settings.flags ≡ true → checks_expressions self.old.settings.flags ≡ true → ResultsAreFilledOnce fun.now) }
+
+        // The stages of an accepted body are stages of each of its statements and of each function that it calls.
+        ensures stages { IfOk result (λ info. checks_blocks self.old.settings.flags ≡ true → StagesAreOfAll mod_info.now (body_of fun.now.body) info.available_stages) }
         ensures kept { self.new ≡ self.old }
     {
         let settings = self.settings;
@@ -135,8 +144,7 @@ impl<B: Below> Validator<B> {
                 kinds: &kinds,
                 settings,
             };
-            let state = validate_function_body(alloc, &context)?;
-            info.available_stages = state.stages;
+            info.available_stages = validate_function_body(alloc, &context)?;
         }
         Ok(info)
     }

@@ -17,7 +17,7 @@ ghost use Rattle.naga_below.specs.declared.ir.statements.SwitchCase.{out-SwitchC
 use crate::checks::refuse::{answer, check_use, refusal};
 use crate::checks::types::is_same_type;
 use crate::context::BlockContext;
-use crate::scope::Scope;
+use crate::handle_set::HandleSet;
 use naga_below::arena::handle::Handle;
 use naga_below::arena::range::Range;
 use naga_below::arena::tag;
@@ -33,7 +33,7 @@ use std::collections::BTreeSet;
 
 /// Emit: puts the expressions of a range in scope.
 pub fn check_emit(
-    scope: &mut Scope,
+    scope: &mut HandleSet,
     context: &BlockContext,
     range: Range,
     span: Span,
@@ -74,7 +74,7 @@ fn is_result(expression: Option<&Expression>) -> bool
 
 /// If, and the break condition of a Loop: a boolean in scope.
 pub fn check_condition(
-    scope: &Scope,
+    scope: &HandleSet,
     context: &BlockContext,
     condition: Handle<tag::Expression>,
 ) -> Result<(), FunctionError>
@@ -101,7 +101,7 @@ fn is_bool_scalar(inner: Option<&TypeInner>) -> bool
 
 /// Return: allowed here, and its value in scope and of the function's result type.
 pub fn check_return(
-    scope: &Scope,
+    scope: &HandleSet,
     context: &BlockContext,
     abilities: Abilities,
     value: Option<Handle<tag::Expression>>,
@@ -185,7 +185,7 @@ pub fn check_continue(abilities: Abilities) -> Result<(), FunctionError>
 
 /// Switch: its selector, each case value, and the cases as a whole.
 pub fn check_switch(
-    scope: &Scope,
+    scope: &HandleSet,
     context: &BlockContext,
     selector: Handle<tag::Expression>,
     cases: &[SwitchCase],
@@ -200,7 +200,7 @@ pub fn check_switch(
 }
 
 fn check_selector(
-    scope: &Scope,
+    scope: &HandleSet,
     context: &BlockContext,
     selector: Handle<tag::Expression>,
 ) -> Result<(), FunctionError>
@@ -213,7 +213,8 @@ fn check_selector(
     Ok(())
 }
 
-fn is_integer(kind: Option<ScalarKind>) -> bool
+/// Whether a kind is that of integers of either sign.
+pub fn is_integer(kind: Option<ScalarKind>) -> bool
     ensures { result ≡ is_integer kind }
 {
     matches!(kind, Some(ScalarKind::Uint | ScalarKind::Sint))

@@ -4,10 +4,10 @@ ghost use Rattle.std.specs.Prelude.{◌≡◌, [], ◌∷◌};
 ghost use Rattle.std.specs.Result.{result_err};
 ghost use Rattle.naga_runs.specs.Judgement.{first_fault};
 ghost use Rattle.naga_valid.specs.Answers.{AnswersPoints, IsRefusalFor};
-ghost use Rattle.naga_valid.specs.Points.{Points, use_point};
+ghost use Rattle.naga_valid.specs.Points.{Points, use_point, put_point};
 ghost use Rattle.naga_valid.specs.Scope.{known};
 
-use crate::scope::Scope;
+use crate::handle_set::HandleSet;
 use naga_below::arena::handle::Handle;
 use naga_below::arena::tag;
 use naga_below::span::{Refusal, Span, WithSpan};
@@ -16,7 +16,7 @@ use naga_rules::function::FunctionError;
 use std::alloc::Global;
 
 /// A use: the expression is in scope.
-pub fn check_use(scope: &Scope, handle: Handle<tag::Expression>) -> Result<(), FunctionError>
+pub fn check_use(scope: &HandleSet, handle: Handle<tag::Expression>) -> Result<(), FunctionError>
     ensures { result_err result ≡ first_fault (use_point (known scope.now) handle ∷ []) }
 {
     if !scope.contains(handle) {
@@ -24,6 +24,16 @@ pub fn check_use(scope: &Scope, handle: Handle<tag::Expression>) -> Result<(), F
             handle,
             source: ExpressionError::NotInScope,
         });
+    }
+    Ok(())
+}
+
+/// A put, before it is made: the expression is not in scope.
+pub fn check_put(scope: &HandleSet, handle: Handle<tag::Expression>) -> Result<(), FunctionError>
+    ensures { result_err result ≡ first_fault (put_point (known scope.now) handle ∷ []) }
+{
+    if scope.contains(handle) {
+        return Err(FunctionError::ExpressionAlreadyInScope(handle));
     }
     Ok(())
 }
@@ -50,5 +60,19 @@ pub fn answer(
     match checked {
         Ok(()) => Ok(()),
         Err(fault) => Err(refusal(alloc, fault, span)),
+    }
+}
+
+/// The answer of a check of the function as a whole.
+#[tactic(auto, using(crate::proofs::Refusals::refuses_fault))]
+pub fn answer_of_function(
+    alloc: Global,
+    checked: Result<(), FunctionError>,
+) -> Result<(), Refusal<FunctionError>>
+    ensures { (points : Points) → result_err checked ≡ first_fault points → AnswersPoints points result }
+{
+    match checked {
+        Ok(()) => Ok(()),
+        Err(fault) => Err(Refusal::Fault(WithSpan::new(alloc, fault))),
     }
 }

@@ -6,7 +6,9 @@ use Rattle.naga_below.specs.View.{no_operands}
 use Rattle.naga_valid.specs.Blocks.{tree_of, statement_list, case_list}
 use Rattle.naga_valid.specs.Ready.{IsStatementReady, IsBodyReady}
 use Rattle.naga_valid.specs.Seen.{context_of}
-use Rattle.naga_valid.specs.Walk.{puts, body_puts, body_answer}
+use Rattle.naga_valid.specs.Scope.{known}
+use Rattle.naga_valid.specs.Walk.{place, puts, body_puts, body_answer}
+use Rattle.naga_valid.proofs.Guarded.{names_unfilled}
 use Rattle.naga_valid.proofs.Parts.{in_block, in_branch, in_switch, in_lists, in_list, in_cases}
 use Rattle.naga_valid.proofs.Refusals.{next_is, stops_first, answers_next}
 use Rattle.naga_valid.proofs.Walk.{no_parts, own_passes, own_refuses, parts_later, parts_switch, stmt_more, body_turn, puts_turn, body_end, puts_end, cases_turn, cases_end}
@@ -58,11 +60,15 @@ pub validate_statement-returns-in_err-check_points-clause-fault :
 validate_statement-returns-in_err-check_points-clause-fault t c =
     rw (stmt_more (context_of c.args.context.now) c.args.state.now c.args.abilities c.args.scope.now (tree_of c.args.located.now)) (search (rules, stops_first, own_refuses))
 
+pub validate_statement-advance-requires : goal.validate_statement-advance-requires
+validate_statement-advance-requires t c =
+    names_unfilled (context_of c.args.context.now) (known c.args.state.now.filled) (place c.args.abilities c.args.scope.now) (tree_of c.args.located.now) c.in_ok-check_points.ensures.fault
+
 pub validate_statement-returns-clause-fault : goal.validate_statement-returns-clause-fault
 validate_statement-returns-clause-fault t c =
     let x = tree_of c.args.located.now in
     rw (stmt_more (context_of c.args.context.now) c.args.state.now c.args.abilities c.args.scope.now x) (
-    answers_next _ _ _ _ _ (own_passes (context_of c.args.context.now) c.args.state.now c.args.abilities c.args.scope.now x c.in_ok-check_points.ensures.fault) (rw (← c.advance.ensures, ← parts_later (context_of c.args.context.now) c.advance.new.state c.args.abilities c.args.scope.now x, ← c.in_ok-check_points.ensures.scope) c.validate_parts.ensures.fault)
+    answers_next _ _ _ _ _ (own_passes (context_of c.args.context.now) c.args.state.now c.args.abilities c.args.scope.now x c.in_ok-check_points.ensures.fault) (rw (← c.in_ok-advance.ensures, ← parts_later (context_of c.args.context.now) c.advance.new.state c.args.abilities c.args.scope.now x, ← c.in_ok-check_points.ensures.scope) c.validate_parts.ensures.fault)
     )
 
 pub validate_statements-loop-located-init : goal.validate_statements-loop-located-init

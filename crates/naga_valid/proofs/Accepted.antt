@@ -1,0 +1,315 @@
+-- An accepted body fills each result once, and leaves stages of all its statements.
+use Rattle.std.proofs.Common.{◌≡◌, ℕ, zero, suc, ◌+◌, ◌<◌, ◌==◌, Bool, true, false, not, ◌&&◌, ◌||◌, List, [], ◌∷◌, ◌++◌, Option, None, Some, Result, Ok, Err, length, slice_get, subst, refl, sym, ap, ◌∙◌, arith}
+use Rattle.std.proofs.lemmas.Bool.Decides.{nat_tests}
+use Rattle.std.proofs.lemmas.Nat.{and_assoc, and_comm}
+use Rattle.std.proofs.lemmas.Option.{slice_get_within}
+use Rattle.std.specs.Int.Bits.{and_self}
+use Rattle.std.specs.List.{AllByRecursion}
+use Rattle.std.specs.Prelude.{map, if◌then◌else◌}
+use Rattle.naga_below.specs.Tree.{Body, Leaf}
+use Rattle.naga_below.specs.declared.ir.expressions.Expression.{Expression}
+use Rattle.naga_below.specs.declared.ir.expressions.Expression.TheVariants as e
+use Rattle.naga_below.specs.declared.ir.statements.Statement as ir
+use Rattle.naga_below.specs.declared.valid.flags.ShaderStages.{ShaderStages}
+use Rattle.naga_below.specs.declared.valid.info.ModuleInfo.{ModuleInfo}
+use Rattle.naga_rules.specs.declared.function.FunctionError.{FunctionError}
+use Rattle.naga_rules.specs.declared.function.FunctionError.TheVariants.{UnvisitedExpression}
+use Rattle.naga_runs.proofs.Judgements.{judgement_is_visits, earlier_is_all}
+use Rattle.naga_runs.proofs.Points.{first_holds, not_holds}
+use Rattle.naga_runs.specs.ByTree.{then_on, judge_visits}
+use Rattle.naga_runs.specs.Handles.{Handles}
+use Rattle.naga_runs.specs.Judgement.{answer, first_fault, viewed}
+use Rattle.naga_runs.specs.Positions.{Node, NoNode, StatementNode, BreakIfNode, Position, node_at}
+use Rattle.naga_runs.specs.VisitOrder.{positions}
+use Rattle.naga_runs.specs.Visits.{Visit, Place, visit_at, visits_of}
+use Rattle.naga_valid.specs.Accepted.{nodes_of, callee_filling, callees_filling, atomic_filling, atomics_filling, ResultsAreFilledOnce, AreAmong, AreOfStatement, AreOfCallee, StagesAreOfAll}
+use Rattle.naga_valid.specs.Atomics.{is_atomic_result}
+use Rattle.naga_valid.specs.Blocks.{body_of}
+use Rattle.naga_valid.specs.Calls.{is_call_result_of, has_result}
+use Rattle.naga_valid.specs.Context.{Context, pre_emitted}
+use Rattle.naga_valid.specs.Flags.{checks_expressions}
+use Rattle.naga_valid.specs.Judged.{body_judgement, stages_after}
+use Rattle.naga_valid.specs.Results.{is_to_fill, result_of, fills, filled_before, is_unfilled, filled_points_from, filled_points}
+use Rattle.naga_valid.specs.Rules.{points_at, stages_of, stages_behind, stages_left}
+use Rattle.naga_valid.specs.Scope.{in_scope, known}
+use Rattle.naga_valid.specs.Stages.{meet}
+use Rattle.naga_valid.specs.State.{State, kept_rules, begin_state, state_behind, state_left}
+use Rattle.naga_valid.specs.Types.{expression_at}
+use Rattle.naga_valid.proofs.Atomics.{NamedHolds, atomic_named}
+use Rattle.naga_valid.proofs.Calls.{call_holds}
+use Rattle.naga_valid.proofs.Fillings.{or_false, with_is, unfilled, known_filled}
+use Rattle.naga_valid.proofs.Judged.{kept}
+
+-- stages
+
+meet_assoc : (a b c : ShaderStages) → meet (meet a b) c ≡ meet a (meet b c)
+meet_assoc a b c i = record { 0 = and_assoc c.0 a.0 b.0 i }
+
+among_itself : (a : ShaderStages) → AreAmong a a
+among_itself a i = record { 0 = and_self a.0 i }
+
+among_all : (a b c : ShaderStages) → AreAmong a b → AreAmong b c → AreAmong a c
+among_all a b c p q = ap (λ z. meet z c) (sym p) ∙ meet_assoc a b c ∙ ap (meet a) q ∙ p
+
+meet_among_second : (a b : ShaderStages) → AreAmong (meet a b) b
+meet_among_second a b = meet_assoc a b b ∙ ap (meet a) (among_itself b)
+
+meet_comm : (a b : ShaderStages) → meet a b ≡ meet b a
+meet_comm a b i = record { 0 = and_comm a.0 b.0 i }
+
+meet_among_first : (a b : ShaderStages) → AreAmong (meet a b) a
+meet_among_first a b =
+    ap (λ z. meet z a) (meet_comm a b) ∙ meet_assoc b a a ∙ ap (meet b) (among_itself a) ∙ meet_comm b a
+
+module _ (earlier : ModuleInfo) where
+  behind_among : (s : ShaderStages) (node : Node) → AreAmong (stages_behind earlier s node) s
+  behind_among s NoNode = among_itself s
+  behind_among s (StatementNode x) = meet_among_first s (stages_of earlier x)
+  behind_among s (BreakIfNode h) = among_itself s
+
+  left_among : (s : ShaderStages) (visits : List Visit) → AreAmong (stages_left earlier s visits) s
+  left_among s [] = among_itself s
+  left_among s (v ∷ visits) =
+      among_all (stages_left earlier (stages_behind earlier s v.node) visits) (stages_behind earlier s v.node) s (left_among (stages_behind earlier s v.node) visits) (behind_among s v.node)
+
+  of_statement : (s t : ShaderStages) (node : Node) → AreAmong t (stages_behind earlier s node) → AreOfStatement earlier t node
+  of_statement s t NoNode e = tt
+  of_statement s t (StatementNode x) e =
+      among_all t (meet s (stages_of earlier x)) (stages_of earlier x) e (meet_among_second s (stages_of earlier x))
+  of_statement s t (BreakIfNode h) e = tt
+
+  of_callee : (t : ShaderStages) (node : Node) → AreOfStatement earlier t node → AreOfCallee earlier t node
+  of_callee t (StatementNode (Leaf acts (ir.Call f arguments result) span)) e = e
+  of_callee t _ e = tt
+
+  of_all : (s : ShaderStages) (visits : List Visit) → AllByRecursion (AreOfStatement earlier (stages_left earlier s visits)) (map (λ v. v.node) visits)
+  of_all s [] = tt
+  of_all s (v ∷ visits) =
+      let next = stages_behind earlier s v.node in
+      (of_statement s (stages_left earlier next visits) v.node (left_among next visits), of_all next visits)
+
+  callees_of_all : (t : ShaderStages) (nodes : List Node) → AllByRecursion (AreOfStatement earlier t) nodes → AllByRecursion (AreOfCallee earlier t) nodes
+  callees_of_all t [] a = tt
+  callees_of_all t (node ∷ nodes) a = (of_callee t node a.0, callees_of_all t nodes a.1)
+
+-- the nodes of the visits are what stands at the positions
+nodes_are : (pre : Handles) (b : Body) (ps : List Position) → map (λ v. v.node) (map (visit_at pre b) ps) ≡ map (node_at b) ps
+nodes_are pre b [] = refl
+nodes_are pre b (p ∷ ps) = ap (λ l. node_at b p ∷ l) (nodes_are pre b ps)
+
+-- results
+
+-- what a visit does with a result
+data Filling (context : Context) (filled : Handles) (r : ℕ) (node : Node) : Type 0 where
+  Other : fills r node ≡ false → callee_filling r node ≡ [] → atomic_filling r node ≡ 0 → Filling context filled r node
+  ByCall : (f : ℕ) → filled r ≡ false → fills r node ≡ true → expression_at context r ≡ Some (e.CallResult f) → callee_filling r node ≡ f ∷ [] → atomic_filling r node ≡ 0 → Filling context filled r node
+  ByAtomic : filled r ≡ false → fills r node ≡ true → is_atomic_result (expression_at context r) ≡ true → callee_filling r node ≡ [] → atomic_filling r node ≡ 1 → Filling context filled r node
+
+both_hold : (a b : Bool) → (a && b) ≡ true → (a ≡ true) × (b ≡ true)
+both_hold true b h = (refl, h)
+both_hold false b h = cc
+
+call_result : (f : ℕ) (o : Option Expression) → is_call_result_of f o ≡ true → o ≡ Some (e.CallResult f)
+call_result f (Some (e.CallResult g)) h = let same : g ≡ f = grind (arith, nat_tests) in ap (λ k. Some (e.CallResult k)) same
+call_result f _ h = cc
+
+same_handle : (q r : ℕ) → (q == r) ≡ true → q ≡ r
+same_handle q r h = grind (arith, nat_tests)
+
+module _ (context : Context) (filled : Handles) (place : Place) (r : ℕ) where
+  filling : (node : Node) → first_fault (points_at context filled place node) ≡ None → Filling context filled r node
+  filling (StatementNode (Leaf acts (ir.Call f xs None) span)) h = Other refl refl refl
+  filling (StatementNode (Leaf acts (ir.Call f xs (Some q)) span)) h = go (q == r) refl
+    where
+      holds : (filled q ≡ false) × (expression_at context q ≡ Some (e.CallResult f))
+      holds =
+          let all = call_holds context filled place.scope f xs q h in
+          (unfilled context filled q all.2, call_result f (expression_at context q) (both_hold _ (has_result (slice_get context.program.functions f)) all.1).0)
+
+      go : (b : Bool) → (q == r) ≡ b → Filling context filled r (StatementNode (Leaf acts (ir.Call f xs (Some q)) span))
+      go true is =
+          let same = same_handle q r is in
+          ByCall f (ap filled (sym same) ∙ holds.0) is (ap (expression_at context) (sym same) ∙ holds.1) (ap (λ b. if b then f ∷ [] else []) is) refl
+      go false is = Other is (ap (λ b. if b then f ∷ [] else []) is) refl
+  filling (StatementNode (Leaf acts (ir.Atomic p f v None) span)) h = Other refl refl refl
+  filling (StatementNode (Leaf acts (ir.Atomic p f v (Some q)) span)) h = go (q == r) refl
+    where
+      holds : NamedHolds context filled place.scope q
+      holds = atomic_named context filled place.scope p f v (Some q) h
+
+      go : (b : Bool) → (q == r) ≡ b → Filling context filled r (StatementNode (Leaf acts (ir.Atomic p f v (Some q)) span))
+      go true is =
+          let same = same_handle q r is in
+          ByAtomic (ap filled (sym same) ∙ unfilled context filled q holds.fresh) is (ap (λ k. is_atomic_result (expression_at context k)) (sym same) ∙ holds.kind) refl (ap (λ b. if b then 1 else 0) is)
+      go false is = Other is refl (ap (λ b. if b then 1 else 0) is)
+  filling _ h = Other refl refl refl
+
+-- what visits do with it, where it is filled before them or not, and is filled behind them or not
+data Filled (context : Context) (r : ℕ) (nodes : List Node) : Bool → Bool → Type 0 where
+  Before : callees_filling r nodes ≡ [] → atomics_filling r nodes ≡ 0 → Filled context r nodes true true
+  Never : callees_filling r nodes ≡ [] → atomics_filling r nodes ≡ 0 → Filled context r nodes false false
+  OnceByCall : (f : ℕ) → expression_at context r ≡ Some (e.CallResult f) → callees_filling r nodes ≡ f ∷ [] → atomics_filling r nodes ≡ 0 → Filled context r nodes false true
+  OnceByAtomic : is_atomic_result (expression_at context r) ≡ true → callees_filling r nodes ≡ [] → atomics_filling r nodes ≡ 1 → Filled context r nodes false true
+
+module _ (context : Context) (r : ℕ) where
+  others : (node : Node) (nodes : List Node) (b a : Bool) → callee_filling r node ≡ [] → atomic_filling r node ≡ 0 → Filled context r nodes b a → Filled context r (node ∷ nodes) b a
+  others node nodes true false c n rest = elim rest [ ]
+  others node nodes true true c n (Before cs ns) =
+      Before (ap (λ l. l ++ callees_filling r nodes) c ∙ cs) (omega (arith, n, ns))
+  others node nodes false false c n (Never cs ns) =
+      Never (ap (λ l. l ++ callees_filling r nodes) c ∙ cs) (omega (arith, n, ns))
+  others node nodes false true c n (OnceByCall f is cs ns) =
+      OnceByCall f is (ap (λ l. l ++ callees_filling r nodes) c ∙ cs) (omega (arith, n, ns))
+  others node nodes false true c n (OnceByAtomic is cs ns) =
+      OnceByAtomic is (ap (λ l. l ++ callees_filling r nodes) c ∙ cs) (omega (arith, n, ns))
+
+  was_before : (nodes : List Node) (b a : Bool) → b ≡ true → Filled context r nodes b a → (a ≡ true) × (callees_filling r nodes ≡ []) × (atomics_filling r nodes ≡ 0)
+  was_before nodes true true is (Before cs ns) = (refl, cs, ns)
+  was_before nodes true false is h = elim h [ ]
+  was_before nodes false a is h = cc
+
+  by_call : (node : Node) (nodes : List Node) (f : ℕ) (b after a : Bool) → b ≡ false → after ≡ true → expression_at context r ≡ Some (e.CallResult f) → callee_filling r node ≡ f ∷ [] → atomic_filling r node ≡ 0 → Filled context r nodes after a → Filled context r (node ∷ nodes) b a
+  by_call node nodes f b after a free full is c n h =
+      let rest = was_before nodes after a full h in
+      let once : Filled context r (node ∷ nodes) false true = OnceByCall f is (ap (λ l. l ++ callees_filling r nodes) c ∙ ap (λ l. f ∷ l) rest.1) (omega (arith, n, rest.2)) in
+      subst (λ x. Filled context r (node ∷ nodes) x a) (sym free) (subst (λ y. Filled context r (node ∷ nodes) false y) (sym rest.0) once)
+
+  by_atomic : (node : Node) (nodes : List Node) (b after a : Bool) → b ≡ false → after ≡ true → is_atomic_result (expression_at context r) ≡ true → callee_filling r node ≡ [] → atomic_filling r node ≡ 1 → Filled context r nodes after a → Filled context r (node ∷ nodes) b a
+  by_atomic node nodes b after a free full is c n h =
+      let rest = was_before nodes after a full h in
+      let once : Filled context r (node ∷ nodes) false true = OnceByAtomic is (ap (λ l. l ++ callees_filling r nodes) c ∙ rest.1) (omega (arith, n, rest.2)) in
+      subst (λ x. Filled context r (node ∷ nodes) x a) (sym free) (subst (λ y. Filled context r (node ∷ nodes) false y) (sym rest.0) once)
+
+  step : (filled : Handles) (node : Node) (nodes : List Node) (a : Bool) → Filling context filled r node → Filled context r nodes (filled r || fills r node) a → Filled context r (node ∷ nodes) (filled r) a
+  step filled node nodes a (Other free c n) rest =
+      others node nodes (filled r) a c n (subst (λ b. Filled context r nodes b a) (ap (λ b. filled r || b) free ∙ or_false (filled r)) rest)
+  step filled node nodes a (ByCall f free full is c n) rest =
+      by_call node nodes f (filled r) (filled r || fills r node) a free (ap (λ b. b || fills r node) free ∙ full) is c n rest
+  step filled node nodes a (ByAtomic free full is c n) rest =
+      by_atomic node nodes (filled r) (filled r || fills r node) a free (ap (λ b. b || fills r node) free ∙ full) is c n rest
+
+  behind_is : (st : State) (node : Node) → in_scope (state_behind context st node).filled r ≡ (in_scope st.filled r || fills r node)
+  behind_is st NoNode = sym (or_false (in_scope st.filled r))
+  behind_is st (StatementNode x) = with_is (result_of (StatementNode x)) st.filled r
+  behind_is st (BreakIfNode h) = sym (or_false (in_scope st.filled r))
+
+  passes : (o : Option FunctionError) (st : State) (f : State → Result State FunctionError) (end : State) → then_on (answer o st) f ≡ Ok end → (o ≡ None) × (f st ≡ Ok end)
+  passes None st f end h = (refl, h)
+  passes (Some x) st f end h = cc
+
+  nothing : (b : Bool) → Filled context r [] b b
+  nothing true = Before refl refl
+  nothing false = Never refl refl
+
+  along : (st end : State) (visits : List Visit) → judge_visits (kept_rules context) st visits ≡ Ok end → Filled context r (map (λ v. v.node) visits) (in_scope st.filled r) (in_scope end.filled r)
+  unfolding judge_visits Rattle.naga_runs.specs.ByTree.judge
+  along st end [] h =
+      let same : st ≡ end = cc in
+      subst (λ z. Filled context r [] (in_scope st.filled r) (in_scope z.filled r)) same (nothing (in_scope st.filled r))
+  along st end (v ∷ visits) h =
+      let next = state_behind context st v.node in
+      let both = passes (first_fault (points_at context (known st.filled) v.place v.node)) next (λ s. judge_visits (kept_rules context) s visits) end h in
+      let nodes = map (λ w. w.node) visits in
+      step (known st.filled) v.node nodes (in_scope end.filled r) (filling context (known st.filled) v.place r v.node both.0) (subst (λ b. Filled context r nodes b (in_scope end.filled r)) (behind_is st v.node) (along next end visits both.1))
+
+  called_once : (f : ℕ) (nodes : List Node) (b a : Bool) → b ≡ false → a ≡ true → expression_at context r ≡ Some (e.CallResult f) → Filled context r nodes b a → (callees_filling r nodes ≡ f ∷ []) × (atomics_filling r nodes ≡ 0)
+  called_once f nodes true false free full is rest = elim rest [ ]
+  called_once f nodes true true free full is (Before cs ns) = cc
+  called_once f nodes false false free full is (Never cs ns) = cc
+  called_once f nodes false true free full is (OnceByCall g was cs ns) =
+      let both : Some (e.CallResult g) ≡ Some (e.CallResult f) = sym was ∙ is in
+      let same : g ≡ f = cc in
+      (cs ∙ ap (λ k. k ∷ []) same, ns)
+  called_once f nodes false true free full is (OnceByAtomic was cs ns) =
+      let no_result : false ≡ true = ap is_atomic_result (sym is) ∙ was in cc
+
+  done_once : (ty : ℕ) (comparison : Bool) (nodes : List Node) (b a : Bool) → b ≡ false → a ≡ true → expression_at context r ≡ Some (e.AtomicResult ty comparison) → Filled context r nodes b a → (callees_filling r nodes ≡ []) × (atomics_filling r nodes ≡ 1)
+  done_once ty comparison nodes true false free full is rest = elim rest [ ]
+  done_once ty comparison nodes true true free full is (Before cs ns) = cc
+  done_once ty comparison nodes false false free full is (Never cs ns) = cc
+  done_once ty comparison nodes false true free full is (OnceByCall g was cs ns) =
+      let both : Some (e.CallResult g) ≡ Some (e.AtomicResult ty comparison) = sym was ∙ is in cc
+  done_once ty comparison nodes false true free full is (OnceByAtomic was cs ns) = (cs, ns)
+
+-- behind a body: no expression is left unfilled
+none_left : (context : Context) (filled : Handles) (first n k : ℕ) → k < n → first_fault (filled_points_from context filled first n) ≡ None → is_unfilled context filled (first + k) ≡ false
+none_left context filled first zero k lt h = absurd (grind arith)
+none_left context filled first (suc n) zero lt h =
+    let same : first + 0 ≡ first = omega arith in
+    ap (is_unfilled context filled) same ∙ not_holds (is_unfilled context filled first) (first_holds (not (is_unfilled context filled first)) (UnvisitedExpression first) (filled_points_from context filled (suc first) n) h).0
+none_left context filled first (suc n) (suc k) lt h =
+    let same : first + suc k ≡ suc first + k = omega arith in
+    ap (is_unfilled context filled) same ∙ none_left context filled (suc first) n k (omega arith) (first_holds (not (is_unfilled context filled first)) (UnvisitedExpression first) (filled_points_from context filled (suc first) n) h).1
+
+must_be : (a b : Bool) → a ≡ true → (a && not b) ≡ false → b ≡ true
+must_be true true p q = refl
+must_be true false p q = cc
+must_be false b p q = cc
+
+module _ (context : Context) (visits : List Visit) (is : body_judgement context ≡ Ok visits) where
+  all_visits : visits ≡ visits_of (pre_emitted context) (body_of context.fun.body)
+  unfolding body_judgement
+  all_visits =
+      earlier_is_all (λ earlier v. points_at context (filled_before earlier) v.place v.node) visits (pre_emitted context) (body_of context.fun.body) is
+
+  nodes_of_visits : map (λ v. v.node) visits ≡ nodes_of (body_of context.fun.body)
+  nodes_of_visits =
+      ap (map (λ v. v.node)) all_visits ∙ nodes_are (pre_emitted context) (body_of context.fun.body) (positions (body_of context.fun.body))
+
+  of_body : StagesAreOfAll context.earlier (body_of context.fun.body) (stages_left context.earlier context.info.available_stages visits)
+  of_body =
+      let stages = stages_left context.earlier context.info.available_stages visits in
+      let statements = subst (AllByRecursion (AreOfStatement context.earlier stages)) nodes_of_visits (of_all context.earlier context.info.available_stages visits) in
+      record {
+        statements = statements;
+        callees = callees_of_all context.earlier stages (nodes_of (body_of context.fun.body)) statements;
+      }
+
+  walked : judge_visits (kept_rules context) (begin_state context) visits ≡ Ok (state_left context visits)
+  walked =
+      ap (judge_visits (kept_rules context) (begin_state context)) all_visits
+      ∙ sym (judgement_is_visits (kept_rules context) (begin_state context) (pre_emitted context) (body_of context.fun.body))
+      ∙ kept context
+      ∙ ap (viewed (state_left context)) is
+
+  filled_of : (r : ℕ) → Filled context r (nodes_of (body_of context.fun.body)) false (filled_before visits r)
+  filled_of r =
+      subst (λ nodes. Filled context r nodes false (filled_before visits r)) nodes_of_visits (subst (λ a. Filled context r (map (λ v. v.node) visits) false a) (λ i. known_filled visits i r) (along context r (begin_state context) (state_left context visits) visits walked))
+
+  module _ (on : checks_expressions context.settings.flags ≡ true) (all : first_fault (filled_points context (filled_before visits)) ≡ None) where
+    each : first_fault (filled_points_from context (filled_before visits) 0 (length context.fun.expressions)) ≡ None
+    each =
+        ap (λ b. first_fault (if b then filled_points_from context (filled_before visits) 0 (length context.fun.expressions) else [])) (sym on) ∙ all
+
+    is_filled : (r : ℕ) (x : Expression) → expression_at context r ≡ Some x → is_to_fill (Some x) ≡ true → filled_before visits r ≡ true
+    is_filled r x at kind =
+        let same : 0 + r ≡ r = omega arith in
+        let none = ap (is_unfilled context (filled_before visits)) (sym same) ∙ none_left context (filled_before visits) 0 (length context.fun.expressions) r (slice_get_within context.fun.expressions r x at) each in
+        must_be (is_to_fill (expression_at context r)) (filled_before visits r) (ap is_to_fill at ∙ kind) none
+
+    once : ResultsAreFilledOnce context.fun
+    once = record {
+      calls = λ r f at. called_once context r f (nodes_of (body_of context.fun.body)) false (filled_before visits r) refl (is_filled r (e.CallResult f) at refl) at (filled_of r);
+      atomics = λ r ty comparison at. done_once context r ty comparison (nodes_of (body_of context.fun.body)) false (filled_before visits r) refl (is_filled r (e.AtomicResult ty comparison) at refl) at (filled_of r);
+    }
+
+-- what an answer says of its visits
+module _ (context : Context) (stages : ShaderStages) where
+  answered : (o : Option FunctionError) (s : ShaderStages) → answer o s ≡ Ok stages → (o ≡ None) × (s ≡ stages)
+  answered None s h = let same : s ≡ stages = cc in (refl, same)
+  answered (Some f) s h = cc
+
+  filled_by : (judged : Result (List Visit) FunctionError) → body_judgement context ≡ judged → stages_after context judged ≡ Ok stages → checks_expressions context.settings.flags ≡ true → ResultsAreFilledOnce context.fun
+  filled_by (Ok visits) is h on = once context visits is on (answered _ _ h).0
+  filled_by (Err f) is h on = cc
+
+  of_all_by : (judged : Result (List Visit) FunctionError) → body_judgement context ≡ judged → stages_after context judged ≡ Ok stages → StagesAreOfAll context.earlier (body_of context.fun.body) stages
+  of_all_by (Ok visits) is h =
+      subst (StagesAreOfAll context.earlier (body_of context.fun.body)) (answered _ _ h).1 (of_body context visits is)
+  of_all_by (Err f) is h = cc
+
+  pub results_are_filled_once : stages_after context (body_judgement context) ≡ Ok stages → checks_expressions context.settings.flags ≡ true → ResultsAreFilledOnce context.fun
+  results_are_filled_once = filled_by (body_judgement context) refl
+
+  pub stages_are_of_all : stages_after context (body_judgement context) ≡ Ok stages → StagesAreOfAll context.earlier (body_of context.fun.body) stages
+  stages_are_of_all = of_all_by (body_judgement context) refl

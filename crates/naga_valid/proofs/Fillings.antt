@@ -1,0 +1,100 @@
+-- The results that are filled and the stages that are left: as the code keeps them, and as the visits before say.
+use Rattle.std.proofs.Common.{◌≡◌, ℕ, suc, ◌+◌, ◌-◌, ◌<◌, ◌≤◌, ◌==◌, Bool, true, false, not, ◌&&◌, ◌||◌, List, [], ◌∷◌, ◌++◌, Option, None, Some, cond, refl, sym, ap, ◌∙◌, arith}
+use Rattle.std.proofs.lemmas.List.Folds.{list_any-append}
+use Rattle.naga_below.specs.declared.valid.flags.ShaderStages.{ShaderStages}
+use Rattle.naga_below.specs.declared.valid.info.ModuleInfo.{ModuleInfo}
+use Rattle.naga_rules.specs.declared.function.FunctionError.{FunctionError}
+use Rattle.naga_rules.specs.declared.function.FunctionError.TheVariants.{UnvisitedExpression}
+use Rattle.naga_runs.proofs.Points.{not_holds}
+use Rattle.naga_runs.specs.Handles.{Handles}
+use Rattle.naga_runs.specs.Judgement.{first_fault}
+use Rattle.naga_runs.specs.Positions.{Node, NoNode, StatementNode, BreakIfNode}
+use Rattle.naga_runs.specs.Visits.{Visit}
+use Rattle.naga_valid.specs.Context.{Context}
+use Rattle.naga_valid.specs.Flags.{checks_expressions}
+use Rattle.naga_valid.specs.Types.{expression_at}
+use Rattle.naga_valid.specs.Results.{result_of, is_this, is_to_fill, is_fresh, filled_before, is_unfilled, filled_points_from}
+use Rattle.naga_valid.specs.Rules.{stages_behind, stages_left}
+use Rattle.naga_valid.specs.Scope.{in_scope, known}
+use Rattle.naga_valid.specs.State.{State, with_result, filled_from, state_behind, state_left}
+
+pub or_false : (b : Bool) → (b || false) ≡ b
+or_false true = refl
+or_false false = refl
+
+or_assoc : (a b c : Bool) → ((a || b) || c) ≡ (a || (b || c))
+or_assoc true b c = refl
+or_assoc false b c = refl
+
+pub with_is : (o : Option ℕ) (filled : List ℕ) (r : ℕ) → in_scope (with_result filled o) r ≡ (in_scope filled r || is_this r o)
+with_is None filled r = sym (or_false (in_scope filled r))
+with_is (Some q) filled r =
+    list_any-append (λ x. x == r) filled (q ∷ []) ∙ ap (λ b. in_scope filled r || b) (or_false (q == r))
+
+from_is : (filled : List ℕ) (visits : List Visit) (r : ℕ) → in_scope (filled_from filled visits) r ≡ (in_scope filled r || filled_before visits r)
+from_is filled [] r = sym (or_false (in_scope filled r))
+from_is filled (v ∷ visits) r =
+    from_is (with_result filled (result_of v.node)) visits r
+    ∙ ap (λ b. b || filled_before visits r) (with_is (result_of v.node) filled r)
+    ∙ or_assoc (in_scope filled r) (is_this r (result_of v.node)) (filled_before visits r)
+
+-- the list has what the visits fill
+pub known_filled : (visits : List Visit) → known (filled_from [] visits) ≡ filled_before visits
+known_filled visits i r = from_is [] visits r i
+
+-- one visit more
+filled_more : (filled : List ℕ) (visits : List Visit) (v : Visit) → filled_from filled (visits ++ (v ∷ [])) ≡ with_result (filled_from filled visits) (result_of v.node)
+filled_more filled [] v = refl
+filled_more filled (w ∷ visits) v = filled_more (with_result filled (result_of w.node)) visits v
+
+stages_more : (earlier : ModuleInfo) (stages : ShaderStages) (visits : List Visit) (v : Visit) →
+    stages_left earlier stages (visits ++ (v ∷ [])) ≡ stages_behind earlier (stages_left earlier stages visits) v.node
+stages_more earlier stages [] v = refl
+stages_more earlier stages (w ∷ visits) v = stages_more earlier (stages_behind earlier stages w.node) visits v
+
+abbrev behind_both : Context → ShaderStages → List ℕ → Node → State
+behind_both context stages filled node =
+    record { stages = stages_behind context.earlier stages node; filled = with_result filled (result_of node) }
+
+behind : (context : Context) (stages : ShaderStages) (filled : List ℕ) (node : Node) →
+    behind_both context stages filled node ≡ state_behind context (record { stages = stages; filled = filled }) node
+behind context stages filled NoNode = refl
+behind context stages filled (StatementNode x) = refl
+behind context stages filled (BreakIfNode h) = refl
+
+pub state_more : (context : Context) (visits : List Visit) (v : Visit) → state_left context (visits ++ (v ∷ [])) ≡ state_behind context (state_left context visits) v.node
+state_more context visits v =
+    (λ i. record { stages = stages_more context.earlier context.info.available_stages visits v i; filled = filled_more [] visits v i })
+    ∙ behind context (stages_left context.earlier context.info.available_stages visits) (filled_from [] visits) v.node
+
+-- the points behind a body, from one expression on
+module _ (context : Context) (filled : Handles) (h end : ℕ) where
+  abbrev left : ℕ → Option FunctionError
+  left k = first_fault (filled_points_from context filled k (end - k))
+
+  turn : h < end → left h ≡ cond (not (is_unfilled context filled h)) (left (h + 1)) (Some (UnvisitedExpression h))
+  turn lt =
+      let count : end - h ≡ suc (end - (h + 1)) = omega arith in
+      let next : suc h ≡ h + 1 = omega arith in
+      ap (λ n. first_fault (filled_points_from context filled h n)) count
+      ∙ ap (λ k. cond (not (is_unfilled context filled h)) (first_fault (filled_points_from context filled k (end - (h + 1)))) (Some (UnvisitedExpression h))) next
+
+  pub filled_stops : h < end → is_unfilled context filled h ≡ true → left h ≡ Some (UnvisitedExpression h)
+  filled_stops lt e = turn lt ∙ ap (λ b. cond (not b) (left (h + 1)) (Some (UnvisitedExpression h))) e
+
+  pub filled_next : h < end → is_unfilled context filled h ≡ false → left h ≡ left (h + 1)
+  filled_next lt e = turn lt ∙ ap (λ b. cond (not b) (left (h + 1)) (Some (UnvisitedExpression h))) e
+
+  pub filled_end : end ≤ h → left h ≡ None
+  filled_end le =
+      let none : end - h ≡ 0 = omega arith in ap (λ n. first_fault (filled_points_from context filled h n)) none
+
+last : (a b c : Bool) → (a && (b && not c)) ≡ true → c ≡ false
+last true true c e = not_holds c e
+last true false c e = cc
+last false b c e = cc
+
+-- a fresh result is not filled
+pub unfilled : (context : Context) (filled : Handles) (r : ℕ) → is_fresh context filled r ≡ true → filled r ≡ false
+unfilled context filled r e =
+    last (checks_expressions context.settings.flags) (is_to_fill (expression_at context r)) (filled r) e

@@ -1,0 +1,189 @@
+-- The check list of Atomic.
+use Rattle.std.specs.Prelude.{ℕ, Bool, true, false, not, ◌&&◌, ◌||◌, ◌==◌, List, [], ◌∷◌, ◌++◌, Option, None, Some, is_some, if◌then◌else◌}
+use Rattle.std.specs.Int.RustNames.{bit_and}
+use Rattle.naga_below.specs.Types.{inner_at}
+use Rattle.naga_below.specs.declared.ir.expressions.Expression.{Expression}
+use Rattle.naga_below.specs.declared.ir.expressions.Expression.TheVariants as e
+use Rattle.naga_below.specs.declared.ir.statements.AtomicFunction.{AtomicFunction}
+use Rattle.naga_below.specs.declared.ir.statements.AtomicFunction.TheVariants.{Add, Subtract, Min, Max, Exchange}
+use Rattle.naga_below.specs.declared.ir.types.AddressSpace.{AddressSpace}
+use Rattle.naga_below.specs.declared.ir.types.AddressSpace.TheVariants as space
+use Rattle.naga_below.specs.declared.ir.types.Scalar.{Scalar}
+use Rattle.naga_below.specs.declared.ir.types.ScalarKind.{ScalarKind}
+use Rattle.naga_below.specs.declared.ir.types.ScalarKind.TheVariants as kind
+use Rattle.naga_below.specs.declared.ir.types.Type.{«Type» as IrType}
+use Rattle.naga_below.specs.declared.ir.types.TypeInner.{TypeInner}
+use Rattle.naga_below.specs.declared.ir.types.TypeInner.TheVariants as inner
+use Rattle.naga_below.specs.declared.valid.capabilities.Capabilities.{Capabilities}
+use Rattle.naga_rules.specs.declared.function.AtomicError.{AtomicError}
+use Rattle.naga_rules.specs.declared.function.AtomicError.TheVariants as wrong
+use Rattle.naga_rules.specs.declared.function.FunctionError.{FunctionError}
+use Rattle.naga_rules.specs.declared.function.FunctionError.TheVariants.{InvalidAtomic}
+use Rattle.naga_runs.specs.Handles.{Handles}
+use Rattle.naga_runs.specs.Judgement.{Point}
+use Rattle.naga_valid.specs.Context.{Context}
+use Rattle.naga_valid.specs.Control.{is_integer}
+use Rattle.naga_valid.specs.Points.{Points, use_point, put_point}
+use Rattle.naga_valid.specs.Results.{is_fresh}
+use Rattle.naga_valid.specs.Types.{expression_at, type_at, is_scalar, is_equivalent, is_exchange_struct}
+use Rattle.naga_valid.specs.declared.checks.atomic.AtomicPlace.{AtomicPlace}
+
+-- a point whose fault stands inside InvalidAtomic
+abbrev pub atomic_point : Bool → AtomicError → Point FunctionError
+atomic_point holds error = (holds, InvalidAtomic error)
+
+abbrev pub atomic_in : AddressSpace → Option TypeInner → Option AtomicPlace
+atomic_in p (Some (inner.Atomic s)) = Some (record { scalar = s; space = p })
+atomic_in p _ = None
+
+abbrev pub atomic_behind : List IrType → Option TypeInner → Option AtomicPlace
+atomic_behind types (Some (inner.Pointer base p)) = atomic_in p (inner_at types base)
+atomic_behind types _ = None
+
+-- the atomic that an expression points to: its scalar, and the space where it lies
+abbrev pub atomic_at : Context → ℕ → Option AtomicPlace
+atomic_at context pointer = atomic_behind context.program.types (type_at context pointer)
+
+-- an integer of 64 bits, of either sign
+abbrev pub is_int64 : Scalar → Bool
+is_int64 s = is_integer (Some s.kind) && (s.width == 8)
+
+abbrev pub is_float_kind : ScalarKind → Bool
+is_float_kind kind.Float = true
+is_float_kind _ = false
+
+-- a float of 32 bits
+abbrev pub is_float32 : Scalar → Bool
+is_float32 s = is_float_kind s.kind && (s.width == 4)
+
+abbrev pub is_min_or_max : AtomicFunction → Bool
+is_min_or_max Min = true
+is_min_or_max Max = true
+is_min_or_max _ = false
+
+-- an exchange that compares nothing
+abbrev pub is_plain_exchange : AtomicFunction → Bool
+is_plain_exchange (Exchange None) = true
+is_plain_exchange _ = false
+
+-- what can be done with a float
+abbrev pub is_done_on_floats : AtomicFunction → Bool
+is_done_on_floats Add = true
+is_done_on_floats Subtract = true
+is_done_on_floats fun = is_plain_exchange fun
+
+abbrev pub is_storage : AddressSpace → Bool
+is_storage (space.Storage access) = true
+is_storage _ = false
+
+abbrev pub has_capability : Capabilities → Capabilities → Bool
+has_capability capabilities one = bit_and capabilities.0 one.0 == one.0
+
+abbrev pub float32_atomic : Capabilities
+float32_atomic = record { 0 = 131072 }
+
+abbrev pub int64_atomic_all_ops : Capabilities
+int64_atomic_all_ops = record { 0 = 262144 }
+
+abbrev pub int64_atomic_min_max : Capabilities
+int64_atomic_min_max = record { 0 = 524288 }
+
+-- the weakest capability that lets an operation be done on an integer of 64 bits: Min and Max in storage, where their
+-- result is not asked for, need less than the others
+abbrev pub int64_capability : AtomicFunction → AddressSpace → Bool → Capabilities
+int64_capability fun p has_result =
+    if is_min_or_max fun && (is_storage p && not has_result) then int64_atomic_min_max else int64_atomic_all_ops
+
+abbrev pub int64_points : Capabilities → AtomicFunction → AddressSpace → Bool → Points
+int64_points capabilities fun p has_result =
+    atomic_point (has_capability capabilities int64_atomic_all_ops || has_capability capabilities (int64_capability fun p has_result)) (wrong.MissingCapability (int64_capability fun p has_result))
+    ∷ []
+
+abbrev pub float32_points : Capabilities → AtomicFunction → AddressSpace → Points
+float32_points capabilities fun p =
+    atomic_point (has_capability capabilities float32_atomic) (wrong.MissingCapability float32_atomic)
+    ∷ atomic_point (is_done_on_floats fun) (wrong.InvalidOperator fun)
+    ∷ atomic_point (is_storage p) (wrong.InvalidAddressSpace p)
+    ∷ []
+
+-- what the atomic's scalar asks for
+abbrev pub scalar_points : Capabilities → AtomicPlace → AtomicFunction → Bool → Points
+scalar_points capabilities place fun has_result =
+    if is_int64 place.scalar
+    then int64_points capabilities fun place.space has_result
+    else if is_float32 place.scalar then float32_points capabilities fun place.space else []
+
+-- the value: in scope, and the atomic's scalar
+abbrev pub value_points : Context → Handles → Scalar → ℕ → Points
+value_points context scope s value =
+    use_point scope value ∷ atomic_point (is_scalar s (type_at context value)) (wrong.InvalidOperand value) ∷ []
+
+abbrev pub is_atomic_result : Option Expression → Bool
+is_atomic_result (Some (e.AtomicResult ty comparison)) = true
+is_atomic_result _ = false
+
+-- whether an atomic result is that of a compare exchange
+abbrev pub is_comparison : Option Expression → Bool
+is_comparison (Some (e.AtomicResult ty comparison)) = comparison
+is_comparison _ = false
+
+-- the type that an atomic result is declared with
+abbrev pub result_type_of : List IrType → Option Expression → Option TypeInner
+result_type_of types (Some (e.AtomicResult ty comparison)) = inner_at types ty
+result_type_of types _ = None
+
+abbrev pub result_type_at : Context → ℕ → Option TypeInner
+result_type_at context r = result_type_of context.program.types (expression_at context r)
+
+-- of a compare exchange: what is compared with is in scope and of the value's type; the result is of the struct that a
+-- compare exchange gives
+abbrev pub compared_points : Context → Handles → Scalar → ℕ → ℕ → ℕ → Points
+compared_points context scope s compare value r =
+    use_point scope compare
+    ∷ atomic_point (is_equivalent context.program.types (type_at context compare) (type_at context value)) (wrong.InvalidOperand compare)
+    ∷ atomic_point (is_exchange_struct context.program.types s (result_type_at context r)) (wrong.ResultTypeMismatch r)
+    ∷ atomic_point (is_comparison (expression_at context r)) (wrong.ResultExpressionNotExchange r)
+    ∷ []
+
+-- of any other operation: the result is of the value's type
+abbrev pub uncompared_points : Context → ℕ → ℕ → Points
+uncompared_points context value r =
+    atomic_point (is_equivalent context.program.types (result_type_at context r) (type_at context value)) (wrong.ResultTypeMismatch r)
+    ∷ atomic_point (not (is_comparison (expression_at context r))) (wrong.ResultExpressionExchange r)
+    ∷ []
+
+-- the type of the result
+abbrev pub result_type_points : Context → Handles → Scalar → AtomicFunction → ℕ → ℕ → Points
+result_type_points context scope s (Exchange (Some compare)) value r = compared_points context scope s compare value r
+result_type_points context scope s _ value r = uncompared_points context value r
+
+-- the type of the result; then it is put
+abbrev pub typed_points : Context → Handles → Scalar → AtomicFunction → ℕ → ℕ → Points
+typed_points context scope s fun value r = result_type_points context scope s fun value r ++ put_point scope r ∷ []
+
+-- the result that is named: an atomic result, fresh, and of the right type
+abbrev pub named_points : Context → Handles → Handles → Scalar → AtomicFunction → ℕ → ℕ → Points
+named_points context filled scope s fun value r =
+    atomic_point (is_atomic_result (expression_at context r)) (wrong.InvalidResultExpression r)
+    ∷ atomic_point (is_fresh context filled r) (wrong.ResultAlreadyPopulated r)
+    ∷ typed_points context scope s fun value r
+
+-- the result. An exchange that compares nothing has one
+abbrev pub atomic_result_points : Context → Handles → Handles → Scalar → AtomicFunction → ℕ → Option ℕ → Points
+atomic_result_points context filled scope s fun value (Some r) = named_points context filled scope s fun value r
+atomic_result_points context filled scope s fun value None =
+    atomic_point (not (is_plain_exchange fun)) wrong.MissingReturnValue ∷ []
+
+-- what is asked of an operation on an atomic
+abbrev pub operation_points : Context → Handles → Handles → AtomicFunction → ℕ → Option ℕ → Option AtomicPlace → Points
+operation_points context filled scope fun value result None = []
+operation_points context filled scope fun value result (Some place) =
+    value_points context scope place.scalar value
+    ++ (scalar_points context.settings.capabilities place fun (is_some result) ++ atomic_result_points context filled scope place.scalar fun value result)
+
+-- Atomic: its pointer, and what is asked where it points
+abbrev pub atomic_points : Context → Handles → Handles → ℕ → AtomicFunction → ℕ → Option ℕ → Points
+atomic_points context filled scope pointer fun value result =
+    use_point scope pointer
+    ∷ atomic_point (is_some (atomic_at context pointer)) (wrong.InvalidPointer pointer)
+    ∷ operation_points context filled scope fun value result (atomic_at context pointer)

@@ -1,0 +1,58 @@
+-- The check list of WorkGroupUniformLoad.
+use Rattle.std.specs.Prelude.{ℕ, Bool, true, false, ◌||◌, [], ◌∷◌, Option, None, Some, is_some}
+use Rattle.naga_below.specs.Types.{inner_at}
+use Rattle.naga_below.specs.declared.ir.expressions.Expression.{Expression}
+use Rattle.naga_below.specs.declared.ir.expressions.Expression.TheVariants as e
+use Rattle.naga_below.specs.declared.ir.types.AddressSpace.{AddressSpace}
+use Rattle.naga_below.specs.declared.ir.types.AddressSpace.TheVariants as space
+use Rattle.naga_below.specs.declared.ir.types.TypeInner.{TypeInner}
+use Rattle.naga_below.specs.declared.ir.types.TypeInner.TheVariants as inner
+use Rattle.naga_rules.specs.declared.function.FunctionError.TheVariants.{WorkgroupUniformLoadExpressionMismatch, WorkgroupUniformLoadInvalidPointer}
+use Rattle.naga_runs.specs.Handles.{Handles}
+use Rattle.naga_valid.specs.Atomics.{atomic_at}
+use Rattle.naga_valid.specs.Context.{Context}
+use Rattle.naga_valid.specs.Points.{Points, use_point, put_point}
+use Rattle.naga_valid.specs.Stores.{space_at}
+use Rattle.naga_valid.specs.Types.{expression_at, type_at, is_scalar, is_equivalent}
+use Rattle.naga_valid.specs.declared.checks.atomic.AtomicPlace.{AtomicPlace}
+
+abbrev pub is_work_group : Option AddressSpace → Bool
+is_work_group (Some space.WorkGroup) = true
+is_work_group _ = false
+
+-- the type that the result of a load is declared with
+abbrev pub loaded_type_of : Option Expression → Option ℕ
+loaded_type_of (Some (e.WorkGroupUniformLoadResult ty)) = Some ty
+loaded_type_of _ = None
+
+abbrev pub loaded_type_at : Context → ℕ → Option ℕ
+loaded_type_at context r = loaded_type_of (expression_at context r)
+
+abbrev pub has_scalar : Option TypeInner → Option AtomicPlace → Bool
+has_scalar ty None = false
+has_scalar ty (Some place) = is_scalar place.scalar ty
+
+-- a pointer in the work group to this type, or to an atomic of this scalar
+abbrev pub points_to : Context → ℕ → ℕ → Bool
+points_to context pointer ty =
+    is_equivalent context.program.types (type_at context pointer) (Some (inner.Pointer ty space.WorkGroup))
+    || has_scalar (inner_at context.program.types ty) (atomic_at context pointer)
+
+abbrev pub is_loaded_as : Context → ℕ → Option ℕ → Bool
+is_loaded_as context pointer None = false
+is_loaded_as context pointer (Some ty) = points_to context pointer ty
+
+-- the result is one of a load, of the type that is pointed to
+abbrev pub loaded_points : Context → ℕ → ℕ → Points
+loaded_points context pointer r =
+    (is_some (loaded_type_at context r), WorkgroupUniformLoadExpressionMismatch r)
+    ∷ (is_loaded_as context pointer (loaded_type_at context r), WorkgroupUniformLoadInvalidPointer pointer)
+    ∷ []
+
+-- WorkGroupUniformLoad: its pointer, into the work group; its result is put, and then looked at
+abbrev pub load_points : Context → Handles → ℕ → ℕ → Points
+load_points context scope pointer r =
+    use_point scope pointer
+    ∷ (is_work_group (space_at context pointer), WorkgroupUniformLoadInvalidPointer pointer)
+    ∷ put_point scope r
+    ∷ loaded_points context pointer r

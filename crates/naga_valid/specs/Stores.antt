@@ -1,0 +1,94 @@
+-- The check list of Store.
+use Rattle.std.specs.Prelude.{ℕ, zero, suc, Bool, true, false, ◌==◌, List, [], ◌∷◌, ◌++◌, Option, None, Some, slice_get, option_and_then, unwrap_or}
+use Rattle.std.specs.Int.RustNames.{bit_and}
+use Rattle.std.specs.Option.{option_map}
+use Rattle.naga_below.specs.Types.{access_of, pointer_base_of, pointer_space_of, resolved}
+use Rattle.naga_below.specs.declared.ir.expressions.Expression.{Expression}
+use Rattle.naga_below.specs.declared.ir.expressions.Expression.TheVariants as e
+use Rattle.naga_below.specs.declared.ir.types.AddressSpace.{AddressSpace}
+use Rattle.naga_below.specs.declared.ir.types.Type.{«Type» as IrType}
+use Rattle.naga_below.specs.declared.ir.types.TypeInner.{TypeInner}
+use Rattle.naga_below.specs.declared.ir.types.TypeInner.TheVariants as inner
+use Rattle.naga_below.specs.declared.proc.typifier.TypeResolution.{TypeResolution}
+use Rattle.naga_rules.specs.declared.function.FunctionError.TheVariants.{InvalidStorePointer, InvalidStoreTexture, InvalidStoreTypes}
+use Rattle.naga_runs.specs.Handles.{Handles}
+use Rattle.naga_valid.specs.Context.{Context}
+use Rattle.naga_valid.specs.Points.{Points, use_point}
+use Rattle.naga_valid.specs.Types.{expression_at, resolution_at, type_at, is_scalar, is_same_type}
+
+-- the expression of which an access takes a part
+abbrev pub access_base : Option Expression → Option ℕ
+access_base (Some (e.Access base index)) = Some base
+access_base (Some (e.AccessIndex base index)) = Some base
+access_base _ = None
+
+-- where n steps from an expression lead, each from an access to its base
+unfoldable pub root_within : List Expression → ℕ → ℕ → ℕ
+root_within expressions zero h = h
+root_within expressions (suc n) h =
+    unwrap_or (option_map (root_within expressions n) (access_base (slice_get expressions h))) h
+
+-- where the walk from an expression stops. A base stands before its access, so that h steps reach the end
+abbrev pub root_at : Context → ℕ → ℕ
+root_at context h = root_within context.fun.expressions h h
+
+-- a variable, or an argument
+abbrev pub is_variable : Option Expression → Bool
+is_variable (Some (e.LocalVariable v)) = true
+is_variable (Some (e.GlobalVariable g)) = true
+is_variable (Some (e.FunctionArgument i)) = true
+is_variable _ = false
+
+-- the type that a pointer points to, and the space that it points into
+abbrev pub base_type_at : Context → ℕ → Option TypeResolution
+base_type_at context pointer = option_and_then pointer_base_of (type_at context pointer)
+
+abbrev pub space_at : Context → ℕ → Option AddressSpace
+space_at context pointer = option_and_then pointer_space_of (type_at context pointer)
+
+abbrev pub takes_stores : Option AddressSpace → Bool
+takes_stores None = false
+takes_stores (Some p) = bit_and (access_of p).0 2 == 2
+
+-- whether the space that a pointer points into takes stores
+abbrev pub is_writable : Context → ℕ → Bool
+is_writable context pointer = takes_stores (space_at context pointer)
+
+-- an image or a sampler is never stored
+abbrev pub texture_points : ℕ → Option TypeInner → Points
+texture_points value (Some (inner.Image dim arrayed class)) =
+    (false, InvalidStoreTexture value (inner.Image dim arrayed class)) ∷ []
+texture_points value (Some (inner.Sampler comparison)) =
+    (false, InvalidStoreTexture value (inner.Sampler comparison)) ∷ []
+texture_points value _ = []
+
+abbrev pub is_given_in : List IrType → Option TypeResolution → TypeResolution → Bool
+is_given_in types None base = false
+is_given_in types (Some given) base = is_same_type types given base
+
+-- whether a value is what this type holds: an atomic its scalar, any other a value of the type
+abbrev pub is_held_by : Context → ℕ → TypeResolution → Option TypeInner → Bool
+is_held_by context value base (Some (inner.Atomic s)) = is_scalar s (type_at context value)
+is_held_by context value base _ = is_given_in context.program.types (resolution_at context value) base
+
+abbrev pub is_stored_as : Context → ℕ → Option TypeResolution → Bool
+is_stored_as context value None = false
+is_stored_as context value (Some base) = is_held_by context value base (resolved context.program.types base)
+
+-- the type that is pointed to holds the value, and its space takes stores
+abbrev pub place_points : Context → ℕ → ℕ → Points
+place_points context pointer value =
+    (is_stored_as context value (base_type_at context pointer), InvalidStoreTypes pointer value)
+    ∷ (is_writable context pointer, InvalidStorePointer pointer)
+    ∷ []
+
+abbrev pub stored_points : Context → ℕ → ℕ → Points
+stored_points context pointer value =
+    texture_points value (type_at context value) ++ place_points context pointer value
+
+-- Store: its pointer leads back to a variable or an argument; its value, and the place where it goes
+abbrev pub store_points : Context → Handles → ℕ → ℕ → Points
+store_points context scope pointer value =
+    (is_variable (expression_at context (root_at context pointer)), InvalidStorePointer (root_at context pointer))
+    ∷ use_point scope value
+    ∷ stored_points context pointer value

@@ -1,0 +1,412 @@
+//! The check list of Atomic.
+
+ghost use Rattle.std.specs.Prelude.{◌≡◌, ◌++◌, ◌∷◌, [], OnOk, Some};
+ghost use Rattle.std.specs.Result.{result_err};
+ghost use Rattle.std.specs.Option.{option_copied};
+ghost use Rattle.naga_below.specs.View.{put_if};
+ghost use Rattle.naga_runs.specs.Judgement.{first_fault};
+ghost use Rattle.naga_valid.specs.Answers.{AnswersPoints};
+ghost use Rattle.naga_valid.specs.Atomics.{atomic_at, is_int64, is_float32, is_min_or_max, is_plain_exchange, is_done_on_floats, is_storage, int64_capability, int64_points, float32_points, scalar_points, value_points, is_atomic_result, is_comparison, result_type_at, compared_points, uncompared_points, result_type_points, typed_points, named_points, atomic_result_points, operation_points, atomic_points};
+ghost use Rattle.naga_valid.specs.Context.{ContextFits};
+ghost use Rattle.naga_valid.specs.Scope.{known};
+ghost use Rattle.naga_valid.specs.Seen.{context_of};
+ghost use Rattle.naga_valid.specs.Walk.{puts_of};
+
+use crate::checks::control::is_integer;
+use crate::checks::refuse::{answer, check_put, check_use};
+use crate::checks::results::is_fresh;
+use crate::checks::types::{is_equivalent, is_exchange_struct, is_scalar};
+use crate::context::BlockContext;
+use crate::handle_set::HandleSet;
+use bitflags::Flags;
+use naga_below::arena::handle::Handle;
+use naga_below::arena::tag;
+use naga_below::ir::expressions::Expression;
+use naga_below::ir::statements::AtomicFunction;
+use naga_below::ir::types::{AddressSpace, Scalar, ScalarKind, TypeInner};
+use naga_below::span::{Refusal, Span};
+use naga_below::valid::capabilities::Capabilities;
+use naga_rules::function::{AtomicError, FunctionError};
+
+/// An atomic in memory: its scalar, and the space where it lies.
+#[derive(Clone, Copy)]
+pub struct AtomicPlace {
+    pub scalar: Scalar,
+    pub space: AddressSpace,
+}
+
+/// Atomic: its pointer, its value and its result, which is in scope afterwards.
+pub fn check_atomic(
+    scope: &mut HandleSet,
+    filled: &HandleSet,
+    context: &BlockContext,
+    pointer: Handle<tag::Expression>,
+    fun: &AtomicFunction,
+    value: Handle<tag::Expression>,
+    named: &Option<Handle<tag::Expression>>,
+    span: Span,
+) -> Result<(), Refusal<FunctionError>>
+    requires { ContextFits (context_of context.now) }
+    ensures fault { AnswersPoints (atomic_points (context_of context.now) (known filled.now) (known scope.old) pointer fun.now value named.now) result }
+    ensures scope { OnOk result (scope.new ≡ scope.old ++ puts_of (put_if named.now)) }
+{
+    let alloc = scope.allocator();
+    let checked = validate_atomic(scope, filled, context, pointer, fun, value, *named);
+    answer(alloc, checked, span)?;
+    if let Some(handle) = named {
+        scope.put(*handle)?;
+    }
+    Ok(())
+}
+
+/// All that is checked of an atomic operation. Its result stays out of scope.
+fn validate_atomic(
+    scope: &HandleSet,
+    filled: &HandleSet,
+    context: &BlockContext,
+    pointer: Handle<tag::Expression>,
+    fun: &AtomicFunction,
+    value: Handle<tag::Expression>,
+    named: Option<Handle<tag::Expression>>,
+) -> Result<(), FunctionError>
+    requires { ContextFits (context_of context.now) }
+    ensures { result_err result ≡ first_fault (atomic_points (context_of context.now) (known filled.now) (known scope.now) pointer fun.now value named) }
+{
+    check_use(scope, pointer)?;
+    match atomic_at(context, pointer) {
+        Some(place) => check_operation(scope, filled, context, &place, fun, value, named),
+        None => Err(FunctionError::InvalidAtomic(AtomicError::InvalidPointer(pointer))),
+    }
+}
+
+/// The atomic that an expression points to.
+pub fn atomic_at(context: &BlockContext, pointer: Handle<tag::Expression>) -> Option<AtomicPlace>
+    ensures { result ≡ atomic_at (context_of context.now) pointer }
+{
+    let Some(TypeInner::Pointer { base, space }) = context.type_inner(pointer) else {
+        return None;
+    };
+    match context.program.types.as_slice().get(base.index()) {
+        Some(ty) => match ty.inner {
+            TypeInner::Atomic(scalar) => Some(AtomicPlace {
+                scalar,
+                space: *space,
+            }),
+            _ => None,
+        },
+        None => None,
+    }
+}
+
+/// The value, what the atomic's scalar asks for, and the result.
+#[tactic(auto, using(crate::proofs::Lists::appended))]
+fn check_operation(
+    scope: &HandleSet,
+    filled: &HandleSet,
+    context: &BlockContext,
+    place: &AtomicPlace,
+    fun: &AtomicFunction,
+    value: Handle<tag::Expression>,
+    named: Option<Handle<tag::Expression>>,
+) -> Result<(), FunctionError>
+    requires { ContextFits (context_of context.now) }
+    ensures { result_err result ≡ first_fault (operation_points (context_of context.now) (known filled.now) (known scope.now) fun.now value named (Some place.now)) }
+{
+    check_value(scope, context, place.scalar, value)?;
+    check_scalar(context.settings.capabilities, place, fun, named.is_some())?;
+    check_atomic_result(scope, filled, context, place.scalar, fun, value, named)
+}
+
+/// The value: in scope, and the atomic's scalar.
+fn check_value(
+    scope: &HandleSet,
+    context: &BlockContext,
+    scalar: Scalar,
+    value: Handle<tag::Expression>,
+) -> Result<(), FunctionError>
+    ensures { result_err result ≡ first_fault (value_points (context_of context.now) (known scope.now) scalar value) }
+{
+    check_use(scope, value)?;
+    if !is_scalar(scalar, context.type_inner(value)) {
+        return Err(FunctionError::InvalidAtomic(AtomicError::InvalidOperand(value)));
+    }
+    Ok(())
+}
+
+/// What the atomic's scalar asks for.
+fn check_scalar(
+    capabilities: Capabilities,
+    place: &AtomicPlace,
+    fun: &AtomicFunction,
+    has_result: bool,
+) -> Result<(), FunctionError>
+    ensures { result_err result ≡ first_fault (scalar_points capabilities place.now fun.now has_result) }
+{
+    if is_int64(place.scalar) {
+        check_int64(capabilities, fun, &place.space, has_result)
+    } else if is_float32(place.scalar) {
+        check_float32(capabilities, fun, &place.space)
+    } else {
+        Ok(())
+    }
+}
+
+fn is_int64(scalar: Scalar) -> bool
+    ensures { result ≡ is_int64 scalar }
+{
+    is_integer(Some(scalar.kind)) && scalar.width == 8
+}
+
+fn is_float32(scalar: Scalar) -> bool
+    ensures { result ≡ is_float32 scalar }
+{
+    matches!(scalar.kind, ScalarKind::Float) && scalar.width == 4
+}
+
+fn check_int64(
+    capabilities: Capabilities,
+    fun: &AtomicFunction,
+    space: &AddressSpace,
+    has_result: bool,
+) -> Result<(), FunctionError>
+    ensures { result_err result ≡ first_fault (int64_points capabilities fun.now space.now has_result) }
+{
+    let needed = int64_capability(fun, space, has_result);
+    let all_ops = Capabilities::SHADER_INT64_ATOMIC_ALL_OPS;
+    if !capabilities.contains(all_ops) && !capabilities.contains(needed) {
+        return Err(FunctionError::InvalidAtomic(AtomicError::MissingCapability(needed)));
+    }
+    Ok(())
+}
+
+/// The weakest capability that lets an operation be done on an integer of 64 bits.
+fn int64_capability(fun: &AtomicFunction, space: &AddressSpace, has_result: bool) -> Capabilities
+    ensures { result ≡ int64_capability fun.now space.now has_result }
+{
+    if is_min_or_max(fun) && is_storage(space) && !has_result {
+        Capabilities::SHADER_INT64_ATOMIC_MIN_MAX
+    } else {
+        Capabilities::SHADER_INT64_ATOMIC_ALL_OPS
+    }
+}
+
+pub fn is_min_or_max(fun: &AtomicFunction) -> bool
+    ensures { result ≡ is_min_or_max fun.now }
+{
+    matches!(fun, AtomicFunction::Min | AtomicFunction::Max)
+}
+
+fn is_storage(space: &AddressSpace) -> bool
+    ensures { result ≡ is_storage space.now }
+{
+    matches!(space, AddressSpace::Storage { .. })
+}
+
+fn check_float32(
+    capabilities: Capabilities,
+    fun: &AtomicFunction,
+    space: &AddressSpace,
+) -> Result<(), FunctionError>
+    ensures { result_err result ≡ first_fault (float32_points capabilities fun.now space.now) }
+{
+    let needed = Capabilities::SHADER_FLOAT32_ATOMIC;
+    if !capabilities.contains(needed) {
+        return Err(FunctionError::InvalidAtomic(AtomicError::MissingCapability(needed)));
+    }
+    if !is_done_on_floats(fun) {
+        return Err(FunctionError::InvalidAtomic(AtomicError::InvalidOperator(*fun)));
+    }
+    if !is_storage(space) {
+        return Err(FunctionError::InvalidAtomic(AtomicError::InvalidAddressSpace(*space)));
+    }
+    Ok(())
+}
+
+fn is_done_on_floats(fun: &AtomicFunction) -> bool
+    ensures { result ≡ is_done_on_floats fun.now }
+{
+    matches!(
+        fun,
+        AtomicFunction::Add | AtomicFunction::Subtract | AtomicFunction::Exchange { compare: None }
+    )
+}
+
+/// The result. An exchange that compares nothing has one.
+fn check_atomic_result(
+    scope: &HandleSet,
+    filled: &HandleSet,
+    context: &BlockContext,
+    scalar: Scalar,
+    fun: &AtomicFunction,
+    value: Handle<tag::Expression>,
+    named: Option<Handle<tag::Expression>>,
+) -> Result<(), FunctionError>
+    requires { ContextFits (context_of context.now) }
+    ensures { result_err result ≡ first_fault (atomic_result_points (context_of context.now) (known filled.now) (known scope.now) scalar fun.now value named) }
+{
+    match named {
+        Some(handle) => check_named(scope, filled, context, scalar, fun, value, handle),
+        None => {
+            if is_plain_exchange(fun) {
+                return Err(FunctionError::InvalidAtomic(AtomicError::MissingReturnValue));
+            }
+            Ok(())
+        }
+    }
+}
+
+/// Whether an operation is an exchange that compares nothing.
+fn is_plain_exchange(fun: &AtomicFunction) -> bool
+    ensures { result ≡ is_plain_exchange fun.now }
+{
+    matches!(fun, AtomicFunction::Exchange { compare: None })
+}
+
+/// The result that is named: an atomic result, fresh, of the right type, and not in scope yet.
+fn check_named(
+    scope: &HandleSet,
+    filled: &HandleSet,
+    context: &BlockContext,
+    scalar: Scalar,
+    fun: &AtomicFunction,
+    value: Handle<tag::Expression>,
+    handle: Handle<tag::Expression>,
+) -> Result<(), FunctionError>
+    requires { ContextFits (context_of context.now) }
+    ensures { result_err result ≡ first_fault (named_points (context_of context.now) (known filled.now) (known scope.now) scalar fun.now value handle) }
+{
+    if !is_atomic_result(context.expression(handle)) {
+        let error = AtomicError::InvalidResultExpression(handle);
+        return Err(FunctionError::InvalidAtomic(error));
+    }
+    if !is_fresh(filled, context, handle) {
+        return Err(FunctionError::InvalidAtomic(AtomicError::ResultAlreadyPopulated(handle)));
+    }
+    check_typed(scope, context, scalar, fun, value, handle)
+}
+
+/// The result: of the right type, and not in scope yet.
+#[tactic(auto, using(crate::proofs::Lists::appended))]
+fn check_typed(
+    scope: &HandleSet,
+    context: &BlockContext,
+    scalar: Scalar,
+    fun: &AtomicFunction,
+    value: Handle<tag::Expression>,
+    handle: Handle<tag::Expression>,
+) -> Result<(), FunctionError>
+    requires { ContextFits (context_of context.now) }
+    ensures { result_err result ≡ first_fault (typed_points (context_of context.now) (known scope.now) scalar fun.now value handle) }
+{
+    check_result_type(scope, context, scalar, fun, value, handle)?;
+    check_put(scope, handle)
+}
+
+fn is_atomic_result(expression: Option<&Expression>) -> bool
+    ensures { result ≡ is_atomic_result (option_copied expression.entry) }
+{
+    matches!(expression, Some(Expression::AtomicResult { .. }))
+}
+
+/// The type of the result.
+fn check_result_type(
+    scope: &HandleSet,
+    context: &BlockContext,
+    scalar: Scalar,
+    fun: &AtomicFunction,
+    value: Handle<tag::Expression>,
+    handle: Handle<tag::Expression>,
+) -> Result<(), FunctionError>
+    requires { ContextFits (context_of context.now) }
+    ensures { result_err result ≡ first_fault (result_type_points (context_of context.now) (known scope.now) scalar fun.now value handle) }
+{
+    match fun {
+        AtomicFunction::Exchange {
+            compare: Some(compare),
+        } => check_compared(scope, context, scalar, *compare, value, handle),
+        _ => check_uncompared(context, value, handle),
+    }
+}
+
+/// Of a compare exchange: what is compared with, and a result of the struct that a compare exchange gives.
+fn check_compared(
+    scope: &HandleSet,
+    context: &BlockContext,
+    scalar: Scalar,
+    compare: Handle<tag::Expression>,
+    value: Handle<tag::Expression>,
+    handle: Handle<tag::Expression>,
+) -> Result<(), FunctionError>
+    requires { ContextFits (context_of context.now) }
+    ensures { result_err result ≡ first_fault (compared_points (context_of context.now) (known scope.now) scalar compare value handle) }
+{
+    check_use(scope, compare)?;
+    let program = context.program;
+    if !is_equivalent(
+        program,
+        context.type_inner(compare),
+        context.type_inner(value),
+    ) {
+        return Err(FunctionError::InvalidAtomic(AtomicError::InvalidOperand(compare)));
+    }
+    if !is_exchange_struct(program, scalar, result_type(context, handle)) {
+        return Err(FunctionError::InvalidAtomic(AtomicError::ResultTypeMismatch(handle)));
+    }
+    if !is_comparison(context.expression(handle)) {
+        let error = AtomicError::ResultExpressionNotExchange(handle);
+        return Err(FunctionError::InvalidAtomic(error));
+    }
+    Ok(())
+}
+
+/// Of any other operation: a result of the value's type.
+fn check_uncompared(
+    context: &BlockContext,
+    value: Handle<tag::Expression>,
+    handle: Handle<tag::Expression>,
+) -> Result<(), FunctionError>
+    requires { ContextFits (context_of context.now) }
+    ensures { result_err result ≡ first_fault (uncompared_points (context_of context.now) value handle) }
+{
+    let program = context.program;
+    if !is_equivalent(
+        program,
+        result_type(context, handle),
+        context.type_inner(value),
+    ) {
+        return Err(FunctionError::InvalidAtomic(AtomicError::ResultTypeMismatch(handle)));
+    }
+    if is_comparison(context.expression(handle)) {
+        let error = AtomicError::ResultExpressionExchange(handle);
+        return Err(FunctionError::InvalidAtomic(error));
+    }
+    Ok(())
+}
+
+/// The type that an atomic result is declared with.
+fn result_type<'a>(
+    context: &BlockContext<'a>,
+    handle: Handle<tag::Expression>,
+) -> Option<&'a TypeInner>
+    ensures { option_copied result ≡ result_type_at (context_of context.now) handle }
+{
+    match context.expression(handle) {
+        Some(Expression::AtomicResult { ty, .. }) => {
+            match context.program.types.as_slice().get(ty.index()) {
+                Some(ty) => Some(&ty.inner),
+                None => None,
+            }
+        }
+        _ => None,
+    }
+}
+
+/// Whether an atomic result is that of a compare exchange.
+fn is_comparison(expression: Option<&Expression>) -> bool
+    ensures { result ≡ is_comparison (option_copied expression.entry) }
+{
+    match expression {
+        Some(Expression::AtomicResult { comparison, .. }) => *comparison,
+        _ => false,
+    }
+}

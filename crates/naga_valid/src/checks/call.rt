@@ -1,0 +1,199 @@
+//! The check list of Call.
+
+ghost use Rattle.std.specs.Prelude.{◌≡◌, ◌<◌, ◌++◌, OnOk, All, length, slice_get};
+ghost use Rattle.std.specs.Result.{result_err};
+ghost use Rattle.std.specs.Option.{option_copied, option_map};
+ghost use Rattle.naga_below.specs.FitsBody.{CalleeFits};
+ghost use Rattle.naga_below.specs.View.{put_if};
+ghost use Rattle.naga_rules.specs.declared.function.FunctionError.TheVariants.{InvalidCall};
+ghost use Rattle.naga_runs.specs.Judgement.{first_fault};
+ghost use Rattle.naga_valid.specs.Answers.{AnswersPoints};
+ghost use Rattle.naga_valid.specs.Calls.{is_passed_as, argument_points, arguments_points, is_call_result_of, call_result_points, callee_points, call_points};
+ghost use Rattle.naga_valid.specs.Context.{ContextFits};
+ghost use Rattle.naga_valid.specs.Scope.{known};
+ghost use Rattle.naga_valid.specs.Seen.{context_of};
+ghost use Rattle.naga_valid.specs.Walk.{puts_of};
+
+use crate::checks::refuse::answer;
+use crate::checks::results::is_fresh;
+use crate::checks::types::is_same_type;
+use crate::context::BlockContext;
+use crate::handle_set::HandleSet;
+use naga_below::arena::handle::Handle;
+use naga_below::arena::tag;
+use naga_below::ir::expressions::Expression;
+use naga_below::ir::functions::FunctionArgument;
+use naga_below::proc::typifier::TypeResolution;
+use naga_below::span::{Refusal, Span};
+use naga_below::valid::expression_error::ExpressionError;
+use naga_rules::function::{CallError, FunctionError};
+
+/// Call: its arguments and its result, which is in scope afterwards.
+pub fn check_call(
+    scope: &mut HandleSet,
+    filled: &HandleSet,
+    context: &BlockContext,
+    function: Handle<tag::Function>,
+    arguments: &[Handle<tag::Expression>],
+    named: &Option<Handle<tag::Expression>>,
+    span: Span,
+) -> Result<(), Refusal<FunctionError>>
+    requires context { ContextFits (context_of context.now) }
+    requires callee { CalleeFits (context_of context.now).program function }
+    ensures fault { AnswersPoints (call_points (context_of context.now) (known filled.now) (known scope.old) function arguments.now named.now) result }
+    ensures scope { OnOk result (scope.new ≡ scope.old ++ puts_of (put_if named.now)) }
+{
+    let alloc = scope.allocator();
+    let checked = validate_call(scope, filled, context, function, arguments, *named);
+    answer(alloc, in_call(function, checked), span)?;
+    if let Some(handle) = named {
+        scope.put(*handle)?;
+    }
+    Ok(())
+}
+
+/// The fault of a call, inside the function's.
+fn in_call(
+    function: Handle<tag::Function>,
+    checked: Result<(), CallError>,
+) -> Result<(), FunctionError>
+    ensures { result_err result ≡ option_map (InvalidCall function) (result_err checked) }
+{
+    match checked {
+        Ok(()) => Ok(()),
+        Err(error) => Err(FunctionError::InvalidCall { function, error }),
+    }
+}
+
+/// The arguments and the result of a call, which stays out of scope.
+fn validate_call(
+    scope: &HandleSet,
+    filled: &HandleSet,
+    context: &BlockContext,
+    function: Handle<tag::Function>,
+    arguments: &[Handle<tag::Expression>],
+    named: Option<Handle<tag::Expression>>,
+) -> Result<(), CallError>
+    requires context { ContextFits (context_of context.now) }
+    requires callee { CalleeFits (context_of context.now).program function }
+    ensures { result_err result ≡ first_fault (callee_points (context_of context.now) (known filled.now) (known scope.now) function (slice_get (context_of context.now).program.functions function) arguments.now named) }
+{
+    let callee = &context.program.functions[function];
+    let checked = check_arguments(scope, context, callee.arguments.as_slice(), arguments);
+    if checked.is_err() {
+        return checked;
+    }
+    let returns = callee.result.is_some();
+    check_call_result(scope, filled, context, function, returns, named)
+}
+
+/// As many arguments as are declared, each in scope and of its declared type.
+fn check_arguments(
+    scope: &HandleSet,
+    context: &BlockContext,
+    declared: &[FunctionArgument],
+    given: &[Handle<tag::Expression>],
+) -> Result<(), CallError>
+    requires context { ContextFits (context_of context.now) }
+    requires types { All (λ argument. argument.ty < length (context_of context.now).program.types) declared.now }
+    ensures { result_err result ≡ first_fault (arguments_points (context_of context.now) (known scope.now) declared.now given.now) }
+{
+    if declared.len() != given.len() {
+        return Err(CallError::ArgumentCount {
+            required: declared.len(),
+            seen: given.len(),
+        });
+    }
+    for index in 0..given.len() {
+        check_argument(scope, context, index, declared[index].ty, given[index])?;
+    }
+    Ok(())
+}
+
+/// An argument: in scope, and of its declared type.
+fn check_argument(
+    scope: &HandleSet,
+    context: &BlockContext,
+    index: usize,
+    declared: Handle<tag::Type>,
+    given: Handle<tag::Expression>,
+) -> Result<(), CallError>
+    requires context { ContextFits (context_of context.now) }
+    requires declared { declared < length (context_of context.now).program.types }
+    ensures { result_err result ≡ first_fault (argument_points (context_of context.now) (known scope.now) index declared given) }
+{
+    if !scope.contains(given) {
+        return Err(CallError::Argument {
+            index,
+            source: ExpressionError::NotInScope,
+        });
+    }
+    if !is_passed_as(context, given, declared) {
+        return Err(CallError::ArgumentType {
+            index,
+            required: declared,
+            seen_expression: given,
+        });
+    }
+    Ok(())
+}
+
+/// Whether an expression is of the type that an argument is declared with.
+fn is_passed_as(
+    context: &BlockContext,
+    given: Handle<tag::Expression>,
+    declared: Handle<tag::Type>,
+) -> bool
+    requires context { ContextFits (context_of context.now) }
+    requires declared { declared < length (context_of context.now).program.types }
+    ensures { result ≡ is_passed_as (context_of context.now) given declared }
+{
+    match context.resolution(given) {
+        None => false,
+        Some(given) => is_same_type(context.program, &TypeResolution::Handle(declared), given),
+    }
+}
+
+/// The result that a call names: not in scope yet, of the called function, which returns one, and fresh. A call that
+/// names none is of a function that returns none.
+fn check_call_result(
+    scope: &HandleSet,
+    filled: &HandleSet,
+    context: &BlockContext,
+    function: Handle<tag::Function>,
+    returns: bool,
+    named: Option<Handle<tag::Expression>>,
+) -> Result<(), CallError>
+    ensures { result_err result ≡ first_fault (call_result_points (context_of context.now) (known filled.now) (known scope.now) function returns named) }
+{
+    match named {
+        Some(handle) => {
+            if scope.contains(handle) {
+                return Err(CallError::ResultAlreadyInScope(handle));
+            }
+            if !is_call_result_of(function, context.expression(handle)) || !returns {
+                return Err(CallError::ExpressionMismatch(Some(handle)));
+            }
+            if !is_fresh(filled, context, handle) {
+                return Err(CallError::ResultAlreadyPopulated(handle));
+            }
+            Ok(())
+        }
+        None => {
+            if returns {
+                return Err(CallError::ExpressionMismatch(None));
+            }
+            Ok(())
+        }
+    }
+}
+
+/// Whether an expression is the result of a call of this function.
+fn is_call_result_of(function: Handle<tag::Function>, expression: Option<&Expression>) -> bool
+    ensures { result ≡ is_call_result_of function (option_copied expression.entry) }
+{
+    match expression {
+        Some(Expression::CallResult(called)) => *called == function,
+        _ => false,
+    }
+}

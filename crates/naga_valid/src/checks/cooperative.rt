@@ -1,0 +1,78 @@
+//! The check list of CooperativeStore.
+
+ghost use Rattle.std.specs.Prelude.{◌≡◌, Some};
+ghost use Rattle.std.specs.Result.{result_err};
+ghost use Rattle.naga_runs.specs.Judgement.{first_fault};
+ghost use Rattle.naga_valid.specs.Context.{ContextFits};
+ghost use Rattle.naga_valid.specs.Cooperative.{matrix_scalar_at, base_scalar_at, data_points, cooperative_points};
+ghost use Rattle.naga_valid.specs.Scope.{known};
+ghost use Rattle.naga_valid.specs.Seen.{context_of};
+
+use crate::checks::refuse::check_use;
+use crate::checks::store::{base_type, is_writable};
+use crate::context::BlockContext;
+use crate::handle_set::HandleSet;
+use naga_below::arena::handle::Handle;
+use naga_below::arena::tag;
+use naga_below::ir::types::{Scalar, TypeInner};
+use naga_rules::function::FunctionError;
+
+/// CooperativeStore: its target, a cooperative matrix, and the place where it goes.
+pub fn check_cooperative_store(
+    scope: &HandleSet,
+    context: &BlockContext,
+    target: Handle<tag::Expression>,
+    pointer: Handle<tag::Expression>,
+) -> Result<(), FunctionError>
+    requires { ContextFits (context_of context.now) }
+    ensures { result_err result ≡ first_fault (cooperative_points (context_of context.now) (known scope.now) target pointer) }
+{
+    check_use(scope, target)?;
+    match matrix_scalar(context, target) {
+        Some(scalar) => check_data(context, scalar, pointer),
+        None => Err(FunctionError::InvalidCooperativeStoreTarget(target)),
+    }
+}
+
+/// The scalar of a cooperative matrix.
+fn matrix_scalar(context: &BlockContext, target: Handle<tag::Expression>) -> Option<Scalar>
+    ensures { result ≡ matrix_scalar_at (context_of context.now) target }
+{
+    match context.type_inner(target) {
+        Some(TypeInner::CooperativeMatrix { scalar, .. }) => Some(*scalar),
+        _ => None,
+    }
+}
+
+/// The pointer points to this scalar, and its space takes stores.
+fn check_data(
+    context: &BlockContext,
+    scalar: Scalar,
+    pointer: Handle<tag::Expression>,
+) -> Result<(), FunctionError>
+    requires { ContextFits (context_of context.now) }
+    ensures { result_err result ≡ first_fault (data_points (context_of context.now) (Some scalar) pointer) }
+{
+    let holds = match base_scalar(context, pointer) {
+        Some(given) => given == scalar,
+        None => false,
+    };
+    if !holds {
+        return Err(FunctionError::InvalidCooperativeDataPointer(pointer));
+    }
+    if !is_writable(context, pointer) {
+        return Err(FunctionError::InvalidStorePointer(pointer));
+    }
+    Ok(())
+}
+
+/// The scalar of what a pointer points to.
+fn base_scalar(context: &BlockContext, pointer: Handle<tag::Expression>) -> Option<Scalar>
+    requires { ContextFits (context_of context.now) }
+    ensures { result ≡ base_scalar_at (context_of context.now) pointer }
+{
+    match base_type(context, pointer) {
+        Some(base) => base.inner_with(&context.program.types).scalar(),
+        None => None,
+    }
+}

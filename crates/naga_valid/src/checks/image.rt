@@ -1,0 +1,230 @@
+//! What the check lists of ImageStore and ImageAtomic share: the image, and the texel.
+
+ghost use Rattle.std.specs.Prelude.{◌≡◌};
+ghost use Rattle.std.specs.Result.{result_err};
+ghost use Rattle.std.specs.Option.{option_copied};
+ghost use Rattle.naga_below.specs.Types.{inner_at};
+ghost use Rattle.naga_runs.specs.Judgement.{first_fault};
+ghost use Rattle.naga_valid.specs.Images.{image_fault, global_type_at, image_global_at, image_of, element_of, storage_of, is_dimension, coordinate_points, is_integer_scalar, array_index_points, texel_points};
+ghost use Rattle.naga_valid.specs.Scope.{known};
+ghost use Rattle.naga_valid.specs.Seen.{context_of};
+
+use crate::checks::control::is_integer;
+use crate::checks::refuse::check_use;
+use crate::checks::store::access_base;
+use crate::context::BlockContext;
+use crate::handle_set::HandleSet;
+use naga_below::arena::handle::Handle;
+use naga_below::arena::tag;
+use naga_below::ir::expressions::Expression;
+use naga_below::ir::flags::StorageAccess;
+use naga_below::ir::types::{ImageClass, ImageDimension, StorageFormat, TypeInner};
+use naga_below::valid::expression_error::ExpressionError;
+use naga_rules::function::FunctionError;
+
+/// The statement that uses an image.
+#[derive(Clone, Copy)]
+pub enum ImageStatement {
+    Store,
+    Atomic,
+}
+
+/// An image, as its type has it.
+#[derive(Clone, Copy)]
+pub struct ImageShape {
+    pub dim: ImageDimension,
+    pub arrayed: bool,
+    pub class: ImageClass,
+}
+
+/// How the texels of a storage image are stored.
+#[derive(Clone, Copy)]
+pub struct ImageStorage {
+    pub format: StorageFormat,
+    pub access: StorageAccess,
+}
+
+/// Which texel of an image.
+#[derive(Clone, Copy)]
+pub struct Texel {
+    pub coordinate: Handle<tag::Expression>,
+    pub array_index: Option<Handle<tag::Expression>>,
+}
+
+/// The fault of an image, of a coordinate or of an array index, inside that of its statement.
+pub fn image_fault(statement: ImageStatement, error: ExpressionError) -> FunctionError
+    ensures { result ≡ image_fault statement error }
+{
+    match statement {
+        ImageStatement::Store => FunctionError::InvalidImageStore(error),
+        ImageStatement::Atomic => FunctionError::InvalidImageAtomic(error),
+    }
+}
+
+/// The type of the global that an image is, or of which it is an element.
+pub fn image_global(
+    context: &BlockContext,
+    image: Handle<tag::Expression>,
+) -> Option<Handle<tag::Type>>
+    ensures { result ≡ image_global_at (context_of context.now) image }
+{
+    match access_base(context.expression(image)) {
+        Some(base) => global_type(context, base),
+        None => global_type(context, image),
+    }
+}
+
+/// The type that the global is declared with which an expression is.
+fn global_type(context: &BlockContext, handle: Handle<tag::Expression>) -> Option<Handle<tag::Type>>
+    ensures { result ≡ global_type_at (context_of context.now) handle }
+{
+    let Some(Expression::GlobalVariable(global)) = context.expression(handle) else {
+        return None;
+    };
+    match context
+        .program
+        .global_variables
+        .as_slice()
+        .get(global.index())
+    {
+        Some(variable) => Some(variable.ty),
+        None => None,
+    }
+}
+
+/// The type at a handle.
+pub fn inner_at<'a>(context: &BlockContext<'a>, ty: Handle<tag::Type>) -> Option<&'a TypeInner>
+    ensures { option_copied result ≡ inner_at (context_of context.now).program.types ty }
+{
+    match context.program.types.as_slice().get(ty.index()) {
+        Some(ty) => Some(&ty.inner),
+        None => None,
+    }
+}
+
+/// A type as an image.
+pub fn image_of(inner: Option<&TypeInner>) -> Option<ImageShape>
+    ensures { result ≡ image_of (option_copied inner.entry) }
+{
+    match inner {
+        Some(
+            TypeInner::Image {
+                dim,
+                arrayed,
+                class,
+            },
+        ) => Some(ImageShape {
+            dim: *dim,
+            arrayed: *arrayed,
+            class: *class,
+        }),
+        _ => None,
+    }
+}
+
+/// What a binding array has.
+pub fn element_of(inner: Option<&TypeInner>) -> Option<Handle<tag::Type>>
+    ensures { result ≡ element_of (option_copied inner.entry) }
+{
+    match inner {
+        Some(TypeInner::BindingArray { base, .. }) => Some(*base),
+        _ => None,
+    }
+}
+
+/// How the texels of a storage image are stored.
+pub fn storage_of(class: ImageClass) -> Option<ImageStorage>
+    ensures { result ≡ storage_of class }
+{
+    match class {
+        ImageClass::Storage { format, access } => Some(ImageStorage { format, access }),
+        _ => None,
+    }
+}
+
+/// Which texel: its coordinate and its array index.
+#[tactic(auto, using(crate::proofs::Lists::appended))]
+pub fn check_texel(
+    statement: ImageStatement,
+    scope: &HandleSet,
+    context: &BlockContext,
+    image: ImageShape,
+    texel: Texel,
+) -> Result<(), FunctionError>
+    ensures { result_err result ≡ first_fault (texel_points statement (context_of context.now) (known scope.now) image texel) }
+{
+    check_coordinate(statement, scope, context, image.dim, texel.coordinate)?;
+    check_array_index(statement, scope, context, image.arrayed, texel.array_index)
+}
+
+/// The coordinate: in scope, and of the image's dimension.
+fn check_coordinate(
+    statement: ImageStatement,
+    scope: &HandleSet,
+    context: &BlockContext,
+    dim: ImageDimension,
+    coordinate: Handle<tag::Expression>,
+) -> Result<(), FunctionError>
+    ensures { result_err result ≡ first_fault (coordinate_points statement (context_of context.now) (known scope.now) dim coordinate) }
+{
+    check_use(scope, coordinate)?;
+    let given = match context.type_inner(coordinate) {
+        Some(inner) => inner.image_storage_coordinates(),
+        None => None,
+    };
+    if !is_dimension(dim, given) {
+        let error = ExpressionError::InvalidImageCoordinateType(dim, coordinate);
+        return Err(image_fault(statement, error));
+    }
+    Ok(())
+}
+
+fn is_dimension(dim: ImageDimension, given: Option<ImageDimension>) -> bool
+    ensures { result ≡ is_dimension dim given }
+{
+    match given {
+        Some(given) => given == dim,
+        None => false,
+    }
+}
+
+/// The array index: there where the image is arrayed, in scope, and an integer.
+fn check_array_index(
+    statement: ImageStatement,
+    scope: &HandleSet,
+    context: &BlockContext,
+    arrayed: bool,
+    array_index: Option<Handle<tag::Expression>>,
+) -> Result<(), FunctionError>
+    ensures { result_err result ≡ first_fault (array_index_points statement (context_of context.now) (known scope.now) arrayed array_index) }
+{
+    match array_index {
+        Some(handle) => {
+            if !arrayed {
+                return Err(image_fault(statement, ExpressionError::InvalidImageArrayIndex));
+            }
+            check_use(scope, handle)?;
+            if !is_integer_scalar(context.type_inner(handle)) {
+                let error = ExpressionError::InvalidImageArrayIndexType(handle);
+                return Err(image_fault(statement, error));
+            }
+            Ok(())
+        }
+        None => {
+            if arrayed {
+                return Err(image_fault(statement, ExpressionError::InvalidImageArrayIndex));
+            }
+            Ok(())
+        }
+    }
+}
+
+/// Whether a type is an integer of any width, and no vector.
+fn is_integer_scalar(inner: Option<&TypeInner>) -> bool
+    ensures { result ≡ is_integer_scalar (option_copied inner.entry) }
+{
+    match inner {
+        Some(TypeInner::Scalar(scalar)) => is_integer(Some(scalar.kind)),
+        _ => false,
+    }
+}

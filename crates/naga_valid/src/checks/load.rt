@@ -1,0 +1,123 @@
+//! The check list of WorkGroupUniformLoad.
+
+ghost use Rattle.std.specs.Prelude.{◌≡◌, ◌<◌, ◌++◌, ◌∷◌, [], OnOk, IfSome, length};
+ghost use Rattle.std.specs.Result.{result_err};
+ghost use Rattle.std.specs.Option.{option_copied};
+ghost use Rattle.naga_runs.specs.Judgement.{first_fault};
+ghost use Rattle.naga_valid.specs.Answers.{AnswersPoints};
+ghost use Rattle.naga_valid.specs.Context.{ContextFits};
+ghost use Rattle.naga_valid.specs.Loads.{is_work_group, loaded_type_at, points_to, loaded_points, load_points};
+ghost use Rattle.naga_valid.specs.Scope.{known};
+ghost use Rattle.naga_valid.specs.Seen.{context_of};
+
+use crate::checks::atomic::atomic_at;
+use crate::checks::refuse::{answer, check_put, check_use};
+use crate::checks::store::space;
+use crate::checks::types::{is_equivalent, is_scalar};
+use crate::context::BlockContext;
+use crate::handle_set::HandleSet;
+use naga_below::arena::handle::Handle;
+use naga_below::arena::tag;
+use naga_below::ir::expressions::Expression;
+use naga_below::ir::types::{AddressSpace, TypeInner};
+use naga_below::span::{Refusal, Span};
+use naga_rules::function::FunctionError;
+
+/// WorkGroupUniformLoad: its pointer and its result, which is in scope afterwards.
+pub fn check_load(
+    scope: &mut HandleSet,
+    context: &BlockContext,
+    pointer: Handle<tag::Expression>,
+    loaded: Handle<tag::Expression>,
+    span: Span,
+) -> Result<(), Refusal<FunctionError>>
+    requires { ContextFits (context_of context.now) }
+    ensures fault { AnswersPoints (load_points (context_of context.now) (known scope.old) pointer loaded) result }
+    ensures scope { OnOk result (scope.new ≡ scope.old ++ loaded ∷ []) }
+{
+    let alloc = scope.allocator();
+    let checked = validate_load(scope, context, pointer, loaded);
+    answer(alloc, checked, span)?;
+    scope.put(loaded)?;
+    Ok(())
+}
+
+/// All that is checked of a load. Its result stays out of scope.
+fn validate_load(
+    scope: &HandleSet,
+    context: &BlockContext,
+    pointer: Handle<tag::Expression>,
+    loaded: Handle<tag::Expression>,
+) -> Result<(), FunctionError>
+    requires { ContextFits (context_of context.now) }
+    ensures { result_err result ≡ first_fault (load_points (context_of context.now) (known scope.now) pointer loaded) }
+{
+    check_use(scope, pointer)?;
+    if !is_work_group(space(context, pointer)) {
+        return Err(FunctionError::WorkgroupUniformLoadInvalidPointer(pointer));
+    }
+    check_put(scope, loaded)?;
+    check_loaded(context, pointer, loaded)
+}
+
+fn is_work_group(space: Option<AddressSpace>) -> bool
+    ensures { result ≡ is_work_group space }
+{
+    matches!(space, Some(AddressSpace::WorkGroup))
+}
+
+/// The result is one of a load, of the type that is pointed to.
+fn check_loaded(
+    context: &BlockContext,
+    pointer: Handle<tag::Expression>,
+    loaded: Handle<tag::Expression>,
+) -> Result<(), FunctionError>
+    requires { ContextFits (context_of context.now) }
+    ensures { result_err result ≡ first_fault (loaded_points (context_of context.now) pointer loaded) }
+{
+    match loaded_type(context, loaded) {
+        Some(ty) => {
+            if !points_to(context, pointer, ty) {
+                return Err(FunctionError::WorkgroupUniformLoadInvalidPointer(pointer));
+            }
+            Ok(())
+        }
+        None => Err(FunctionError::WorkgroupUniformLoadExpressionMismatch(loaded)),
+    }
+}
+
+/// The type that the result of a load is declared with.
+fn loaded_type(context: &BlockContext, loaded: Handle<tag::Expression>) -> Option<Handle<tag::Type>>
+    requires { ContextFits (context_of context.now) }
+    ensures is { result ≡ loaded_type_at (context_of context.now) loaded }
+    ensures fits { IfSome result (λ ty. ty < length (context_of context.now).program.types) }
+{
+    match context.expression(loaded) {
+        Some(Expression::WorkGroupUniformLoadResult { ty }) => Some(*ty),
+        _ => None,
+    }
+}
+
+/// Whether a pointer in the work group is one to this type, or to an atomic of this scalar.
+fn points_to(
+    context: &BlockContext,
+    pointer: Handle<tag::Expression>,
+    ty: Handle<tag::Type>,
+) -> bool
+    requires context { ContextFits (context_of context.now) }
+    requires ty { ty < length (context_of context.now).program.types }
+    ensures { result ≡ points_to (context_of context.now) pointer ty }
+{
+    let program = context.program;
+    let expected = TypeInner::Pointer {
+        base: ty,
+        space: AddressSpace::WorkGroup,
+    };
+    if is_equivalent(program, context.type_inner(pointer), Some(&expected)) {
+        return true;
+    }
+    match atomic_at(context, pointer) {
+        Some(place) => is_scalar(place.scalar, Some(&program.types[ty].inner)),
+        None => false,
+    }
+}

@@ -1,0 +1,68 @@
+//! Results of calls and of atomic operations.
+
+ghost use Rattle.std.specs.Prelude.{◌≡◌, length};
+ghost use Rattle.std.specs.Result.{result_err};
+ghost use Rattle.std.specs.Option.{option_copied};
+ghost use Rattle.naga_runs.specs.Judgement.{first_fault};
+ghost use Rattle.naga_valid.specs.Results.{is_to_fill, is_unfilled, is_fresh, filled_points_from, filled_points};
+ghost use Rattle.naga_valid.specs.Scope.{known};
+ghost use Rattle.naga_valid.specs.Seen.{context_of};
+
+use crate::context::BlockContext;
+use crate::handle_set::HandleSet;
+use bitflags::Flags;
+use naga_below::arena::handle::Handle;
+use naga_below::arena::tag;
+use naga_below::ir::expressions::Expression;
+use naga_below::valid::flags::ValidationFlags;
+use naga_rules::function::FunctionError;
+
+/// Whether an expression is of a kind that a Call or an Atomic fills.
+fn is_to_fill(expression: Option<&Expression>) -> bool
+    ensures { result ≡ is_to_fill (option_copied expression.entry) }
+{
+    matches!(
+        expression,
+        Some(Expression::CallResult(_) | Expression::AtomicResult { .. })
+    )
+}
+
+/// Whether an expression is a result that nothing filled so far.
+fn is_unfilled(filled: &HandleSet, context: &BlockContext, handle: Handle<tag::Expression>) -> bool
+    ensures { result ≡ is_unfilled (context_of context.now) (known filled.now) handle }
+{
+    is_to_fill(context.expression(handle)) && !filled.contains(handle)
+}
+
+/// Whether a result is still to be filled.
+pub fn is_fresh(filled: &HandleSet, context: &BlockContext, handle: Handle<tag::Expression>) -> bool
+    ensures { result ≡ is_fresh (context_of context.now) (known filled.now) handle }
+{
+    let flags = context.settings.flags;
+    flags.contains(ValidationFlags::EXPRESSIONS) && is_unfilled(filled, context, handle)
+}
+
+/// Behind a body, where expressions are looked at: each result of the function is filled.
+pub fn check_filled(filled: &HandleSet, context: &BlockContext) -> Result<(), FunctionError>
+    ensures { result_err result ≡ first_fault (filled_points (context_of context.now) (known filled.now)) }
+{
+    let flags = context.settings.flags;
+    if flags.contains(ValidationFlags::EXPRESSIONS) {
+        check_each_filled(filled, context)
+    } else {
+        Ok(())
+    }
+}
+
+fn check_each_filled(filled: &HandleSet, context: &BlockContext) -> Result<(), FunctionError>
+    ensures { result_err result ≡ first_fault (filled_points_from (context_of context.now) (known filled.now) 0 (length (context_of context.now).fun.expressions)) }
+{
+    let count = context.fun.expressions.len() as u32;
+    for index in 0..count {
+        let handle = Handle::new(index);
+        if is_unfilled(filled, context, handle) {
+            return Err(FunctionError::UnvisitedExpression(handle));
+        }
+    }
+    Ok(())
+}

@@ -1,0 +1,195 @@
+//! The check list of Store.
+
+ghost use Rattle.std.specs.Prelude.{◌≡◌, IfSome, Some, length};
+ghost use Rattle.std.specs.Result.{result_err};
+ghost use Rattle.std.specs.Option.{option_copied};
+ghost use Rattle.naga_below.specs.Types.{ResolutionFits};
+ghost use Rattle.naga_runs.specs.Judgement.{first_fault};
+ghost use Rattle.naga_valid.specs.Context.{ContextFits};
+ghost use Rattle.naga_valid.specs.Scope.{known};
+ghost use Rattle.naga_valid.specs.Seen.{context_of};
+ghost use Rattle.naga_valid.specs.Stores.{access_base, root_at, is_variable, base_type_at, space_at, is_writable, texture_points, is_stored_as, place_points, stored_points, store_points};
+
+use crate::checks::refuse::check_use;
+use crate::checks::types::{is_same_type, is_scalar};
+use crate::context::BlockContext;
+use crate::handle_set::HandleSet;
+use bitflags::Flags;
+use naga_below::arena::handle::Handle;
+use naga_below::arena::tag;
+use naga_below::ir::expressions::Expression;
+use naga_below::ir::flags::StorageAccess;
+use naga_below::ir::types::{AddressSpace, TypeInner};
+use naga_below::proc::typifier::TypeResolution;
+use naga_rules::function::FunctionError;
+
+/// Store: its pointer leads back to a variable or an argument; its value, and the place where it goes.
+pub fn check_store(
+    scope: &HandleSet,
+    context: &BlockContext,
+    pointer: Handle<tag::Expression>,
+    value: Handle<tag::Expression>,
+) -> Result<(), FunctionError>
+    requires { ContextFits (context_of context.now) }
+    ensures { result_err result ≡ first_fault (store_points (context_of context.now) (known scope.now) pointer value) }
+{
+    let root = root_of(context, pointer);
+    if !is_variable(context.expression(root)) {
+        return Err(FunctionError::InvalidStorePointer(root));
+    }
+    check_use(scope, value)?;
+    check_stored(context, pointer, value)
+}
+
+/// Where the walk from a pointer stops, which goes from an access to its base.
+fn root_of(context: &BlockContext, pointer: Handle<tag::Expression>) -> Handle<tag::Expression>
+    requires { ContextFits (context_of context.now) }
+    ensures { result ≡ root_at (context_of context.now) pointer }
+{
+    let mut handle = pointer;
+    while let Some(base) = access_base(context.expression(handle)) {
+        handle = base;
+    }
+    handle
+}
+
+/// The expression of which an access takes a part.
+pub fn access_base(expression: Option<&Expression>) -> Option<Handle<tag::Expression>>
+    ensures { result ≡ access_base (option_copied expression.entry) }
+{
+    match expression {
+        Some(Expression::Access { base, .. }) | Some(Expression::AccessIndex { base, .. }) => {
+            Some(*base)
+        }
+        _ => None,
+    }
+}
+
+/// Whether an expression is a variable or an argument.
+fn is_variable(expression: Option<&Expression>) -> bool
+    ensures { result ≡ is_variable (option_copied expression.entry) }
+{
+    matches!(
+        expression,
+        Some(
+            Expression::LocalVariable(_)
+                | Expression::GlobalVariable(_)
+                | Expression::FunctionArgument(_),
+        )
+    )
+}
+
+/// What is stored is no texture, the type that is pointed to holds it, and its space takes stores.
+fn check_stored(
+    context: &BlockContext,
+    pointer: Handle<tag::Expression>,
+    value: Handle<tag::Expression>,
+) -> Result<(), FunctionError>
+    requires { ContextFits (context_of context.now) }
+    ensures { result_err result ≡ first_fault (stored_points (context_of context.now) pointer value) }
+{
+    check_texture(value, context.type_inner(value))?;
+    check_place(context, pointer, value)
+}
+
+/// An image or a sampler is never stored.
+fn check_texture(
+    value: Handle<tag::Expression>,
+    inner: Option<&TypeInner>,
+) -> Result<(), FunctionError>
+    ensures { result_err result ≡ first_fault (texture_points value (option_copied inner.entry)) }
+{
+    let actual_ty = match inner {
+        Some(
+            TypeInner::Image {
+                dim,
+                arrayed,
+                class,
+            },
+        ) => TypeInner::Image {
+            dim: *dim,
+            arrayed: *arrayed,
+            class: *class,
+        },
+        Some(TypeInner::Sampler { comparison }) => TypeInner::Sampler {
+            comparison: *comparison,
+        },
+        _ => return Ok(()),
+    };
+    Err(FunctionError::InvalidStoreTexture {
+        actual: value,
+        actual_ty,
+    })
+}
+
+/// The type that is pointed to holds the value, and its space takes stores.
+fn check_place(
+    context: &BlockContext,
+    pointer: Handle<tag::Expression>,
+    value: Handle<tag::Expression>,
+) -> Result<(), FunctionError>
+    requires { ContextFits (context_of context.now) }
+    ensures { result_err result ≡ first_fault (place_points (context_of context.now) pointer value) }
+{
+    if !is_stored_as(context, value, &base_type(context, pointer)) {
+        return Err(FunctionError::InvalidStoreTypes { pointer, value });
+    }
+    if !is_writable(context, pointer) {
+        return Err(FunctionError::InvalidStorePointer(pointer));
+    }
+    Ok(())
+}
+
+/// The type that a pointer points to.
+pub fn base_type(context: &BlockContext, pointer: Handle<tag::Expression>) -> Option<TypeResolution>
+    requires { ContextFits (context_of context.now) }
+    ensures is { result ≡ base_type_at (context_of context.now) pointer }
+    ensures fits { IfSome result (ResolutionFits (length (context_of context.now).program.types)) }
+{
+    match context.type_inner(pointer) {
+        Some(inner) => inner.pointer_base_type(),
+        None => None,
+    }
+}
+
+/// Whether the space that a pointer points into takes stores.
+pub fn is_writable(context: &BlockContext, pointer: Handle<tag::Expression>) -> bool
+    ensures { result ≡ is_writable (context_of context.now) pointer }
+{
+    match space(context, pointer) {
+        Some(space) => space.access().contains(StorageAccess::STORE),
+        None => false,
+    }
+}
+
+/// The space that a pointer points into.
+pub fn space(context: &BlockContext, pointer: Handle<tag::Expression>) -> Option<AddressSpace>
+    ensures { result ≡ space_at (context_of context.now) pointer }
+{
+    match context.type_inner(pointer) {
+        Some(inner) => inner.pointer_space(),
+        None => None,
+    }
+}
+
+/// Whether a value is what this type holds: an atomic its scalar, any other a value of the type.
+fn is_stored_as(
+    context: &BlockContext,
+    value: Handle<tag::Expression>,
+    base: &Option<TypeResolution>,
+) -> bool
+    requires context { ContextFits (context_of context.now) }
+    requires base { IfSome base.now (ResolutionFits (length (context_of context.now).program.types)) }
+    ensures { result ≡ is_stored_as (context_of context.now) value base.now }
+{
+    let Some(base) = base else {
+        return false;
+    };
+    match base.inner_with(&context.program.types) {
+        TypeInner::Atomic(scalar) => is_scalar(*scalar, context.type_inner(value)),
+        _ => match context.resolution(value) {
+            Some(given) => is_same_type(context.program, given, base),
+            None => false,
+        },
+    }
+}
