@@ -1,29 +1,30 @@
 -- What the program's loop keeps, and what one buffer tells of an input.
-use Rattle.std.proofs.Common.{◌≡◌, ◌≤◌, ◌<◌, ◌+◌, ℕ, List, ◌++◌, Option, Some, None, Bool, true, ap, sym, ◌∙◌, arith, length, take, subst, refl, Ok, Err, inl, inr}
+use Rattle.std.proofs.Common.{◌≡◌, ◌≤◌, ◌<◌, ◌+◌, ℕ, List, ◌++◌, Option, Some, None, ap, sym, ◌∙◌, ◌-◌, suc, [], ◌∷◌, arith, length, take, subst, refl, Ok, Err, inl, inr}
 use Rattle.std.proofs.lemmas.List.{take_all, take-append-le, length-take}
 use Rattle.std.proofs.Math.Seq.{take-append-add}
-use Rattle.std.specs.Prelude.{IfSome}
+use Rattle.std.specs.Prelude.{IfSome, Result, slice_get}
 use Rattle.std.specs.Io.KnownBytes.{Appends}
+use Rattle.naga_below.specs.declared.ir.module.Module.{Module}
+use Rattle.naga_below.specs.declared.span.Refusal.{Refusal}
+use Rattle.naga_below.specs.declared.span.Refusal.TheVariants as refusal
 use Rattle.naga_below.specs.declared.valid.flags.ShaderStages.{ShaderStages}
-use Rattle.naga_below.specs.Tree.{Stmt, Leaf, Block, Branch, Switch, Loop, Break, Continue, Return, Kill, Body, Done, Then, Cases, NoCase, OneCase}
-use Rattle.naga_below.specs.declared.ir.statements.Statement.{Statement}
-use Rattle.naga_below.specs.declared.ir.statements.Statement as statement
-use Rattle.naga_check.specs.Kinds.{has_kind, body_has_kinds, parts_have_kinds, cases_have_kinds}
-use Rattle.naga_check.specs.Line.{Replies, Writes, IsLine, line_of, case_judgement, reply_line, reply_status}
+use Rattle.naga_below.specs.declared.valid.info.FunctionInfo.{FunctionInfo}
+use Rattle.naga_below.specs.declared.valid.info.ModuleInfo.{ModuleInfo}
+use Rattle.naga_rules.specs.Answers.{Answers}
+use Rattle.naga_rules.specs.declared.function.FunctionError.{FunctionError}
+use Rattle.naga_check.specs.BenchModule.{IsBenchModule}
+use Rattle.naga_check.specs.Judged.{IsJudgement, Judges, infos_from, no_infos, settings_of, stages_of_last}
+use Rattle.naga_check.specs.Line.{Replies, Writes, IsLine, line_of, reply_line, reply_status}
 use Rattle.naga_check.specs.Notation.Case.{Case, Reads}
-use Rattle.naga_check.specs.Notation.Plain.{is_plain, is_plain_statement, are_plain_cases}
 use Rattle.naga_check.specs.declared.line.Reply.{Reply}
 use Rattle.naga_check.specs.declared.line.Reply.TheVariants.{Accepted, Fault, Unreadable, Memory}
-use Rattle.naga_check.specs.declared.valid.error.FunctionError.{FunctionError}
-use Rattle.naga_check.proofs.KnownKinds.{both_hold}
-use Rattle.std.specs.Prelude.{◌&&◌}
 
 -- the line of a reply is one that may be written
 pub reply_writes : (input : List ℕ) (reply : Reply) (old new : Option (List ℕ)) → Replies input reply → Appends old new (reply_line reply) → Writes input old new (reply_status reply)
 unfolding Replies Writes IsLine line_of reply_line
-reply_writes input (Accepted stages) old new (c, reads, judged) h =
-    inl (_, inl (c, reads, rw judged refl, rw judged refl), h)
-reply_writes input (Fault fault) old new (c, reads, judged) h = inl (_, inl (c, reads, rw judged refl, rw judged refl), h)
+reply_writes input (Accepted stages) old new (c, reads, (infos, judged, same)) h =
+    inl (_, inl (c, reads, (Ok infos, judged, rw same refl, refl)), h)
+reply_writes input (Fault fault) old new (c, reads, judged) h = inl (_, inl (c, reads, (Err fault, judged, refl, refl)), h)
 reply_writes input Unreadable old new none h = inl (_, inr (none, refl, refl), h)
 reply_writes input Memory old new u h = inr (h, refl)
 
@@ -64,12 +65,19 @@ heard None n front reply e h r = tt
 heard (Some input) n front reply e h r =
     whole_replies input n (omega arith) reply (subst (λ xs. Replies xs reply) h r)
 
--- the replies to a case that was read
-pub replies_accepted : (input : List ℕ) (c : Case) (stages : ShaderStages) → Reads input c → case_judgement c ≡ Ok stages → Replies input (Accepted stages)
-unfolding Replies
-replies_accepted input c stages reads judged = (c, reads, judged)
+-- the answer about the functions of the bench's module is the case's judgement
+pub judges : (c : Case) (m : Module) (answer : Result ModuleInfo (Refusal FunctionError)) → IsBenchModule c.bench c.body m → Answers (infos_from (settings_of c) m no_infos m.functions) answer → Judges c answer
+unfolding IsJudgement
+judges c m (Ok infos) is h = (m, is, h)
+judges c m (Err (refusal.Fault fault)) is h = (m, is, h)
+judges c m (Err refusal.Memory) is h = tt
 
-pub replies_fault : (input : List ℕ) (c : Case) (fault : FunctionError) → Reads input c → case_judgement c ≡ Err fault → Replies input (Fault fault)
+-- the replies to a case that was read
+pub replies_accepted : (input : List ℕ) (c : Case) (infos : ModuleInfo) → Reads input c → IsJudgement c (Ok infos) → Replies input (Accepted (stages_of_last infos.functions))
+unfolding Replies
+replies_accepted input c infos reads judged = (c, reads, (infos, judged, refl))
+
+pub replies_fault : (input : List ℕ) (c : Case) (fault : FunctionError) → Reads input c → IsJudgement c (Err fault) → Replies input (Fault fault)
 unfolding Replies
 replies_fault input c fault reads judged = (c, reads, judged)
 
@@ -81,43 +89,19 @@ pub replies_memory : (input : List ℕ) → Replies input Memory
 unfolding Replies
 replies_memory input = tt
 
-holds : {a b : Bool} → a ≡ true → b ≡ true → (a && b) ≡ true
-holds p q = rw p q
+pub ruleset replying = (replies_accepted, replies_fault, replies_none, replies_memory)
 
--- What the notation says is of the kinds that have a check list.
-plain_kind : (n : ℕ) (x : Stmt) → is_plain_statement n x ≡ true → has_kind x ≡ true
-unfolding is_plain
-plain_kind n (Leaf acts (statement.Emit r) span) e = refl
-plain_kind n (Leaf acts x span) e = absurd cc
-plain_kind n x e = refl
+abbrev pub stages_if : Option FunctionInfo → ShaderStages
+stages_if None = record { 0 = 0 }
+stages_if (Some info) = info.available_stages
 
-mutual
-  unfolding is_plain body_has_kinds
-
-  pub plain_kinds : (n : ℕ) (b : Body) → is_plain n b ≡ true → body_has_kinds b ≡ true
-  plain_kinds n Done e = refl
-  plain_kinds n (Then x rest) e =
-      let both = both_hold (is_plain_statement n x) _ e in
-      holds (plain_kind n x both.0) (holds (plain_parts n x both.0) (plain_kinds n rest both.1))
-
-  plain_parts : (n : ℕ) (x : Stmt) → is_plain_statement n x ≡ true → parts_have_kinds x ≡ true
-  plain_parts n (Leaf acts x span) e = refl
-  plain_parts n (Block b) e = plain_kinds n b e
-  plain_parts n (Branch h p q) e =
-      let both = both_hold (is_plain n p) _ (both_hold _ _ e).1 in
-      holds (plain_kinds n p both.0) (plain_kinds n q both.1)
-  plain_parts n (Switch h cs) e = plain_cases n cs (both_hold _ _ e).1
-  plain_parts n (Loop b d q) e =
-      let both = both_hold (is_plain n b) _ (both_hold _ _ e).1 in
-      holds (plain_kinds n b both.0) (plain_kinds n d both.1)
-  plain_parts n Break e = refl
-  plain_parts n Continue e = refl
-  plain_parts n (Return v) e = refl
-  plain_parts n Kill e = refl
-
-  plain_cases : (n : ℕ) (cs : Cases) → are_plain_cases n cs ≡ true → cases_have_kinds cs ≡ true
-  plain_cases n NoCase e = refl
-  plain_cases n (OneCase v f b cs) e =
-      let both = both_hold (is_plain n b) _ e in holds (plain_kinds n b both.0) (plain_cases n cs both.1)
-
-pub ruleset replying = (replies_accepted, replies_fault, replies_none, replies_memory, plain_kinds)
+-- the last one's stages, where the last one is read at its place
+pub last_stages : (infos : List FunctionInfo) → stages_of_last infos ≡ stages_if (slice_get infos (length infos - 1))
+last_stages [] = refl
+last_stages (i ∷ []) = refl
+last_stages (i ∷ j ∷ rest) =
+    let this : suc (length rest) - 1 ≡ length rest = omega arith in
+    let more : suc (suc (length rest)) - 1 ≡ suc (length rest) = omega arith in
+    last_stages (j ∷ rest)
+    ∙ ap (λ k. stages_if (slice_get (j ∷ rest) k)) this
+    ∙ sym (ap (λ k. stages_if (slice_get (i ∷ j ∷ rest) k)) more)

@@ -1,10 +1,7 @@
 pub mod Reading
-pub mod Scopes
-pub mod Lists
-pub mod Values
-pub mod Refusals
-pub mod Walk
-pub mod KnownKinds
-pub mod PreEmitted
-pub mod Judged
+pub mod PlainTypes
+pub mod PlainKinds
+pub mod Benches
+pub mod Infos
+pub mod OneJudgement
 pub mod Cases

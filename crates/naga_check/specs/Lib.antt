@@ -1,13 +1,8 @@
 pub mod Bench
+pub mod BenchModule
 pub mod Notation
-pub mod Context
-pub mod BenchContext
-pub mod Points
-pub mod Rules
+pub mod Plain
 pub mod Judged
-pub mod Answers
-pub mod Scope
-pub mod Blocks
-pub mod Walk
-pub mod Kinds
+pub mod Ready
+pub mod Faults
 pub mod Line

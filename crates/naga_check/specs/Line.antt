@@ -1,15 +1,13 @@
 -- What the program writes, and the status it ends with.
-use Rattle.std.specs.Prelude.{◌≡◌, ◌⊎◌, ◌/◌, ◌%◌, ℕ, false, List, [], ◌∷◌, ◌++◌, Option, None, Some, Result, Ok, Err, codes, decimal, if◌then◌else◌}
+use Rattle.std.specs.Prelude.{◌≡◌, ◌⊎◌, ◌/◌, ◌%◌, ℕ, false, List, [], ◌∷◌, ◌++◌, Option, None, Some, Result, Ok, Err, codes, decimal}
 use Rattle.std.specs.Fmt.{digit_glyph}
 use Rattle.std.specs.Io.KnownBytes.{Appends}
 use Rattle.naga_below.specs.declared.valid.flags.ShaderStages.{ShaderStages}
-use Rattle.naga_check.specs.BenchContext.{bench_context}
-use Rattle.naga_check.specs.Judged.{body_judgement}
+use Rattle.naga_below.specs.declared.valid.info.ModuleInfo.{ModuleInfo}
+use Rattle.naga_rules.specs.declared.function.FunctionError.{FunctionError}
+use Rattle.naga_check.specs.Faults.{fault_name, inner_text, fault_handle}
+use Rattle.naga_check.specs.Judged.{IsJudgement, IsAccepted, stages_of_last}
 use Rattle.naga_check.specs.Notation.Case.{Case, Reads}
-use Rattle.naga_check.specs.Rules.{all_stages}
-use Rattle.naga_check.specs.declared.valid.error.FunctionError.{FunctionError}
-use Rattle.naga_check.specs.declared.valid.error.FunctionError.TheVariants.{Expression, ExpressionAlreadyInScope, BreakOutsideOfLoopOrSwitch, ContinueOutsideOfLoop, InvalidReturnSpot, InvalidReturnType, InvalidIfType, InvalidSwitchType, ConflictingSwitchCase, ConflictingCaseType, MissingDefaultCase, MultipleDefaultCases, LastCaseFallTrough}
-use Rattle.naga_check.specs.declared.valid.error.ExpressionError.TheVariants.{NotInScope}
 use Rattle.naga_check.specs.declared.line.Reply.{Reply}
 use Rattle.naga_check.specs.declared.line.Reply.TheVariants.{Accepted, Fault, Unreadable, Memory}
 
@@ -19,31 +17,6 @@ hex_digit n = digit_glyph false (n % 16)
 -- a set of stages as three lower-case hexadecimal digits
 abbrev pub stages_text : ShaderStages → List ℕ
 stages_text stages = hex_digit (stages.0 / 256) ∷ hex_digit (stages.0 / 16) ∷ hex_digit stages.0 ∷ []
-
--- the name of a fault: naga's, and for a fault of an expression what is wrong with it behind a slash
-unfoldable pub fault_name : FunctionError → List ℕ
-fault_name (Expression h NotInScope) = codes "Expression/NotInScope"
-fault_name (ExpressionAlreadyInScope h) = codes "ExpressionAlreadyInScope"
-fault_name BreakOutsideOfLoopOrSwitch = codes "BreakOutsideOfLoopOrSwitch"
-fault_name ContinueOutsideOfLoop = codes "ContinueOutsideOfLoop"
-fault_name InvalidReturnSpot = codes "InvalidReturnSpot"
-fault_name (InvalidReturnType value declared) = codes "InvalidReturnType"
-fault_name (InvalidIfType h) = codes "InvalidIfType"
-fault_name (InvalidSwitchType h) = codes "InvalidSwitchType"
-fault_name (ConflictingSwitchCase v) = codes "ConflictingSwitchCase"
-fault_name ConflictingCaseType = codes "ConflictingCaseType"
-fault_name MissingDefaultCase = codes "MissingDefaultCase"
-fault_name MultipleDefaultCases = codes "MultipleDefaultCases"
-fault_name LastCaseFallTrough = codes "LastCaseFallTrough"
-
--- the expression that a fault is about, if it is about one
-abbrev pub fault_handle : FunctionError → Option ℕ
-fault_handle (Expression h source) = Some h
-fault_handle (ExpressionAlreadyInScope h) = Some h
-fault_handle (InvalidReturnType value declared) = value
-fault_handle (InvalidIfType h) = Some h
-fault_handle (InvalidSwitchType h) = Some h
-fault_handle _ = None
 
 -- a space and the handle in decimal
 unfoldable pub handle_text : Option ℕ → List ℕ
@@ -57,7 +30,7 @@ abbrev pub accepted_line : ShaderStages → List ℕ
 accepted_line stages = codes "ok " ++ (stages_text stages ++ newline)
 
 abbrev pub fault_line : FunctionError → List ℕ
-fault_line fault = codes "fault " ++ (fault_name fault ++ (handle_text (fault_handle fault) ++ newline))
+fault_line fault = codes "fault " ++ (fault_name fault ++ (inner_text fault ++ (handle_text (fault_handle fault) ++ newline)))
 
 abbrev pub unreadable_line : List ℕ
 unreadable_line = codes "unreadable" ++ newline
@@ -65,24 +38,20 @@ unreadable_line = codes "unreadable" ++ newline
 abbrev pub memory_line : List ℕ
 memory_line = codes "memory" ++ newline
 
--- the judgement of a case: its body's over the bench, unless an option takes the checks of bodies away
-unfoldable pub case_judgement : Case → Result ShaderStages FunctionError
-case_judgement c = if c.blocks then body_judgement (bench_context c.bench) c.body else Ok all_stages
-
 -- the line of a judgement, and its status
-unfoldable pub line_of : Result ShaderStages FunctionError → List ℕ
-line_of (Ok stages) = accepted_line stages
+unfoldable pub line_of : Result ModuleInfo FunctionError → List ℕ
+line_of (Ok infos) = accepted_line (stages_of_last infos.functions)
 line_of (Err fault) = fault_line fault
 
-abbrev pub status_of : Result ShaderStages FunctionError → ℕ
-status_of (Ok stages) = 0
+abbrev pub status_of : Result ModuleInfo FunctionError → ℕ
+status_of (Ok infos) = 0
 status_of (Err fault) = 1
 
 -- The line of an input, and its status: those of the judgement of the case that it reads as; where it reads as none,
 -- that it is unreadable.
 unfoldable pub IsLine : List ℕ → List ℕ → ℕ → Type 0
 IsLine input line status =
-    ((c : Case) × Reads input c × (line ≡ line_of (case_judgement c)) × (status ≡ status_of (case_judgement c)))
+    ((c : Case) × Reads input c × ((answer : Result ModuleInfo FunctionError) × IsJudgement c answer × (line ≡ line_of answer) × (status ≡ status_of answer)))
     ⊎ (((c : Case) → Reads input c → ⊥) × (line ≡ unreadable_line) × (status ≡ 2))
 
 -- the line of the input was written, or that there is no memory, and nothing else; and the status is the line's
@@ -105,7 +74,7 @@ reply_status Memory = 3
 
 -- the reply is the one that is due to the input, or want of memory
 unfoldable pub Replies : List ℕ → Reply → Type 0
-Replies input (Accepted stages) = (c : Case) × Reads input c × (case_judgement c ≡ Ok stages)
-Replies input (Fault fault) = (c : Case) × Reads input c × (case_judgement c ≡ Err fault)
+Replies input (Accepted stages) = (c : Case) × Reads input c × IsAccepted c stages
+Replies input (Fault fault) = (c : Case) × Reads input c × IsJudgement c (Err fault)
 Replies input Unreadable = (c : Case) → Reads input c → ⊥
 Replies input Memory = Unit {0}

@@ -1,7 +1,7 @@
 //! The benches: modules that are the same for each input, into whose one function the body of a case is put.
 
 ghost use Rattle.std.specs.Prelude.{◌≡◌};
-ghost use Rattle.naga_check.specs.Bench.{bench_of, index_of};
+ghost use Rattle.naga_check.specs.Bench.{bench_of, has_callee, index_of};
 
 /// A bench.
 #[derive(Clone, Copy, PartialEq, Eq, Debug)]
@@ -9,6 +9,8 @@ pub enum Bench {
     /// Types bool, u32 and i32; one function without arguments or result; expressions 0 `t` a bool literal, 1 `u` a u32
     /// literal, 2 `i` an i32 literal, 3 `e1` a Unary of `t`, 4 `v` a local of u32, 5 `x1` a Load of `v`.
     P,
+    /// The same with a function `f` before it, which returns a u32 literal, and 6 `r1`, a result of `f`.
+    C,
 }
 
 impl Bench {
@@ -18,8 +20,20 @@ impl Bench {
     {
         if word == b"P".as_slice() {
             Some(Bench::P)
+        } else if word == b"C".as_slice() {
+            Some(Bench::C)
         } else {
             None
+        }
+    }
+
+    /// Whether there is a function to call.
+    pub fn has_callee(self) -> bool
+        ensures { result ≡ has_callee self }
+    {
+        match self {
+            Bench::P => false,
+            Bench::C => true,
         }
     }
 
@@ -27,24 +41,22 @@ impl Bench {
     pub fn index_of(self, name: &[u8]) -> Option<u8>
         ensures { result ≡ index_of self name.now }
     {
-        match self {
-            Bench::P => {
-                if name == b"t".as_slice() {
-                    Some(0)
-                } else if name == b"u".as_slice() {
-                    Some(1)
-                } else if name == b"i".as_slice() {
-                    Some(2)
-                } else if name == b"e1".as_slice() {
-                    Some(3)
-                } else if name == b"v".as_slice() {
-                    Some(4)
-                } else if name == b"x1".as_slice() {
-                    Some(5)
-                } else {
-                    None
-                }
-            }
+        if name == b"t".as_slice() {
+            Some(0)
+        } else if name == b"u".as_slice() {
+            Some(1)
+        } else if name == b"i".as_slice() {
+            Some(2)
+        } else if name == b"e1".as_slice() {
+            Some(3)
+        } else if name == b"v".as_slice() {
+            Some(4)
+        } else if name == b"x1".as_slice() {
+            Some(5)
+        } else if self.has_callee() && name == b"r1".as_slice() {
+            Some(6)
+        } else {
+            None
         }
     }
 }

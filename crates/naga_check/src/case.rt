@@ -1,61 +1,152 @@
 //! One case, from a reader to a writer.
 
-ghost use Rattle.std.specs.Prelude.{◌≡◌, ◌≤◌, ◌+◌, length, take, true, IfOk, IfSome};
-ghost use Rattle.naga_check.specs.Answers.{Answers};
-ghost use Rattle.naga_check.specs.BenchContext.{bench_context};
-ghost use Rattle.naga_check.specs.Kinds.{body_has_kinds};
-ghost use Rattle.naga_check.specs.Line.{Replies, Writes, case_judgement};
-ghost use Rattle.naga_check.specs.Notation.Case.{case_of};
+ghost use Rattle.std.specs.Prelude.{Result, ◌≡◌, ◌≤◌, ◌+◌, length, take, true, IsTrue, IfOk, IfSome};
+ghost use Rattle.naga_below.specs.Each.{EachAt};
+ghost use Rattle.naga_below.specs.Fits.{FitsTypes};
+ghost use Rattle.naga_rules.specs.Answers.{Answers};
+ghost use Rattle.naga_valid.specs.Parts.{first_settings};
+ghost use Rattle.naga_check.specs.Bench.{names_of, callees_of};
+ghost use Rattle.naga_check.specs.Judged.{flags_of, all_capabilities, plain_judgement, no_infos, infos_from, stages_of_last, IsJudgement, Judges};
+ghost use Rattle.naga_check.specs.Ready.{IsReady};
+ghost use Rattle.naga_check.specs.Line.{Replies, Writes};
+ghost use Rattle.naga_below.specs.declared.valid.info.ModuleInfo.{ModuleInfo};
+ghost use Rattle.naga_rules.specs.declared.function.FunctionError.{FunctionError};
+ghost use Rattle.naga_check.specs.Notation.Case.{Case as CaseOf, case_of};
+ghost use Rattle.naga_check.specs.Notation.Plain.{is_plain};
 
-use crate::bench::Bench;
+use crate::bench_module::bench_module;
 use crate::line::Reply;
 use crate::notation::{Case, MOST_BYTES, ReadError, read_case};
-use crate::valid::context::{BlockContext, ExpressionInfo, ValueType};
-use crate::valid::error::FunctionError;
-use crate::valid::function::{all_stages, validate_body};
+use crate::plain::Plain;
+use bitflags::Flags;
+use naga_below::arena::handle::Handle;
+use naga_below::ir::functions::Function;
+use naga_below::ir::module::{MeshOutputTopology, MeshStageInfo, Module};
+use naga_below::sequence::Sequence;
 use naga_below::span::Refusal;
-use naga_below::valid::flags::ShaderStages;
+use naga_below::valid::capabilities::Capabilities;
+use naga_below::valid::flags::{ShaderStages, ValidationFlags};
+use naga_below::valid::info::{FunctionInfo, ModuleInfo};
+use naga_rules::function::FunctionError;
+use naga_rules::mesh::MeshAnalysis;
+use naga_valid::validator::Validator;
 use std::alloc::{AllocError, Global};
 use std::io;
 use std::io::{Read, Write};
 
-/// An expression of this type.
-fn expression(ty: ValueType, needs_pre_emit: bool) -> ExpressionInfo
-    ensures { result ≡ record { ty = ty; needs_pre_emit = needs_pre_emit } }
+/// The flags of a case: all but those that its options take away.
+fn flags_of(expressions: bool, blocks: bool) -> ValidationFlags
+    ensures { result ≡ flags_of expressions blocks }
 {
-    ExpressionInfo { ty, needs_pre_emit }
+    let mut flags = ValidationFlags::STRUCT_LAYOUTS.union(ValidationFlags::BINDINGS);
+    if expressions {
+        flags = flags.union(ValidationFlags::EXPRESSIONS);
+    }
+    if blocks {
+        flags = flags.union(ValidationFlags::BLOCKS);
+    }
+    flags
 }
 
-/// What the checks read of a bench's function.
-fn bench_context(alloc: Global, bench: Bench) -> Result<BlockContext, AllocError>
-    ensures { IfOk result (λ c. c ≡ bench_context bench) }
+/// Every capability.
+#[tactic(auto, unfolding(bitflags::proofs::OnLiterals::bitflags_on_literals))]
+fn all_capabilities() -> Capabilities
+    ensures { result ≡ all_capabilities }
 {
-    match bench {
-        Bench::P => {
-            let expressions = vec![in alloc;
-                expression(ValueType::Bool, true),
-                expression(ValueType::Uint, true),
-                expression(ValueType::Sint, true),
-                expression(ValueType::Bool, false),
-                expression(ValueType::Pointer, true),
-                expression(ValueType::Uint, false),
-            ]?;
-            Ok(BlockContext::new(expressions, None))
-        }
+    Capabilities::all()
+}
+
+/// The plain layer. No bench has a mesh shader, so its analysis is one of nothing.
+pub fn plain() -> Plain {
+    Plain {
+        analysis: MeshAnalysis {
+            implied: MeshStageInfo {
+                topology: MeshOutputTopology::Points,
+                max_vertices: 0,
+                max_vertices_override: None,
+                max_primitives: 0,
+                max_primitives_override: None,
+                vertex_output_type: Handle::new(0),
+                primitive_output_type: Handle::new(0),
+                output_variable: Handle::new(0),
+            },
+            overrides: [None, None],
+            fault: None,
+        },
     }
+}
+
+/// No infos, with the allocator for those to come.
+fn no_infos(alloc: Global) -> ModuleInfo
+    ensures { result ≡ no_infos }
+{
+    ModuleInfo {
+        functions: Sequence::new(alloc),
+        entry_points: Sequence::new(alloc),
+        global_types: Sequence::new(alloc),
+    }
+}
+
+/// The judgement of a function of a module, where these are the infos of those before it.
+#[tactic(auto, unfolding(crate::specs::Judged::plain_judgement))]
+fn judge_function(
+    alloc: Global,
+    validator: &mut Validator<Plain>,
+    fun: &Function,
+    module: &Module,
+    infos: &ModuleInfo,
+) -> Result<FunctionInfo, Refusal<FunctionError>>
+    requires types { FitsTypes «module».now }
+    requires ready { IsReady «module».now (length infos.now.functions) fun.now }
+    ensures judged { Answers (plain_judgement validator.old.settings «module».now infos.now fun.now) result }
+    ensures kept { validator.new ≡ validator.old }
+{
+    validator.validate_body(alloc, fun, module, infos)
+}
+
+/// The judgement of the functions of a module, in order.
+fn judge_functions(
+    alloc: Global,
+    flags: ValidationFlags,
+    module: &Module,
+) -> Result<ModuleInfo, Refusal<FunctionError>>
+    requires types { FitsTypes «module».now }
+    requires functions { EachAt (λ k f. IsReady «module».now k f) «module».now.functions }
+    ensures { Answers (infos_from (first_settings flags all_capabilities) «module».now no_infos «module».now.functions) result }
+{
+    let mut infos = no_infos(alloc);
+    let mut validator = Validator::new(alloc, plain(), flags, all_capabilities());
+    for fun in module.functions.as_slice() {
+        let info = judge_function(alloc, &mut validator, fun, module, &infos)?;
+        infos.functions.push(info)?;
+    }
+    Ok(infos)
 }
 
 /// The judgement of a case.
-#[tactic(auto, unfolding(crate::specs::Line::case_judgement))]
-fn judge(alloc: Global, case: &Case) -> Result<ShaderStages, Refusal<FunctionError>>
-    requires { body_has_kinds (case_of case.now).body ≡ true }
-    ensures { Answers result (case_judgement (case_of case.now)) }
+fn judge(alloc: Global, case: Case) -> Result<ModuleInfo, Refusal<FunctionError>>
+    requires { IsTrue (is_plain (length (names_of case.bench)) (callees_of case.bench) (case_of case).body) }
+    ensures { Judges (case_of case) result }
 {
-    if !case.blocks {
-        return Ok(all_stages());
+    let flags = flags_of(case.expressions, case.blocks);
+    let module = bench_module(alloc, case.bench, case.body)?;
+    judge_functions(alloc, flags, &module)
+}
+
+/// A case has one judgement, whichever module of its bench is judged.
+pub fn one_judgement()
+    ensures { (c : CaseOf) (a b : Result ModuleInfo FunctionError) → IsJudgement c a → IsJudgement c b → a ≡ b }
+{}
+
+/// The stages that the last function may run in.
+#[tactic(auto, using(crate::proofs::Cases::last_stages))]
+fn stages_of_last(infos: &[FunctionInfo]) -> ShaderStages
+    ensures { result ≡ stages_of_last infos.now }
+{
+    match infos.last() {
+        Some(info) => info.available_stages,
+        None => ShaderStages(0),
     }
-    let context = bench_context(alloc, case.bench)?;
-    validate_body(alloc, &context, &case.body)
 }
 
 /// The reply to an input.
@@ -68,9 +159,9 @@ fn reply_to(alloc: Global, input: &[u8]) -> Reply
         Err(ReadError::Unreadable) => return Reply::Unreadable,
         Err(ReadError::Memory) => return Reply::Memory,
     };
-    let answer = judge(alloc, &case);
+    let answer = judge(alloc, case);
     match answer {
-        Ok(stages) => Reply::Accepted(stages),
+        Ok(infos) => Reply::Accepted(stages_of_last(infos.functions.as_slice())),
         Err(Refusal::Fault(fault)) => Reply::Fault(fault.into_inner()),
         Err(Refusal::Memory) => Reply::Memory,
     }

@@ -2,18 +2,20 @@
 
 ghost use Rattle.std.specs.Prelude.{◌≡◌, OnOk};
 ghost use Rattle.std.specs.Io.KnownBytes.{Appends};
-ghost use Rattle.naga_check.specs.Line.{accepted_line, fault_handle, fault_line, fault_name, handle_text, hex_digit};
+ghost use Rattle.naga_check.specs.Faults.{inner_text};
+ghost use Rattle.naga_check.specs.Line.{accepted_line, fault_line, handle_text, hex_digit};
 
-use crate::valid::error::{ExpressionError, FunctionError};
+use crate::faults::{call_name, expression_name, fault_handle, fault_name};
 use bitflags::Flags;
 use naga_below::arena::handle::Handle;
 use naga_below::arena::tag;
 use naga_below::valid::flags::ShaderStages;
+use naga_rules::function::FunctionError;
 use std::io;
 use std::io::Write;
 
 /// What the program answers to an input.
-#[derive(Clone, Copy, PartialEq, Eq, Debug)]
+#[derive(PartialEq, Debug, Drop)]
 pub enum Reply {
     /// The body is accepted, and may run in these stages.
     Accepted(ShaderStages),
@@ -82,8 +84,23 @@ fn write_fault<W: Write>(fault: &FunctionError, writer: &mut W) -> io::Result<()
 {
     writer.write_all(b"fault ")?;
     writer.write_all(fault_name(fault))?;
+    write_inner(fault, writer)?;
     write_handle(fault_handle(fault), writer)?;
     writer.write_all(b"\n")
+}
+
+/// What is wrong inside, for faults of expressions and of calls.
+#[tactic(auto, unfolding(crate::specs::Faults::inner_text))]
+fn write_inner<W: Write>(fault: &FunctionError, writer: &mut W) -> io::Result<()>
+    ensures { OnOk result (Appends (W.contents writer.old) (W.contents writer.new) (inner_text fault.now)) }
+{
+    let name = match fault {
+        FunctionError::Expression { source, .. } => expression_name(*source),
+        FunctionError::InvalidCall { error, .. } => call_name(*error),
+        _ => return Ok(()),
+    };
+    writer.write_all(b"/")?;
+    writer.write_all(name)
 }
 
 /// A space and a handle, if there is one.
@@ -94,51 +111,5 @@ fn write_handle<W: Write>(handle: Option<Handle<tag::Expression>>, writer: &mut 
     match handle {
         Some(handle) => write!(writer, " {}", handle.index()),
         None => Ok(()),
-    }
-}
-
-/// The names of the faults, as the line has them.
-#[tactic(auto, unfolding(crate::specs::Line::fault_name))]
-fn fault_name(fault: &FunctionError) -> &'static [u8]
-    ensures { result.now ≡ fault_name fault.now }
-{
-    match fault {
-        FunctionError::Expression {
-            source: ExpressionError::NotInScope,
-            ..
-        } => b"Expression/NotInScope",
-        FunctionError::ExpressionAlreadyInScope(_) => b"ExpressionAlreadyInScope",
-        FunctionError::BreakOutsideOfLoopOrSwitch => b"BreakOutsideOfLoopOrSwitch",
-        FunctionError::ContinueOutsideOfLoop => b"ContinueOutsideOfLoop",
-        FunctionError::InvalidReturnSpot => b"InvalidReturnSpot",
-        FunctionError::InvalidReturnType { .. } => b"InvalidReturnType",
-        FunctionError::InvalidIfType(_) => b"InvalidIfType",
-        FunctionError::InvalidSwitchType(_) => b"InvalidSwitchType",
-        FunctionError::ConflictingSwitchCase(_) => b"ConflictingSwitchCase",
-        FunctionError::ConflictingCaseType => b"ConflictingCaseType",
-        FunctionError::MissingDefaultCase => b"MissingDefaultCase",
-        FunctionError::MultipleDefaultCases => b"MultipleDefaultCases",
-        FunctionError::LastCaseFallTrough => b"LastCaseFallTrough",
-    }
-}
-
-/// The expression that a fault is about, if it is about one.
-fn fault_handle(fault: &FunctionError) -> Option<Handle<tag::Expression>>
-    ensures { result ≡ fault_handle fault.now }
-{
-    match fault {
-        FunctionError::Expression { handle, .. }
-        | FunctionError::ExpressionAlreadyInScope(handle)
-        | FunctionError::InvalidIfType(handle)
-        | FunctionError::InvalidSwitchType(handle) => Some(*handle),
-        FunctionError::InvalidReturnType { expression, .. } => *expression,
-        FunctionError::BreakOutsideOfLoopOrSwitch
-        | FunctionError::ContinueOutsideOfLoop
-        | FunctionError::InvalidReturnSpot
-        | FunctionError::ConflictingSwitchCase(_)
-        | FunctionError::ConflictingCaseType
-        | FunctionError::MissingDefaultCase
-        | FunctionError::MultipleDefaultCases
-        | FunctionError::LastCaseFallTrough => None,
     }
 }

@@ -2,12 +2,14 @@
 #![tactic(auto)]
 
 mod bench;
+mod bench_module;
 mod case;
+mod faults;
 mod line;
 mod notation;
+mod plain;
 #[cfg(test)]
 mod tests;
-mod valid;
 
 use crate::case::run_case;
 use std::io;

@@ -1,7 +1,7 @@
 //! The notation in which a case is written.
 
 ghost use Rattle.std.specs.Prelude.{◌≡◌, ℕ, List, IfOk, IsErrOf, IsTrue, length, map};
-ghost use Rattle.naga_check.specs.Bench.{names_of};
+ghost use Rattle.naga_check.specs.Bench.{names_of, callees_of};
 ghost use Rattle.naga_check.specs.Notation.Case as notation;
 ghost use Rattle.naga_check.specs.Notation.Plain.{is_plain};
 ghost use Rattle.naga_check.specs.declared.notation.ReadError.TheVariants.{Memory};
@@ -70,7 +70,7 @@ pub fn read_case(alloc: Global, input: &[u8]) -> Result<Case, ReadError>
     // What is read is what the input says.
     ensures found { IfOk result (λ c. notation.Reads input.now (notation.case_of c)) }
     // It holds the statements of the notation alone, and names none but the bench's expressions.
-    ensures plain { IfOk result (λ c. IsTrue (is_plain (length (names_of c.bench)) (notation.case_of c).body)) }
+    ensures plain { IfOk result (λ c. IsTrue (is_plain (length (names_of c.bench)) (callees_of c.bench) (notation.case_of c).body)) }
     // An input is unreadable only where it says nothing.
     ensures none { IsErrOf result ReadError.Unreadable → (c : notation.Case) → notation.Reads input.now c → ⊥ }
 {

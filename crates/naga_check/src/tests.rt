@@ -1,11 +1,15 @@
 //! Whole runs of the program.
+
+mod plain;
+mod stores;
+
 use crate::case::run_case;
 use std::alloc::Global;
 use std::io;
 use std::io::Read;
 use std::test::Fail;
 
-const ACCEPTED: [(&str, &str); 19] = [
+const ACCEPTED: [(&str, &str); 26] = [
     ("P :", "ok 1ff\n"),
     (
         "P : loop { switch u { default { continue } } } { }",
@@ -37,9 +41,16 @@ const ACCEPTED: [(&str, &str); 19] = [
     ("P : switch u { 7 { kill } default { } }", "ok 002\n"),
     ("P : loop { } { block { kill } }", "ok 002\n"),
     ("P : block { emit e1 if e1 { return } { } }", "ok 1ff\n"),
+    ("P : store v u", "ok 1ff\n"),
+    ("C : call f -> r1 store v r1", "ok 1ff\n"),
+    ("C : call f -> r1", "ok 1ff\n"),
+    ("C -blocks :", "ok 1ff\n"),
+    ("C -expressions :", "ok 1ff\n"),
+    ("C : kill call f -> r1", "ok 002\n"),
+    ("C : call f -> r1 switch r1 { default { } }", "ok 1ff\n"),
 ];
 
-const FAULTS: [(&str, &str); 30] = [
+const FAULTS: [(&str, &str); 46] = [
     ("P : break", "fault BreakOutsideOfLoopOrSwitch\n"),
     (
         "P : loop { } { switch u { default { continue } } }",
@@ -121,9 +132,46 @@ const FAULTS: [(&str, &str); 30] = [
         "fault BreakOutsideOfLoopOrSwitch\n",
     ),
     ("P : emit x1 return x1", "fault InvalidReturnType 5\n"),
+    (
+        "C : if t { call f -> r1 } { call f -> r1 }",
+        "fault InvalidCall/ResultAlreadyPopulated 6\n",
+    ),
+    (
+        "C : call f -> r1 call f -> r1",
+        "fault InvalidCall/ResultAlreadyInScope 6\n",
+    ),
+    ("C :", "fault UnvisitedExpression 6\n"),
+    (
+        "C -expressions : call f -> r1",
+        "fault InvalidCall/ResultAlreadyPopulated 6\n",
+    ),
+    ("C : call f", "fault InvalidCall/ExpressionMismatch\n"),
+    ("C : emit r1", "fault EmitResult 6\n"),
+    (
+        "C : call f -> e1",
+        "fault InvalidCall/ExpressionMismatch 3\n",
+    ),
+    (
+        "C : call f -> t",
+        "fault InvalidCall/ResultAlreadyInScope 0\n",
+    ),
+    (
+        "C : block { call f -> r1 } if r1 { } { }",
+        "fault Expression/NotInScope 6\n",
+    ),
+    ("C : call f -> r1 if r1 { } { }", "fault InvalidIfType 6\n"),
+    ("C : loop { } { return }", "fault InvalidReturnSpot\n"),
+    ("P : store v i", "fault InvalidStoreTypes 4\n"),
+    ("P : store x1 u", "fault InvalidStorePointer 5\n"),
+    ("P : store t x1", "fault InvalidStorePointer 0\n"),
+    ("P : store v x1", "fault Expression/NotInScope 5\n"),
+    (
+        "P : emit x1 store v x1 store v v",
+        "fault InvalidStoreTypes 4\n",
+    ),
 ];
 
-const UNREADABLE: [&str; 14] = [
+const UNREADABLE: [&str; 21] = [
     "",
     "P : emit",
     "P : emit r1",
@@ -134,9 +182,16 @@ const UNREADABLE: [&str; 14] = [
     "P : switch u { 4294967296 { } default { } }",
     "P : switch i { -0i { } default { } }",
     "P : kill barrier",
-    "P : store v i",
+    "P : store v",
+    "P : store v u i",
+    "P : store r1 u",
     "P : call f",
-    "C :",
+    "P : call f -> r1",
+    "C : call",
+    "C : call f ->",
+    "C : call f -> f",
+    "C : call e1",
+    "C : f",
     "D :",
 ];
 

@@ -14,7 +14,7 @@ use Rattle.naga_check.specs.declared.notation.reader.Tail.TheVariants as tail
 use Rattle.naga_check.specs.declared.notation.reader.Wants.{Wants}
 use Rattle.naga_check.specs.declared.notation.reader.Wants.TheVariants as wants
 use Rattle.naga_check.specs.Notation.Feeding.{feeds}
-use Rattle.naga_check.specs.Notation.Grammar.{Spells, SpellsStatement, SpellsCases, depth, statement_depth, cases_depth, emission, SpellsEmit, in_braces, fall_if, break_if_any}
+use Rattle.naga_check.specs.Notation.Grammar.{Spells, SpellsStatement, SpellsCases, depth, statement_depth, cases_depth, emission, calling, storing, arrow_if_any, SpellsEmit, in_braces, fall_if, break_if_any}
 use Rattle.naga_check.specs.Notation.Reading.{State, Part, in_block, in_accept, in_reject, in_cases, in_case, in_turn, in_continuing, Clause, body_from, cases_from, begun, ready, wanting, enter, add_case, close, close_switch, end_loop, begin, begin_at, settle, go_on, take_name, open_brace, next, step, whole, end_at, finish, reading_of}
 use Rattle.naga_check.proofs.Reading.Lists.{statements_of, clauses_in, body_from-statements_of, cases_from-clauses_in}
 
@@ -39,6 +39,7 @@ Gets (Some s) opened list = Holds s.opened s.list s.wants opened list
 abbrev IsKey : Token → Type 0
 IsKey token.To = ⊥
 IsKey token.BreakIf = ⊥
+IsKey token.Arrow = ⊥
 IsKey (token.Name h) = ⊥
 IsKey t = Unit {0}
 
@@ -51,6 +52,8 @@ go_on_key o l tail.Return (token.Name h) k = absurd k
 go_on_key o l tail.Return w k = refl
 go_on_key o l tail.Loop token.BreakIf k = absurd k
 go_on_key o l tail.Loop w k = refl
+go_on_key o l tail.Call token.Arrow k = absurd k
+go_on_key o l tail.Call w k = refl
 
 key_at : (o : List Part) (l : List Stmt) (w : Wants) (opened : List Part) (list : List Stmt) → Holds o l w opened list → (t : Token) → IsKey t → next o l w t ≡ begin opened list t
 unfolding next
@@ -107,6 +110,18 @@ module _ (o : Option State) (opened : List Part) (list : List Stmt) (h : Gets o 
   kill_one : Gets (and_then o token.Kill) opened (list ++ Kill ∷ [])
   unfolding begin settle
   kill_one = rw (key o opened list h token.Kill tt) refl
+
+  store_one : (a b : ℕ) → Gets (and_then (and_then (and_then o token.Store) (token.Name a)) (token.Name b)) opened (list ++ storing a b ∷ [])
+  unfolding begin next take_name settle
+  store_one a b = rw (key o opened list h token.Store tt) refl
+
+  call_none : Gets (and_then (and_then o token.Call) token.Callee) opened (list ++ calling None ∷ [])
+  unfolding begin next settle
+  call_none = rw (key o opened list h token.Call tt) refl
+
+  call_some : (a : ℕ) → Gets (and_then (and_then (and_then (and_then o token.Call) token.Callee) token.Arrow) (token.Name a)) opened (list ++ calling (Some a) ∷ [])
+  unfolding begin next go_on take_name settle
+  call_some a = rw (key o opened list h token.Call tt) refl
 
   module _ (lt : length opened < 256) where
     block_in : Gets (and_then (and_then o token.Block) token.Open) (in_block list ∷ opened) []
@@ -210,6 +225,15 @@ emit_read acts x span ts first last same (inl (e, at)) o opened list h d =
 emit_read acts x span ts first last same (inr (le, at)) o opened list h d =
     rw (same, at) (emit_range o opened list h first last le)
 
+store_read : (acts : List Act) (x : Statement) (span : Span) (ts : List Token) (pointer value : ℕ) → Leaf acts x span ≡ storing pointer value → ts ≡ token.Store ∷ token.Name pointer ∷ token.Name value ∷ [] → StatementIsRead (Leaf acts x span) ts
+unfolding feeds
+store_read acts x span ts pointer value same e o opened list h d = rw (same, e) (store_one o opened list h pointer value)
+
+call_read : (acts : List Act) (x : Statement) (span : Span) (ts : List Token) (result : Option ℕ) → Leaf acts x span ≡ calling result → ts ≡ token.Call ∷ token.Callee ∷ arrow_if_any result → StatementIsRead (Leaf acts x span) ts
+unfolding feeds
+call_read acts x span ts None same e o opened list h d = rw (same, e) (call_none o opened list h)
+call_read acts x span ts (Some r) same e o opened list h d = rw (same, e) (call_some o opened list h r)
+
 block_read : (body : Body) (inner : List Token) → ListIsRead body inner → StatementIsRead (Block body) (token.Block ∷ in_braces inner)
 unfolding depth feeds
 block_read body inner within o opened list h d =
@@ -260,7 +284,9 @@ mutual
       rw e (then_read x rest first more (complete_statement x first one) (complete rest more others))
 
   complete_statement : (x : Stmt) (ts : List Token) → SpellsStatement x ts → StatementIsRead x ts
-  complete_statement (Leaf acts x span) ts (first, last, same, how) = emit_read acts x span ts first last same how
+  complete_statement (Leaf acts x span) ts (inl (first, last, same, how)) = emit_read acts x span ts first last same how
+  complete_statement (Leaf acts x span) ts (inr (inl (result, same, e))) = call_read acts x span ts result same e
+  complete_statement (Leaf acts x span) ts (inr (inr (pointer, value, same, e))) = store_read acts x span ts pointer value same e
   complete_statement (Block body) ts (inner, within, e) = rw e (block_read body inner (complete body inner within))
   complete_statement (Branch c accept reject) ts (taken, other, first, second, e) =
       rw e (if_read c accept reject taken other (complete accept taken first) (complete reject other second))

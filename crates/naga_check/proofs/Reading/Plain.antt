@@ -7,37 +7,42 @@ use Rattle.naga_below.specs.declared.ir.statements.Statement.{Statement}
 use Rattle.naga_below.specs.declared.ir.statements.Statement as statement
 use Rattle.naga_below.specs.Tree.{Act, Stmt, Leaf, Block, Branch, Switch, Loop, Break, Continue, Return, Kill, Body, Done, Then, Cases, NoCase, OneCase}
 use Rattle.naga_check.specs.declared.bench.Bench.{Bench}
+use Rattle.naga_check.specs.declared.bench.Bench.TheVariants.{P, C}
 use Rattle.naga_check.specs.declared.notation.token.Token.{Token}
 use Rattle.naga_check.specs.declared.notation.token.Token.TheVariants as token
-use Rattle.naga_check.specs.Bench.{names_of}
+use Rattle.naga_check.specs.Bench.{names_of, has_callee, callees_of}
 use Rattle.naga_check.specs.Notation.Case.{Case, Say, Reads, case_of}
 use Rattle.naga_check.specs.Notation.Words.{words_of}
 use Rattle.naga_check.specs.declared.notation.Case as declared
 use Rattle.naga_check.specs.declared.notation.ReadError.{ReadError}
-use Rattle.naga_check.specs.Notation.Grammar.{Spells, SpellsStatement, SpellsCases, SpellsEmit, emission, in_braces, name_if_any, break_if_any, fall_if}
-use Rattle.naga_check.specs.Notation.Plain.{is_plain, is_plain_statement, are_plain_cases, is_below_if_any, is_emit_within}
+use Rattle.naga_check.specs.Notation.Grammar.{Spells, SpellsStatement, SpellsCases, SpellsEmit, emission, calling, storing, arrow_if_any, in_braces, name_if_any, break_if_any, fall_if}
+use Rattle.naga_check.specs.Notation.Plain.{is_plain, is_plain_statement, are_plain_cases, is_below_if_any, is_plain_leaf}
 use Rattle.naga_check.specs.Notation.Text.{AreTextsOf}
 
--- each name lies below n
-abbrev NamesBelow : ℕ → List Token → Type 0
-NamesBelow n [] = Unit {0}
-NamesBelow n (token.Name h ∷ ts) = (h < n) × NamesBelow n ts
-NamesBelow n (t ∷ ts) = NamesBelow n ts
+-- each name lies below n, and there is a function to call where there is a call
+abbrev NamesBelow : (n callees : ℕ) → List Token → Type 0
+NamesBelow n callees [] = Unit {0}
+NamesBelow n callees (token.Name h ∷ ts) = (h < n) × NamesBelow n callees ts
+NamesBelow n callees (token.Call ∷ ts) = (0 < callees) × NamesBelow n callees ts
+NamesBelow n callees (t ∷ ts) = NamesBelow n callees ts
 
-rest_below : (n : ℕ) (t : Token) (ts : List Token) → NamesBelow n (t ∷ ts) → NamesBelow n ts
-rest_below n (token.Name h) ts k = k.1
-rest_below n t ts k = k
+rest_below : (n callees : ℕ) (t : Token) (ts : List Token) → NamesBelow n callees (t ∷ ts) → NamesBelow n callees ts
+rest_below n callees (token.Name h) ts k = k.1
+rest_below n callees token.Call ts k = k.1
+rest_below n callees t ts k = k
 
-names_append : (n : ℕ) (ts us : List Token) → NamesBelow n (ts ++ us) → NamesBelow n ts × NamesBelow n us
-names_append n [] us k = (tt, k)
-names_append n (token.Name h ∷ ts) us k =
-    let rest = names_append n ts us k.1 in ((k.0, rest.0), rest.1)
-names_append n (t ∷ ts) us k = let rest = names_append n ts us k in (rest.0, rest.1)
+names_append : (n callees : ℕ) (ts us : List Token) → NamesBelow n callees (ts ++ us) → NamesBelow n callees ts × NamesBelow n callees us
+names_append n callees [] us k = (tt, k)
+names_append n callees (token.Name h ∷ ts) us k =
+    let rest = names_append n callees ts us k.1 in ((k.0, rest.0), rest.1)
+names_append n callees (token.Call ∷ ts) us k =
+    let rest = names_append n callees ts us k.1 in ((k.0, rest.0), rest.1)
+names_append n callees (t ∷ ts) us k = let rest = names_append n callees ts us k in (rest.0, rest.1)
 
-names_in_braces : (n : ℕ) (ts us : List Token) → NamesBelow n (in_braces ts ++ us) → NamesBelow n ts × NamesBelow n us
-names_in_braces n ts us k =
-    let inner = names_append n (ts ++ token.Close ∷ []) us k in
-    let own = names_append n ts (token.Close ∷ []) inner.0 in
+names_in_braces : (n callees : ℕ) (ts us : List Token) → NamesBelow n callees (in_braces ts ++ us) → NamesBelow n callees ts × NamesBelow n callees us
+names_in_braces n callees ts us k =
+    let inner = names_append n callees (ts ++ token.Close ∷ []) us k in
+    let own = names_append n callees ts (token.Close ∷ []) inner.0 in
     (own.0, inner.1)
 
 in_length : (names : List (List ℕ)) (h : ℕ) (w : List ℕ) → slice_get names h ≡ Some w → h < length names
@@ -45,10 +50,15 @@ in_length [] h w e = cc
 in_length (x ∷ names) zero w e = omega arith
 in_length (x ∷ names) (suc h) w e = let less = in_length names h w e in omega arith
 
-names_of_texts : (bench : Bench) (ts : List Token) (ws : List (List ℕ)) → AreTextsOf bench ts ws → NamesBelow (length (names_of bench)) ts
+callee_there : (bench : Bench) → has_callee bench ≡ true → 0 < callees_of bench
+callee_there P e = cc
+callee_there C e = omega arith
+
+names_of_texts : (bench : Bench) (ts : List Token) (ws : List (List ℕ)) → AreTextsOf bench ts ws → NamesBelow (length (names_of bench)) (callees_of bench) ts
 names_of_texts bench [] [] k = tt
 names_of_texts bench (token.Name h ∷ ts) (w ∷ ws) k =
     (in_length (names_of bench) h w k.0, names_of_texts bench ts ws k.1)
+names_of_texts bench (token.Call ∷ ts) (w ∷ ws) k = (callee_there bench k.0.0, names_of_texts bench ts ws k.1)
 names_of_texts bench (t ∷ ts) (w ∷ ws) k = names_of_texts bench ts ws k.1
 names_of_texts bench [] (w ∷ ws) k = tt
 names_of_texts bench (t ∷ ts) [] k = absurd k
@@ -59,78 +69,96 @@ both a b h k = rw (h, k) refl
 range_plain : (n first last : ℕ) → first ≤ last → last < n → nat_le first (last + 1) && nat_le (last + 1) n ≡ true
 range_plain n first last le lt = both _ _ (le-leb first (last + 1) (omega arith)) (le-leb (last + 1) n (omega arith))
 
-emit_plain : (n : ℕ) (acts : List Act) (x : Statement) (span : Span) (ts : List Token) (first last : ℕ) → Leaf acts x span ≡ emission first last → SpellsEmit first last ts → NamesBelow n ts → is_emit_within n x ≡ true
-emit_plain n acts x span ts first last same (inl (e, at)) k =
+emit_plain : (n callees : ℕ) (acts : List Act) (x : Statement) (span : Span) (ts : List Token) (first last : ℕ) → Leaf acts x span ≡ emission first last → SpellsEmit first last ts → NamesBelow n callees ts → is_plain_leaf n callees x ≡ true
+emit_plain n callees acts x span ts first last same (inl (e, at)) k =
     let is : x ≡ statement.Emit (record { start = first; end = last + 1 }) = cc in
     let names = rw at at k in
     rw is (range_plain n first last (omega arith) (omega (arith, names.0)))
-emit_plain n acts x span ts first last same (inr (le, at)) k =
+emit_plain n callees acts x span ts first last same (inr (le, at)) k =
     let is : x ≡ statement.Emit (record { start = first; end = last + 1 }) = cc in
     let names = rw at at k in
     rw is (range_plain n first last le (omega (arith, names.1.0)))
 
-option_plain : (n : ℕ) (o : Option ℕ) → NamesBelow n (name_if_any o) → is_below_if_any n o ≡ true
-option_plain n None k = refl
-option_plain n (Some h) k = lt-ltb h n k.0
+store_plain : (n callees : ℕ) (acts : List Act) (x : Statement) (span : Span) (ts : List Token) (pointer value : ℕ) → Leaf acts x span ≡ storing pointer value → ts ≡ token.Store ∷ token.Name pointer ∷ token.Name value ∷ [] → NamesBelow n callees ts → is_plain_leaf n callees x ≡ true
+store_plain n callees acts x span ts pointer value same e k =
+    let is : x ≡ statement.Store pointer value = cc in
+    let names = rw e at k in
+    rw is (both _ _ (lt-ltb pointer n names.0) (lt-ltb value n names.1.0))
 
-break_if_plain : (n : ℕ) (o : Option ℕ) → NamesBelow n (break_if_any o) → is_below_if_any n o ≡ true
-break_if_plain n None k = refl
-break_if_plain n (Some h) k = lt-ltb h n k.0
+call_plain : (n callees : ℕ) (acts : List Act) (x : Statement) (span : Span) (ts : List Token) (result : Option ℕ) → Leaf acts x span ≡ calling result → ts ≡ token.Call ∷ token.Callee ∷ arrow_if_any result → NamesBelow n callees ts → is_plain_leaf n callees x ≡ true
+call_plain n callees acts x span ts None same e k =
+    let is : x ≡ statement.Call 0 [] None = cc in
+    let names = rw e at k in
+    rw is (both _ _ (lt-ltb 0 callees names.0) refl)
+call_plain n callees acts x span ts (Some r) same e k =
+    let is : x ≡ statement.Call 0 [] (Some r) = cc in
+    let names = rw e at k in
+    rw is (both _ _ (lt-ltb 0 callees names.0) (lt-ltb r n names.1.0))
 
-behind_fall : (n : ℕ) (f : Bool) (ts : List Token) → NamesBelow n (fall_if f ++ ts) → NamesBelow n ts
-behind_fall n true ts k = k
-behind_fall n false ts k = k
+option_plain : (n callees : ℕ) (o : Option ℕ) → NamesBelow n callees (name_if_any o) → is_below_if_any n o ≡ true
+option_plain n callees None k = refl
+option_plain n callees (Some h) k = lt-ltb h n k.0
+
+break_if_plain : (n callees : ℕ) (o : Option ℕ) → NamesBelow n callees (break_if_any o) → is_below_if_any n o ≡ true
+break_if_plain n callees None k = refl
+break_if_plain n callees (Some h) k = lt-ltb h n k.0
+
+behind_fall : (n callees : ℕ) (f : Bool) (ts : List Token) → NamesBelow n callees (fall_if f ++ ts) → NamesBelow n callees ts
+behind_fall n callees true ts k = k
+behind_fall n callees false ts k = k
 
 mutual
   unfolding Spells is_plain
 
-  body_plain : (n : ℕ) (b : Body) (ts : List Token) → Spells b ts → NamesBelow n ts → is_plain n b ≡ true
-  body_plain n Done ts e k = refl
-  body_plain n (Then x rest) ts (first, more, one, others, e) k =
-      let parts = names_append n first more (rw e at k) in
-      both _ _ (statement_plain n x first one parts.0) (body_plain n rest more others parts.1)
+  body_plain : (n callees : ℕ) (b : Body) (ts : List Token) → Spells b ts → NamesBelow n callees ts → is_plain n callees b ≡ true
+  body_plain n callees Done ts e k = refl
+  body_plain n callees (Then x rest) ts (first, more, one, others, e) k =
+      let parts = names_append n callees first more (rw e at k) in
+      both _ _ (statement_plain n callees x first one parts.0) (body_plain n callees rest more others parts.1)
 
-  statement_plain : (n : ℕ) (x : Stmt) (ts : List Token) → SpellsStatement x ts → NamesBelow n ts → is_plain_statement n x ≡ true
-  statement_plain n (Leaf acts x span) ts (first, last, same, how) k = emit_plain n acts x span ts first last same how k
-  statement_plain n (Block inner) ts (within, spelled, e) k =
-      let parts = names_in_braces n within [] (rw (append-nil (in_braces within)) (rw e at k)) in
-      body_plain n inner within spelled parts.0
-  statement_plain n (Branch c accept reject) ts (taken, other, one, two, e) k =
+  statement_plain : (n callees : ℕ) (x : Stmt) (ts : List Token) → SpellsStatement x ts → NamesBelow n callees ts → is_plain_statement n callees x ≡ true
+  statement_plain n callees (Leaf acts x span) ts (inl (first, last, same, how)) k = emit_plain n callees acts x span ts first last same how k
+  statement_plain n callees (Leaf acts x span) ts (inr (inl (result, same, e))) k = call_plain n callees acts x span ts result same e k
+  statement_plain n callees (Leaf acts x span) ts (inr (inr (pointer, value, same, e))) k = store_plain n callees acts x span ts pointer value same e k
+  statement_plain n callees (Block inner) ts (within, spelled, e) k =
+      let parts = names_in_braces n callees within [] (rw (append-nil (in_braces within)) (rw e at k)) in
+      body_plain n callees inner within spelled parts.0
+  statement_plain n callees (Branch c accept reject) ts (taken, other, one, two, e) k =
       let names = rw e at k in
-      let parts = names_in_braces n taken (in_braces other) names.1 in
-      let last = names_in_braces n other [] (rw (append-nil (in_braces other)) parts.1) in
-      both _ _ (lt-ltb c n names.0) (both _ _ (body_plain n accept taken one parts.0) (body_plain n reject other two last.0))
-  statement_plain n (Switch h cases) ts (within, spelled, e) k =
+      let parts = names_in_braces n callees taken (in_braces other) names.1 in
+      let last = names_in_braces n callees other [] (rw (append-nil (in_braces other)) parts.1) in
+      both _ _ (lt-ltb c n names.0) (both _ _ (body_plain n callees accept taken one parts.0) (body_plain n callees reject other two last.0))
+  statement_plain n callees (Switch h cases) ts (within, spelled, e) k =
       let names = rw e at k in
-      let parts = names_in_braces n within [] (rw (append-nil (in_braces within)) names.1) in
-      both _ _ (lt-ltb h n names.0) (cases_plain n cases within spelled parts.0)
-  statement_plain n (Loop turn continuing condition) ts (first, second, one, two, e) k =
+      let parts = names_in_braces n callees within [] (rw (append-nil (in_braces within)) names.1) in
+      both _ _ (lt-ltb h n names.0) (cases_plain n callees cases within spelled parts.0)
+  statement_plain n callees (Loop turn continuing condition) ts (first, second, one, two, e) k =
       let names = rw e at k in
-      let parts = names_in_braces n first (in_braces second ++ break_if_any condition) names in
-      let last = names_in_braces n second (break_if_any condition) parts.1 in
-      both _ _ (break_if_plain n condition last.1) (both _ _ (body_plain n turn first one parts.0) (body_plain n continuing second two last.0))
-  statement_plain n Break ts e k = refl
-  statement_plain n Continue ts e k = refl
-  statement_plain n (Return value) ts e k = option_plain n value (rw e at k)
-  statement_plain n Kill ts e k = refl
+      let parts = names_in_braces n callees first (in_braces second ++ break_if_any condition) names in
+      let last = names_in_braces n callees second (break_if_any condition) parts.1 in
+      both _ _ (break_if_plain n callees condition last.1) (both _ _ (body_plain n callees turn first one parts.0) (body_plain n callees continuing second two last.0))
+  statement_plain n callees Break ts e k = refl
+  statement_plain n callees Continue ts e k = refl
+  statement_plain n callees (Return value) ts e k = option_plain n callees value (rw e at k)
+  statement_plain n callees Kill ts e k = refl
 
-  cases_plain : (n : ℕ) (cs : Cases) (ts : List Token) → SpellsCases cs ts → NamesBelow n ts → are_plain_cases n cs ≡ true
-  cases_plain n NoCase ts e k = refl
-  cases_plain n (OneCase v f inner rest) ts (within, more, spelled, others, e) k =
-      let names = behind_fall n f (in_braces within ++ more) (rw e at k) in
-      let parts = names_in_braces n within more names in
-      both _ _ (body_plain n inner within spelled parts.0) (cases_plain n rest more others parts.1)
+  cases_plain : (n callees : ℕ) (cs : Cases) (ts : List Token) → SpellsCases cs ts → NamesBelow n callees ts → are_plain_cases n callees cs ≡ true
+  cases_plain n callees NoCase ts e k = refl
+  cases_plain n callees (OneCase v f inner rest) ts (within, more, spelled, others, e) k =
+      let names = behind_fall n callees f (in_braces within ++ more) (rw e at k) in
+      let parts = names_in_braces n callees within more names in
+      both _ _ (body_plain n callees inner within spelled parts.0) (cases_plain n callees rest more others parts.1)
 
 -- the body of a case that words say holds Emits of the bench's expressions, and statements of the eight kinds that hold
 -- others or jump, and names no other handle
-say_is_plain : (ws : List (List ℕ)) (c : Case) → Say ws c → is_plain (length (names_of c.bench)) c.body ≡ true
+say_is_plain : (ws : List (List ℕ)) (c : Case) → Say ws c → is_plain (length (names_of c.bench)) (callees_of c.bench) c.body ≡ true
 say_is_plain ws c said =
-    body_plain _ c.body said.tokens said.spelled (names_of_texts c.bench said.tokens said.rest said.are_tokens)
+    body_plain _ _ c.body said.tokens said.spelled (names_of_texts c.bench said.tokens said.rest said.are_tokens)
 
-pub read_is_plain : (input : List ℕ) (c : Case) → Reads input c → is_plain (length (names_of c.bench)) c.body ≡ true
+pub read_is_plain : (input : List ℕ) (c : Case) → Reads input c → is_plain (length (names_of c.bench)) (callees_of c.bench) c.body ≡ true
 read_is_plain input c reads = say_is_plain (words_of input) c reads.said
 
 -- the same of what was read
-pub found_is_plain : (ws : List (List ℕ)) (r : Result declared.Case ReadError) → IfOk r (λ c. Say ws (case_of c)) → IfOk r (λ c. is_plain (length (names_of c.bench)) (case_of c).body ≡ true)
+pub found_is_plain : (ws : List (List ℕ)) (r : Result declared.Case ReadError) → IfOk r (λ c. Say ws (case_of c)) → IfOk r (λ c. is_plain (length (names_of c.bench)) (callees_of c.bench) (case_of c).body ≡ true)
 found_is_plain ws (Ok c) said = say_is_plain ws (case_of c) said
 found_is_plain ws (Err e) u = tt

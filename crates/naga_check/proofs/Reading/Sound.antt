@@ -15,7 +15,7 @@ use Rattle.naga_check.specs.declared.notation.reader.Brace.TheVariants as brace
 use Rattle.naga_check.specs.declared.notation.reader.Wants.{Wants}
 use Rattle.naga_check.specs.declared.notation.reader.Wants.TheVariants as wants
 use Rattle.naga_check.specs.Notation.Feeding.{feeds}
-use Rattle.naga_check.specs.Notation.Grammar.{Spells, SpellsStatement, SpellsCases, depth, statement_depth, cases_depth, emission, in_braces, fall_if, break_if_any}
+use Rattle.naga_check.specs.Notation.Grammar.{Spells, SpellsStatement, SpellsCases, depth, statement_depth, cases_depth, emission, calling, storing, in_braces, fall_if, break_if_any}
 use Rattle.naga_check.specs.Notation.Reading.{State, Part, in_block, in_accept, in_reject, in_cases, in_case, in_turn, in_continuing, looped, Clause, body_from, cases_from, begun, wanting, enter, add_case, close, close_switch, end_loop, begin, begin_at, settle, go_on, take_name, open_brace, next, step, whole, end_at, finish, reading_of}
 
 -- one statement more, and one case more
@@ -112,6 +112,7 @@ TellsTail opened list tail.Nothing ts = Told opened list ts
 TellsTail opened list (tail.Emit a) ts = Behind opened list ts (token.Emit ∷ token.Name a ∷ [])
 TellsTail opened list tail.Return ts = Behind opened list ts (token.Return ∷ [])
 TellsTail opened list tail.Loop ts = BehindLoop opened ts []
+TellsTail opened list tail.Call ts = Behind opened list ts (token.Call ∷ token.Callee ∷ [])
 
 abbrev TellsName : List Part → List Stmt → Naming → List Token → Type 0
 TellsName opened list naming.First ts = Behind opened list ts (token.Emit ∷ [])
@@ -119,6 +120,9 @@ TellsName opened list (naming.Last a) ts = Behind opened list ts (token.Emit ∷
 TellsName opened list naming.Condition ts = Behind opened list ts (token.If ∷ [])
 TellsName opened list naming.Selector ts = Behind opened list ts (token.Switch ∷ [])
 TellsName opened list naming.BreakIf ts = BehindLoop opened ts (token.BreakIf ∷ [])
+TellsName opened list naming.Pointer ts = Behind opened list ts (token.Store ∷ [])
+TellsName opened list (naming.Stored a) ts = Behind opened list ts (token.Store ∷ token.Name a ∷ [])
+TellsName opened list naming.Result ts = Behind opened list ts (token.Call ∷ token.Callee ∷ token.Arrow ∷ [])
 
 abbrev TellsBrace : List Part → List Stmt → Brace → List Token → Type 0
 TellsBrace opened list brace.Block ts = Behind opened list ts (token.Block ∷ [])
@@ -133,6 +137,7 @@ abbrev Tells : List Part → List Stmt → Wants → List Token → Type 0
 Tells opened list (wants.Statement t) ts = TellsTail opened list t ts
 Tells opened list (wants.Name n) ts = TellsName opened list n ts
 Tells opened list (wants.Open b) ts = TellsBrace opened list b ts
+Tells opened list wants.Callee ts = Behind opened list ts (token.Call ∷ [])
 Tells opened list wants.CaseValue ts = Told opened [] ts
 Tells opened list (wants.CaseRest v) ts = Behind opened [] ts (token.Value v ∷ [])
 
@@ -166,10 +171,12 @@ settle_told : (opened : List Part) (list : List Stmt) (t : Tail) (ts : List Toke
 unfolding settle Spells depth
 settle_told opened list tail.Nothing ts h s at = told_at opened list _ ts h s at
 settle_told opened list (tail.Emit a) ts (before, told, e) s at =
-    told_at opened _ _ ts (Told-flat opened list before (emission a a) (token.Emit ∷ token.Name a ∷ []) ts told (a, a, refl, inl (refl, refl)) refl e) s at
+    told_at opened _ _ ts (Told-flat opened list before (emission a a) (token.Emit ∷ token.Name a ∷ []) ts told (inl (a, a, refl, inl (refl, refl))) refl e) s at
 settle_told opened list tail.Return ts (before, told, e) s at =
     told_at opened _ _ ts (Told-flat opened list before (Return None) (token.Return ∷ []) ts told refl refl e) s at
 settle_told opened list tail.Loop ts h s at = loop_told opened None ts h s at
+settle_told opened list tail.Call ts (before, told, e) s at =
+    told_at opened _ _ ts (Told-flat opened list before (calling None) (token.Call ∷ token.Callee ∷ []) ts told (inr (inl (None, refl, refl))) refl e) s at
 
 -- a case ends
 case_told : (opened : List Part) (v : SwitchValue) (f : Bool) (list : List Stmt) (ts : List Token) → Told (in_case v f ∷ opened) list ts → (s : State) → add_case opened (record { value = v; falls = f; body = body_from list }) ≡ Some s → LeadsTo s (ts ++ token.Close ∷ [])
@@ -219,6 +226,8 @@ begin_told opened list ts h token.If s to = leads_to _ _ _ _ (ts, h, refl) s to
 begin_told opened list ts h token.Switch s to = leads_to _ _ _ _ (ts, h, refl) s to
 begin_told opened list ts h token.Loop s to = leads_to _ _ _ _ (ts, h, refl) s to
 begin_told opened list ts h token.Return s to = leads_to _ _ _ _ (ts, h, refl) s to
+begin_told opened list ts h token.Store s to = leads_to _ _ _ _ (ts, h, refl) s to
+begin_told opened list ts h token.Call s to = leads_to _ _ _ _ (ts, h, refl) s to
 begin_told opened list ts h token.Break s to =
     leads_to _ _ _ _ (Told-flat opened list ts Break (token.Break ∷ []) _ h refl refl refl) s to
 begin_told opened list ts h token.Continue s to =
@@ -249,6 +258,7 @@ go_on_told opened list (tail.Emit a) ts h token.To s to = leads_to _ _ _ _ (behi
 go_on_told opened list tail.Return ts (before, told, e) (token.Name h) s to =
     leads_to _ _ _ _ (Told-flat opened list before (Return (Some h)) (token.Return ∷ token.Name h ∷ []) _ told refl refl (rw (e, append_assoc) refl)) s to
 go_on_told opened list tail.Loop ts h token.BreakIf s to = break_if_told opened list ts h s to
+go_on_told opened list tail.Call ts h token.Arrow s to = leads_to _ _ _ _ (behind opened list ts _ token.Arrow h) s to
 go_on_told opened list t ts h w s to = fresh_told opened list t ts h w s to
 
 end_told : (opened : List Part) (c : ℕ) (ts : List Token) → BehindLoop opened ts (token.BreakIf ∷ []) → (s : State) → end_loop opened (Some c) ≡ Some s → LeadsTo s (ts ++ token.Name c ∷ [])
@@ -264,10 +274,15 @@ name_told opened list naming.First ts g h s to = leads_to _ _ _ _ (behind opened
 name_told opened list (naming.Last a) ts (before, told, e) h s to =
     let found = pick (nat_le a h) _ s to in
     let below : a ≤ h = leb-true _ _ found.0 in
-    leads_to _ _ _ _ (Told-flat opened list before (emission a h) (token.Emit ∷ token.Name a ∷ token.To ∷ token.Name h ∷ []) _ told (a, h, refl, inr (below, refl)) refl (rw (e, append_assoc) refl)) s found.1
+    leads_to _ _ _ _ (Told-flat opened list before (emission a h) (token.Emit ∷ token.Name a ∷ token.To ∷ token.Name h ∷ []) _ told (inl (a, h, refl, inr (below, refl))) refl (rw (e, append_assoc) refl)) s found.1
 name_told opened list naming.Condition ts g h s to = leads_to _ _ _ _ (behind opened list ts _ (token.Name h) g) s to
 name_told opened list naming.Selector ts g h s to = leads_to _ _ _ _ (behind opened list ts _ (token.Name h) g) s to
 name_told opened list naming.BreakIf ts g h s to = end_told opened h ts g s to
+name_told opened list naming.Pointer ts g h s to = leads_to _ _ _ _ (behind opened list ts _ (token.Name h) g) s to
+name_told opened list (naming.Stored a) ts (before, told, e) h s to =
+    leads_to _ _ _ _ (Told-flat opened list before (storing a h) (token.Store ∷ token.Name a ∷ token.Name h ∷ []) _ told (inr (inr (a, h, refl, refl))) refl (rw (e, append_assoc) refl)) s to
+name_told opened list naming.Result ts (before, told, e) h s to =
+    leads_to _ _ _ _ (Told-flat opened list before (calling (Some h)) (token.Call ∷ token.Callee ∷ token.Arrow ∷ token.Name h ∷ []) _ told (inr (inl (Some h, refl, refl))) refl (rw (e, append_assoc) refl)) s to
 
 entered : (opened : List Part) (part : Part) (w : Wants) (s : State) → enter opened part w ≡ Some s → (length opened < 256) × (wanting (part ∷ opened) [] w ≡ Some s)
 entered opened part w s e =
@@ -311,6 +326,7 @@ unfolding next
 next_told opened list (wants.Statement tail) ts h t s to = go_on_told opened list tail ts h t s to
 next_told opened list (wants.Name n) ts h (token.Name a) s to = name_told opened list n ts h a s to
 next_told opened list (wants.Open b) ts h token.Open s to = brace_told opened list b ts h s to
+next_told opened list wants.Callee ts h token.Callee s to = leads_to _ _ _ _ (behind opened list ts _ token.Callee h) s to
 next_told opened list wants.CaseValue ts h (token.Value v) s to = leads_to _ _ _ _ (ts, h, refl) s to
 next_told opened list wants.CaseValue ts h token.Close s to = switch_told opened ts h s to
 next_told opened list (wants.CaseRest v) ts h token.Fall s to =

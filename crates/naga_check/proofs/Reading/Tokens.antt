@@ -1,7 +1,7 @@
 -- The texts of tokens: each word has one meaning.
 use Rattle.std.proofs.Common.{◌≡◌, ◌<◌, ◌≤◌, ◌^◌, ℕ, zero, suc, ℤ, pos, negsuc, append-nil, List, [], ◌∷◌, ◌++◌, Bool, true, false, Option, Some, None, refl, ap, sym, subst, ◌∙◌, arith, length, get_or, cond, codes, decimal, map, slice_get, ◌+◌, take, Bor}
 use Rattle.std.proofs.lemmas.List.{take_more, get_or-map, length-map}
-use Rattle.std.specs.Prelude.{◌⊎◌, ◌==◌, ◌||◌, ◌&&◌, nat_le}
+use Rattle.std.specs.Prelude.{not, ◌⊎◌, ◌==◌, ◌||◌, ◌&&◌, nat_le}
 use Rattle.std.proofs.Common.{inl, inr}
 use Rattle.std.specs.List.{position_from}
 use Rattle.std.specs.Str.{bytes_eq}
@@ -12,14 +12,15 @@ use Rattle.std.specs.Fmt.{signed_decimal}
 use Rattle.std.specs.Int.Signed.{mag}
 use Rattle.std.proofs.Math.ListN.{get_or-append}
 use Rattle.std.proofs.lemmas.Fmt.{decimal_nonempty}
+use Rattle.std.proofs.lemmas.Bool.Decides.{nat_tests}
 use Rattle.std.proofs.lemmas.Grind.{common_steps}
 use Rattle.naga_check.proofs.Reading.Values.{decimal_first, one_value}
 use Rattle.naga_check.specs.declared.bench.Bench.{Bench}
-use Rattle.naga_check.specs.declared.bench.Bench.TheVariants.{P}
+use Rattle.naga_check.specs.declared.bench.Bench.TheVariants.{P, C}
 use Rattle.naga_check.specs.declared.notation.token.Token.{Token}
 use Rattle.naga_check.specs.declared.notation.token.Token.TheVariants as token
 use Rattle.naga_check.specs.Bench.{names_of, index_of}
-use Rattle.naga_check.specs.Notation.Lookup.{lookup, keywords, keyword_of}
+use Rattle.naga_check.specs.Notation.Lookup.{lookup, keywords, call_keywords, keyword_of}
 use Rattle.naga_check.specs.Notation.Text.{IsValueText, IsTextOf, AreTextsOf}
 
 -- what holds of a text and what stands beside it, all along a table
@@ -40,10 +41,14 @@ lookup_found Q ((text, y) ∷ rest) w x all e =
     ]
 
 -- a keyword that is found has the text
-pub keyword_found : (bench : Bench) (w : List ℕ) (t : Token) → keyword_of w ≡ Some t → IsTextOf bench t w
+shared_texts : (bench : Bench) → AllEntries (IsTextOf bench) keywords
+shared_texts bench = (refl, (refl, (refl, (refl, (refl, (refl, (refl, (refl, (refl, (refl, (refl, (refl, (refl, (refl, (refl, tt)))))))))))))))
+
+pub keyword_found : (bench : Bench) (w : List ℕ) (t : Token) → keyword_of bench w ≡ Some t → IsTextOf bench t w
 unfolding keyword_of
-keyword_found bench w t e =
-    lookup_found (IsTextOf bench) keywords w t (refl, (refl, (refl, (refl, (refl, (refl, (refl, (refl, (refl, (refl, (refl, (refl, (refl, (refl, tt)))))))))))))) e
+keyword_found P w t e = lookup_found (IsTextOf P) keywords w t (shared_texts P) e
+keyword_found C w t e =
+    lookup_found (IsTextOf C) call_keywords w t ((refl, refl), ((refl, refl), ((refl, refl), shared_texts C))) e
 
 position_found : (names : List (List ℕ)) (w : List ℕ) (from h : ℕ) → position_from (λ n. bytes_eq w n) from names ≡ Some h → (k : ℕ) × (h ≡ from + k) × (slice_get names k ≡ Some w)
 position_found [] w from h e = cc
@@ -72,9 +77,10 @@ abbrev name_at : Token → Option ℕ
 name_at (token.Name h) = Some h
 name_at t = None
 
--- a text begins with a digit or a minus
+-- a text begins with a digit, or with a minus that is not that of an arrow
 abbrev begins_numeric : List ℕ → Bool
-begins_numeric bs = (get_or bs 0 0 == 45) || (nat_le 48 (get_or bs 0 0) && nat_le (get_or bs 0 0) 57)
+begins_numeric bs =
+    (get_or bs 0 0 == 45 && not (get_or bs 1 0 == 62)) || (nat_le 48 (get_or bs 0 0) && nat_le (get_or bs 0 0) 57)
 
 abbrev IsOther : {X : Type 0} → X → List ℕ → Type 0
 IsOther x text = begins_numeric text ≡ false
@@ -100,29 +106,51 @@ position_numeric : (names : List (List ℕ)) (w : List ℕ) (from : ℕ) → All
 position_numeric [] w from all e = refl
 position_numeric (n ∷ names) w from all e = rw (other_text w n all.0 e) (position_numeric names w (from + 1) all.1 e)
 
-keyword_numeric : (w : List ℕ) → begins_numeric w ≡ true → keyword_of w ≡ None
+shared_other : AllEntries IsOther keywords
+shared_other = (refl, (refl, (refl, (refl, (refl, (refl, (refl, (refl, (refl, (refl, (refl, (refl, (refl, (refl, (refl, tt)))))))))))))))
+
+keyword_numeric : (bench : Bench) (w : List ℕ) → begins_numeric w ≡ true → keyword_of bench w ≡ None
 unfolding keyword_of
-keyword_numeric w e =
-    lookup_numeric keywords w (refl, (refl, (refl, (refl, (refl, (refl, (refl, (refl, (refl, (refl, (refl, (refl, (refl, (refl, tt)))))))))))))) e
+keyword_numeric P w e = lookup_numeric keywords w shared_other e
+keyword_numeric C w e = lookup_numeric call_keywords w (refl, (refl, (refl, shared_other))) e
 
 name_numeric : (bench : Bench) (w : List ℕ) → begins_numeric w ≡ true → index_of bench w ≡ None
 name_numeric P w e = position_numeric (names_of P) w 0 (refl, (refl, (refl, (refl, (refl, (refl, tt)))))) e
+name_numeric C w e = position_numeric (names_of C) w 0 (refl, (refl, (refl, (refl, (refl, (refl, (refl, tt))))))) e
 
-numeric_range : (b : ℕ) → 48 ≤ b → b ≤ 57 → b == 45 || (nat_le 48 b && nat_le b 57) ≡ true
-numeric_range b low high = grind (arith, common_steps)
+digit_is : (b : ℕ) → 48 ≤ b → b ≤ 57 → nat_le 48 b && nat_le b 57 ≡ true
+digit_is b low high = grind (arith, common_steps)
+
+second_of : (a b : Bool) → b ≡ true → (a || b) ≡ true
+second_of true b e = refl
+second_of false b e = e
+
+first_of : (a b : Bool) → a ≡ true → (a || b) ≡ true
+first_of true b e = refl
+first_of false b e = cc
 
 decimal_numeric : (n : ℕ) (bs : List ℕ) → n < 2 ^ 32 → begins_numeric (decimal n ++ bs) ≡ true
 decimal_numeric n bs lt =
     let some = decimal_nonempty n (omega arith) in
     let first = decimal_first n (omega arith) in
-    rw (get_or-append (decimal n) bs 0 0 some) (numeric_range (get_or (decimal n) 0 0) first.0 first.1)
+    let same : get_or (decimal n ++ bs) 0 0 ≡ get_or (decimal n) 0 0 = get_or-append (decimal n) bs 0 0 some in
+    let digit : nat_le 48 (get_or (decimal n ++ bs) 0 0) && nat_le (get_or (decimal n ++ bs) 0 0) 57 ≡ true = rw same (digit_is (get_or (decimal n) 0 0) first.0 first.1) in
+    second_of _ _ digit
+
+no_arrow : (b : ℕ) → b ≤ 57 → not (b == 62) ≡ true
+no_arrow b high = grind (arith, nat_tests)
 
 signed_numeric : (z : ℤ) → mag z < 2 ^ 31 → begins_numeric (signed_decimal z ++ codes "i") ≡ true
 signed_numeric (pos n) lt = decimal_numeric n (codes "i") (omega arith)
-signed_numeric (negsuc n) lt = refl
+signed_numeric (negsuc n) lt =
+    let some = decimal_nonempty (suc n) (omega arith) in
+    let first = decimal_first (suc n) (omega arith) in
+    let same : get_or (decimal (suc n) ++ codes "i") 0 0 ≡ get_or (decimal (suc n)) 0 0 = get_or-append (decimal (suc n)) (codes "i") 0 0 some in
+    let other : not (get_or (decimal (suc n) ++ codes "i") 0 0 == 62) ≡ true = rw same (no_arrow (get_or (decimal (suc n)) 0 0) first.1) in
+    first_of _ _ other
 
 -- a name that stands in its place is found there, and is no keyword
-name_is : (bench : Bench) (h : ℕ) (w : List ℕ) → slice_get (names_of bench) h ≡ Some w → (keyword_of w ≡ None) × (index_of bench w ≡ Some h)
+name_is : (bench : Bench) (h : ℕ) (w : List ℕ) → slice_get (names_of bench) h ≡ Some w → (keyword_of bench w ≡ None) × (index_of bench w ≡ Some h)
 unfolding keyword_of
 name_is P zero w e = let same : codes "t" ≡ w = cc in rw (← same) (refl, refl)
 name_is P (suc zero) w e = let same : codes "u" ≡ w = cc in rw (← same) (refl, refl)
@@ -131,19 +159,38 @@ name_is P (suc (suc (suc zero))) w e = let same : codes "e1" ≡ w = cc in rw (�
 name_is P (suc (suc (suc (suc zero)))) w e = let same : codes "v" ≡ w = cc in rw (← same) (refl, refl)
 name_is P (suc (suc (suc (suc (suc zero))))) w e = let same : codes "x1" ≡ w = cc in rw (← same) (refl, refl)
 name_is P (suc (suc (suc (suc (suc (suc h)))))) w e = cc
+name_is C zero w e = let same : codes "t" ≡ w = cc in rw (← same) (refl, refl)
+name_is C (suc zero) w e = let same : codes "u" ≡ w = cc in rw (← same) (refl, refl)
+name_is C (suc (suc zero)) w e = let same : codes "i" ≡ w = cc in rw (← same) (refl, refl)
+name_is C (suc (suc (suc zero))) w e = let same : codes "e1" ≡ w = cc in rw (← same) (refl, refl)
+name_is C (suc (suc (suc (suc zero)))) w e = let same : codes "v" ≡ w = cc in rw (← same) (refl, refl)
+name_is C (suc (suc (suc (suc (suc zero))))) w e = let same : codes "x1" ≡ w = cc in rw (← same) (refl, refl)
+name_is C (suc (suc (suc (suc (suc (suc zero)))))) w e = let same : codes "r1" ≡ w = cc in rw (← same) (refl, refl)
+name_is C (suc (suc (suc (suc (suc (suc (suc h))))))) w e = cc
+
+not_true : false ≡ true → ⊥
+not_true e = cc
 
 -- what a text of a token is looked up as
-text_is : (bench : Bench) (t : Token) (w : List ℕ) → IsTextOf bench t w → (keyword_of w ≡ keyword_at t) × (index_of bench w ≡ name_at t)
+text_is : (bench : Bench) (t : Token) (w : List ℕ) → IsTextOf bench t w → (keyword_of bench w ≡ keyword_at t) × (index_of bench w ≡ name_at t)
 unfolding keyword_of
 text_is bench (token.Name h) w e = name_is bench h w e
 text_is bench (token.Value (I32 z)) w (fits, e) =
     let numeric : begins_numeric w ≡ true = rw e (signed_numeric z fits.sfits) in
-    (keyword_numeric w numeric, name_numeric bench w numeric)
+    (keyword_numeric bench w numeric, name_numeric bench w numeric)
 text_is bench (token.Value (U32 n)) w (lt, e) =
     let numeric : begins_numeric w ≡ true = rw (e, ← append-nil (decimal n)) (decimal_numeric n [] lt) in
-    (keyword_numeric w numeric, name_numeric bench w numeric)
+    (keyword_numeric bench w numeric, name_numeric bench w numeric)
 text_is P (token.Value Default) w e = rw e (refl, refl)
+text_is C (token.Value Default) w e = rw e (refl, refl)
+text_is P token.Call w (there, e) = absurd (not_true there)
+text_is P token.Callee w (there, e) = absurd (not_true there)
+text_is P token.Arrow w (there, e) = absurd (not_true there)
+text_is C token.Call w (there, e) = rw e (refl, refl)
+text_is C token.Callee w (there, e) = rw e (refl, refl)
+text_is C token.Arrow w (there, e) = rw e (refl, refl)
 text_is P t w e = rw e (refl, refl)
+text_is C t w e = rw e (refl, refl)
 
 keyword_back : (u t : Token) → keyword_at u ≡ Some t → u ≡ t
 keyword_back (token.Name h) t e = cc
@@ -172,7 +219,7 @@ one_token bench (token.Value v) u w a b =
 one_token bench t u w a b = sym (keyword_back u t (sym (text_is bench u w b).0 ∙ (text_is bench t w a).0))
 
 -- a word that is nothing that can be looked up, and no value, is no text of a token
-pub no_token : (bench : Bench) (w : List ℕ) → keyword_of w ≡ None → index_of bench w ≡ None → ((v : SwitchValue) → IsValueText v w → ⊥) → (t : Token) → IsTextOf bench t w → ⊥
+pub no_token : (bench : Bench) (w : List ℕ) → keyword_of bench w ≡ None → index_of bench w ≡ None → ((v : SwitchValue) → IsValueText v w → ⊥) → (t : Token) → IsTextOf bench t w → ⊥
 no_token bench w no_keyword no_name no_value t a =
     let of_t = text_is bench t w a in
     let value = value_back bench t w (sym of_t.0 ∙ no_keyword) (sym of_t.1 ∙ no_name) a in

@@ -21,6 +21,18 @@ SpellsEmit first last ts =
     ((first ≡ last) × (ts ≡ token.Emit ∷ token.Name first ∷ []))
     ⊎ ((first ≤ last) × (ts ≡ token.Emit ∷ token.Name first ∷ token.To ∷ token.Name last ∷ []))
 
+-- the call of `f`, the first function of the module, without arguments
+abbrev pub calling : Option ℕ → Stmt
+calling result = tree_of (λ _. []) (statement.Call 0 [] result) no_span
+
+-- the store of a value where a pointer points
+abbrev pub storing : ℕ → ℕ → Stmt
+storing pointer value = tree_of (λ _. []) (statement.Store pointer value) no_span
+
+abbrev pub arrow_if_any : Option ℕ → List Token
+arrow_if_any None = []
+arrow_if_any (Some h) = token.Arrow ∷ token.Name h ∷ []
+
 -- a list in braces
 abbrev pub in_braces : List Token → List Token
 in_braces ts = token.Open ∷ (ts ++ token.Close ∷ [])
@@ -47,7 +59,9 @@ unfoldable mutual
   -- the tokens spell a statement
   pub SpellsStatement : Stmt → List Token → Type 0
   SpellsStatement (Leaf acts x span) ts =
-      (first : ℕ) × (last : ℕ) × (Leaf acts x span ≡ emission first last) × SpellsEmit first last ts
+      ((first : ℕ) × (last : ℕ) × (Leaf acts x span ≡ emission first last) × SpellsEmit first last ts)
+      ⊎ (((result : Option ℕ) × (Leaf acts x span ≡ calling result) × (ts ≡ token.Call ∷ token.Callee ∷ arrow_if_any result))
+      ⊎ ((pointer : ℕ) × (value : ℕ) × (Leaf acts x span ≡ storing pointer value) × (ts ≡ token.Store ∷ token.Name pointer ∷ token.Name value ∷ [])))
   SpellsStatement (Block body) ts = (inner : List Token) × Spells body inner × (ts ≡ token.Block ∷ in_braces inner)
   SpellsStatement (Branch condition accept reject) ts =
       (taken : List Token) × (other : List Token) × Spells accept taken × Spells reject other

@@ -1,6 +1,8 @@
 -- How the reader looks up a word. No public contract cites this.
-use Rattle.std.specs.Prelude.{ℕ, ◌==◌, ◌&&◌, ◌||◌, nat_le, length, Bool, false, List, [], ◌∷◌, codes, Option, Some, None, if◌then◌else◌, option_and_then}
+use Rattle.std.specs.Prelude.{ℕ, ◌==◌, ◌&&◌, ◌||◌, nat_le, length, Bool, true, false, List, [], ◌∷◌, codes, Option, Some, None, if◌then◌else◌, option_and_then}
 use Rattle.std.specs.Str.{bytes_eq}
+use Rattle.naga_check.specs.Bench.{has_callee}
+use Rattle.naga_check.specs.declared.bench.Bench.{Bench}
 use Rattle.naga_check.specs.declared.notation.token.Token.{Token}
 use Rattle.naga_check.specs.declared.notation.token.Token.TheVariants as token
 
@@ -10,16 +12,25 @@ lookup [] w = None
 lookup ((text, x) ∷ rest) w = if bytes_eq w text then Some x else lookup rest w
 
 -- the tokens that have one text each
+-- in a case of any bench
 abbrev pub keywords : List (List ℕ × Token)
 keywords =
     (codes "emit", token.Emit) ∷ (codes "..", token.To) ∷ (codes "block", token.Block) ∷ (codes "if", token.If)
     ∷ (codes "switch", token.Switch) ∷ (codes "fall", token.Fall) ∷ (codes "loop", token.Loop)
     ∷ (codes "break_if", token.BreakIf) ∷ (codes "break", token.Break) ∷ (codes "continue", token.Continue)
-    ∷ (codes "return", token.Return) ∷ (codes "kill", token.Kill) ∷ (codes "{", token.Open) ∷ (codes "}", token.Close)
+    ∷ (codes "return", token.Return) ∷ (codes "kill", token.Kill) ∷ (codes "store", token.Store) ∷ (codes "{", token.Open) ∷ (codes "}", token.Close)
     ∷ []
 
-unfoldable pub keyword_of : List ℕ → Option Token
-keyword_of w = lookup keywords w
+-- in a case of a bench that has a function to call
+abbrev pub call_keywords : List (List ℕ × Token)
+call_keywords = (codes "call", token.Call) ∷ (codes "f", token.Callee) ∷ (codes "->", token.Arrow) ∷ keywords
+
+abbrev pub keywords_if : Bool → List (List ℕ × Token)
+keywords_if false = keywords
+keywords_if true = call_keywords
+
+unfoldable pub keyword_of : Bench → List ℕ → Option Token
+keyword_of bench w = lookup (keywords_if (has_callee bench)) w
 
 -- A text begins as that of a number does: with a digit, which is no zero unless it stands alone.
 abbrev pub begins_number : List ℕ → Bool

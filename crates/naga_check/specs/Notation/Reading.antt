@@ -14,7 +14,7 @@ use Rattle.naga_check.specs.declared.notation.reader.Brace.TheVariants as brace
 use Rattle.naga_check.specs.declared.notation.reader.Wants.{Wants}
 use Rattle.naga_check.specs.declared.notation.reader.Wants.TheVariants as wants
 use Rattle.naga_check.specs.Notation.Feeding.{feeds}
-use Rattle.naga_check.specs.Notation.Grammar.{emission}
+use Rattle.naga_check.specs.Notation.Grammar.{emission, calling, storing}
 
 -- the statements of a list, as a body
 unfoldable pub body_from : List Stmt → Body
@@ -104,6 +104,8 @@ begin opened list token.Break = ready opened (list ++ Break ∷ [])
 begin opened list token.Continue = ready opened (list ++ Continue ∷ [])
 begin opened list token.Return = wanting opened list (wants.Statement tail.Return)
 begin opened list token.Kill = ready opened (list ++ Kill ∷ [])
+begin opened list token.Store = wanting opened list (wants.Name naming.Pointer)
+begin opened list token.Call = wanting opened list wants.Callee
 begin opened list token.Close = close opened list
 begin opened list t = None
 
@@ -113,6 +115,7 @@ settle opened list tail.Nothing = ready opened list
 settle opened list (tail.Emit first) = ready opened (list ++ emission first first ∷ [])
 settle opened list tail.Return = ready opened (list ++ Return None ∷ [])
 settle opened list tail.Loop = end_loop opened None
+settle opened list tail.Call = ready opened (list ++ calling None ∷ [])
 
 abbrev pub begin_at : Token → State → Option State
 begin_at t s = begin s.opened s.list t
@@ -122,6 +125,7 @@ unfoldable pub go_on : List Part → List Stmt → Tail → Token → Option Sta
 go_on opened list (tail.Emit first) token.To = wanting opened list (wants.Name (naming.Last first))
 go_on opened list tail.Return (token.Name value) = ready opened (list ++ Return (Some value) ∷ [])
 go_on opened list tail.Loop token.BreakIf = wanting opened list (wants.Name naming.BreakIf)
+go_on opened list tail.Call token.Arrow = wanting opened list (wants.Name naming.Result)
 go_on opened list t w = option_and_then (begin_at w) (settle opened list t)
 
 -- a name
@@ -132,6 +136,9 @@ take_name opened list (naming.Last first) h =
 take_name opened list naming.Condition h = wanting opened list (wants.Open (brace.Accept h))
 take_name opened list naming.Selector h = wanting opened list (wants.Open (brace.Cases h))
 take_name opened list naming.BreakIf h = end_loop opened (Some h)
+take_name opened list naming.Pointer h = wanting opened list (wants.Name (naming.Stored h))
+take_name opened list (naming.Stored pointer) h = ready opened (list ++ storing pointer h ∷ [])
+take_name opened list naming.Result h = ready opened (list ++ calling (Some h) ∷ [])
 
 -- an open brace
 unfoldable pub open_brace : List Part → List Stmt → Brace → Option State
@@ -147,6 +154,7 @@ unfoldable pub next : List Part → List Stmt → Wants → Token → Option Sta
 next opened list (wants.Statement t) w = go_on opened list t w
 next opened list (wants.Name n) (token.Name h) = take_name opened list n h
 next opened list (wants.Open b) token.Open = open_brace opened list b
+next opened list wants.Callee token.Callee = wanting opened list (wants.Statement tail.Call)
 next opened list wants.CaseValue (token.Value v) = wanting opened list (wants.CaseRest v)
 next opened list wants.CaseValue token.Close = close_switch opened
 next opened list (wants.CaseRest v) token.Fall = wanting opened list (wants.Open (brace.Case v true))

@@ -1,5 +1,5 @@
 -- Which texts the tokens have.
-use Rattle.std.specs.Prelude.{◌≡◌, ◌<◌, ◌^◌, ◌++◌, ℕ, List, [], ◌∷◌, Some, codes, decimal, slice_get, FitsSigned}
+use Rattle.std.specs.Prelude.{true, ◌≡◌, ◌<◌, ◌^◌, ◌++◌, ℕ, List, [], ◌∷◌, Some, codes, decimal, slice_get, FitsSigned}
 use Rattle.std.specs.Fmt.{signed_decimal}
 use Rattle.std.specs.Int.{w32}
 use Rattle.naga_below.specs.declared.ir.statements.SwitchValue.{SwitchValue}
@@ -7,7 +7,7 @@ use Rattle.naga_below.specs.declared.ir.statements.SwitchValue.TheVariants.{I32,
 use Rattle.naga_check.specs.declared.bench.Bench.{Bench}
 use Rattle.naga_check.specs.declared.notation.token.Token.{Token}
 use Rattle.naga_check.specs.declared.notation.token.Token.TheVariants as token
-use Rattle.naga_check.specs.Bench.{names_of}
+use Rattle.naga_check.specs.Bench.{names_of, has_callee}
 
 -- The text of a case value: a 32-bit number as std prints it, with an `i` behind it where it is signed. So there are
 -- no leading zeros, no `+` and no `-0`.
@@ -16,7 +16,7 @@ IsValueText (I32 z) text = FitsSigned w32 z × (text ≡ signed_decimal z ++ cod
 IsValueText (U32 n) text = (n < 2 ^ 32) × (text ≡ decimal n)
 IsValueText Default text = text ≡ codes "default"
 
--- the text of a token in a case of the bench
+-- the text of a token in a case of the bench; calls have words where there is a function to call
 abbrev pub IsTextOf : Bench → Token → List ℕ → Type 0
 IsTextOf bench token.Emit text = text ≡ codes "emit"
 IsTextOf bench token.To text = text ≡ codes ".."
@@ -30,6 +30,10 @@ IsTextOf bench token.Break text = text ≡ codes "break"
 IsTextOf bench token.Continue text = text ≡ codes "continue"
 IsTextOf bench token.Return text = text ≡ codes "return"
 IsTextOf bench token.Kill text = text ≡ codes "kill"
+IsTextOf bench token.Store text = text ≡ codes "store"
+IsTextOf bench token.Call text = (has_callee bench ≡ true) × (text ≡ codes "call")
+IsTextOf bench token.Callee text = (has_callee bench ≡ true) × (text ≡ codes "f")
+IsTextOf bench token.Arrow text = (has_callee bench ≡ true) × (text ≡ codes "->")
 IsTextOf bench token.Open text = text ≡ codes "{"
 IsTextOf bench token.Close text = text ≡ codes "}"
 IsTextOf bench (token.Name h) text = slice_get (names_of bench) h ≡ Some text

@@ -2,7 +2,7 @@
 
 ghost use Rattle.std.specs.Prelude.{◌≡◌, ◌++◌, ◌∷◌, [], OnOk};
 ghost use Rattle.naga_below.specs.Tree.{Branch, Loop, Switch};
-ghost use Rattle.naga_check.specs.Notation.Grammar.{emission};
+ghost use Rattle.naga_check.specs.Notation.Grammar.{emission, calling, storing};
 ghost use Rattle.naga_check.specs.Notation.Reading.{Clause, body_from, cases_from};
 ghost use Rattle.naga_check.specs.Notation.Views.{body_of, stmt_of, list_of, clause_of, clauses_of};
 
@@ -10,8 +10,9 @@ use naga_below::arena::handle::Handle;
 use naga_below::arena::range::Range;
 use naga_below::arena::tag;
 use naga_below::ir::statements::{Block, Located, Statement, SwitchCase, SwitchValue};
+use naga_below::sequence::Sequence;
 use naga_below::span::Span;
-use std::alloc::AllocError;
+use std::alloc::{AllocError, Global};
 
 /// The expression of a bench at this index.
 pub fn expression(index: u8) -> Handle<tag::Expression>
@@ -44,6 +45,30 @@ pub fn emission(first: u8, last: u8) -> Statement
         start: first as u32,
         end: last as u32 + 1,
     })
+}
+
+/// A store of a value where a pointer points.
+pub fn storing(pointer: u8, value: u8) -> Statement
+    ensures { stmt_of result ≡ storing pointer value }
+{
+    Statement::Store {
+        pointer: expression(pointer),
+        value: expression(value),
+    }
+}
+
+/// A call of `f` with this result.
+pub fn calling(alloc: Global, answer: Option<u8>) -> Statement
+    ensures { stmt_of result ≡ calling answer }
+{
+    Statement::Call {
+        function: Handle::new(0),
+        arguments: Sequence::new(alloc),
+        result: match answer {
+            Some(index) => Some(expression(index)),
+            None => None,
+        },
+    }
 }
 
 /// A case of a Switch.

@@ -9,7 +9,7 @@ ghost use Rattle.naga_check.specs.Notation.Views.{body_of};
 
 use crate::notation::ReadError;
 use crate::notation::build::{
-    block_of, case_of, choice, emission, expression, push, repetition, switch,
+    block_of, calling, case_of, choice, emission, expression, push, repetition, storing, switch,
 };
 use crate::notation::token::Token;
 use naga_below::ir::statements::{Block, Located, Statement, SwitchCase, SwitchValue};
@@ -29,6 +29,8 @@ pub enum Tail {
     Return,
     /// `break_if` and a name.
     Loop,
+    /// `->` and a name.
+    Call,
 }
 
 /// What a name stands for.
@@ -41,6 +43,12 @@ pub enum Naming {
     Condition,
     Selector,
     BreakIf,
+    /// The result of a call.
+    Result,
+    /// Where a store points.
+    Pointer,
+    /// What is stored, behind this pointer.
+    Stored(u8),
 }
 
 /// What a brace opens.
@@ -65,6 +73,8 @@ pub enum Wants {
     /// The tail of the newest statement, a new statement, or the end of the list.
     Statement(Tail),
     Name(Naming),
+    /// The function that is called.
+    Callee,
     Open(Brace),
     /// The value of a case, or the end of the Switch.
     CaseValue,
@@ -152,6 +162,10 @@ impl Reader {
                 Token::Name(name) => self.take_name(naming, name),
                 _ => Err(ReadError::Unreadable),
             },
+            Wants::Callee => match token {
+                Token::Callee => self.want(Wants::Statement(Tail::Call)),
+                _ => Err(ReadError::Unreadable),
+            },
             Wants::Open(brace) => match token {
                 Token::Open => self.open(brace),
                 _ => Err(ReadError::Unreadable),
@@ -204,6 +218,10 @@ impl Reader {
                 Token::BreakIf => self.want(Wants::Name(Naming::BreakIf)),
                 _ => self.begin_behind(tail, token),
             },
+            Tail::Call => match token {
+                Token::Arrow => self.want(Wants::Name(Naming::Result)),
+                _ => self.begin_behind(tail, token),
+            },
         }
     }
 
@@ -225,6 +243,10 @@ impl Reader {
             Tail::Emit(first) => self.put(emission(first, first)),
             Tail::Return => self.put(Statement::Return { value: None }),
             Tail::Loop => self.end_loop(None),
+            Tail::Call => {
+                let statement = calling(self.alloc, None);
+                self.put(statement)
+            }
         }
     }
 
@@ -243,6 +265,8 @@ impl Reader {
             Token::Continue => self.put(Statement::Continue),
             Token::Return => self.want(Wants::Statement(Tail::Return)),
             Token::Kill => self.put(Statement::Kill),
+            Token::Store => self.want(Wants::Name(Naming::Pointer)),
+            Token::Call => self.want(Wants::Callee),
             Token::Close => self.close(),
             _ => Err(ReadError::Unreadable),
         }
@@ -264,6 +288,12 @@ impl Reader {
             Naming::Condition => self.want(Wants::Open(Brace::Accept(name))),
             Naming::Selector => self.want(Wants::Open(Brace::Cases(name))),
             Naming::BreakIf => self.end_loop(Some(name)),
+            Naming::Pointer => self.want(Wants::Name(Naming::Stored(name))),
+            Naming::Stored(pointer) => self.put(storing(pointer, name)),
+            Naming::Result => {
+                let statement = calling(self.alloc, Some(name));
+                self.put(statement)
+            }
         }
     }
 

@@ -3,7 +3,7 @@ use crate::notation::{ReadError, read_case};
 use std::alloc::Global;
 use std::test::Fail;
 
-const ROWS: [(&str, bool); 58] = [
+const ROWS: [(&str, bool); 65] = [
     // the head
     ("P :", true),
     ("P -blocks :", true),
@@ -14,7 +14,14 @@ const ROWS: [(&str, bool); 58] = [
     ("P", false),
     ("P:", false),
     (":", false),
-    ("C :", false),
+    ("C :", true),
+    ("C -blocks : call f call f -> r1", true),
+    ("C : call f -> r1 emit r1", true),
+    ("C : call r1", false),
+    ("C : call f f", false),
+    ("C : call f - > r1", false),
+    ("P : call f", false),
+    ("P : ->", false),
     ("D :", false),
     ("p :", false),
     ("P -blocks -blocks :", false),
@@ -118,24 +125,6 @@ fn other_bytes(rt: HostRuntime) -> Result<(), Fail> {
     for input in rows {
         assert!(rt; !is_readable(rt.alloc(), input)?, "at {input:?}");
     }
-    Ok(())
-}
-
-/// `P :` and spaces, so many bytes in all.
-fn spaces(alloc: Global, len: usize) -> Result<Vec<u8>, Fail> {
-    let mut input = Vec::from_slice(alloc, b"P :")?;
-    for _ in 3..len {
-        input.push(b' ')?;
-    }
-    Ok(input)
-}
-
-#[test]
-fn longest_input(rt: HostRuntime) -> Result<(), Fail> {
-    let input = spaces(rt.alloc(), 65536)?;
-    assert!(rt; is_readable(rt.alloc(), input.as_slice())?);
-    let input = spaces(rt.alloc(), 65537)?;
-    assert!(rt; !is_readable(rt.alloc(), input.as_slice())?);
     Ok(())
 }
 

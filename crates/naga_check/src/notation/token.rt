@@ -2,7 +2,7 @@
 
 ghost use Rattle.std.specs.Prelude.{◌≡◌, IfSome, IfNone, IfOk, IsErrOf, List, map};
 ghost use Rattle.naga_check.specs.declared.notation.token.Token as declared;
-ghost use Rattle.naga_check.specs.Notation.Lookup.{keyword_of};
+ghost use Rattle.naga_check.specs.Notation.Lookup.{lookup, keywords, keyword_of};
 ghost use Rattle.naga_check.specs.Notation.Text.{IsTextOf, AreTextsOf};
 
 use crate::bench::Bench;
@@ -27,6 +27,12 @@ pub enum Token {
     Continue,
     Return,
     Kill,
+    Store,
+    Call,
+    /// `f`, the function that is called.
+    Callee,
+    /// `->`, before the result of a call.
+    Arrow,
     /// `{`
     Open,
     /// `}`
@@ -37,10 +43,28 @@ pub enum Token {
     Value(SwitchValue),
 }
 
-/// The token that has this one text.
+/// The token that has this one text in a case of the bench.
 #[tactic(auto, unfolding(crate::specs::Notation::Lookup::keyword_of))]
-fn keyword_of(word: &[u8]) -> Option<Token>
-    ensures { result ≡ keyword_of word.now }
+fn keyword_of(bench: Bench, word: &[u8]) -> Option<Token>
+    ensures { result ≡ keyword_of bench word.now }
+{
+    if !bench.has_callee() {
+        return shared_keyword_of(word);
+    }
+    if word == b"call".as_slice() {
+        Some(Token::Call)
+    } else if word == b"f".as_slice() {
+        Some(Token::Callee)
+    } else if word == b"->".as_slice() {
+        Some(Token::Arrow)
+    } else {
+        shared_keyword_of(word)
+    }
+}
+
+/// The token that has this one text in a case of any bench.
+fn shared_keyword_of(word: &[u8]) -> Option<Token>
+    ensures { result ≡ lookup keywords word.now }
 {
     if word == b"emit".as_slice() {
         Some(Token::Emit)
@@ -66,6 +90,8 @@ fn keyword_of(word: &[u8]) -> Option<Token>
         Some(Token::Return)
     } else if word == b"kill".as_slice() {
         Some(Token::Kill)
+    } else if word == b"store".as_slice() {
+        Some(Token::Store)
     } else if word == b"{".as_slice() {
         Some(Token::Open)
     } else if word == b"}".as_slice() {
@@ -80,7 +106,7 @@ fn token_of(bench: Bench, word: &[u8]) -> Option<Token>
     ensures found { IfSome result (λ t. IsTextOf bench t word.now) }
     ensures none { IfNone result ((t : declared.Token) → IsTextOf bench t word.now → ⊥) }
 {
-    if let Some(token) = keyword_of(word) {
+    if let Some(token) = keyword_of(bench, word) {
         return Some(token);
     }
     if let Some(index) = bench.index_of(word) {

@@ -8,7 +8,7 @@ pub returns-in-Err-Unreadable : goal.returns-in-Err-Unreadable
 returns-in-Err-Unreadable c = replies_none _ (c.in-Err-Unreadable.ensures.none (let same : c.in-Err-Unreadable.field-0 ≡ Unreadable = cc in ap Err same))
 
 pub returns-in-Ok-answer : goal.returns-in-Ok-answer
-returns-in-Ok-answer c = replies_accepted _ (case_of c.in-Ok.case) _ c.in-Ok.ensures.found c.in-Ok-answer.ensures
+returns-in-Ok-answer c = rw (c.stages_of_last.ensures, c.as_slice.ensures) (replies_accepted _ (case_of c.in-Ok.case) _ c.in-Ok.ensures.found c.in-Ok-answer.ensures)
 
 pub returns-in-Err-Fault : goal.returns-in-Err-Fault
 returns-in-Err-Fault c =

@@ -1,0 +1,45 @@
+-- The infos of a module's functions, one after another.
+use Rattle.std.proofs.Common.{◌≡◌, ◌<◌, ◌≤◌, ◌+◌, ℕ, List, ◌∷◌, Ok, length, drop, get_or, refl, sym, ap, ◌∙◌}
+use Rattle.std.proofs.lemmas.List.{at_drop_more, drop_all}
+use Rattle.std.proofs.lemmas.Option.{slice_get_read}
+use Rattle.std.specs.Prelude.{Result}
+use Rattle.naga_below.specs.Each.{EachAt}
+use Rattle.naga_below.specs.declared.ir.functions.Function.{Function}
+use Rattle.naga_below.specs.declared.ir.module.Module.{Module}
+use Rattle.naga_below.specs.declared.span.Refusal.{Refusal}
+use Rattle.naga_below.specs.declared.span.Refusal.TheVariants as refusal
+use Rattle.naga_below.specs.declared.valid.info.FunctionInfo.{FunctionInfo}
+use Rattle.naga_below.specs.declared.valid.info.ModuleInfo.{ModuleInfo}
+use Rattle.naga_below.specs.declared.valid.settings.Settings.{Settings}
+use Rattle.naga_rules.specs.Answers.{Refuses}
+use Rattle.naga_rules.specs.declared.function.FunctionError.{FunctionError}
+use Rattle.naga_check.specs.Judged.{infos_from, with_info, plain_judgement, and_then}
+use Rattle.naga_check.specs.Ready.{IsReady}
+
+refused_then : {A B : Type 0} (right : Result A FunctionError) (next : A → Result B FunctionError) (e : Refusal FunctionError) → Refuses right e → Refuses (and_then next right) e
+refused_then right next (refusal.Fault fault) h = ap (and_then next) h
+refused_then right next refusal.Memory h = tt
+
+module _ (settings : Settings) (m : Module) (infos : ModuleInfo) (fs : List Function) (i : ℕ) (f : Function) (lt : i < length fs) (is : f ≡ get_or fs i f) where
+  here : infos_from settings m infos (drop i fs) ≡ and_then (λ info. infos_from settings m (with_info infos info) (drop (i + 1) fs)) (plain_judgement settings m infos f)
+  unfolding infos_from
+  here =
+      at_drop_more (infos_from settings m infos) fs i f lt
+      ∙ ap (λ g. infos_from settings m infos (g ∷ drop (i + 1) fs)) (sym is)
+
+  -- a function that is refused is the first fault
+  pub refused_here : (e : Refusal FunctionError) → Refuses (plain_judgement settings m infos f) e → Refuses (infos_from settings m infos (drop i fs)) e
+  refused_here e h = rw here (refused_then (plain_judgement settings m infos f) _ e h)
+
+  -- an info goes behind those before it
+  pub info_here : (info : FunctionInfo) → plain_judgement settings m infos f ≡ Ok info → infos_from settings m infos (drop i fs) ≡ infos_from settings m (with_info infos info) (drop (i + 1) fs)
+  info_here info h = here ∙ ap (and_then (λ info. infos_from settings m (with_info infos info) (drop (i + 1) fs))) h
+
+  -- it is ready
+  pub ready_here : EachAt (IsReady m) fs → IsReady m i f
+  ready_here each = each i f (slice_get_read fs (length fs) i f refl lt is)
+
+-- where none is left, these are the infos
+pub all_judged : (settings : Settings) (m : Module) (infos : ModuleInfo) (fs : List Function) (i : ℕ) → length fs ≤ i → infos_from settings m infos (drop i fs) ≡ Ok infos
+unfolding infos_from
+all_judged settings m infos fs i le = ap (infos_from settings m infos) (drop_all i fs le)

@@ -1,0 +1,190 @@
+//! The modules of the benches.
+
+ghost use Rattle.std.specs.Prelude.{◌≡◌, Some, IfOk};
+ghost use Rattle.naga_below.specs.Tree.{Done, Then, Return};
+ghost use Rattle.naga_below.specs.View.{body_of, no_operands};
+ghost use Rattle.naga_check.specs.BenchModule.{bench_types, bench_locals, shared_expressions, bench_expressions, type_of, IsBenchFunction, IsCallee, AreFunctionsOf, IsBenchModule};
+ghost use Rattle.naga_below.specs.declared.ir.expressions.Expression.TheVariants.{Literal as LiteralOf};
+
+use crate::bench::Bench;
+use naga_below::arena::Arena;
+use naga_below::arena::handle::Handle;
+use naga_below::arena::unique_arena::UniqueArena;
+use naga_below::ir::expressions::{Expression, Literal};
+use naga_below::ir::functions::{Function, FunctionResult, LocalVariable};
+use naga_below::ir::module::{Module, SpecialTypes};
+use naga_below::ir::statements::{Block, Located, Statement};
+use naga_below::ir::types::{Scalar, Type, TypeInner};
+use naga_below::sequence::Sequence;
+use naga_below::span::Span;
+use std::alloc::{AllocError, Global};
+
+/// The span of all that a bench brings.
+const NO_SPAN: Span = Span { start: 0, end: 0 };
+
+/// A type without a name.
+fn type_of(scalar: Scalar) -> Type
+    ensures { result ≡ type_of scalar }
+{
+    Type {
+        name: None,
+        inner: TypeInner::Scalar(scalar),
+    }
+}
+
+/// Types 0 bool, 1 u32 and 2 i32.
+fn bench_types(alloc: Global) -> Result<UniqueArena<Type>, AllocError>
+    ensures { IfOk result (λ types. types ≡ bench_types) }
+{
+    let mut types = UniqueArena::new(alloc);
+    types.insert(type_of(Scalar::BOOL), NO_SPAN)?;
+    types.insert(type_of(Scalar::U32), NO_SPAN)?;
+    types.insert(type_of(Scalar::I32), NO_SPAN)?;
+    Ok(types)
+}
+
+/// The variable `v`, of u32.
+fn bench_locals(alloc: Global) -> Result<Arena<LocalVariable>, AllocError>
+    ensures { IfOk result (λ locals. locals ≡ bench_locals) }
+{
+    let mut locals = Arena::new(alloc);
+    let variable = LocalVariable {
+        name: None,
+        ty: Handle::new(1),
+        init: None,
+    };
+    locals.append(variable, NO_SPAN)?;
+    Ok(locals)
+}
+
+/// A literal.
+fn literal(scalar: Scalar, bits: u64) -> Expression
+    ensures { result ≡ LiteralOf (record { scalar = scalar; bits = bits }) }
+{
+    Expression::Literal(Literal { scalar, bits })
+}
+
+/// The expressions that all benches have.
+fn shared_expressions(alloc: Global) -> Result<Arena<Expression>, AllocError>
+    ensures { IfOk result (λ expressions. expressions ≡ shared_expressions) }
+{
+    let mut expressions = Arena::new(alloc);
+    expressions.append(literal(Scalar::BOOL, 1), NO_SPAN)?;
+    expressions.append(literal(Scalar::U32, 0), NO_SPAN)?;
+    expressions.append(literal(Scalar::I32, 0), NO_SPAN)?;
+    let mut operands = Sequence::new(alloc);
+    operands.push(Handle::new(0))?;
+    expressions.append(
+        Expression::Unary {
+            operands,
+            detail: 0,
+        },
+        NO_SPAN,
+    )?;
+    expressions.append(Expression::LocalVariable(Handle::new(0)), NO_SPAN)?;
+    expressions.append(
+        Expression::Load {
+            pointer: Handle::new(4),
+        },
+        NO_SPAN,
+    )?;
+    Ok(expressions)
+}
+
+/// The expressions that the bench's names stand for.
+fn bench_expressions(alloc: Global, bench: Bench) -> Result<Arena<Expression>, AllocError>
+    ensures { IfOk result (λ expressions. expressions ≡ bench_expressions bench) }
+{
+    let mut expressions = shared_expressions(alloc)?;
+    match bench {
+        Bench::P => Ok(expressions),
+        Bench::C => {
+            expressions.append(Expression::CallResult(Handle::new(0)), NO_SPAN)?;
+            Ok(expressions)
+        }
+    }
+}
+
+/// The bench's function with a body.
+fn bench_function(alloc: Global, bench: Bench, body: Block) -> Result<Function, AllocError>
+    ensures { IfOk result (λ f. IsBenchFunction bench (body_of no_operands body) f) }
+{
+    let local_variables = bench_locals(alloc)?;
+    let expressions = bench_expressions(alloc, bench)?;
+    Ok(Function {
+        arguments: Sequence::new(alloc),
+        result: None,
+        local_variables,
+        expressions,
+        body,
+    })
+}
+
+/// The statements of `f`: it returns its literal.
+fn callee_body(alloc: Global) -> Result<Block, AllocError>
+    ensures { IfOk result (λ b. body_of no_operands b ≡ Then (Return (Some 0)) Done) }
+{
+    let mut list = Vec::new(alloc);
+    list.push(Located {
+        statement: Statement::Return {
+            value: Some(Handle::new(0)),
+        },
+        span: NO_SPAN,
+    })?;
+    Ok(Block { list })
+}
+
+/// The function to call.
+fn callee(alloc: Global) -> Result<Function, AllocError>
+    ensures { IfOk result (λ f. IsCallee f) }
+{
+    let mut expressions = Arena::new(alloc);
+    expressions.append(literal(Scalar::U32, 0), NO_SPAN)?;
+    let body = callee_body(alloc)?;
+    Ok(Function {
+        arguments: Sequence::new(alloc),
+        result: Some(FunctionResult {
+            ty: Handle::new(1),
+            binding: None,
+        }),
+        local_variables: Arena::new(alloc),
+        expressions,
+        body,
+    })
+}
+
+/// The functions of the bench's module.
+fn bench_functions(alloc: Global, bench: Bench, body: Block) -> Result<Arena<Function>, AllocError>
+    ensures { IfOk result (λ fs. AreFunctionsOf bench (body_of no_operands body) fs) }
+{
+    let mut functions = Arena::new(alloc);
+    match bench {
+        Bench::P => {
+            functions.append(bench_function(alloc, bench, body)?, NO_SPAN)?;
+            Ok(functions)
+        }
+        Bench::C => {
+            functions.append(callee(alloc)?, NO_SPAN)?;
+            functions.append(bench_function(alloc, bench, body)?, NO_SPAN)?;
+            Ok(functions)
+        }
+    }
+}
+
+/// The bench's module, with a body in its last function.
+pub fn bench_module(alloc: Global, bench: Bench, body: Block) -> Result<Module, AllocError>
+    ensures { IfOk result (λ m. IsBenchModule bench (body_of no_operands body) m) }
+{
+    let types = bench_types(alloc)?;
+    let functions = bench_functions(alloc, bench, body)?;
+    Ok(Module {
+        types,
+        special_types: SpecialTypes { ray_desc: None },
+        constants: Arena::new(alloc),
+        overrides: Arena::new(alloc),
+        global_variables: Arena::new(alloc),
+        global_expressions: Arena::new(alloc),
+        functions,
+        entry_points: Sequence::new(alloc),
+    })
+}
