@@ -17,6 +17,7 @@ pub mod Atomics
 pub mod Stores
 pub mod Loads
 pub mod Cooperative
+pub mod Traces
 pub mod Images
 pub mod ImageAtomics
 pub mod Ready
