@@ -8,6 +8,8 @@ pub mod image;
 pub mod image_atomic;
 pub mod image_store;
 pub mod load;
+pub mod ray_query;
+pub mod ray_trace;
 pub mod refuse;
 pub mod results;
 pub mod store;
