@@ -11,6 +11,7 @@ pub mod Walk
 pub mod Control
 pub mod Flags
 pub mod Results
+pub mod Past
 pub mod Calls
 pub mod Atomics
 pub mod Stores

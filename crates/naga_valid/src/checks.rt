@@ -7,6 +7,7 @@ pub mod cooperative;
 pub mod image;
 pub mod image_atomic;
 pub mod image_store;
+pub mod leaf;
 pub mod load;
 pub mod ray_query;
 pub mod ray_trace;
