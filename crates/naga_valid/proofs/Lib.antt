@@ -15,6 +15,7 @@ pub mod Loads
 pub mod Cooperative
 pub mod Images
 pub mod ImageAtomics
+pub mod StatesLeft
 pub mod Walk
 pub mod Parts
 pub mod Own
