@@ -37,6 +37,7 @@ use Rattle.naga_valid.proofs.Images.{image_store_fits}
 use Rattle.naga_valid.proofs.Judged.{kept}
 use Rattle.naga_valid.proofs.Cooperative.{cooperative_fits}
 use Rattle.naga_valid.proofs.Loads.{load_fits}
+use Rattle.naga_valid.proofs.RayQueries.{ray_query_fits}
 use Rattle.naga_valid.proofs.Stores.{store_fits}
 
 -- the handles of an Emit are new, each also beside those before it
@@ -79,7 +80,8 @@ node_fits context past place (StatementNode (Leaf acts (ir.ImageAtomic i k a f v
     (subst (Fit place.scope place.scope) (sym made) (image_atomic_fits context place.scope f v i (record { coordinate = k; array_index = a }) e), tt)
 node_fits context past place (StatementNode (Leaf acts (ir.ControlBarrier b) span)) made e = cc
 node_fits context past place (StatementNode (Leaf acts (ir.MemoryBarrier b) span)) made e = cc
-node_fits context past place (StatementNode (Leaf acts (ir.RayQuery q f) span)) made e = cc
+node_fits context past place (StatementNode (Leaf acts (ir.RayQuery q f) span)) made e =
+    (subst (Fit place.scope place.scope) (sym made) (ray_query_fits context place.scope q f e), tt)
 node_fits context past place (StatementNode (Leaf acts (ir.RayPipelineFunction f) span)) made e = cc
 node_fits context past place (StatementNode (Leaf acts (ir.SubgroupBallot r p) span)) made e = cc
 node_fits context past place (StatementNode (Leaf acts (ir.SubgroupGather m x r) span)) made e = cc

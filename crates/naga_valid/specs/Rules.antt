@@ -22,6 +22,7 @@ use Rattle.naga_valid.specs.ImageAtomics.{image_atomic_points}
 use Rattle.naga_valid.specs.Images.{image_store_points}
 use Rattle.naga_valid.specs.Loads.{load_points}
 use Rattle.naga_valid.specs.Points.{Points}
+use Rattle.naga_valid.specs.RayQueries.{ray_query_points}
 use Rattle.naga_valid.specs.Stages.{meet, all_stages, compute_like_stages, compute_stage, fragment_stage}
 use Rattle.naga_valid.specs.Stores.{store_points}
 
@@ -45,7 +46,7 @@ leaf_points context past scope (ir.ImageAtomic image coordinate array_index fun 
     image_atomic_points context scope image (record { coordinate = coordinate; array_index = array_index }) fun value
 leaf_points context past scope (ir.ControlBarrier barrier) = no_list
 leaf_points context past scope (ir.MemoryBarrier barrier) = no_list
-leaf_points context past scope (ir.RayQuery query fun) = no_list
+leaf_points context past scope (ir.RayQuery query fun) = ray_query_points context scope query fun
 leaf_points context past scope (ir.RayPipelineFunction fun) = no_list
 leaf_points context past scope (ir.SubgroupBallot result predicate) = no_list
 leaf_points context past scope (ir.SubgroupGather mode argument result) = no_list

@@ -19,6 +19,7 @@ use crate::checks::image::Texel;
 use crate::checks::image_atomic::check_image_atomic;
 use crate::checks::image_store::check_image_store;
 use crate::checks::load::check_load;
+use crate::checks::ray_query::check_ray_query;
 use crate::checks::refuse::answer;
 use crate::checks::store::check_store;
 use crate::context::BlockContext;
@@ -103,7 +104,7 @@ pub fn check_leaf(
         }
         Statement::ControlBarrier(_) => Ok(()),
         Statement::MemoryBarrier(_) => Ok(()),
-        Statement::RayQuery { .. } => Ok(()),
+        Statement::RayQuery { query, fun } => check_ray_query(scope, context, *query, fun, span),
         Statement::RayPipelineFunction(_) => Ok(()),
         Statement::SubgroupBallot { .. } => Ok(()),
         Statement::SubgroupGather { .. } => Ok(()),
