@@ -9,7 +9,7 @@ use naga_below::ir::statements::{Block, Located, Statement, SwitchCase};
 
 /// Whether each statement of a function, at any depth, is of a kind that is judged by now: Emit, Block, If, Switch,
 /// Loop, Break, Continue, Return, Kill, Store, ImageStore, Atomic, ImageAtomic, WorkGroupUniformLoad, Call,
-/// CooperativeStore or RayQuery.
+/// CooperativeStore, RayQuery or RayPipelineFunction.
 pub fn has_kinds(fun: &Function) -> bool
     ensures { result ≡ body_has_kinds (body_of fun.now.body) }
 {
@@ -62,6 +62,7 @@ fn has_kind(located: &Located) -> bool
             | Statement::Call { .. }
             | Statement::CooperativeStore { .. }
             | Statement::RayQuery { .. }
+            | Statement::RayPipelineFunction(_)
     )
 }
 
