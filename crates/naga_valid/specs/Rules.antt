@@ -1,6 +1,7 @@
 -- The rules of a body: the check list of each visit, asked with the visits before it, and the stages that are left.
 use Rattle.std.specs.Prelude.{ℕ, false, List, [], ◌∷◌, Option, None, Some, slice_get}
 use Rattle.naga_below.specs.Tree.{Stmt, Leaf, Branch, Switch, Break, Continue, Return, Kill}
+use Rattle.naga_below.specs.declared.ir.statements.RayPipelineFunction.TheVariants.{TraceRay}
 use Rattle.naga_below.specs.declared.ir.statements.Statement.{Statement}
 use Rattle.naga_below.specs.declared.ir.statements.Statement as ir
 use Rattle.naga_below.specs.declared.valid.flags.ShaderStages.{ShaderStages}
@@ -22,6 +23,8 @@ use Rattle.naga_valid.specs.ImageAtomics.{image_atomic_points}
 use Rattle.naga_valid.specs.Images.{image_store_points}
 use Rattle.naga_valid.specs.Loads.{load_points}
 use Rattle.naga_valid.specs.Points.{Points}
+use Rattle.naga_valid.specs.RayQueries.{ray_query_points}
+use Rattle.naga_valid.specs.RayTraces.{trace_ray_points}
 use Rattle.naga_valid.specs.Stages.{meet, all_stages, compute_like_stages, compute_stage, fragment_stage}
 use Rattle.naga_valid.specs.Stores.{store_points}
 
@@ -45,8 +48,9 @@ leaf_points context past scope (ir.ImageAtomic image coordinate array_index fun 
     image_atomic_points context scope image (record { coordinate = coordinate; array_index = array_index }) fun value
 leaf_points context past scope (ir.ControlBarrier barrier) = no_list
 leaf_points context past scope (ir.MemoryBarrier barrier) = no_list
-leaf_points context past scope (ir.RayQuery query fun) = no_list
-leaf_points context past scope (ir.RayPipelineFunction fun) = no_list
+leaf_points context past scope (ir.RayQuery query fun) = ray_query_points context scope query fun
+leaf_points context past scope (ir.RayPipelineFunction (TraceRay structure descriptor payload)) =
+    trace_ray_points context past.payload scope structure descriptor payload
 leaf_points context past scope (ir.SubgroupBallot result predicate) = no_list
 leaf_points context past scope (ir.SubgroupGather mode argument result) = no_list
 leaf_points context past scope (ir.SubgroupCollectiveOperation op collective_op argument result) = no_list

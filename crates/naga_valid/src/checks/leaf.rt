@@ -19,12 +19,14 @@ use crate::checks::image::Texel;
 use crate::checks::image_atomic::check_image_atomic;
 use crate::checks::image_store::check_image_store;
 use crate::checks::load::check_load;
+use crate::checks::ray_query::check_ray_query;
+use crate::checks::ray_trace::check_trace_ray;
 use crate::checks::refuse::answer;
 use crate::checks::store::check_store;
 use crate::context::BlockContext;
 use crate::handle_set::HandleSet;
 use crate::state::BodyState;
-use naga_below::ir::statements::{Located, Statement};
+use naga_below::ir::statements::{Located, RayPipelineFunction, Statement};
 use naga_below::span::Refusal;
 use naga_rules::function::FunctionError;
 
@@ -103,8 +105,19 @@ pub fn check_leaf(
         }
         Statement::ControlBarrier(_) => Ok(()),
         Statement::MemoryBarrier(_) => Ok(()),
-        Statement::RayQuery { .. } => Ok(()),
-        Statement::RayPipelineFunction(_) => Ok(()),
+        Statement::RayQuery { query, fun } => check_ray_query(scope, context, *query, fun, span),
+        Statement::RayPipelineFunction(
+            RayPipelineFunction::TraceRay {
+                acceleration_structure: structure,
+                descriptor,
+                payload,
+            },
+        ) => {
+            let so_far = &state.trace.payload;
+            let checked =
+                check_trace_ray(scope, context, so_far, *structure, *descriptor, *payload);
+            answer(alloc, checked, span)
+        }
         Statement::SubgroupBallot { .. } => Ok(()),
         Statement::SubgroupGather { .. } => Ok(()),
         Statement::SubgroupCollectiveOperation { .. } => Ok(()),
