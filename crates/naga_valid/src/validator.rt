@@ -87,6 +87,20 @@ impl<B: Below> Validator<B> {
         }
     }
 
+    /// Lets subgroup operations be used at these stages, where it was other ones before, and at first none.
+    pub fn subgroup_stages(&mut self, set: ShaderStages)
+        ensures { self.new ≡ record self.old { settings = record self.old.settings { subgroup_stages = set } } }
+    {
+        self.settings.subgroup_stages = set;
+    }
+
+    /// Lets these groups of subgroup operations be used, where it was other ones before, and at first none.
+    pub fn subgroup_operations(&mut self, set: SubgroupOperationSet)
+        ensures { self.new ≡ record self.old { settings = record self.old.settings { subgroup_operations = set } } }
+    {
+        self.settings.subgroup_operations = set;
+    }
+
     /// Whether there is one info for each type of the module, and the types that the infos name are the module's.
     pub fn has_types_of(&self, module: &Module) -> bool
         ensures { IsTrue result ↔ AreInfosOf «module».now self.now.types }
