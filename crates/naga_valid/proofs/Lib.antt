@@ -12,6 +12,7 @@ pub mod Loads
 pub mod Cooperative
 pub mod Images
 pub mod ImageAtomics
+pub mod Subgroups
 pub mod Walk
 pub mod Parts
 pub mod Own

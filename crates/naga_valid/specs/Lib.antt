@@ -18,6 +18,8 @@ pub mod Loads
 pub mod Cooperative
 pub mod Images
 pub mod ImageAtomics
+pub mod Subgroups
+pub mod Barriers
 pub mod Ready
 pub mod Blocks
 pub mod Seen
