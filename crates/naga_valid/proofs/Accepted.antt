@@ -11,7 +11,6 @@ use Rattle.naga_below.specs.declared.ir.expressions.Expression.{Expression}
 use Rattle.naga_below.specs.declared.ir.expressions.Expression.TheVariants as e
 use Rattle.naga_below.specs.declared.ir.statements.Statement as ir
 use Rattle.naga_below.specs.declared.valid.flags.ShaderStages.{ShaderStages}
-use Rattle.naga_below.specs.declared.valid.info.ModuleInfo.{ModuleInfo}
 use Rattle.naga_rules.specs.declared.function.FunctionError.{FunctionError}
 use Rattle.naga_rules.specs.declared.function.FunctionError.TheVariants.{UnvisitedExpression}
 use Rattle.naga_runs.proofs.Judgements.{judgement_is_visits, earlier_is_all}
@@ -29,11 +28,12 @@ use Rattle.naga_valid.specs.Calls.{is_call_result_of, has_result}
 use Rattle.naga_valid.specs.Context.{Context, pre_emitted}
 use Rattle.naga_valid.specs.Flags.{checks_expressions}
 use Rattle.naga_valid.specs.Judged.{body_judgement, stages_after}
+use Rattle.naga_valid.specs.Past.{Past, past_of}
 use Rattle.naga_valid.specs.Results.{is_to_fill, result_of, fills, filled_before, is_unfilled, filled_points_from, filled_points}
 use Rattle.naga_valid.specs.Rules.{points_at, stages_of, stages_behind, stages_left}
 use Rattle.naga_valid.specs.Scope.{in_scope, known}
 use Rattle.naga_valid.specs.Stages.{meet}
-use Rattle.naga_valid.specs.State.{State, kept_rules, begin_state, state_behind, state_left}
+use Rattle.naga_valid.specs.State.{State, seen, kept_rules, begin_state, state_behind, state_left}
 use Rattle.naga_valid.specs.Types.{expression_at}
 use Rattle.naga_valid.proofs.Atomics.{NamedHolds, atomic_named}
 use Rattle.naga_valid.proofs.Calls.{call_holds}
@@ -61,34 +61,34 @@ meet_among_first : (a b : ShaderStages) → AreAmong (meet a b) a
 meet_among_first a b =
     ap (λ z. meet z a) (meet_comm a b) ∙ meet_assoc b a a ∙ ap (meet b) (among_itself a) ∙ meet_comm b a
 
-module _ (earlier : ModuleInfo) where
-  behind_among : (s : ShaderStages) (node : Node) → AreAmong (stages_behind earlier s node) s
+module _ (context : Context) where
+  behind_among : (s : ShaderStages) (node : Node) → AreAmong (stages_behind context s node) s
   behind_among s NoNode = among_itself s
-  behind_among s (StatementNode x) = meet_among_first s (stages_of earlier x)
+  behind_among s (StatementNode x) = meet_among_first s (stages_of context.settings.subgroup_stages context.earlier x)
   behind_among s (BreakIfNode h) = among_itself s
 
-  left_among : (s : ShaderStages) (visits : List Visit) → AreAmong (stages_left earlier s visits) s
+  left_among : (s : ShaderStages) (visits : List Visit) → AreAmong (stages_left context s visits) s
   left_among s [] = among_itself s
   left_among s (v ∷ visits) =
-      among_all (stages_left earlier (stages_behind earlier s v.node) visits) (stages_behind earlier s v.node) s (left_among (stages_behind earlier s v.node) visits) (behind_among s v.node)
+      among_all (stages_left context (stages_behind context s v.node) visits) (stages_behind context s v.node) s (left_among (stages_behind context s v.node) visits) (behind_among s v.node)
 
-  of_statement : (s t : ShaderStages) (node : Node) → AreAmong t (stages_behind earlier s node) → AreOfStatement earlier t node
+  of_statement : (s t : ShaderStages) (node : Node) → AreAmong t (stages_behind context s node) → AreOfStatement context.settings.subgroup_stages context.earlier t node
   of_statement s t NoNode e = tt
   of_statement s t (StatementNode x) e =
-      among_all t (meet s (stages_of earlier x)) (stages_of earlier x) e (meet_among_second s (stages_of earlier x))
+      among_all t (meet s (stages_of context.settings.subgroup_stages context.earlier x)) (stages_of context.settings.subgroup_stages context.earlier x) e (meet_among_second s (stages_of context.settings.subgroup_stages context.earlier x))
   of_statement s t (BreakIfNode h) e = tt
 
-  of_callee : (t : ShaderStages) (node : Node) → AreOfStatement earlier t node → AreOfCallee earlier t node
+  of_callee : (t : ShaderStages) (node : Node) → AreOfStatement context.settings.subgroup_stages context.earlier t node → AreOfCallee context.earlier t node
   of_callee t (StatementNode (Leaf acts (ir.Call f arguments result) span)) e = e
   of_callee t _ e = tt
 
-  of_all : (s : ShaderStages) (visits : List Visit) → AllByRecursion (AreOfStatement earlier (stages_left earlier s visits)) (map (λ v. v.node) visits)
+  of_all : (s : ShaderStages) (visits : List Visit) → AllByRecursion (AreOfStatement context.settings.subgroup_stages context.earlier (stages_left context s visits)) (map (λ v. v.node) visits)
   of_all s [] = tt
   of_all s (v ∷ visits) =
-      let next = stages_behind earlier s v.node in
-      (of_statement s (stages_left earlier next visits) v.node (left_among next visits), of_all next visits)
+      let next = stages_behind context s v.node in
+      (of_statement s (stages_left context next visits) v.node (left_among next visits), of_all next visits)
 
-  callees_of_all : (t : ShaderStages) (nodes : List Node) → AllByRecursion (AreOfStatement earlier t) nodes → AllByRecursion (AreOfCallee earlier t) nodes
+  callees_of_all : (t : ShaderStages) (nodes : List Node) → AllByRecursion (AreOfStatement context.settings.subgroup_stages context.earlier t) nodes → AllByRecursion (AreOfCallee context.earlier t) nodes
   callees_of_all t [] a = tt
   callees_of_all t (node ∷ nodes) a = (of_callee t node a.0, callees_of_all t nodes a.1)
 
@@ -116,31 +116,31 @@ call_result f _ h = cc
 same_handle : (q r : ℕ) → (q == r) ≡ true → q ≡ r
 same_handle q r h = grind (arith, nat_tests)
 
-module _ (context : Context) (filled : Handles) (place : Place) (r : ℕ) where
-  filling : (node : Node) → first_fault (points_at context filled place node) ≡ None → Filling context filled r node
+module _ (context : Context) (past : Past) (place : Place) (r : ℕ) where
+  filling : (node : Node) → first_fault (points_at context past place node) ≡ None → Filling context past.filled r node
   filling (StatementNode (Leaf acts (ir.Call f xs None) span)) h = Other refl refl refl
   filling (StatementNode (Leaf acts (ir.Call f xs (Some q)) span)) h = go (q == r) refl
     where
-      holds : (filled q ≡ false) × (expression_at context q ≡ Some (e.CallResult f))
+      holds : (past.filled q ≡ false) × (expression_at context q ≡ Some (e.CallResult f))
       holds =
-          let all = call_holds context filled place.scope f xs q h in
-          (unfilled context filled q all.2, call_result f (expression_at context q) (both_hold _ (has_result (slice_get context.program.functions f)) all.1).0)
+          let all = call_holds context past.filled place.scope f xs q h in
+          (unfilled context past.filled q all.2, call_result f (expression_at context q) (both_hold _ (has_result (slice_get context.program.functions f)) all.1).0)
 
-      go : (b : Bool) → (q == r) ≡ b → Filling context filled r (StatementNode (Leaf acts (ir.Call f xs (Some q)) span))
+      go : (b : Bool) → (q == r) ≡ b → Filling context past.filled r (StatementNode (Leaf acts (ir.Call f xs (Some q)) span))
       go true is =
           let same = same_handle q r is in
-          ByCall f (ap filled (sym same) ∙ holds.0) is (ap (expression_at context) (sym same) ∙ holds.1) (ap (λ b. if b then f ∷ [] else []) is) refl
+          ByCall f (ap past.filled (sym same) ∙ holds.0) is (ap (expression_at context) (sym same) ∙ holds.1) (ap (λ b. if b then f ∷ [] else []) is) refl
       go false is = Other is (ap (λ b. if b then f ∷ [] else []) is) refl
   filling (StatementNode (Leaf acts (ir.Atomic p f v None) span)) h = Other refl refl refl
   filling (StatementNode (Leaf acts (ir.Atomic p f v (Some q)) span)) h = go (q == r) refl
     where
-      holds : NamedHolds context filled place.scope q
-      holds = atomic_named context filled place.scope p f v (Some q) h
+      holds : NamedHolds context past.filled place.scope q
+      holds = atomic_named context past.filled place.scope p f v (Some q) h
 
-      go : (b : Bool) → (q == r) ≡ b → Filling context filled r (StatementNode (Leaf acts (ir.Atomic p f v (Some q)) span))
+      go : (b : Bool) → (q == r) ≡ b → Filling context past.filled r (StatementNode (Leaf acts (ir.Atomic p f v (Some q)) span))
       go true is =
           let same = same_handle q r is in
-          ByAtomic (ap filled (sym same) ∙ unfilled context filled q holds.fresh) is (ap (λ k. is_atomic_result (expression_at context k)) (sym same) ∙ holds.kind) refl (ap (λ b. if b then 1 else 0) is)
+          ByAtomic (ap past.filled (sym same) ∙ unfilled context past.filled q holds.fresh) is (ap (λ k. is_atomic_result (expression_at context k)) (sym same) ∙ holds.kind) refl (ap (λ b. if b then 1 else 0) is)
       go false is = Other is refl (ap (λ b. if b then 1 else 0) is)
   filling _ h = Other refl refl refl
 
@@ -208,9 +208,9 @@ module _ (context : Context) (r : ℕ) where
       subst (λ z. Filled context r [] (in_scope st.filled r) (in_scope z.filled r)) same (nothing (in_scope st.filled r))
   along st end (v ∷ visits) h =
       let next = state_behind context st v.node in
-      let both = passes (first_fault (points_at context (known st.filled) v.place v.node)) next (λ s. judge_visits (kept_rules context) s visits) end h in
+      let both = passes (first_fault (points_at context (seen st) v.place v.node)) next (λ s. judge_visits (kept_rules context) s visits) end h in
       let nodes = map (λ w. w.node) visits in
-      step (known st.filled) v.node nodes (in_scope end.filled r) (filling context (known st.filled) v.place r v.node both.0) (subst (λ b. Filled context r nodes b (in_scope end.filled r)) (behind_is st v.node) (along next end visits both.1))
+      step (known st.filled) v.node nodes (in_scope end.filled r) (filling context (seen st) v.place r v.node both.0) (subst (λ b. Filled context r nodes b (in_scope end.filled r)) (behind_is st v.node) (along next end visits both.1))
 
   called_once : (f : ℕ) (nodes : List Node) (b a : Bool) → b ≡ false → a ≡ true → expression_at context r ≡ Some (e.CallResult f) → Filled context r nodes b a → (callees_filling r nodes ≡ f ∷ []) × (atomics_filling r nodes ≡ 0)
   called_once f nodes true false free full is rest = elim rest [ ]
@@ -250,19 +250,19 @@ module _ (context : Context) (visits : List Visit) (is : body_judgement context 
   all_visits : visits ≡ visits_of (pre_emitted context) (body_of context.fun.body)
   unfolding body_judgement
   all_visits =
-      earlier_is_all (λ earlier v. points_at context (filled_before earlier) v.place v.node) visits (pre_emitted context) (body_of context.fun.body) is
+      earlier_is_all (λ earlier v. points_at context (past_of earlier) v.place v.node) visits (pre_emitted context) (body_of context.fun.body) is
 
   nodes_of_visits : map (λ v. v.node) visits ≡ nodes_of (body_of context.fun.body)
   nodes_of_visits =
       ap (map (λ v. v.node)) all_visits ∙ nodes_are (pre_emitted context) (body_of context.fun.body) (positions (body_of context.fun.body))
 
-  of_body : StagesAreOfAll context.earlier (body_of context.fun.body) (stages_left context.earlier context.info.available_stages visits)
+  of_body : StagesAreOfAll context.settings.subgroup_stages context.earlier (body_of context.fun.body) (stages_left context context.info.available_stages visits)
   of_body =
-      let stages = stages_left context.earlier context.info.available_stages visits in
-      let statements = subst (AllByRecursion (AreOfStatement context.earlier stages)) nodes_of_visits (of_all context.earlier context.info.available_stages visits) in
+      let stages = stages_left context context.info.available_stages visits in
+      let statements = subst (AllByRecursion (AreOfStatement context.settings.subgroup_stages context.earlier stages)) nodes_of_visits (of_all context context.info.available_stages visits) in
       record {
         statements = statements;
-        callees = callees_of_all context.earlier stages (nodes_of (body_of context.fun.body)) statements;
+        callees = callees_of_all context stages (nodes_of (body_of context.fun.body)) statements;
       }
 
   walked : judge_visits (kept_rules context) (begin_state context) visits ≡ Ok (state_left context visits)
@@ -303,13 +303,13 @@ module _ (context : Context) (stages : ShaderStages) where
   filled_by (Ok visits) is h on = once context visits is on (answered _ _ h).0
   filled_by (Err f) is h on = cc
 
-  of_all_by : (judged : Result (List Visit) FunctionError) → body_judgement context ≡ judged → stages_after context judged ≡ Ok stages → StagesAreOfAll context.earlier (body_of context.fun.body) stages
+  of_all_by : (judged : Result (List Visit) FunctionError) → body_judgement context ≡ judged → stages_after context judged ≡ Ok stages → StagesAreOfAll context.settings.subgroup_stages context.earlier (body_of context.fun.body) stages
   of_all_by (Ok visits) is h =
-      subst (StagesAreOfAll context.earlier (body_of context.fun.body)) (answered _ _ h).1 (of_body context visits is)
+      subst (StagesAreOfAll context.settings.subgroup_stages context.earlier (body_of context.fun.body)) (answered _ _ h).1 (of_body context visits is)
   of_all_by (Err f) is h = cc
 
   pub results_are_filled_once : stages_after context (body_judgement context) ≡ Ok stages → checks_expressions context.settings.flags ≡ true → ResultsAreFilledOnce context.fun
   results_are_filled_once = filled_by (body_judgement context) refl
 
-  pub stages_are_of_all : stages_after context (body_judgement context) ≡ Ok stages → StagesAreOfAll context.earlier (body_of context.fun.body) stages
+  pub stages_are_of_all : stages_after context (body_judgement context) ≡ Ok stages → StagesAreOfAll context.settings.subgroup_stages context.earlier (body_of context.fun.body) stages
   stages_are_of_all = of_all_by (body_judgement context) refl

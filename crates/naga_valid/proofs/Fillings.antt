@@ -2,7 +2,6 @@
 use Rattle.std.proofs.Common.{◌≡◌, ℕ, suc, ◌+◌, ◌-◌, ◌<◌, ◌≤◌, ◌==◌, Bool, true, false, not, ◌&&◌, ◌||◌, List, [], ◌∷◌, ◌++◌, Option, None, Some, cond, refl, sym, ap, ◌∙◌, arith}
 use Rattle.std.proofs.lemmas.List.Folds.{list_any-append}
 use Rattle.naga_below.specs.declared.valid.flags.ShaderStages.{ShaderStages}
-use Rattle.naga_below.specs.declared.valid.info.ModuleInfo.{ModuleInfo}
 use Rattle.naga_rules.specs.declared.function.FunctionError.{FunctionError}
 use Rattle.naga_rules.specs.declared.function.FunctionError.TheVariants.{UnvisitedExpression}
 use Rattle.naga_runs.proofs.Points.{not_holds}
@@ -13,10 +12,11 @@ use Rattle.naga_runs.specs.Visits.{Visit}
 use Rattle.naga_valid.specs.Context.{Context}
 use Rattle.naga_valid.specs.Flags.{checks_expressions}
 use Rattle.naga_valid.specs.Types.{expression_at}
+use Rattle.naga_valid.specs.Past.{past_of}
 use Rattle.naga_valid.specs.Results.{result_of, is_this, is_to_fill, is_fresh, filled_before, is_unfilled, filled_points_from}
 use Rattle.naga_valid.specs.Rules.{stages_behind, stages_left}
 use Rattle.naga_valid.specs.Scope.{in_scope, known}
-use Rattle.naga_valid.specs.State.{State, with_result, filled_from, state_behind, state_left}
+use Rattle.naga_valid.specs.State.{State, seen, with_result, filled_from, state_behind, state_left}
 
 pub or_false : (b : Bool) → (b || false) ≡ b
 or_false true = refl
@@ -42,19 +42,23 @@ from_is filled (v ∷ visits) r =
 pub known_filled : (visits : List Visit) → known (filled_from [] visits) ≡ filled_before visits
 known_filled visits i r = from_is [] visits r i
 
+-- so the check lists are asked with the same
+pub seen_is : (context : Context) (visits : List Visit) → seen (state_left context visits) ≡ past_of visits
+seen_is context visits i = record { filled = known_filled visits i }
+
 -- one visit more
 filled_more : (filled : List ℕ) (visits : List Visit) (v : Visit) → filled_from filled (visits ++ (v ∷ [])) ≡ with_result (filled_from filled visits) (result_of v.node)
 filled_more filled [] v = refl
 filled_more filled (w ∷ visits) v = filled_more (with_result filled (result_of w.node)) visits v
 
-stages_more : (earlier : ModuleInfo) (stages : ShaderStages) (visits : List Visit) (v : Visit) →
-    stages_left earlier stages (visits ++ (v ∷ [])) ≡ stages_behind earlier (stages_left earlier stages visits) v.node
-stages_more earlier stages [] v = refl
-stages_more earlier stages (w ∷ visits) v = stages_more earlier (stages_behind earlier stages w.node) visits v
+stages_more : (context : Context) (stages : ShaderStages) (visits : List Visit) (v : Visit) →
+    stages_left context stages (visits ++ (v ∷ [])) ≡ stages_behind context (stages_left context stages visits) v.node
+stages_more context stages [] v = refl
+stages_more context stages (w ∷ visits) v = stages_more context (stages_behind context stages w.node) visits v
 
 abbrev behind_both : Context → ShaderStages → List ℕ → Node → State
 behind_both context stages filled node =
-    record { stages = stages_behind context.earlier stages node; filled = with_result filled (result_of node) }
+    record { stages = stages_behind context stages node; filled = with_result filled (result_of node) }
 
 behind : (context : Context) (stages : ShaderStages) (filled : List ℕ) (node : Node) →
     behind_both context stages filled node ≡ state_behind context (record { stages = stages; filled = filled }) node
@@ -64,8 +68,8 @@ behind context stages filled (BreakIfNode h) = refl
 
 pub state_more : (context : Context) (visits : List Visit) (v : Visit) → state_left context (visits ++ (v ∷ [])) ≡ state_behind context (state_left context visits) v.node
 state_more context visits v =
-    (λ i. record { stages = stages_more context.earlier context.info.available_stages visits v i; filled = filled_more [] visits v i })
-    ∙ behind context (stages_left context.earlier context.info.available_stages visits) (filled_from [] visits) v.node
+    (λ i. record { stages = stages_more context context.info.available_stages visits v i; filled = filled_more [] visits v i })
+    ∙ behind context (stages_left context context.info.available_stages visits) (filled_from [] visits) v.node
 
 -- the points behind a body, from one expression on
 module _ (context : Context) (filled : Handles) (h end : ℕ) where

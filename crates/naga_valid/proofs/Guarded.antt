@@ -24,10 +24,10 @@ use Rattle.naga_valid.specs.Context.{Context, pre_emitted}
 use Rattle.naga_valid.specs.Control.{emit_points_from, is_result, is_bool_scalar, is_integer, value_points, values_of, cases_points, declared_type, is_returned_as}
 use Rattle.naga_valid.specs.Judged.{body_judgement}
 use Rattle.naga_valid.specs.Points.{Points, use_point, put_point}
+use Rattle.naga_valid.specs.Past.{Past}
 use Rattle.naga_valid.specs.Results.{result_of}
 use Rattle.naga_valid.specs.Rules.{statement_points, points_at}
-use Rattle.naga_valid.specs.Scope.{known}
-use Rattle.naga_valid.specs.State.{State, kept_rules, begin_state, state_left}
+use Rattle.naga_valid.specs.State.{State, seen, kept_rules, begin_state, state_left}
 use Rattle.naga_valid.specs.Types.{expression_at, type_at, scalar_kind_at}
 use Rattle.naga_valid.proofs.Atomics.{atomic_named, atomic_fits}
 use Rattle.naga_valid.proofs.Calls.{call_holds, call_fits}
@@ -58,50 +58,57 @@ emit_fits context (suc n) first s t same e =
 use_fits : (scope : Handles) (h : ℕ) (ps : Points) → first_fault (use_point scope h ∷ ps) ≡ None → (scope h ≡ true)
 use_fits scope h ps e = (first_holds (scope h) (Expression h NotInScope) ps e).0
 
-node_fits : (context : Context) (filled : Handles) (place : Place) (node : Node) → IsRead no_operands node → first_fault (points_at context filled place node) ≡ None → Fit place.scope place.scope (node_acts node) × Allowed (node_jump node) place.abilities.can_return place.abilities.can_break place.abilities.can_continue
-node_fits context filled place NoNode made e = (tt, tt)
-node_fits context filled place (BreakIfNode h) made e = ((use_fits place.scope h ((is_bool_scalar (type_at context h), InvalidIfType h) ∷ []) e, tt), tt)
-node_fits context filled place (StatementNode (Leaf acts (ir.Emit r) span)) made e =
+node_fits : (context : Context) (past : Past) (place : Place) (node : Node) → IsRead no_operands node → first_fault (points_at context past place node) ≡ None → Fit place.scope place.scope (node_acts node) × Allowed (node_jump node) place.abilities.can_return place.abilities.can_break place.abilities.can_continue
+node_fits context past place NoNode made e = (tt, tt)
+node_fits context past place (BreakIfNode h) made e = ((use_fits place.scope h ((is_bool_scalar (type_at context h), InvalidIfType h) ∷ []) e, tt), tt)
+node_fits context past place (StatementNode (Leaf acts (ir.Emit r) span)) made e =
     (subst (Fit place.scope place.scope) (sym made) (emit_fits context (r.end - r.start) r.start place.scope place.scope (λ k le. refl) e), tt)
-node_fits context filled place (StatementNode (Leaf acts (ir.Call f xs r) span)) made e =
-    (subst (Fit place.scope place.scope) (sym made) (call_fits context filled place.scope f xs r e), tt)
-node_fits context filled place (StatementNode (Leaf acts (ir.Atomic p f v r) span)) made e =
-    (subst (Fit place.scope place.scope) (sym made) (atomic_fits context filled place.scope p f v r e), tt)
-node_fits context filled place (StatementNode (Leaf acts (ir.Store p v) span)) made e =
+node_fits context past place (StatementNode (Leaf acts (ir.Call f xs r) span)) made e =
+    (subst (Fit place.scope place.scope) (sym made) (call_fits context past.filled place.scope f xs r e), tt)
+node_fits context past place (StatementNode (Leaf acts (ir.Atomic p f v r) span)) made e =
+    (subst (Fit place.scope place.scope) (sym made) (atomic_fits context past.filled place.scope p f v r e), tt)
+node_fits context past place (StatementNode (Leaf acts (ir.Store p v) span)) made e =
     (subst (Fit place.scope place.scope) (sym made) (store_fits context place.scope p v e), tt)
-node_fits context filled place (StatementNode (Leaf acts (ir.WorkGroupUniformLoad p r) span)) made e =
+node_fits context past place (StatementNode (Leaf acts (ir.WorkGroupUniformLoad p r) span)) made e =
     (subst (Fit place.scope place.scope) (sym made) (load_fits context place.scope p r e), tt)
-node_fits context filled place (StatementNode (Leaf acts (ir.CooperativeStore t d) span)) made e =
+node_fits context past place (StatementNode (Leaf acts (ir.CooperativeStore t d) span)) made e =
     (subst (Fit place.scope place.scope) (sym made) (cooperative_fits context place.scope t d.pointer e), tt)
-node_fits context filled place (StatementNode (Leaf acts (ir.ImageStore i k a v) span)) made e =
+node_fits context past place (StatementNode (Leaf acts (ir.ImageStore i k a v) span)) made e =
     (subst (Fit place.scope place.scope) (sym made) (image_store_fits context place.scope i (record { coordinate = k; array_index = a }) v e), tt)
-node_fits context filled place (StatementNode (Leaf acts (ir.ImageAtomic i k a f v) span)) made e =
+node_fits context past place (StatementNode (Leaf acts (ir.ImageAtomic i k a f v) span)) made e =
     (subst (Fit place.scope place.scope) (sym made) (image_atomic_fits context place.scope f v i (record { coordinate = k; array_index = a }) e), tt)
-node_fits context filled place (StatementNode (Leaf acts _ span)) made e = cc
-node_fits context filled place (StatementNode (Block b)) made e = (tt, tt)
-node_fits context filled place (StatementNode (Branch h x y)) made e = ((use_fits place.scope h ((is_bool_scalar (type_at context h), InvalidIfType h) ∷ []) e, tt), tt)
-node_fits context filled place (StatementNode (Switch h cs)) made e =
+node_fits context past place (StatementNode (Leaf acts (ir.ControlBarrier b) span)) made e = cc
+node_fits context past place (StatementNode (Leaf acts (ir.MemoryBarrier b) span)) made e = cc
+node_fits context past place (StatementNode (Leaf acts (ir.RayQuery q f) span)) made e = cc
+node_fits context past place (StatementNode (Leaf acts (ir.RayPipelineFunction f) span)) made e = cc
+node_fits context past place (StatementNode (Leaf acts (ir.SubgroupBallot r p) span)) made e = cc
+node_fits context past place (StatementNode (Leaf acts (ir.SubgroupGather m x r) span)) made e = cc
+node_fits context past place (StatementNode (Leaf acts (ir.SubgroupCollectiveOperation o k x r) span)) made e = cc
+node_fits context past place (StatementNode (Leaf acts _ span)) made e = (subst (Fit place.scope place.scope) (sym made) tt, tt)
+node_fits context past place (StatementNode (Block b)) made e = (tt, tt)
+node_fits context past place (StatementNode (Branch h x y)) made e = ((use_fits place.scope h ((is_bool_scalar (type_at context h), InvalidIfType h) ∷ []) e, tt), tt)
+node_fits context past place (StatementNode (Switch h cs)) made e =
     ((use_fits place.scope h ((is_integer (scalar_kind_at context h), InvalidSwitchType h) ∷ (value_points (scalar_kind_at context h) [] (values_of cs) ++ cases_points cs)) e, tt), tt)
-node_fits context filled place (StatementNode (Loop b c q)) made e = (tt, tt)
-node_fits context filled place (StatementNode Break) made e = (tt, (first_holds place.abilities.can_break BreakOutsideOfLoopOrSwitch [] e).0)
-node_fits context filled place (StatementNode Continue) made e = (tt, (first_holds place.abilities.can_continue ContinueOutsideOfLoop [] e).0)
-node_fits context filled place (StatementNode (Return None)) made e =
+node_fits context past place (StatementNode (Loop b c q)) made e = (tt, tt)
+node_fits context past place (StatementNode Break) made e = (tt, (first_holds place.abilities.can_break BreakOutsideOfLoopOrSwitch [] e).0)
+node_fits context past place (StatementNode Continue) made e = (tt, (first_holds place.abilities.can_continue ContinueOutsideOfLoop [] e).0)
+node_fits context past place (StatementNode (Return None)) made e =
     (tt, (first_holds place.abilities.can_return InvalidReturnSpot ((is_none (declared_type context), InvalidReturnType None (declared_type context)) ∷ []) e).0)
-node_fits context filled place (StatementNode (Return (Some v))) made e =
+node_fits context past place (StatementNode (Return (Some v))) made e =
     let type_point : Point FunctionError = (is_returned_as context v (declared_type context), InvalidReturnType (Some v) (declared_type context)) in
     let able = first_holds place.abilities.can_return InvalidReturnSpot (use_point place.scope v ∷ type_point ∷ []) e in
     ((use_fits place.scope v (type_point ∷ []) able.1, tt), able.0)
-node_fits context filled place (StatementNode Kill) made e = (tt, tt)
+node_fits context past place (StatementNode Kill) made e = (tt, tt)
 
 -- a result that a statement names is not filled yet
-pub names_unfilled : (context : Context) (filled : Handles) (place : Place) (x : Stmt) → first_fault (statement_points context filled place x) ≡ None → IfSome (result_of (StatementNode x)) (λ r. filled r ≡ false)
-names_unfilled context filled place (Leaf acts (ir.Call f xs (Some r)) span) e = unfilled context filled r (call_holds context filled place.scope f xs r e).2
-names_unfilled context filled place (Leaf acts (ir.Atomic p f v (Some r)) span) e =
-    unfilled context filled r (atomic_named context filled place.scope p f v (Some r) e).fresh
-names_unfilled context filled place _ e = tt
+pub names_unfilled : (context : Context) (past : Past) (place : Place) (x : Stmt) → first_fault (statement_points context past place x) ≡ None → IfSome (result_of (StatementNode x)) (λ r. past.filled r ≡ false)
+names_unfilled context past place (Leaf acts (ir.Call f xs (Some r)) span) e = unfilled context past.filled r (call_holds context past.filled place.scope f xs r e).2
+names_unfilled context past place (Leaf acts (ir.Atomic p f v (Some r)) span) e =
+    unfilled context past.filled r (atomic_named context past.filled place.scope p f v (Some r) e).fresh
+names_unfilled context past place _ e = tt
 
 pub guards : (context : Context) → ReadGuards (kept_rules context) no_operands
-guards context st v made e = node_fits context (known st.filled) v.place v.node made e
+guards context st v made e = node_fits context (seen st) v.place v.node made e
 
 pub accepted_is_sound : (context : Context) (state : State) → viewed (state_left context) (body_judgement context) ≡ Ok state → RunsAreSound (pre_emitted context) (body_of context.fun.body)
 accepted_is_sound context state e =

@@ -14,23 +14,24 @@ use Rattle.naga_valid.specs.Answers.{AnswersPoints}
 use Rattle.naga_valid.specs.Blocks.{body_of}
 use Rattle.naga_valid.specs.Context.{Context, pre_emitted}
 use Rattle.naga_valid.specs.Judged.{body_judgement, stages_after}
-use Rattle.naga_valid.specs.Results.{filled_before, filled_points}
+use Rattle.naga_valid.specs.Past.{past_of}
+use Rattle.naga_valid.specs.Results.{filled_points}
 use Rattle.naga_valid.specs.Rules.{points_at, body_rules, stages_left}
 use Rattle.naga_valid.specs.Scope.{known}
 use Rattle.naga_valid.specs.State.{State, kept_rules, begin_state, state_left}
 use Rattle.naga_valid.specs.Walk.{body_answer, pre_emitted_from, body_abilities}
-use Rattle.naga_valid.proofs.Fillings.{known_filled, state_more}
+use Rattle.naga_valid.proofs.Fillings.{known_filled, seen_is, state_more}
 use Rattle.naga_valid.proofs.PreEmitted.{known_pre_emitted}
 use Rattle.naga_valid.proofs.Walk.{moved}
 
 follows : (context : Context) → Follows (body_rules context) (kept_rules context) (state_left context)
-follows context = record { points = λ visits v. ap (λ filled. points_at context filled v.place v.node) (sym (known_filled visits)); advance = λ visits v. state_more context visits v }
+follows context = record { points = λ visits v. ap (λ past. points_at context past v.place v.node) (sym (seen_is context visits)); advance = λ visits v. state_more context visits v }
 
 pub kept : (context : Context) →
     judgement (kept_rules context) (begin_state context) (pre_emitted context) (body_of context.fun.body) ≡ viewed (state_left context) (body_judgement context)
 unfolding body_judgement
 kept context =
-    earlier_agrees (λ earlier v. points_at context (filled_before earlier) v.place v.node) (kept_rules context) (state_left context) (follows context) (pre_emitted context) (body_of context.fun.body)
+    earlier_agrees (λ earlier v. points_at context (past_of earlier) v.place v.node) (kept_rules context) (state_left context) (follows context) (pre_emitted context) (body_of context.fun.body)
 
 pub judged : (context : Context) → viewed (state_left context) (body_judgement context) ≡ body_answer context (begin_state context) body_abilities (pre_emitted_from 0 context.fun.expressions) (body_of context.fun.body)
 judged context =
@@ -43,7 +44,7 @@ pub stages_after_is : (context : Context) (judgement : Result (List Visit) Funct
     stages_after context judgement ≡ answer (first_fault (filled_points context (known state.filled))) state.stages
 stages_after_is context (Ok visits) state e =
     let same : state_left context visits ≡ state = cc in
-    ap (λ filled. answer (first_fault (filled_points context filled)) (stages_left context.earlier context.info.available_stages visits)) (sym (known_filled visits))
+    ap (λ filled. answer (first_fault (filled_points context filled)) (stages_left context context.info.available_stages visits)) (sym (known_filled visits))
     ∙ ap (λ (z : State). answer (first_fault (filled_points context (known z.filled))) z.stages) same
 stages_after_is context (Err fault) state e = cc
 

@@ -1,6 +1,7 @@
 pub mod Scopes
 pub mod Lists
 pub mod Fillings
+pub mod Traces
 pub mod Calls
 pub mod Atomics
 pub mod Values

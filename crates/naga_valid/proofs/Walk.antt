@@ -4,7 +4,7 @@ use Rattle.std.proofs.lemmas.List.{at_drop_more, at_drop_all}
 use Rattle.std.proofs.lemmas.List.Folds.{list_any-append}
 use Rattle.std.specs.Prelude.{◌||◌, ◌==◌, if◌then◌else◌}
 use Rattle.naga_below.specs.Tree.{Act, Use, Put, Stmt, Leaf, Block, Branch, Switch, Loop, Break, Continue, Return, Kill, Body, Done, Then, Cases, NoCase, OneCase}
-use Rattle.naga_valid.specs.State.{State, kept_rules, with_statement}
+use Rattle.naga_valid.specs.State.{State, seen, kept_rules, with_statement}
 use Rattle.naga_below.specs.View as view
 use Rattle.naga_below.specs.View.{no_operands}
 use Rattle.naga_below.specs.declared.ir.statements.Block.{Block as Block_of}
@@ -166,11 +166,11 @@ module _ (cs : List SwitchCase) (i : ℕ) where
 
 -- a statement's own check list, and what it leaves
 module _ (context : Context) (k : State) (a : Abilities) (s : List ℕ) (x : Stmt) where
-  pub own_passes : first_fault (statement_points context (known k.filled) (place a s) x) ≡ None → own_answer context k a s x ≡ Ok (with_statement context k x)
+  pub own_passes : first_fault (statement_points context (seen k) (place a s) x) ≡ None → own_answer context k a s x ≡ Ok (with_statement context k x)
   unfolding own_answer Rattle.naga_runs.specs.ByTree.judge
   own_passes e = ap (λ o. answer o (with_statement context k x)) e
 
-  pub own_refuses : (e : Refusal FunctionError) → IsFirstFault (statement_points context (known k.filled) (place a s) x) e → Refuses (own_answer context k a s x) e
+  pub own_refuses : (e : Refusal FunctionError) → IsFirstFault (statement_points context (seen k) (place a s) x) e → Refuses (own_answer context k a s x) e
   unfolding own_answer Rattle.naga_runs.specs.ByTree.judge
   own_refuses (refusal.Fault f) h = ap (λ o. answer o (with_statement context k x)) h
   own_refuses refusal.Memory h = tt

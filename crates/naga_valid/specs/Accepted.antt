@@ -53,16 +53,17 @@ abbrev pub AreAmong : ShaderStages → ShaderStages → Type 0
 AreAmong some all = meet some all ≡ some
 
 -- the stages are among those of a statement
-abbrev pub AreOfStatement : ModuleInfo → ShaderStages → Node → Type 0
-AreOfStatement earlier stages (StatementNode x) = AreAmong stages (stages_of earlier x)
-AreOfStatement earlier stages _ = ⊤
+abbrev pub AreOfStatement : ShaderStages → ModuleInfo → ShaderStages → Node → Type 0
+AreOfStatement subgroups earlier stages (StatementNode x) = AreAmong stages (stages_of subgroups earlier x)
+AreOfStatement subgroups earlier stages _ = ⊤
 
 -- the stages are among those that the info of a called function records
 abbrev pub AreOfCallee : ModuleInfo → ShaderStages → Node → Type 0
 AreOfCallee earlier stages (StatementNode (Leaf acts (ir.Call f arguments result) span)) = AreAmong stages (callee_stages earlier f)
 AreOfCallee earlier stages _ = ⊤
 
--- the stages are among those of each statement of a body, at any depth, and of each function that it calls
-pub record StagesAreOfAll (earlier : ModuleInfo) (b : Body) (stages : ShaderStages) : Type 0 where
-  pub statements : AllByRecursion (AreOfStatement earlier stages) (nodes_of b)
+-- the stages are among those of each statement of a body, at any depth, where subgroups are in the first ones, and of
+-- each function that it calls
+pub record StagesAreOfAll (subgroups : ShaderStages) (earlier : ModuleInfo) (b : Body) (stages : ShaderStages) : Type 0 where
+  pub statements : AllByRecursion (AreOfStatement subgroups earlier stages) (nodes_of b)
   pub callees : AllByRecursion (AreOfCallee earlier stages) (nodes_of b)

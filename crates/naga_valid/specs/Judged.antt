@@ -23,7 +23,7 @@ body_judgement context = judgement (body_rules context) [] (pre_emitted context)
 -- behind the body each result must be filled; then these are the stages that are left
 abbrev pub stages_after : Context → Result (List Visit) FunctionError → Result ShaderStages FunctionError
 stages_after context (Ok visits) =
-    answer (first_fault (filled_points context (filled_before visits))) (stages_left context.earlier context.info.available_stages visits)
+    answer (first_fault (filled_points context (filled_before visits))) (stages_left context context.info.available_stages visits)
 stages_after context (Err fault) = Err fault
 
 -- the info of a function of which these stages are left

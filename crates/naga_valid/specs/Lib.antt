@@ -11,11 +11,13 @@ pub mod Walk
 pub mod Control
 pub mod Flags
 pub mod Results
+pub mod Past
 pub mod Calls
 pub mod Atomics
 pub mod Stores
 pub mod Loads
 pub mod Cooperative
+pub mod Traces
 pub mod Images
 pub mod ImageAtomics
 pub mod Subgroups

@@ -13,6 +13,7 @@ use Rattle.naga_runs.specs.Judgement.{Rules, by_earlier}
 use Rattle.naga_runs.specs.Positions.{Node, NoNode, StatementNode, BreakIfNode}
 use Rattle.naga_runs.specs.Visits.{Place, Visit}
 use Rattle.naga_valid.specs.Atomics.{atomic_points}
+use Rattle.naga_valid.specs.Past.{Past, past_of}
 use Rattle.naga_valid.specs.Calls.{call_points}
 use Rattle.naga_valid.specs.Context.{Context}
 use Rattle.naga_valid.specs.Control.{emit_points, condition_points, switch_points, return_points, break_points, continue_points}
@@ -21,7 +22,6 @@ use Rattle.naga_valid.specs.ImageAtomics.{image_atomic_points}
 use Rattle.naga_valid.specs.Images.{image_store_points}
 use Rattle.naga_valid.specs.Loads.{load_points}
 use Rattle.naga_valid.specs.Points.{Points}
-use Rattle.naga_valid.specs.Results.{filled_before}
 use Rattle.naga_valid.specs.Stages.{meet, all_stages, compute_like_stages, compute_stage, fragment_stage}
 use Rattle.naga_valid.specs.Stores.{store_points}
 
@@ -29,42 +29,49 @@ use Rattle.naga_valid.specs.Stores.{store_points}
 abbrev pub no_list : Points
 no_list = (false, MissingCapability (record { 0 = 0 })) ∷ []
 
--- the check list of a statement that is neither a jump nor holds others
-abbrev pub leaf_points : Context → Handles → Place → Statement → Points
-leaf_points context filled place (ir.Emit range) = emit_points context place.scope range.start range.end
-leaf_points context filled place (ir.Call f arguments result) =
-    call_points context filled place.scope f arguments result
-leaf_points context filled place (ir.Atomic pointer fun value result) =
-    atomic_points context filled place.scope pointer fun value result
-leaf_points context filled place (ir.Store pointer value) = store_points context place.scope pointer value
-leaf_points context filled place (ir.WorkGroupUniformLoad pointer result) = load_points context place.scope pointer result
-leaf_points context filled place (ir.CooperativeStore target source) = cooperative_points context place.scope target source.pointer
-leaf_points context filled place (ir.ImageStore image coordinate array_index value) =
-    image_store_points context place.scope image (record { coordinate = coordinate; array_index = array_index }) value
-leaf_points context filled place (ir.ImageAtomic image coordinate array_index fun value) =
-    image_atomic_points context place.scope image (record { coordinate = coordinate; array_index = array_index }) fun value
-leaf_points context filled place _ = no_list
+-- the check list of a statement that is neither a jump nor holds others, behind what the visits before it did
+abbrev pub leaf_points : Context → Past → Handles → Statement → Points
+leaf_points context past scope (ir.Emit range) = emit_points context scope range.start range.end
+leaf_points context past scope (ir.Call f arguments result) =
+    call_points context past.filled scope f arguments result
+leaf_points context past scope (ir.Atomic pointer fun value result) =
+    atomic_points context past.filled scope pointer fun value result
+leaf_points context past scope (ir.Store pointer value) = store_points context scope pointer value
+leaf_points context past scope (ir.WorkGroupUniformLoad pointer result) = load_points context scope pointer result
+leaf_points context past scope (ir.CooperativeStore target source) = cooperative_points context scope target source.pointer
+leaf_points context past scope (ir.ImageStore image coordinate array_index value) =
+    image_store_points context scope image (record { coordinate = coordinate; array_index = array_index }) value
+leaf_points context past scope (ir.ImageAtomic image coordinate array_index fun value) =
+    image_atomic_points context scope image (record { coordinate = coordinate; array_index = array_index }) fun value
+leaf_points context past scope (ir.ControlBarrier barrier) = no_list
+leaf_points context past scope (ir.MemoryBarrier barrier) = no_list
+leaf_points context past scope (ir.RayQuery query fun) = no_list
+leaf_points context past scope (ir.RayPipelineFunction fun) = no_list
+leaf_points context past scope (ir.SubgroupBallot result predicate) = no_list
+leaf_points context past scope (ir.SubgroupGather mode argument result) = no_list
+leaf_points context past scope (ir.SubgroupCollectiveOperation op collective_op argument result) = no_list
+leaf_points context past scope _ = []
 
--- the check list of a statement, where these results are filled before it
-abbrev pub statement_points : Context → Handles → Place → Stmt → Points
-statement_points context filled place (Leaf acts statement span) = leaf_points context filled place statement
-statement_points context filled place (Branch h accept reject) = condition_points context place.scope h
-statement_points context filled place (Switch h cases) = switch_points context place.scope h cases
-statement_points context filled place (Return value) = return_points context place.abilities place.scope value
-statement_points context filled place Break = break_points place.abilities
-statement_points context filled place Continue = continue_points place.abilities
-statement_points context filled place _ = []
+-- the check list of a statement
+abbrev pub statement_points : Context → Past → Place → Stmt → Points
+statement_points context past place (Leaf acts statement span) = leaf_points context past place.scope statement
+statement_points context past place (Branch h accept reject) = condition_points context place.scope h
+statement_points context past place (Switch h cases) = switch_points context place.scope h cases
+statement_points context past place (Return value) = return_points context place.abilities place.scope value
+statement_points context past place Break = break_points place.abilities
+statement_points context past place Continue = continue_points place.abilities
+statement_points context past place _ = []
 
 -- the check list of what stands at a place
-abbrev pub points_at : Context → Handles → Place → Node → Points
-points_at context filled place NoNode = []
-points_at context filled place (StatementNode x) = statement_points context filled place x
-points_at context filled place (BreakIfNode h) = condition_points context place.scope h
+abbrev pub points_at : Context → Past → Place → Node → Points
+points_at context past place NoNode = []
+points_at context past place (StatementNode x) = statement_points context past place x
+points_at context past place (BreakIfNode h) = condition_points context place.scope h
 
--- each visit has its check list, asked with the results that the visits before it filled
+-- each visit has its check list, asked with what the visits before it did
 abbrev pub body_rules : Context → Rules (List Visit) FunctionError
 body_rules context =
-    by_earlier (λ earlier visit. points_at context (filled_before earlier) visit.place visit.node)
+    by_earlier (λ earlier visit. points_at context (past_of earlier) visit.place visit.node)
 
 -- the stages that an info records; the conditions of a validation say that there is one
 abbrev pub recorded_stages : Option FunctionInfo → ShaderStages
@@ -75,25 +82,31 @@ recorded_stages (Some info) = info.available_stages
 abbrev pub callee_stages : ModuleInfo → ℕ → ShaderStages
 callee_stages earlier f = recorded_stages (slice_get earlier.functions f)
 
-abbrev pub leaf_stages : ModuleInfo → Statement → ShaderStages
-leaf_stages earlier (ir.WorkGroupUniformLoad pointer result) = compute_like_stages
-leaf_stages earlier (ir.CooperativeStore target source) = compute_stage
-leaf_stages earlier (ir.Call f arguments result) = callee_stages earlier f
-leaf_stages earlier _ = all_stages
+-- the stages that a statement may run in that is neither a jump nor holds others, where subgroups are in these stages
+abbrev pub leaf_stages : ShaderStages → ModuleInfo → Statement → ShaderStages
+leaf_stages subgroups earlier (ir.ControlBarrier barrier) = compute_like_stages
+leaf_stages subgroups earlier (ir.MemoryBarrier barrier) = compute_like_stages
+leaf_stages subgroups earlier (ir.WorkGroupUniformLoad pointer result) = compute_like_stages
+leaf_stages subgroups earlier (ir.CooperativeStore target source) = compute_stage
+leaf_stages subgroups earlier (ir.Call f arguments result) = callee_stages earlier f
+leaf_stages subgroups earlier (ir.SubgroupBallot result predicate) = subgroups
+leaf_stages subgroups earlier (ir.SubgroupGather mode argument result) = subgroups
+leaf_stages subgroups earlier (ir.SubgroupCollectiveOperation op collective_op argument result) = subgroups
+leaf_stages subgroups earlier _ = all_stages
 
--- the stages that a statement may run in: a Kill the fragment stage, a Call those of its callee, a work group load those
--- that are like compute, a cooperative store compute alone
-abbrev pub stages_of : ModuleInfo → Stmt → ShaderStages
-stages_of earlier (Leaf acts statement span) = leaf_stages earlier statement
-stages_of earlier Kill = fragment_stage
-stages_of earlier _ = all_stages
+-- the stages that a statement may run in: a Kill the fragment stage, a Call those of its callee, barriers and work group
+-- loads those that are like compute, a cooperative store compute alone, a subgroup statement those of the settings
+abbrev pub stages_of : ShaderStages → ModuleInfo → Stmt → ShaderStages
+stages_of subgroups earlier (Leaf acts statement span) = leaf_stages subgroups earlier statement
+stages_of subgroups earlier Kill = fragment_stage
+stages_of subgroups earlier _ = all_stages
 
 -- the stages that are left behind a statement. A break condition takes none
-abbrev pub stages_behind : ModuleInfo → ShaderStages → Node → ShaderStages
-stages_behind earlier stages (StatementNode x) = meet stages (stages_of earlier x)
-stages_behind earlier stages _ = stages
+abbrev pub stages_behind : Context → ShaderStages → Node → ShaderStages
+stages_behind context stages (StatementNode x) = meet stages (stages_of context.settings.subgroup_stages context.earlier x)
+stages_behind context stages _ = stages
 
 -- the stages that visits leave of these
-abbrev pub stages_left : ModuleInfo → ShaderStages → List Visit → ShaderStages
-stages_left earlier stages [] = stages
-stages_left earlier stages (v ∷ visits) = stages_left earlier (stages_behind earlier stages v.node) visits
+abbrev pub stages_left : Context → ShaderStages → List Visit → ShaderStages
+stages_left context stages [] = stages
+stages_left context stages (v ∷ visits) = stages_left context (stages_behind context stages v.node) visits

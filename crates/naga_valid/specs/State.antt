@@ -6,6 +6,7 @@ use Rattle.naga_rules.specs.declared.function.FunctionError.{FunctionError}
 use Rattle.naga_runs.specs.Judgement.{Rules}
 use Rattle.naga_runs.specs.Positions.{Node, StatementNode}
 use Rattle.naga_runs.specs.Visits.{Visit}
+use Rattle.naga_valid.specs.Past.{Past}
 use Rattle.naga_valid.specs.Context.{Context}
 use Rattle.naga_valid.specs.Results.{result_of}
 use Rattle.naga_valid.specs.Rules.{points_at, stages_behind, stages_left}
@@ -14,6 +15,10 @@ use Rattle.naga_valid.specs.declared.state.BodyState.{BodyState}
 
 abbrev pub State : Type 0
 State = BodyState
+
+-- what the check lists ask of it
+abbrev pub seen : State → Past
+seen state = record { filled = known state.filled }
 
 -- the results that visits fill, in order
 abbrev pub with_result : List ℕ → Option ℕ → List ℕ
@@ -28,7 +33,7 @@ filled_from filled (v ∷ visits) = filled_from (with_result filled (result_of v
 abbrev pub with_statement : Context → State → Stmt → State
 with_statement context state x =
     record {
-      stages = stages_behind context.earlier state.stages (StatementNode x);
+      stages = stages_behind context state.stages (StatementNode x);
       filled = with_result state.filled (result_of (StatementNode x));
     }
 
@@ -41,7 +46,7 @@ state_behind context state _ = state
 abbrev pub kept_rules : Context → Rules State FunctionError
 kept_rules context =
     record {
-      points = λ state visit. points_at context (known state.filled) visit.place visit.node;
+      points = λ state visit. points_at context (seen state) visit.place visit.node;
       advance = λ state visit. state_behind context state visit.node;
     }
 
@@ -53,6 +58,6 @@ begin_state context = record { stages = context.info.available_stages; filled = 
 abbrev pub state_left : Context → List Visit → State
 state_left context visits =
     record {
-      stages = stages_left context.earlier context.info.available_stages visits;
+      stages = stages_left context context.info.available_stages visits;
       filled = filled_from [] visits;
     }

@@ -8,6 +8,7 @@ pub mod cooperative;
 pub mod image;
 pub mod image_atomic;
 pub mod image_store;
+pub mod leaf;
 pub mod load;
 pub mod refuse;
 pub mod results;

@@ -14,26 +14,19 @@ ghost use Rattle.naga_valid.specs.Flags.{checks_expressions};
 ghost use Rattle.naga_valid.specs.Judged.{body_judgement, stages_after};
 ghost use Rattle.naga_valid.specs.Ready.{IsStatementReady, IsBodyReady, AreCasesReady};
 ghost use Rattle.naga_valid.specs.Results.{result_of};
-ghost use Rattle.naga_valid.specs.Rules.{statement_points, callee_stages, stages_of};
-ghost use Rattle.naga_valid.specs.Scope.{in_scope, known};
+ghost use Rattle.naga_valid.specs.Rules.{statement_points};
+ghost use Rattle.naga_valid.specs.Scope.{in_scope};
 ghost use Rattle.naga_valid.specs.Seen.{context_of};
-ghost use Rattle.naga_valid.specs.Stages.{all_stages};
-ghost use Rattle.naga_valid.specs.State.{state_left, with_statement};
+ghost use Rattle.naga_valid.specs.State.{seen, state_left, with_statement};
 ghost use Rattle.naga_valid.specs.Walk.{place, pre_emitted_from, puts, body_puts, parts_answer, stmt_answer, body_answer, cases_answer, break_if_answer, body_abilities};
 
-use crate::checks::atomic::check_atomic;
-use crate::checks::call::check_call;
 use crate::checks::control;
-use crate::checks::cooperative::check_cooperative_store;
-use crate::checks::image::Texel;
-use crate::checks::image_atomic::check_image_atomic;
-use crate::checks::image_store::check_image_store;
-use crate::checks::load::check_load;
+use crate::checks::leaf::check_leaf;
 use crate::checks::refuse::{answer, answer_of_function};
 use crate::checks::results::check_filled;
-use crate::checks::store::check_store;
 use crate::context::BlockContext;
 use crate::handle_set::HandleSet;
+use crate::stages::stages_of;
 use crate::state::BodyState;
 use bitflags::Flags;
 use naga_below::arena::handle::Handle;
@@ -56,7 +49,7 @@ pub fn validate_function_body(
     ensures judged { Answers (stages_after (context_of context.now) (body_judgement (context_of context.now))) result }
     ensures sound { OnOk result (RunsAreSound (pre_emitted (context_of context.now)) (body_of (context_of context.now).fun.body)) }
     ensures filled { OnOk result (checks_expressions (context_of context.now).settings.flags ≡ true → ResultsAreFilledOnce (context_of context.now).fun) }
-    ensures stages { IfOk result (λ stages. StagesAreOfAll (context_of context.now).earlier (body_of (context_of context.now).fun.body) stages) }
+    ensures stages { IfOk result (λ stages. StagesAreOfAll (context_of context.now).settings.subgroup_stages (context_of context.now).earlier (body_of (context_of context.now).fun.body) stages) }
 {
     let state = validate_body_statements(alloc, context)?;
     answer_of_function(alloc, check_filled(&state.filled, context))?;
@@ -107,20 +100,19 @@ fn put_pre_emitted(scope: &mut HandleSet, context: &BlockContext) -> Result<(), 
 /// The check list of a statement itself. What it puts is in scope afterwards.
 fn check_points(
     scope: &mut HandleSet,
-    filled: &HandleSet,
+    state: &BodyState,
     context: &BlockContext,
     abilities: Abilities,
     located: &Located,
 ) -> Result<(), Refusal<FunctionError>>
     requires context { ContextFits (context_of context.now) }
     requires statement { IsStatementReady (context_of context.now) (tree_of located.now) }
-    ensures fault { AnswersPoints (statement_points (context_of context.now) (known filled.now) (place abilities scope.old) (tree_of located.now)) result }
+    ensures fault { AnswersPoints (statement_points (context_of context.now) (seen state.now) (place abilities scope.old) (tree_of located.now)) result }
     ensures scope { OnOk result (scope.new ≡ scope.old ++ puts (tree_of located.now)) }
 {
     let span = located.span;
     let alloc = scope.allocator();
     match &located.statement {
-        Statement::Emit(range) => control::check_emit(scope, context, *range, span),
         Statement::If { condition, .. } => {
             let checked = control::check_condition(scope, context, *condition);
             answer(alloc, checked, span)
@@ -134,94 +126,7 @@ fn check_points(
             let checked = control::check_return(scope, context, abilities, *value);
             answer(alloc, checked, span)
         }
-        Statement::Store { pointer, value } => {
-            let checked = check_store(scope, context, *pointer, *value);
-            answer(alloc, checked, span)
-        }
-        Statement::ImageStore {
-            image,
-            coordinate,
-            array_index,
-            value,
-        } => {
-            let texel = Texel {
-                coordinate: *coordinate,
-                array_index: *array_index,
-            };
-            check_image_store(scope, context, *image, texel, *value, span)
-        }
-        Statement::Atomic {
-            pointer,
-            fun,
-            value,
-            result,
-        } => check_atomic(scope, filled, context, *pointer, fun, *value, result, span),
-        Statement::ImageAtomic {
-            image,
-            coordinate,
-            array_index,
-            fun,
-            value,
-        } => {
-            let texel = Texel {
-                coordinate: *coordinate,
-                array_index: *array_index,
-            };
-            let checked = check_image_atomic(scope, context, *image, texel, fun, *value);
-            answer(alloc, checked, span)
-        }
-        Statement::WorkGroupUniformLoad { pointer, result } => {
-            check_load(scope, context, *pointer, *result, span)
-        }
-        Statement::Call {
-            function,
-            arguments,
-            result,
-        } => check_call(
-            scope,
-            filled,
-            context,
-            *function,
-            arguments.as_slice(),
-            result,
-            span,
-        ),
-        Statement::CooperativeStore { target, source } => {
-            let checked = check_cooperative_store(scope, context, *target, source.pointer);
-            answer(alloc, checked, span)
-        }
-        _ => Ok(()),
-    }
-}
-
-/// Every stage.
-#[tactic(auto, unfolding(bitflags::proofs::OnLiterals::bitflags_on_literals))]
-fn all_stages() -> ShaderStages
-    ensures { result ≡ all_stages }
-{
-    ShaderStages::all()
-}
-
-/// The stages that a statement may run in.
-fn stages_of(context: &BlockContext, located: &Located) -> ShaderStages
-    ensures { result ≡ stages_of (context_of context.now).earlier (tree_of located.now) }
-{
-    match &located.statement {
-        Statement::Kill => ShaderStages::FRAGMENT,
-        Statement::WorkGroupUniformLoad { .. } => ShaderStages::COMPUTE_LIKE,
-        Statement::CooperativeStore { .. } => ShaderStages::COMPUTE,
-        Statement::Call { function, .. } => callee_stages(context, *function),
-        _ => all_stages(),
-    }
-}
-
-/// The stages that an earlier function may run in.
-fn callee_stages(context: &BlockContext, function: Handle<tag::Function>) -> ShaderStages
-    ensures { result ≡ callee_stages (context_of context.now).earlier function }
-{
-    match context.earlier.functions.as_slice().get(function.index()) {
-        Some(info) => info.available_stages,
-        None => all_stages(),
+        _ => check_leaf(scope, state, context, located),
     }
 }
 
@@ -347,7 +252,7 @@ fn validate_statement(
     ensures fault { AnswersLeaving (stmt_answer (context_of context.now) state.old abilities scope.old (tree_of located.now)) state.new result }
     ensures scope { OnOk result (scope.new ≡ scope.old ++ puts (tree_of located.now)) }
 {
-    check_points(scope, &state.filled, context, abilities, located)?;
+    check_points(scope, state, context, abilities, located)?;
     advance(state, context, located)?;
     validate_parts(scope, state, context, abilities, located)
 }

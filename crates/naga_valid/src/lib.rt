@@ -6,6 +6,7 @@ mod context;
 mod function;
 mod handle_set;
 pub mod kinds;
+mod stages;
 mod state;
 #[cfg(test)]
 mod tests;

@@ -140,7 +140,7 @@ impl<B: Below> Validator<B> {
         ensures filled { OnOk result (checks_blocks self.old.settings.flags ≡ true → checks_expressions self.old.settings.flags ≡ true → ResultsAreFilledOnce fun.now) }
 
         // The stages of an accepted body are stages of each of its statements and of each function that it calls.
-        ensures stages { IfOk result (λ info. checks_blocks self.old.settings.flags ≡ true → StagesAreOfAll mod_info.now (body_of fun.now.body) info.available_stages) }
+        ensures stages { IfOk result (λ info. checks_blocks self.old.settings.flags ≡ true → StagesAreOfAll self.old.settings.subgroup_stages mod_info.now (body_of fun.now.body) info.available_stages) }
         ensures kept { self.new ≡ self.old }
     {
         let settings = self.settings;

@@ -6,7 +6,7 @@ use Rattle.naga_below.specs.View.{no_operands}
 use Rattle.naga_valid.specs.Blocks.{tree_of, statement_list, case_list}
 use Rattle.naga_valid.specs.Ready.{IsStatementReady, IsBodyReady}
 use Rattle.naga_valid.specs.Seen.{context_of}
-use Rattle.naga_valid.specs.Scope.{known}
+use Rattle.naga_valid.specs.State.{seen}
 use Rattle.naga_valid.specs.Walk.{place, puts, body_puts, body_answer}
 use Rattle.naga_valid.proofs.Guarded.{names_unfilled}
 use Rattle.naga_valid.proofs.Parts.{in_block, in_branch, in_switch, in_lists, in_list, in_cases}
@@ -62,7 +62,7 @@ validate_statement-returns-in_err-check_points-clause-fault t c =
 
 pub validate_statement-advance-requires : goal.validate_statement-advance-requires
 validate_statement-advance-requires t c =
-    names_unfilled (context_of c.args.context.now) (known c.args.state.now.filled) (place c.args.abilities c.args.scope.now) (tree_of c.args.located.now) c.in_ok-check_points.ensures.fault
+    names_unfilled (context_of c.args.context.now) (seen c.args.state.now) (place c.args.abilities c.args.scope.now) (tree_of c.args.located.now) c.in_ok-check_points.ensures.fault
 
 pub validate_statement-returns-clause-fault : goal.validate_statement-returns-clause-fault
 validate_statement-returns-clause-fault t c =

@@ -15,6 +15,6 @@ returns-clause-filled g c = λ blocks expressions. elim c.if-contains.branch [
 
 pub returns-clause-stages : goal.returns-clause-stages
 returns-clause-stages g c = λ blocks. elim c.if-contains.branch [
-  | then-contains+in_ok-info-2 w ↦ rw w.info-is w.in_ok-info-2.ensures.stages
+  | then-contains+in_ok-info-2 w ↦ rw (← c.self.view_is, w.info-is) w.in_ok-info-2.ensures.stages
   | else-contains w ↦ let both : true ≡ false = sym (rw (← c.self.view_is) at blocks) ∙ sym (c.contains.ensures tt) ∙ w.if-contains.false in cc
 ]

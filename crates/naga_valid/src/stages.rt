@@ -1,0 +1,50 @@
+//! The stages that a statement may run in.
+
+ghost use Rattle.std.specs.Prelude.{◌≡◌};
+ghost use Rattle.naga_valid.specs.Blocks.{tree_of};
+ghost use Rattle.naga_valid.specs.Rules.{callee_stages, stages_of};
+ghost use Rattle.naga_valid.specs.Seen.{context_of};
+ghost use Rattle.naga_valid.specs.Stages.{all_stages};
+
+use crate::context::BlockContext;
+use bitflags::Flags;
+use naga_below::arena::handle::Handle;
+use naga_below::arena::tag;
+use naga_below::ir::statements::{Located, Statement};
+use naga_below::valid::flags::ShaderStages;
+
+/// Every stage.
+#[tactic(auto, unfolding(bitflags::proofs::OnLiterals::bitflags_on_literals))]
+fn all_stages() -> ShaderStages
+    ensures { result ≡ all_stages }
+{
+    ShaderStages::all()
+}
+
+/// The stages that a statement may run in.
+pub fn stages_of(context: &BlockContext, located: &Located) -> ShaderStages
+    ensures { result ≡ stages_of (context_of context.now).settings.subgroup_stages (context_of context.now).earlier (tree_of located.now) }
+{
+    match &located.statement {
+        Statement::Kill => ShaderStages::FRAGMENT,
+        Statement::ControlBarrier(_)
+        | Statement::MemoryBarrier(_)
+        | Statement::WorkGroupUniformLoad { .. } => ShaderStages::COMPUTE_LIKE,
+        Statement::CooperativeStore { .. } => ShaderStages::COMPUTE,
+        Statement::Call { function, .. } => callee_stages(context, *function),
+        Statement::SubgroupBallot { .. }
+        | Statement::SubgroupGather { .. }
+        | Statement::SubgroupCollectiveOperation { .. } => context.settings.subgroup_stages,
+        _ => all_stages(),
+    }
+}
+
+/// The stages that an earlier function may run in.
+fn callee_stages(context: &BlockContext, function: Handle<tag::Function>) -> ShaderStages
+    ensures { result ≡ callee_stages (context_of context.now).earlier function }
+{
+    match context.earlier.functions.as_slice().get(function.index()) {
+        Some(info) => info.available_stages,
+        None => all_stages(),
+    }
+}
