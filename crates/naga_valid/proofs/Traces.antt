@@ -65,7 +65,7 @@ pub trace_more : (before : TraceState) (context : Context) (visits : List Visit)
     trace_after before context (visits ++ v ∷ []) ≡ with_trace context (trace_after before context visits) v.node
 trace_more before context visits v =
     let payload = ap (option_or before.payload) (first_more context visits v)
-        ∙ sym (or_assoc before.payload (first_payload context visits) (trace_payload context v.node)) in
+    ∙ sym (or_assoc before.payload (first_payload context visits) (trace_payload context v.node)) in
     let last = ap (λ o. vertex_return_by before.vertex_return o (any_trace (visits ++ v ∷ []))) (last_more context visits v) in
     let any = ap (vertex_return_by before.vertex_return (option_or (lacks_vertex_return_at context v.node) (last_without context visits))) (any_more visits v) in
     let both = by_both before.vertex_return (last_without context visits) (lacks_vertex_return_at context v.node) (any_trace visits) (is_trace v.node) in
@@ -75,9 +75,9 @@ trace_more before context visits v =
 trace_first : (before : TraceState) (context : Context) (v : Visit) (visits : List Visit) →
     trace_after (with_trace context before v.node) context visits ≡ trace_after before context (v ∷ visits)
 trace_first before context v visits = λ i. record {
-      payload = or_assoc before.payload (trace_payload context v.node) (first_payload context visits) i;
-      vertex_return = by_both before.vertex_return (lacks_vertex_return_at context v.node) (last_without context visits) (is_trace v.node) (any_trace visits) i;
-    }
+  payload = or_assoc before.payload (trace_payload context v.node) (first_payload context visits) i;
+  vertex_return = by_both before.vertex_return (lacks_vertex_return_at context v.node) (last_without context visits) (is_trace v.node) (any_trace visits) i;
+}
 
 none_before : (b : TraceRayVertexReturnState) → b ≡ vertex_return_by b None false
 none_before NoTraceRays = refl

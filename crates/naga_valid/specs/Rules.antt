@@ -14,6 +14,7 @@ use Rattle.naga_runs.specs.Positions.{Node, NoNode, StatementNode, BreakIfNode}
 use Rattle.naga_runs.specs.Visits.{Place, Visit}
 use Rattle.naga_valid.specs.Atomics.{atomic_points}
 use Rattle.naga_valid.specs.Past.{Past, past_of}
+use Rattle.naga_valid.specs.Barriers.{barrier_points}
 use Rattle.naga_valid.specs.Calls.{call_points}
 use Rattle.naga_valid.specs.Context.{Context}
 use Rattle.naga_valid.specs.Control.{emit_points, condition_points, switch_points, return_points, break_points, continue_points}
@@ -24,6 +25,7 @@ use Rattle.naga_valid.specs.Loads.{load_points}
 use Rattle.naga_valid.specs.Points.{Points}
 use Rattle.naga_valid.specs.Stages.{meet, all_stages, compute_like_stages, compute_stage, fragment_stage}
 use Rattle.naga_valid.specs.Stores.{store_points}
+use Rattle.naga_valid.specs.Subgroups.{ballot_points, collective_points, gather_points}
 
 -- a kind that has no check list yet is never accepted
 abbrev pub no_list : Points
@@ -43,13 +45,14 @@ leaf_points context past scope (ir.ImageStore image coordinate array_index value
     image_store_points context scope image (record { coordinate = coordinate; array_index = array_index }) value
 leaf_points context past scope (ir.ImageAtomic image coordinate array_index fun value) =
     image_atomic_points context scope image (record { coordinate = coordinate; array_index = array_index }) fun value
-leaf_points context past scope (ir.ControlBarrier barrier) = no_list
-leaf_points context past scope (ir.MemoryBarrier barrier) = no_list
+leaf_points context past scope (ir.ControlBarrier barrier) = barrier_points context.settings barrier
+leaf_points context past scope (ir.MemoryBarrier barrier) = barrier_points context.settings barrier
 leaf_points context past scope (ir.RayQuery query fun) = no_list
 leaf_points context past scope (ir.RayPipelineFunction fun) = no_list
-leaf_points context past scope (ir.SubgroupBallot result predicate) = no_list
-leaf_points context past scope (ir.SubgroupGather mode argument result) = no_list
-leaf_points context past scope (ir.SubgroupCollectiveOperation op collective_op argument result) = no_list
+leaf_points context past scope (ir.SubgroupBallot result predicate) = ballot_points context scope result predicate
+leaf_points context past scope (ir.SubgroupGather mode argument result) = gather_points context scope mode argument result
+leaf_points context past scope (ir.SubgroupCollectiveOperation op collective_op argument result) =
+    collective_points context scope op collective_op argument result
 leaf_points context past scope _ = []
 
 -- the check list of a statement

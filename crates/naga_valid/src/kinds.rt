@@ -8,8 +8,8 @@ use naga_below::ir::functions::Function;
 use naga_below::ir::statements::{Block, Located, Statement, SwitchCase};
 
 /// Whether each statement of a function, at any depth, is of a kind that is judged by now: Emit, Block, If, Switch,
-/// Loop, Break, Continue, Return, Kill, Store, ImageStore, Atomic, ImageAtomic, WorkGroupUniformLoad, Call or
-/// CooperativeStore.
+/// Loop, Break, Continue, Return, Kill, ControlBarrier, MemoryBarrier, Store, ImageStore, Atomic, ImageAtomic,
+/// WorkGroupUniformLoad, Call, CooperativeStore, SubgroupBallot, SubgroupCollectiveOperation or SubgroupGather.
 pub fn has_kinds(fun: &Function) -> bool
     ensures { result ≡ body_has_kinds (body_of fun.now.body) }
 {
@@ -61,6 +61,11 @@ fn has_kind(located: &Located) -> bool
             | Statement::WorkGroupUniformLoad { .. }
             | Statement::Call { .. }
             | Statement::CooperativeStore { .. }
+            | Statement::ControlBarrier(_)
+            | Statement::MemoryBarrier(_)
+            | Statement::SubgroupBallot { .. }
+            | Statement::SubgroupCollectiveOperation { .. }
+            | Statement::SubgroupGather { .. }
     )
 }
 
