@@ -43,8 +43,8 @@ pub known_filled : (visits : List Visit) → known (filled_from [] visits) ≡ f
 known_filled visits i r = from_is [] visits r i
 
 -- so the check lists are asked with the same
-pub seen_is : (context : Context) (visits : List Visit) → seen (state_left context visits) ≡ past_of visits
-seen_is context visits i = record { filled = known_filled visits i }
+pub seen_is : (context : Context) (visits : List Visit) → seen (state_left context visits) ≡ past_of context visits
+seen_is context visits i = record { filled = known_filled visits i; payload = payload_before context.trace context visits }
 
 -- one visit more
 filled_more : (filled : List ℕ) (visits : List Visit) (v : Visit) → filled_from filled (visits ++ (v ∷ [])) ≡ with_result (filled_from filled visits) (result_of v.node)
@@ -58,7 +58,7 @@ stages_more context stages (w ∷ visits) v = stages_more context (stages_behind
 
 abbrev behind_both : Context → ShaderStages → List ℕ → Node → State
 behind_both context stages filled node =
-    record { stages = stages_behind context stages node; filled = with_result filled (result_of node) }
+    record { stages = stages_behind context stages node; filled = with_result filled (result_of node); trace = with_trace context trace node }
 
 behind : (context : Context) (stages : ShaderStages) (filled : List ℕ) (node : Node) →
     behind_both context stages filled node ≡ state_behind context (record { stages = stages; filled = filled }) node

@@ -2,6 +2,8 @@ pub mod Scopes
 pub mod Lists
 pub mod Fillings
 pub mod Traces
+pub mod RayQueries
+pub mod RayTraces
 pub mod Calls
 pub mod Atomics
 pub mod Values

@@ -1,5 +1,5 @@
 -- What the checks of a body read: the module and the infos of its earlier functions, the function itself with what
--- the lower layer knows of it, and the settings.
+-- the lower layer knows of it, the settings, and what the ray traces of earlier functions left.
 use Rattle.std.specs.Prelude.{◌≡◌, Bool, false, List, All, Option, None, Some, length, slice_get}
 use Rattle.naga_below.specs.Fits.{FitsTypes, FitsFunction}
 use Rattle.naga_below.specs.PreEmitted.{needs_pre_emit}
@@ -13,6 +13,7 @@ use Rattle.naga_below.specs.declared.valid.info.ModuleInfo.{ModuleInfo}
 use Rattle.naga_below.specs.declared.valid.settings.Settings.{Settings}
 use Rattle.naga_rules.specs.Lawful.{IsNoStruct}
 use Rattle.naga_runs.specs.Handles.{Handles}
+use Rattle.naga_valid.specs.declared.trace.TraceState.{TraceState}
 
 pub record Context : Type 0 where
   pub program : Module
@@ -21,6 +22,7 @@ pub record Context : Type 0 where
   pub info : FunctionInfo
   pub kinds : List ExpressionKind
   pub settings : Settings
+  pub trace : TraceState
 
 abbrev pub if_pre_emitted : Option Expression → Bool
 if_pre_emitted None = false

@@ -17,6 +17,8 @@ pub mod Atomics
 pub mod Stores
 pub mod Loads
 pub mod Cooperative
+pub mod RayQueries
+pub mod RayTraces
 pub mod Traces
 pub mod Images
 pub mod ImageAtomics

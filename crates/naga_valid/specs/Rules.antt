@@ -74,7 +74,7 @@ points_at context past place (BreakIfNode h) = condition_points context place.sc
 -- each visit has its check list, asked with what the visits before it did
 abbrev pub body_rules : Context → Rules (List Visit) FunctionError
 body_rules context =
-    by_earlier (λ earlier visit. points_at context (past_of earlier) visit.place visit.node)
+    by_earlier (λ earlier visit. points_at context (past_of context earlier) visit.place visit.node)
 
 -- the stages that an info records; the conditions of a validation say that there is one
 abbrev pub recorded_stages : Option FunctionInfo → ShaderStages

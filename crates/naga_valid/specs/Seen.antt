@@ -11,4 +11,5 @@ context_of c =
       info = c.info.now;
       kinds = c.kinds.now;
       settings = c.settings;
+      trace = c.trace;
     }

@@ -1,5 +1,5 @@
--- What the code keeps along the visits of a body: the stages that are left, and the results that are filled. Work of
--- lemmas, which private functions alone cite.
+-- What the code keeps along the visits of a body: the stages that are left, the results that are filled, and what ray
+-- traces leave. Work of lemmas, which private functions alone cite.
 use Rattle.std.specs.Prelude.{List, [], ◌∷◌, ◌++◌, Option, None, Some, ℕ}
 use Rattle.naga_below.specs.Tree.{Stmt}
 use Rattle.naga_rules.specs.declared.function.FunctionError.{FunctionError}
@@ -11,6 +11,7 @@ use Rattle.naga_valid.specs.Context.{Context}
 use Rattle.naga_valid.specs.Results.{result_of}
 use Rattle.naga_valid.specs.Rules.{points_at, stages_behind, stages_left}
 use Rattle.naga_valid.specs.Scope.{known}
+use Rattle.naga_valid.specs.Traces.{trace_after, with_trace}
 use Rattle.naga_valid.specs.declared.state.BodyState.{BodyState}
 
 abbrev pub State : Type 0
@@ -18,7 +19,7 @@ State = BodyState
 
 -- what the check lists ask of it
 abbrev pub seen : State → Past
-seen state = record { filled = known state.filled }
+seen state = record { filled = known state.filled; payload = state.trace.payload }
 
 -- the results that visits fill, in order
 abbrev pub with_result : List ℕ → Option ℕ → List ℕ
@@ -35,6 +36,7 @@ with_statement context state x =
     record {
       stages = stages_behind context state.stages (StatementNode x);
       filled = with_result state.filled (result_of (StatementNode x));
+      trace = with_trace context state.trace (StatementNode x);
     }
 
 -- a break condition is no statement
@@ -50,9 +52,9 @@ kept_rules context =
       advance = λ state visit. state_behind context state visit.node;
     }
 
--- what a body begins with: the stages that the lower layer leaves the function
+-- what a body begins with: the stages that the lower layer leaves the function, and what earlier ray traces left
 abbrev pub begin_state : Context → State
-begin_state context = record { stages = context.info.available_stages; filled = [] }
+begin_state context = record { stages = context.info.available_stages; filled = []; trace = context.trace }
 
 -- what visits leave
 abbrev pub state_left : Context → List Visit → State
@@ -60,4 +62,5 @@ state_left context visits =
     record {
       stages = stages_left context context.info.available_stages visits;
       filled = filled_from [] visits;
+      trace = trace_after context.trace context visits;
     }

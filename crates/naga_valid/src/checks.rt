@@ -10,6 +10,8 @@ pub mod image_atomic;
 pub mod image_store;
 pub mod leaf;
 pub mod load;
+pub mod ray_query;
+pub mod ray_trace;
 pub mod refuse;
 pub mod results;
 pub mod store;

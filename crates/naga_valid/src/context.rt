@@ -4,6 +4,7 @@ ghost use Rattle.std.specs.Prelude.{◌≡◌, ◌↔◌, IsTrue, length};
 ghost use Rattle.std.specs.Option.{option_copied};
 ghost use Rattle.naga_below.specs.Types.{NameEachOther, ResolutionFits};
 
+use crate::trace::TraceState;
 use naga_below::arena::handle::Handle;
 use naga_below::arena::tag;
 use naga_below::ir::expressions::Expression;
@@ -29,6 +30,8 @@ pub struct BlockContext<'a> {
     /// One kind for each expression of the function.
     pub kinds: &'a ExpressionKindTracker,
     pub settings: Settings,
+    /// What the ray traces of earlier functions left.
+    pub trace: TraceState,
 }
 
 impl BlockContext<'_> {

@@ -11,7 +11,7 @@ ghost use Rattle.naga_valid.specs.Blocks.{tree_of, body_of, case_list};
 ghost use Rattle.naga_runs.specs.Soundness.{RunsAreSound};
 ghost use Rattle.naga_valid.specs.Context.{ContextFits, pre_emitted};
 ghost use Rattle.naga_valid.specs.Flags.{checks_expressions};
-ghost use Rattle.naga_valid.specs.Judged.{body_judgement, stages_after};
+ghost use Rattle.naga_valid.specs.Judged.{body_judgement, outcome_after};
 ghost use Rattle.naga_valid.specs.Ready.{IsStatementReady, IsBodyReady, AreCasesReady};
 ghost use Rattle.naga_valid.specs.Results.{result_of};
 ghost use Rattle.naga_valid.specs.Rules.{statement_points};
@@ -22,38 +22,41 @@ ghost use Rattle.naga_valid.specs.Walk.{place, pre_emitted_from, puts, body_puts
 
 use crate::checks::control;
 use crate::checks::leaf::check_leaf;
+use crate::checks::ray_trace::trace_of;
 use crate::checks::refuse::{answer, answer_of_function};
 use crate::checks::results::check_filled;
 use crate::context::BlockContext;
 use crate::handle_set::HandleSet;
 use crate::stages::stages_of;
-use crate::state::BodyState;
+use crate::state::{BodyOutcome, BodyState};
 use bitflags::Flags;
 use naga_below::arena::handle::Handle;
 use naga_below::arena::tag;
 use naga_below::ir::statements::{Block, Located, Statement, SwitchCase};
 use naga_below::span::{Refusal, Span};
-use naga_below::valid::flags::ShaderStages;
 use naga_rules::function::FunctionError;
 use naga_runs::Abilities;
 use std::alloc::{AllocError, Global};
 
-/// Judges the body of a function: the first fault in visit order, else the lowest result that is not filled, else the
-/// stages that are left.
+/// Judges the body of a function: the first fault in visit order, else the lowest result that is not filled, else what
+/// is left.
 pub fn validate_function_body(
     alloc: Global,
     context: &BlockContext,
-) -> Result<ShaderStages, Refusal<FunctionError>>
+) -> Result<BodyOutcome, Refusal<FunctionError>>
     requires context { ContextFits (context_of context.now) }
     requires ready { IsBodyReady (context_of context.now) (body_of (context_of context.now).fun.body) }
-    ensures judged { Answers (stages_after (context_of context.now) (body_judgement (context_of context.now))) result }
+    ensures judged { Answers (outcome_after (context_of context.now) (body_judgement (context_of context.now))) result }
     ensures sound { OnOk result (RunsAreSound (pre_emitted (context_of context.now)) (body_of (context_of context.now).fun.body)) }
     ensures filled { OnOk result (checks_expressions (context_of context.now).settings.flags ≡ true → ResultsAreFilledOnce (context_of context.now).fun) }
-    ensures stages { IfOk result (λ stages. StagesAreOfAll (context_of context.now).settings.subgroup_stages (context_of context.now).earlier (body_of (context_of context.now).fun.body) stages) }
+    ensures stages { IfOk result (λ left. StagesAreOfAll (context_of context.now).settings.subgroup_stages (context_of context.now).earlier (body_of (context_of context.now).fun.body) left.stages) }
 {
     let state = validate_body_statements(alloc, context)?;
     answer_of_function(alloc, check_filled(&state.filled, context))?;
-    Ok(state.stages)
+    Ok(BodyOutcome {
+        stages: state.stages,
+        trace: state.trace,
+    })
 }
 
 /// Judges the statements of a function's body.
@@ -70,6 +73,7 @@ fn validate_body_statements(
     let mut state = BodyState {
         stages: context.info.available_stages,
         filled: HandleSet::new(alloc),
+        trace: context.trace,
     };
     let abilities = at_begin();
     validate_statements(
@@ -153,6 +157,7 @@ fn advance(
         state.filled.put(handle)?;
     }
     state.stages = state.stages.intersection(stages_of(context, located));
+    state.trace = trace_of(context, state.trace, located);
     Ok(())
 }
 

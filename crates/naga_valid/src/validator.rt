@@ -2,13 +2,12 @@
 
 ghost use Rattle.std.specs.Prelude.{◌≡◌, ◌↔◌, ◌<◌, IsTrue, [], true, OnOk, OnErr, IfOk, IfErr, All, length, if◌then◌else◌};
 ghost use Rattle.naga_below.specs.Fits.{FitsTypes, FitsFunction};
-ghost use Rattle.naga_rules.specs.Answers.{Answers};
 ghost use Rattle.naga_runs.specs.Soundness.{RunsAreSound};
 ghost use Rattle.naga_valid.specs.Accepted.{ResultsAreFilledOnce, StagesAreOfAll};
 ghost use Rattle.naga_valid.specs.Blocks.{body_of};
 ghost use Rattle.naga_valid.specs.Context.{pre_emitted_of};
 ghost use Rattle.naga_valid.specs.Flags.{checks_blocks, checks_expressions};
-ghost use Rattle.naga_valid.specs.Judged.{function_judgement};
+ghost use Rattle.naga_valid.specs.Judged.{function_judgement, AnswersTracing};
 ghost use Rattle.naga_valid.specs.Kinds.{body_has_kinds};
 ghost use Rattle.naga_valid.specs.Parts.{Parts, first_settings, no_traces, NamesTypes, AreInfosOf};
 
@@ -101,6 +100,14 @@ impl<B: Below> Validator<B> {
         self.settings.subgroup_operations = set;
     }
 
+    /// What the ray traces of the functions validated so far leave: the type that a payload must have, and how vertices
+    /// are returned. No payload and `NoTraceRays` at first.
+    pub fn trace_state(&self) -> TraceState
+        ensures { result ≡ self.now.trace }
+    {
+        self.trace
+    }
+
     /// Whether there is one info for each type of the module, and the types that the infos name are the module's.
     pub fn has_types_of(&self, module: &Module) -> bool
         ensures { IsTrue result ↔ AreInfosOf «module».now self.now.types }
@@ -116,7 +123,7 @@ impl<B: Below> Validator<B> {
 
     /// Judges a function as far as it is judged by now: what the lower layer answers, and, with BLOCKS, its body.
     /// The fault is the first in visit order; the info has the stages that the lower layer and all statements leave.
-    /// The validator is as before, whatever the answer.
+    /// What ray traces leave is kept for later functions; after a refusal the validator is as before.
     pub fn validate_body(
         &mut self,
         alloc: Global,
@@ -129,7 +136,7 @@ impl<B: Below> Validator<B> {
         requires kinds { body_has_kinds (body_of fun.now.body) ≡ true }
 
         // The answer is the judgement's, or there was no memory.
-        ensures judged { Answers (function_judgement self.old.settings «module».now mod_info.now fun.now (B.kinds_of self.old.below fun.now.expressions) (B.function_info self.old.below fun.now «module».now mod_info.now self.old.settings.flags self.old.settings.capabilities)) result }
+        ensures judged { AnswersTracing (function_judgement self.old.settings self.old.trace «module».now mod_info.now fun.now (B.kinds_of self.old.below fun.now.expressions) (B.function_info self.old.below fun.now «module».now mod_info.now self.old.settings.flags self.old.settings.capabilities)) self.new.trace result }
 
         // In every run of an accepted body that was looked at, what is used is live or was skipped by a Continue, no
         // live handle is put, and jumps have targets.
@@ -141,7 +148,9 @@ impl<B: Below> Validator<B> {
 
         // The stages of an accepted body are stages of each of its statements and of each function that it calls.
         ensures stages { IfOk result (λ info. checks_blocks self.old.settings.flags ≡ true → StagesAreOfAll self.old.settings.subgroup_stages mod_info.now (body_of fun.now.body) info.available_stages) }
-        ensures kept { self.new ≡ self.old }
+        // Nothing but what ray traces leave may differ, and that only where the function is accepted.
+        ensures kept { self.new ≡ record self.old { trace = self.new.trace } }
+        ensures refused { OnErr result (self.new ≡ self.old) }
     {
         let settings = self.settings;
         let flags = settings.flags;
@@ -157,8 +166,11 @@ impl<B: Below> Validator<B> {
                 info: &info,
                 kinds: &kinds,
                 settings,
+                trace: self.trace,
             };
-            info.available_stages = validate_function_body(alloc, &context)?;
+            let left = validate_function_body(alloc, &context)?;
+            info.available_stages = left.stages;
+            self.trace = left.trace;
         }
         Ok(info)
     }

@@ -1,0 +1,108 @@
+-- The check list of RayQuery, and the descriptor of a ray, which TraceRay has too.
+use Rattle.std.specs.Prelude.{ℕ, Bool, true, false, not, ◌||◌, [], ◌∷◌, ◌++◌, Option, None, Some, is_some, slice_get, option_and_then}
+use Rattle.std.specs.Option.{option_map}
+use Rattle.naga_below.specs.Types.{inner_at}
+use Rattle.naga_below.specs.declared.ir.expressions.Expression.{Expression}
+use Rattle.naga_below.specs.declared.ir.expressions.Expression.TheVariants as e
+use Rattle.naga_below.specs.declared.ir.statements.RayQueryFunction.{RayQueryFunction}
+use Rattle.naga_below.specs.declared.ir.statements.RayQueryFunction.TheVariants as query
+use Rattle.naga_below.specs.declared.ir.types.TypeInner.{TypeInner}
+use Rattle.naga_below.specs.declared.ir.types.TypeInner.TheVariants as inner
+use Rattle.naga_rules.specs.declared.function.FunctionError.TheVariants.{InvalidRayQueryExpression, InvalidRayQueryType, InvalidAccelerationStructure, MissingAccelerationStructureVertexReturn, InvalidRayDescriptor, InvalidHitDistanceType}
+use Rattle.naga_runs.specs.Handles.{Handles}
+use Rattle.naga_valid.specs.Atomics.{is_float_kind}
+use Rattle.naga_valid.specs.Context.{Context}
+use Rattle.naga_valid.specs.Points.{Points, use_point, put_point}
+use Rattle.naga_valid.specs.Types.{expression_at, type_at, is_same_inner}
+
+-- the type that the local is declared with which an expression is
+abbrev pub local_type_of : Context → Option Expression → Option ℕ
+local_type_of context (Some (e.LocalVariable v)) = option_map (λ l. l.ty) (slice_get context.fun.local_variables v)
+local_type_of context _ = None
+
+abbrev pub local_type_at : Context → ℕ → Option ℕ
+local_type_at context h = local_type_of context (expression_at context h)
+
+-- whether a ray query returns vertices, and an acceleration structure
+abbrev pub query_flag_of : Option TypeInner → Option Bool
+query_flag_of (Some (inner.RayQuery vertex_return)) = Some vertex_return
+query_flag_of _ = None
+
+abbrev pub structure_flag_of : Option TypeInner → Option Bool
+structure_flag_of (Some (inner.AccelerationStructure vertex_return)) = Some vertex_return
+structure_flag_of _ = None
+
+abbrev pub structure_flag_at : Context → ℕ → Option Bool
+structure_flag_at context h = structure_flag_of (type_at context h)
+
+abbrev pub is_set : Option Bool → Bool
+is_set (Some flag) = flag
+is_set None = false
+
+-- an acceleration structure: in scope, and one
+abbrev pub structure_points : Context → Handles → ℕ → Points
+structure_points context scope structure =
+    use_point scope structure
+    ∷ (is_some (structure_flag_at context structure), InvalidAccelerationStructure structure)
+    ∷ []
+
+-- the module's type of ray descriptors, if it has one
+abbrev pub descriptor_type : Context → Option TypeInner
+descriptor_type context = option_and_then (inner_at context.program.types) context.program.special_types.ray_desc
+
+-- both are there, and the same
+abbrev pub are_same_inners : Option TypeInner → Option TypeInner → Bool
+are_same_inners (Some a) (Some b) = is_same_inner a b
+are_same_inners _ _ = false
+
+-- the descriptor of a ray: in scope, and of the module's type of ray descriptors
+abbrev pub descriptor_points : Context → Handles → ℕ → Points
+descriptor_points context scope descriptor =
+    use_point scope descriptor
+    ∷ (are_same_inners (type_at context descriptor) (descriptor_type context), InvalidRayDescriptor descriptor)
+    ∷ []
+
+-- a structure that a query is asked over has the flag where the query has it
+abbrev pub returned_points : Context → ℕ → Bool → ℕ → Points
+returned_points context query vertex_return structure =
+    (not vertex_return || is_set (structure_flag_at context structure), MissingAccelerationStructureVertexReturn structure query)
+    ∷ []
+
+abbrev pub initialize_points : Context → Handles → ℕ → Bool → ℕ → ℕ → Points
+initialize_points context scope query vertex_return structure descriptor =
+    structure_points context scope structure
+    ++ (returned_points context query vertex_return structure ++ descriptor_points context scope descriptor)
+
+-- a float of any width, and no vector
+abbrev pub is_float_scalar : Option TypeInner → Bool
+is_float_scalar (Some (inner.Scalar s)) = is_float_kind s.kind
+is_float_scalar _ = false
+
+-- how far away a hit is
+abbrev pub distance_points : Context → Handles → ℕ → Points
+distance_points context scope distance =
+    use_point scope distance ∷ (is_float_scalar (type_at context distance), InvalidHitDistanceType distance) ∷ []
+
+-- what is done with a query: Proceed puts its result, of any kind; to confirm an intersection or to end asks for nothing
+abbrev pub query_function_points : Context → Handles → ℕ → Bool → RayQueryFunction → Points
+query_function_points context scope q vertex_return (query.Initialize structure descriptor) = initialize_points context scope q vertex_return structure descriptor
+query_function_points context scope q vertex_return (query.Proceed result) = put_point scope result ∷ []
+query_function_points context scope q vertex_return (query.GenerateIntersection distance) = distance_points context scope distance
+query_function_points context scope q vertex_return _ = []
+
+abbrev pub flagged_points : Context → Handles → ℕ → RayQueryFunction → Option Bool → Points
+flagged_points context scope query fun None = []
+flagged_points context scope query fun (Some vertex_return) = query_function_points context scope query vertex_return fun
+
+-- the variable: a ray query
+abbrev pub queried_points : Context → Handles → ℕ → RayQueryFunction → Option ℕ → Points
+queried_points context scope query fun None = []
+queried_points context scope query fun (Some ty) =
+    (is_some (query_flag_of (inner_at context.program.types ty)), InvalidRayQueryType ty)
+    ∷ flagged_points context scope query fun (query_flag_of (inner_at context.program.types ty))
+
+-- RayQuery: its query, a local, and what is done with it
+abbrev pub ray_query_points : Context → Handles → ℕ → RayQueryFunction → Points
+ray_query_points context scope query fun =
+    (is_some (local_type_at context query), InvalidRayQueryExpression query)
+    ∷ queried_points context scope query fun (local_type_at context query)

@@ -1,0 +1,255 @@
+//! The check list of RayQuery.
+
+ghost use Rattle.std.specs.Prelude.{◌≡◌, ◌++◌, OnOk, Some};
+ghost use Rattle.std.specs.Option.{option_copied};
+ghost use Rattle.std.specs.Result.{result_err};
+ghost use Rattle.naga_below.specs.View.{query_acts};
+ghost use Rattle.naga_runs.specs.Judgement.{first_fault};
+ghost use Rattle.naga_valid.specs.Answers.{AnswersPoints};
+ghost use Rattle.naga_valid.specs.RayQueries.{local_type_at, query_flag_of, structure_flag_at, structure_points, are_same_inners, descriptor_type, descriptor_points, returned_points, initialize_points, is_float_scalar, distance_points, query_function_points, queried_points, ray_query_points};
+ghost use Rattle.naga_valid.specs.Scope.{known};
+ghost use Rattle.naga_valid.specs.Seen.{context_of};
+ghost use Rattle.naga_valid.specs.Types.{type_at};
+ghost use Rattle.naga_valid.specs.Walk.{puts_of};
+
+use crate::checks::image::inner_at;
+use crate::checks::refuse::{answer, check_put, check_use};
+use crate::context::BlockContext;
+use crate::handle_set::HandleSet;
+use naga_below::arena::handle::Handle;
+use naga_below::arena::tag;
+use naga_below::ir::expressions::Expression;
+use naga_below::ir::statements::RayQueryFunction;
+use naga_below::ir::types::{ScalarKind, TypeInner};
+use naga_below::span::{Refusal, Span};
+use naga_rules::function::FunctionError;
+
+/// RayQuery: its query, a local, and what is done with it. The result of a Proceed is in scope afterwards.
+pub fn check_ray_query(
+    scope: &mut HandleSet,
+    context: &BlockContext,
+    query: Handle<tag::Expression>,
+    fun: &RayQueryFunction,
+    span: Span,
+) -> Result<(), Refusal<FunctionError>>
+    ensures fault { AnswersPoints (ray_query_points (context_of context.now) (known scope.old) query fun.now) result }
+    ensures scope { OnOk result (scope.new ≡ scope.old ++ puts_of (query_acts fun.now)) }
+{
+    let alloc = scope.allocator();
+    let checked = validate_ray_query(scope, context, query, fun);
+    answer(alloc, checked, span)?;
+    if let RayQueryFunction::Proceed { result } = fun {
+        scope.put(*result)?;
+    }
+    Ok(())
+}
+
+/// All that is checked of a ray query. The result of a Proceed stays out of scope.
+fn validate_ray_query(
+    scope: &HandleSet,
+    context: &BlockContext,
+    query: Handle<tag::Expression>,
+    fun: &RayQueryFunction,
+) -> Result<(), FunctionError>
+    ensures { result_err result ≡ first_fault (ray_query_points (context_of context.now) (known scope.now) query fun.now) }
+{
+    match local_type(context, query) {
+        Some(ty) => check_queried(scope, context, query, fun, ty),
+        None => Err(FunctionError::InvalidRayQueryExpression(query)),
+    }
+}
+
+/// The type that the local is declared with which an expression is.
+fn local_type(context: &BlockContext, handle: Handle<tag::Expression>) -> Option<Handle<tag::Type>>
+    ensures { result ≡ local_type_at (context_of context.now) handle }
+{
+    match context.expression(handle) {
+        Some(Expression::LocalVariable(variable)) => match context
+            .fun
+            .local_variables
+            .as_slice()
+            .get(variable.index())
+        {
+            Some(local) => Some(local.ty),
+            None => None,
+        },
+        _ => None,
+    }
+}
+
+/// The variable is a ray query.
+fn check_queried(
+    scope: &HandleSet,
+    context: &BlockContext,
+    query: Handle<tag::Expression>,
+    fun: &RayQueryFunction,
+    ty: Handle<tag::Type>,
+) -> Result<(), FunctionError>
+    ensures { result_err result ≡ first_fault (queried_points (context_of context.now) (known scope.now) query fun.now (Some ty)) }
+{
+    match query_flag_of(inner_at(context, ty)) {
+        Some(vertex_return) => check_query_function(scope, context, query, vertex_return, fun),
+        None => Err(FunctionError::InvalidRayQueryType(ty)),
+    }
+}
+
+/// Whether a ray query returns vertices.
+fn query_flag_of(inner: Option<&TypeInner>) -> Option<bool>
+    ensures { result ≡ query_flag_of (option_copied inner.entry) }
+{
+    match inner {
+        Some(TypeInner::RayQuery { vertex_return }) => Some(*vertex_return),
+        _ => None,
+    }
+}
+
+/// What is done with a query.
+fn check_query_function(
+    scope: &HandleSet,
+    context: &BlockContext,
+    query: Handle<tag::Expression>,
+    vertex_return: bool,
+    fun: &RayQueryFunction,
+) -> Result<(), FunctionError>
+    ensures { result_err result ≡ first_fault (query_function_points (context_of context.now) (known scope.now) query vertex_return fun.now) }
+{
+    match fun {
+        RayQueryFunction::Initialize {
+            acceleration_structure,
+            descriptor,
+        } => check_initialize(
+            scope,
+            context,
+            query,
+            vertex_return,
+            *acceleration_structure,
+            *descriptor,
+        ),
+        RayQueryFunction::Proceed { result } => check_put(scope, *result),
+        RayQueryFunction::GenerateIntersection { hit_t } => check_distance(scope, context, *hit_t),
+        RayQueryFunction::ConfirmIntersection | RayQueryFunction::Terminate => Ok(()),
+    }
+}
+
+/// A query begins: its acceleration structure, which has the flag where the query has it, and its descriptor.
+fn check_initialize(
+    scope: &HandleSet,
+    context: &BlockContext,
+    query: Handle<tag::Expression>,
+    vertex_return: bool,
+    structure: Handle<tag::Expression>,
+    descriptor: Handle<tag::Expression>,
+) -> Result<(), FunctionError>
+    ensures { result_err result ≡ first_fault (initialize_points (context_of context.now) (known scope.now) query vertex_return structure descriptor) }
+{
+    check_structure(scope, context, structure)?;
+    check_returned(context, query, vertex_return, structure)?;
+    check_descriptor(scope, context, descriptor)
+}
+
+/// An acceleration structure: in scope, and one.
+pub fn check_structure(
+    scope: &HandleSet,
+    context: &BlockContext,
+    structure: Handle<tag::Expression>,
+) -> Result<(), FunctionError>
+    ensures { result_err result ≡ first_fault (structure_points (context_of context.now) (known scope.now) structure) }
+{
+    check_use(scope, structure)?;
+    if structure_flag(context, structure).is_none() {
+        return Err(FunctionError::InvalidAccelerationStructure(structure));
+    }
+    Ok(())
+}
+
+/// Whether an acceleration structure returns vertices.
+pub fn structure_flag(context: &BlockContext, structure: Handle<tag::Expression>) -> Option<bool>
+    ensures { result ≡ structure_flag_at (context_of context.now) structure }
+{
+    match context.type_inner(structure) {
+        Some(TypeInner::AccelerationStructure { vertex_return }) => Some(*vertex_return),
+        _ => None,
+    }
+}
+
+/// The acceleration structure has the flag where the query has it.
+fn check_returned(
+    context: &BlockContext,
+    query: Handle<tag::Expression>,
+    vertex_return: bool,
+    structure: Handle<tag::Expression>,
+) -> Result<(), FunctionError>
+    ensures { result_err result ≡ first_fault (returned_points (context_of context.now) query vertex_return structure) }
+{
+    let returns = match structure_flag(context, structure) {
+        Some(flag) => flag,
+        None => false,
+    };
+    if vertex_return && !returns {
+        return Err(FunctionError::MissingAccelerationStructureVertexReturn(structure, query));
+    }
+    Ok(())
+}
+
+/// The descriptor of a ray: in scope, and of the module's type of ray descriptors.
+pub fn check_descriptor(
+    scope: &HandleSet,
+    context: &BlockContext,
+    descriptor: Handle<tag::Expression>,
+) -> Result<(), FunctionError>
+    ensures { result_err result ≡ first_fault (descriptor_points (context_of context.now) (known scope.now) descriptor) }
+{
+    check_use(scope, descriptor)?;
+    if !is_descriptor(context, descriptor) {
+        return Err(FunctionError::InvalidRayDescriptor(descriptor));
+    }
+    Ok(())
+}
+
+/// Whether an expression is of the module's type of ray descriptors.
+fn is_descriptor(context: &BlockContext, descriptor: Handle<tag::Expression>) -> bool
+    ensures { result ≡ are_same_inners (type_at (context_of context.now) descriptor) (descriptor_type (context_of context.now)) }
+{
+    match context.type_inner(descriptor) {
+        Some(given) => match descriptor_type(context) {
+            Some(expected) => *given == *expected,
+            None => false,
+        },
+        None => false,
+    }
+}
+
+/// The module's type of ray descriptors, if it has one.
+fn descriptor_type<'a>(context: &BlockContext<'a>) -> Option<&'a TypeInner>
+    ensures { option_copied result ≡ descriptor_type (context_of context.now) }
+{
+    match context.program.special_types.ray_desc {
+        Some(ty) => inner_at(context, ty),
+        None => None,
+    }
+}
+
+/// How far away a hit is: in scope, and a float.
+fn check_distance(
+    scope: &HandleSet,
+    context: &BlockContext,
+    distance: Handle<tag::Expression>,
+) -> Result<(), FunctionError>
+    ensures { result_err result ≡ first_fault (distance_points (context_of context.now) (known scope.now) distance) }
+{
+    check_use(scope, distance)?;
+    if !is_float_scalar(context.type_inner(distance)) {
+        return Err(FunctionError::InvalidHitDistanceType(distance));
+    }
+    Ok(())
+}
+
+/// Whether a type is a float of any width, and no vector.
+fn is_float_scalar(inner: Option<&TypeInner>) -> bool
+    ensures { result ≡ is_float_scalar (option_copied inner.entry) }
+{
+    match inner {
+        Some(TypeInner::Scalar(scalar)) => matches!(scalar.kind, ScalarKind::Float),
+        _ => false,
+    }
+}

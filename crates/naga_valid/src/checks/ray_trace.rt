@@ -1,0 +1,190 @@
+//! The check list of TraceRay, and what a ray trace leaves.
+
+ghost use Rattle.std.specs.Prelude.{◌≡◌, true};
+ghost use Rattle.std.specs.Option.{option_copied, option_or};
+ghost use Rattle.std.specs.Result.{result_err};
+ghost use Rattle.naga_runs.specs.Judgement.{first_fault};
+ghost use Rattle.naga_runs.specs.Positions.{StatementNode};
+ghost use Rattle.naga_valid.specs.Blocks.{tree_of};
+ghost use Rattle.naga_valid.specs.RayTraces.{is_payload_space, is_global, same_payload_points, pointed_points, payload_points, trace_ray_points};
+ghost use Rattle.naga_valid.specs.Scope.{known};
+ghost use Rattle.naga_valid.specs.Seen.{context_of};
+ghost use Rattle.naga_valid.specs.Traces.{payload_type_at, lacks_vertex_return, span_where, vertex_return_by, with_trace};
+ghost use Rattle.naga_valid.specs.Types.{type_at};
+
+use crate::checks::ray_query::{check_descriptor, check_structure};
+use crate::checks::refuse::check_use;
+use crate::context::BlockContext;
+use crate::handle_set::HandleSet;
+use crate::trace::{TraceRayVertexReturnState, TraceState};
+use naga_below::arena::handle::Handle;
+use naga_below::arena::tag;
+use naga_below::ir::expressions::Expression;
+use naga_below::ir::statements::{Located, RayPipelineFunction, Statement};
+use naga_below::ir::types::{AddressSpace, TypeInner};
+use naga_below::span::Span;
+use naga_rules::function::FunctionError;
+
+/// TraceRay: its acceleration structure, its payload and then its descriptor.
+pub fn check_trace_ray(
+    scope: &HandleSet,
+    context: &BlockContext,
+    so_far: &Option<Handle<tag::Type>>,
+    structure: Handle<tag::Expression>,
+    descriptor: Handle<tag::Expression>,
+    payload: Handle<tag::Expression>,
+) -> Result<(), FunctionError>
+    ensures { result_err result ≡ first_fault (trace_ray_points (context_of context.now) so_far.now (known scope.now) structure descriptor payload) }
+{
+    check_structure(scope, context, structure)?;
+    check_payload(scope, context, so_far, payload)?;
+    check_descriptor(scope, context, descriptor)
+}
+
+/// The payload: in scope, a global, and a pointer to the type so far in a space of payloads.
+fn check_payload(
+    scope: &HandleSet,
+    context: &BlockContext,
+    so_far: &Option<Handle<tag::Type>>,
+    payload: Handle<tag::Expression>,
+) -> Result<(), FunctionError>
+    ensures { result_err result ≡ first_fault (payload_points (context_of context.now) so_far.now (known scope.now) payload) }
+{
+    check_use(scope, payload)?;
+    check_pointed(context, so_far, payload, context.type_inner(payload))
+}
+
+/// The type of a payload: a pointer into a space of payloads, to the type so far. The payload itself is a global.
+fn check_pointed(
+    context: &BlockContext,
+    so_far: &Option<Handle<tag::Type>>,
+    payload: Handle<tag::Expression>,
+    inner: Option<&TypeInner>,
+) -> Result<(), FunctionError>
+    ensures { result_err result ≡ first_fault (pointed_points (context_of context.now) so_far.now payload (option_copied inner.entry)) }
+{
+    let Some(TypeInner::Pointer { base, space }) = inner else {
+        return Err(FunctionError::InvalidPayloadType);
+    };
+    if !is_payload_space(*space) {
+        return Err(FunctionError::InvalidPayloadAddressSpace(*space));
+    }
+    if !is_global(context.expression(payload)) {
+        return Err(FunctionError::PayloadPointerNotGlobal);
+    }
+    check_same_payload(*base, so_far)
+}
+
+/// Whether payloads lie in a space.
+fn is_payload_space(space: AddressSpace) -> bool
+    ensures { result ≡ is_payload_space space }
+{
+    matches!(
+        space,
+        AddressSpace::RayPayload | AddressSpace::IncomingRayPayload
+    )
+}
+
+/// Whether an expression is a global.
+fn is_global(expression: Option<&Expression>) -> bool
+    ensures { result ≡ is_global (option_copied expression.entry) }
+{
+    matches!(expression, Some(Expression::GlobalVariable(_)))
+}
+
+/// The payload is of the type of those so far, if there was one.
+fn check_same_payload(
+    base: Handle<tag::Type>,
+    so_far: &Option<Handle<tag::Type>>,
+) -> Result<(), FunctionError>
+    ensures { result_err result ≡ first_fault (same_payload_points base so_far.now) }
+{
+    if let Some(first) = so_far {
+        if *first != base {
+            return Err(FunctionError::MismatchedPayloadType(base, *first));
+        }
+    }
+    Ok(())
+}
+
+/// What ray traces leave behind a statement.
+pub fn trace_of(context: &BlockContext, trace: TraceState, located: &Located) -> TraceState
+    ensures { result ≡ with_trace (context_of context.now) trace (StatementNode (tree_of located.now)) }
+{
+    match &located.statement {
+        Statement::RayPipelineFunction(
+            RayPipelineFunction::TraceRay {
+                acceleration_structure,
+                payload,
+                ..
+            },
+        ) => {
+            let span = located.span;
+            TraceState {
+                payload: payload_behind(context, &trace.payload, *payload),
+                vertex_return: vertex_return_behind(
+                    context,
+                    trace.vertex_return,
+                    *acceleration_structure,
+                    span,
+                ),
+            }
+        }
+        _ => trace,
+    }
+}
+
+/// The payload type behind a ray trace: the one so far, if there was one, else its own.
+fn payload_behind(
+    context: &BlockContext,
+    so_far: &Option<Handle<tag::Type>>,
+    payload: Handle<tag::Expression>,
+) -> Option<Handle<tag::Type>>
+    ensures { result ≡ option_or so_far.now (payload_type_at (context_of context.now) payload) }
+{
+    match so_far {
+        Some(first) => Some(*first),
+        None => payload_type(context, payload),
+    }
+}
+
+/// The type that a payload points to.
+fn payload_type(
+    context: &BlockContext,
+    payload: Handle<tag::Expression>,
+) -> Option<Handle<tag::Type>>
+    ensures { result ≡ payload_type_at (context_of context.now) payload }
+{
+    match context.type_inner(payload) {
+        Some(TypeInner::Pointer { base, .. }) => Some(*base),
+        _ => None,
+    }
+}
+
+/// How vertices are returned behind a ray trace: where it stands, if its structure lacks the flag.
+fn vertex_return_behind(
+    context: &BlockContext,
+    so_far: TraceRayVertexReturnState,
+    structure: Handle<tag::Expression>,
+    span: Span,
+) -> TraceRayVertexReturnState
+    ensures { result ≡ vertex_return_by so_far (span_where (lacks_vertex_return (type_at (context_of context.now) structure)) span) true }
+{
+    if lacks_vertex_return(context, structure) {
+        return TraceRayVertexReturnState::NoVertexReturn(span);
+    }
+    match so_far {
+        TraceRayVertexReturnState::NoTraceRays => TraceRayVertexReturnState::VertexReturn,
+        _ => so_far,
+    }
+}
+
+/// Whether an acceleration structure returns no vertices.
+fn lacks_vertex_return(context: &BlockContext, structure: Handle<tag::Expression>) -> bool
+    ensures { result ≡ lacks_vertex_return (type_at (context_of context.now) structure) }
+{
+    match context.type_inner(structure) {
+        Some(TypeInner::AccelerationStructure { vertex_return }) => !*vertex_return,
+        _ => false,
+    }
+}
