@@ -1,4 +1,5 @@
 use Rattle.std.proofs.Common.{◌≡◌, drop, length}
+use Rattle.naga_valid.specs.Parts.{no_traces}
 use Rattle.naga_check.specs.Judged.{settings_with, infos_from, no_infos}
 use Rattle.naga_check.proofs.case.judge_functions.Given as goal
 
@@ -7,5 +8,5 @@ invariant-loop-fun l =
     record {
       place : length l.infos.functions ≡ l.fun-index;
       settings : l.validator.settings ≡ settings_with l.fn.flags;
-      rest : infos_from (settings_with l.fn.flags) l.module l.infos (drop l.fun-index l.module.functions) ≡ infos_from (settings_with l.fn.flags) l.module no_infos l.module.functions;
+      rest : infos_from (settings_with l.fn.flags) l.validator.trace l.module l.infos (drop l.fun-index l.module.functions) ≡ infos_from (settings_with l.fn.flags) no_traces l.module no_infos l.module.functions;
     }
