@@ -27,7 +27,7 @@ use Rattle.naga_valid.specs.Blocks.{body_of}
 use Rattle.naga_valid.specs.Calls.{is_call_result_of, has_result}
 use Rattle.naga_valid.specs.Context.{Context, pre_emitted}
 use Rattle.naga_valid.specs.Flags.{checks_expressions}
-use Rattle.naga_valid.specs.Judged.{body_judgement, stages_after}
+use Rattle.naga_valid.specs.Judged.{body_judgement, outcome_after}
 use Rattle.naga_valid.specs.Past.{Past, past_of}
 use Rattle.naga_valid.specs.Results.{is_to_fill, result_of, fills, filled_before, is_unfilled, filled_points_from, filled_points}
 use Rattle.naga_valid.specs.Rules.{points_at, stages_of, stages_behind, stages_left}
@@ -35,6 +35,7 @@ use Rattle.naga_valid.specs.Scope.{in_scope, known}
 use Rattle.naga_valid.specs.Stages.{meet}
 use Rattle.naga_valid.specs.State.{State, seen, kept_rules, begin_state, state_behind, state_left}
 use Rattle.naga_valid.specs.Types.{expression_at}
+use Rattle.naga_valid.specs.declared.state.BodyOutcome.{BodyOutcome}
 use Rattle.naga_valid.proofs.Atomics.{NamedHolds, atomic_named}
 use Rattle.naga_valid.proofs.Calls.{call_holds}
 use Rattle.naga_valid.proofs.Fillings.{or_false, with_is, unfilled, known_filled}
@@ -250,7 +251,7 @@ module _ (context : Context) (visits : List Visit) (is : body_judgement context 
   all_visits : visits ≡ visits_of (pre_emitted context) (body_of context.fun.body)
   unfolding body_judgement
   all_visits =
-      earlier_is_all (λ earlier v. points_at context (past_of earlier) v.place v.node) visits (pre_emitted context) (body_of context.fun.body) is
+      earlier_is_all (λ earlier v. points_at context (past_of context earlier) v.place v.node) visits (pre_emitted context) (body_of context.fun.body) is
 
   nodes_of_visits : map (λ v. v.node) visits ≡ nodes_of (body_of context.fun.body)
   nodes_of_visits =
@@ -294,22 +295,25 @@ module _ (context : Context) (visits : List Visit) (is : body_judgement context 
     }
 
 -- what an answer says of its visits
-module _ (context : Context) (stages : ShaderStages) where
-  answered : (o : Option FunctionError) (s : ShaderStages) → answer o s ≡ Ok stages → (o ≡ None) × (s ≡ stages)
-  answered None s h = let same : s ≡ stages = cc in (refl, same)
-  answered (Some f) s h = cc
+module _ (context : Context) (left : BodyOutcome) where
+  answered : (o : Option FunctionError) (l : BodyOutcome) → answer o l ≡ Ok left → (o ≡ None) × (l ≡ left)
+  answered None l h = let same : l ≡ left = cc in (refl, same)
+  answered (Some f) l h = cc
 
-  filled_by : (judged : Result (List Visit) FunctionError) → body_judgement context ≡ judged → stages_after context judged ≡ Ok stages → checks_expressions context.settings.flags ≡ true → ResultsAreFilledOnce context.fun
+  filled_by : (judged : Result (List Visit) FunctionError) → body_judgement context ≡ judged → outcome_after context judged ≡ Ok left → checks_expressions context.settings.flags ≡ true → ResultsAreFilledOnce context.fun
   filled_by (Ok visits) is h on = once context visits is on (answered _ _ h).0
   filled_by (Err f) is h on = cc
 
-  of_all_by : (judged : Result (List Visit) FunctionError) → body_judgement context ≡ judged → stages_after context judged ≡ Ok stages → StagesAreOfAll context.settings.subgroup_stages context.earlier (body_of context.fun.body) stages
-  of_all_by (Ok visits) is h =
-      subst (StagesAreOfAll context.settings.subgroup_stages context.earlier (body_of context.fun.body)) (answered _ _ h).1 (of_body context visits is)
+  abbrev IsOfAll : BodyOutcome → Type 0
+  IsOfAll l =
+      StagesAreOfAll context.settings.subgroup_stages context.earlier (body_of context.fun.body) l.stages
+
+  of_all_by : (judged : Result (List Visit) FunctionError) → body_judgement context ≡ judged → outcome_after context judged ≡ Ok left → IsOfAll left
+  of_all_by (Ok visits) is h = subst IsOfAll (answered _ _ h).1 (of_body context visits is)
   of_all_by (Err f) is h = cc
 
-  pub results_are_filled_once : stages_after context (body_judgement context) ≡ Ok stages → checks_expressions context.settings.flags ≡ true → ResultsAreFilledOnce context.fun
+  pub results_are_filled_once : outcome_after context (body_judgement context) ≡ Ok left → checks_expressions context.settings.flags ≡ true → ResultsAreFilledOnce context.fun
   results_are_filled_once = filled_by (body_judgement context) refl
 
-  pub stages_are_of_all : stages_after context (body_judgement context) ≡ Ok stages → StagesAreOfAll context.settings.subgroup_stages context.earlier (body_of context.fun.body) stages
+  pub stages_are_of_all : outcome_after context (body_judgement context) ≡ Ok left → IsOfAll left
   stages_are_of_all = of_all_by (body_judgement context) refl

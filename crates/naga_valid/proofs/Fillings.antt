@@ -7,16 +7,14 @@ use Rattle.naga_rules.specs.declared.function.FunctionError.TheVariants.{Unvisit
 use Rattle.naga_runs.proofs.Points.{not_holds}
 use Rattle.naga_runs.specs.Handles.{Handles}
 use Rattle.naga_runs.specs.Judgement.{first_fault}
-use Rattle.naga_runs.specs.Positions.{Node, NoNode, StatementNode, BreakIfNode}
 use Rattle.naga_runs.specs.Visits.{Visit}
 use Rattle.naga_valid.specs.Context.{Context}
 use Rattle.naga_valid.specs.Flags.{checks_expressions}
 use Rattle.naga_valid.specs.Types.{expression_at}
-use Rattle.naga_valid.specs.Past.{past_of}
 use Rattle.naga_valid.specs.Results.{result_of, is_this, is_to_fill, is_fresh, filled_before, is_unfilled, filled_points_from}
 use Rattle.naga_valid.specs.Rules.{stages_behind, stages_left}
 use Rattle.naga_valid.specs.Scope.{in_scope, known}
-use Rattle.naga_valid.specs.State.{State, seen, with_result, filled_from, state_behind, state_left}
+use Rattle.naga_valid.specs.State.{with_result, filled_from}
 
 pub or_false : (b : Bool) → (b || false) ≡ b
 or_false true = refl
@@ -42,34 +40,15 @@ from_is filled (v ∷ visits) r =
 pub known_filled : (visits : List Visit) → known (filled_from [] visits) ≡ filled_before visits
 known_filled visits i r = from_is [] visits r i
 
--- so the check lists are asked with the same
-pub seen_is : (context : Context) (visits : List Visit) → seen (state_left context visits) ≡ past_of context visits
-seen_is context visits i = record { filled = known_filled visits i; payload = payload_before context.trace context visits }
-
 -- one visit more
-filled_more : (filled : List ℕ) (visits : List Visit) (v : Visit) → filled_from filled (visits ++ (v ∷ [])) ≡ with_result (filled_from filled visits) (result_of v.node)
+pub filled_more : (filled : List ℕ) (visits : List Visit) (v : Visit) → filled_from filled (visits ++ (v ∷ [])) ≡ with_result (filled_from filled visits) (result_of v.node)
 filled_more filled [] v = refl
 filled_more filled (w ∷ visits) v = filled_more (with_result filled (result_of w.node)) visits v
 
-stages_more : (context : Context) (stages : ShaderStages) (visits : List Visit) (v : Visit) →
+pub stages_more : (context : Context) (stages : ShaderStages) (visits : List Visit) (v : Visit) →
     stages_left context stages (visits ++ (v ∷ [])) ≡ stages_behind context (stages_left context stages visits) v.node
 stages_more context stages [] v = refl
 stages_more context stages (w ∷ visits) v = stages_more context (stages_behind context stages w.node) visits v
-
-abbrev behind_both : Context → ShaderStages → List ℕ → Node → State
-behind_both context stages filled node =
-    record { stages = stages_behind context stages node; filled = with_result filled (result_of node); trace = with_trace context trace node }
-
-behind : (context : Context) (stages : ShaderStages) (filled : List ℕ) (node : Node) →
-    behind_both context stages filled node ≡ state_behind context (record { stages = stages; filled = filled }) node
-behind context stages filled NoNode = refl
-behind context stages filled (StatementNode x) = refl
-behind context stages filled (BreakIfNode h) = refl
-
-pub state_more : (context : Context) (visits : List Visit) (v : Visit) → state_left context (visits ++ (v ∷ [])) ≡ state_behind context (state_left context visits) v.node
-state_more context visits v =
-    (λ i. record { stages = stages_more context context.info.available_stages visits v i; filled = filled_more [] visits v i })
-    ∙ behind context (stages_left context context.info.available_stages visits) (filled_from [] visits) v.node
 
 -- the points behind a body, from one expression on
 module _ (context : Context) (filled : Handles) (h end : ℕ) where

@@ -5,6 +5,7 @@ use Rattle.std.specs.Prelude.{IfSome, not, is_none, if◌then◌else◌}
 use Rattle.std.proofs.lemmas.Bool.Decides.{nat_tests}
 use Rattle.naga_below.specs.Tree.{Stmt, Leaf, Block, Branch, Switch, Loop, Break, Continue, Return, Kill}
 use Rattle.naga_below.specs.View.{emitted, no_operands}
+use Rattle.naga_below.specs.declared.ir.statements.RayPipelineFunction.TheVariants.{TraceRay}
 use Rattle.naga_below.specs.declared.ir.statements.Statement as ir
 use Rattle.naga_below.specs.declared.valid.expression_error.ExpressionError.TheVariants.{NotInScope}
 use Rattle.naga_rules.specs.declared.function.FunctionError.{FunctionError}
@@ -37,6 +38,8 @@ use Rattle.naga_valid.proofs.Images.{image_store_fits}
 use Rattle.naga_valid.proofs.Judged.{kept}
 use Rattle.naga_valid.proofs.Cooperative.{cooperative_fits}
 use Rattle.naga_valid.proofs.Loads.{load_fits}
+use Rattle.naga_valid.proofs.RayQueries.{ray_query_fits}
+use Rattle.naga_valid.proofs.RayTraces.{trace_ray_fits}
 use Rattle.naga_valid.proofs.Stores.{store_fits}
 use Rattle.naga_valid.proofs.Subgroups.{ballot_fits, collective_fits, gather_fits}
 
@@ -78,8 +81,10 @@ node_fits context past place (StatementNode (Leaf acts (ir.ImageStore i k a v) s
     (subst (Fit place.scope place.scope) (sym made) (image_store_fits context place.scope i (record { coordinate = k; array_index = a }) v e), tt)
 node_fits context past place (StatementNode (Leaf acts (ir.ImageAtomic i k a f v) span)) made e =
     (subst (Fit place.scope place.scope) (sym made) (image_atomic_fits context place.scope f v i (record { coordinate = k; array_index = a }) e), tt)
-node_fits context past place (StatementNode (Leaf acts (ir.RayQuery q f) span)) made e = cc
-node_fits context past place (StatementNode (Leaf acts (ir.RayPipelineFunction f) span)) made e = cc
+node_fits context past place (StatementNode (Leaf acts (ir.RayQuery q f) span)) made e =
+    (subst (Fit place.scope place.scope) (sym made) (ray_query_fits context place.scope q f e), tt)
+node_fits context past place (StatementNode (Leaf acts (ir.RayPipelineFunction (TraceRay a d p)) span)) made e =
+    (subst (Fit place.scope place.scope) (sym made) (trace_ray_fits context past.payload place.scope a d p e), tt)
 node_fits context past place (StatementNode (Leaf acts (ir.SubgroupBallot r p) span)) made e =
     (subst (Fit place.scope place.scope) (sym made) (ballot_fits context place.scope r p e), tt)
 node_fits context past place (StatementNode (Leaf acts (ir.SubgroupGather m x r) span)) made e =

@@ -16,6 +16,7 @@ pub mod Cooperative
 pub mod Images
 pub mod ImageAtomics
 pub mod Subgroups
+pub mod StatesLeft
 pub mod Walk
 pub mod Parts
 pub mod Own

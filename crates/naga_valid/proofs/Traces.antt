@@ -84,6 +84,11 @@ none_before NoTraceRays = refl
 none_before VertexReturn = refl
 none_before (NoVertexReturn at) = refl
 
+-- no ray
+pub no_trace : (trace : TraceState) → record { payload = option_or trace.payload None; vertex_return = vertex_return_by trace.vertex_return None false } ≡ trace
+no_trace trace i =
+    record { payload = or_none trace.payload i; vertex_return = sym (none_before trace.vertex_return) i }
+
 -- visit by visit, it is what all of them leave
 pub trace_left_is : (before : TraceState) (context : Context) (visits : List Visit) → trace_left context before visits ≡ trace_after before context visits
 trace_left_is before context [] =

@@ -1,6 +1,6 @@
 -- The kinds of statement that have a check list by now: Emit, Block, If, Switch, Loop, Break, Continue, Return, Kill,
 -- ControlBarrier, MemoryBarrier, Store, ImageStore, Atomic, ImageAtomic, WorkGroupUniformLoad, Call, CooperativeStore,
--- SubgroupBallot, SubgroupCollectiveOperation and SubgroupGather.
+-- SubgroupBallot, SubgroupCollectiveOperation, SubgroupGather, RayQuery and RayPipelineFunction.
 use Rattle.std.specs.Prelude.{Bool, true, false, ◌&&◌}
 use Rattle.naga_below.specs.Tree.{Stmt, Leaf, Block, Branch, Switch, Loop, Break, Continue, Return, Kill, Body, Done, Then, Cases, NoCase, OneCase}
 use Rattle.naga_below.specs.declared.ir.statements.Statement as ir
@@ -20,6 +20,8 @@ has_kind (Leaf acts (ir.MemoryBarrier barrier) span) = true
 has_kind (Leaf acts (ir.SubgroupBallot result predicate) span) = true
 has_kind (Leaf acts (ir.SubgroupCollectiveOperation op collective_op argument result) span) = true
 has_kind (Leaf acts (ir.SubgroupGather mode argument result) span) = true
+has_kind (Leaf acts (ir.RayQuery query fun) span) = true
+has_kind (Leaf acts (ir.RayPipelineFunction fun) span) = true
 has_kind (Leaf acts _ span) = false
 has_kind _ = true
 

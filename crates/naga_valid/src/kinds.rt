@@ -9,7 +9,8 @@ use naga_below::ir::statements::{Block, Located, Statement, SwitchCase};
 
 /// Whether each statement of a function, at any depth, is of a kind that is judged by now: Emit, Block, If, Switch,
 /// Loop, Break, Continue, Return, Kill, ControlBarrier, MemoryBarrier, Store, ImageStore, Atomic, ImageAtomic,
-/// WorkGroupUniformLoad, Call, CooperativeStore, SubgroupBallot, SubgroupCollectiveOperation or SubgroupGather.
+/// WorkGroupUniformLoad, Call, CooperativeStore, SubgroupBallot, SubgroupCollectiveOperation, SubgroupGather, RayQuery or
+/// RayPipelineFunction.
 pub fn has_kinds(fun: &Function) -> bool
     ensures { result ≡ body_has_kinds (body_of fun.now.body) }
 {
@@ -66,6 +67,8 @@ fn has_kind(located: &Located) -> bool
             | Statement::SubgroupBallot { .. }
             | Statement::SubgroupCollectiveOperation { .. }
             | Statement::SubgroupGather { .. }
+            | Statement::RayQuery { .. }
+            | Statement::RayPipelineFunction(_)
     )
 }
 

@@ -20,6 +20,8 @@ use crate::checks::image::Texel;
 use crate::checks::image_atomic::check_image_atomic;
 use crate::checks::image_store::check_image_store;
 use crate::checks::load::check_load;
+use crate::checks::ray_query::check_ray_query;
+use crate::checks::ray_trace::check_trace_ray;
 use crate::checks::refuse::answer;
 use crate::checks::store::check_store;
 use crate::checks::subgroup::check_ballot;
@@ -28,7 +30,7 @@ use crate::checks::subgroup_gather::check_gather;
 use crate::context::BlockContext;
 use crate::handle_set::HandleSet;
 use crate::state::BodyState;
-use naga_below::ir::statements::{Located, Statement};
+use naga_below::ir::statements::{Located, RayPipelineFunction, Statement};
 use naga_below::span::Refusal;
 use naga_rules::function::FunctionError;
 
@@ -118,8 +120,6 @@ pub fn check_leaf(
             let checked = check_barrier(&context.settings, *barrier);
             answer(alloc, checked, span)
         }
-        Statement::RayQuery { .. } => Ok(()),
-        Statement::RayPipelineFunction(_) => Ok(()),
         Statement::SubgroupBallot { result, predicate } => {
             check_ballot(scope, context, *result, predicate, span)
         }
@@ -142,6 +142,25 @@ pub fn check_leaf(
             *result,
             span,
         ),
+        Statement::RayQuery { query, fun } => check_ray_query(scope, context, *query, fun, span),
+        Statement::RayPipelineFunction(
+            RayPipelineFunction::TraceRay {
+                acceleration_structure: structure,
+                descriptor,
+                payload,
+            },
+        ) => {
+            let so_far = &state.trace.payload;
+            let checked = check_trace_ray(
+                scope,
+                context,
+                so_far,
+                *structure,
+                *descriptor,
+                *payload,
+            );
+            answer(alloc, checked, span)
+        }
         Statement::Block(_)
         | Statement::If { .. }
         | Statement::Switch { .. }

@@ -5,7 +5,7 @@ use Rattle.naga_valid.specs.Scope.{known}
 use Rattle.naga_valid.specs.Seen.{context_of}
 use Rattle.naga_valid.proofs.Accepted.{results_are_filled_once, stages_are_of_all}
 use Rattle.naga_valid.proofs.Guarded.{accepted_is_sound}
-use Rattle.naga_valid.proofs.Judged.{unfilled_refuses, all_filled}
+use Rattle.naga_valid.proofs.Judged.{outcome_in, unfilled_refuses, all_filled}
 use Rattle.naga_valid.proofs.function.validate_function_body.Goals as goal
 
 pub returns-in_err-answer_of_function-clause-judged :
@@ -29,8 +29,8 @@ returns-clause-sound c =
 
 pub returns-clause-filled : goal.returns-clause-filled
 returns-clause-filled c =
-    results_are_filled_once (context_of c.args.context.now) c.in_ok-state.state.stages (returns-clause-judged c)
+    results_are_filled_once (context_of c.args.context.now) (outcome_in c.in_ok-state.state) (returns-clause-judged c)
 
 pub returns-clause-stages : goal.returns-clause-stages
 returns-clause-stages c =
-    stages_are_of_all (context_of c.args.context.now) c.in_ok-state.state.stages (returns-clause-judged c)
+    stages_are_of_all (context_of c.args.context.now) (outcome_in c.in_ok-state.state) (returns-clause-judged c)
