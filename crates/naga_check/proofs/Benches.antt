@@ -63,6 +63,7 @@ module _ (m : Module) (n callees : ℕ) (there : (f : ℕ) → f < callees → C
       let rest = both_hold (is_empty xs) _ first.1 in
       let below = ltb-true f callees first.0 in
       (below, there f below, subst (All (λ h. h < n)) (sym (none_of xs rest.0)) (All-nil (λ h. h < n)), below_if_any r rest.1)
+  plain_leaf_fits (statement.ControlBarrier b) e = tt
   plain_leaf_fits x e = absurd cc
 
   mutual

@@ -15,6 +15,7 @@ unfolding is_plain
 plain_kind n callees (Leaf acts (statement.Emit r) span) e = refl
 plain_kind n callees (Leaf acts (statement.Call f xs r) span) e = refl
 plain_kind n callees (Leaf acts (statement.Store p v) span) e = refl
+plain_kind n callees (Leaf acts (statement.ControlBarrier b) span) e = refl
 plain_kind n callees (Leaf acts x span) e = absurd cc
 plain_kind n callees x e = refl
 

@@ -15,8 +15,8 @@ pub mod Loads
 pub mod Cooperative
 pub mod Images
 pub mod ImageAtomics
-pub mod Subgroups
 pub mod StatesLeft
+pub mod Subgroups
 pub mod Walk
 pub mod Parts
 pub mod Own
@@ -24,4 +24,3 @@ pub mod PreEmitted
 pub mod Judged
 pub mod Accepted
 pub mod Guarded
-pub mod KindsOf

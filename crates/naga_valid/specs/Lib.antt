@@ -4,7 +4,6 @@ pub mod Stages
 pub mod State
 pub mod Scope
 pub mod Points
-pub mod Kinds
 pub mod Rules
 pub mod Answers
 pub mod Walk

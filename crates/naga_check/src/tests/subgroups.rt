@@ -21,7 +21,6 @@ use naga_below::valid::capabilities::Capabilities;
 use naga_below::valid::flags::{ShaderStages, SubgroupOperationSet, ValidationFlags};
 use naga_below::valid::info::ModuleInfo;
 use naga_rules::function::{FunctionError, SubgroupError};
-use naga_valid::kinds::has_kinds;
 use naga_valid::validator::Validator;
 use std::alloc::{AllocError, Global};
 use std::process::Abort;
@@ -169,7 +168,6 @@ fn judge(
     validator.subgroup_operations(target.operations);
     assert!(rt; fits_types(module));
     assert!(rt; fits_function(fun, module, infos.functions.len()));
-    assert!(rt; has_kinds(fun));
     match validator.validate_body(alloc, fun, module, &infos) {
         Ok(info) => Ok(info.available_stages),
         Err(Refusal::Fault(fault)) => Err(fault.into_inner()),

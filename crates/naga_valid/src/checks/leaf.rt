@@ -120,6 +120,19 @@ pub fn check_leaf(
             let checked = check_barrier(&context.settings, *barrier);
             answer(alloc, checked, span)
         }
+        Statement::RayQuery { query, fun } => check_ray_query(scope, context, *query, fun, span),
+        Statement::RayPipelineFunction(
+            RayPipelineFunction::TraceRay {
+                acceleration_structure: structure,
+                descriptor,
+                payload,
+            },
+        ) => {
+            let so_far = &state.trace.payload;
+            let checked =
+                check_trace_ray(scope, context, so_far, *structure, *descriptor, *payload);
+            answer(alloc, checked, span)
+        }
         Statement::SubgroupBallot { result, predicate } => {
             check_ballot(scope, context, *result, predicate, span)
         }
@@ -142,25 +155,6 @@ pub fn check_leaf(
             *result,
             span,
         ),
-        Statement::RayQuery { query, fun } => check_ray_query(scope, context, *query, fun, span),
-        Statement::RayPipelineFunction(
-            RayPipelineFunction::TraceRay {
-                acceleration_structure: structure,
-                descriptor,
-                payload,
-            },
-        ) => {
-            let so_far = &state.trace.payload;
-            let checked = check_trace_ray(
-                scope,
-                context,
-                so_far,
-                *structure,
-                *descriptor,
-                *payload,
-            );
-            answer(alloc, checked, span)
-        }
         Statement::Block(_)
         | Statement::If { .. }
         | Statement::Switch { .. }
