@@ -2,6 +2,7 @@
 
 mod plain;
 mod stores;
+mod subgroups;
 
 use crate::case::run_case;
 use std::alloc::Global;

@@ -20,9 +20,7 @@ use naga_below::ir::types::{AddressSpace, Scalar, Type, TypeInner};
 use naga_below::sequence::Sequence;
 use naga_below::span::{Refusal, Span};
 use naga_below::valid::capabilities::Capabilities;
-use naga_below::valid::flags::{
-    ShaderStages, SubgroupOperationSet, TypeFlags, ValidationFlags,
-};
+use naga_below::valid::flags::{ShaderStages, SubgroupOperationSet, TypeFlags, ValidationFlags};
 use naga_below::valid::info::{FunctionInfo, ModuleInfo};
 use naga_below::valid::types::TypeInfo;
 use naga_rules::function::{AtomicError, CallError, FunctionError, SubgroupError};

@@ -129,8 +129,14 @@ pub fn check_leaf(
             },
         ) => {
             let so_far = &state.trace.payload;
-            let checked =
-                check_trace_ray(scope, context, so_far, *structure, *descriptor, *payload);
+            let checked = check_trace_ray(
+                scope,
+                context,
+                so_far,
+                *structure,
+                *descriptor,
+                *payload,
+            );
             answer(alloc, checked, span)
         }
         Statement::SubgroupBallot { result, predicate } => {
