@@ -12,6 +12,7 @@ use Rattle.naga_below.specs.declared.valid.info.FunctionInfo.{FunctionInfo}
 use Rattle.naga_below.specs.declared.valid.info.ModuleInfo.{ModuleInfo}
 use Rattle.naga_rules.specs.Answers.{Answers}
 use Rattle.naga_rules.specs.declared.function.FunctionError.{FunctionError}
+use Rattle.naga_valid.specs.Parts.{no_traces}
 use Rattle.naga_check.specs.BenchModule.{IsBenchModule}
 use Rattle.naga_check.specs.Judged.{IsJudgement, Judges, infos_from, no_infos, settings_of, stages_of_last}
 use Rattle.naga_check.specs.Line.{Replies, Writes, IsLine, line_of, reply_line, reply_status}
@@ -66,7 +67,7 @@ heard (Some input) n front reply e h r =
     whole_replies input n (omega arith) reply (subst (λ xs. Replies xs reply) h r)
 
 -- the answer about the functions of the bench's module is the case's judgement
-pub judges : (c : Case) (m : Module) (answer : Result ModuleInfo (Refusal FunctionError)) → IsBenchModule c.bench c.body m → Answers (infos_from (settings_of c) m no_infos m.functions) answer → Judges c answer
+pub judges : (c : Case) (m : Module) (answer : Result ModuleInfo (Refusal FunctionError)) → IsBenchModule c.bench c.body m → Answers (infos_from (settings_of c) no_traces m no_infos m.functions) answer → Judges c answer
 unfolding IsJudgement
 judges c m (Ok infos) is h = (m, is, h)
 judges c m (Err (refusal.Fault fault)) is h = (m, is, h)

@@ -13,6 +13,8 @@ use Rattle.naga_below.specs.declared.valid.info.ModuleInfo.{ModuleInfo}
 use Rattle.naga_below.specs.declared.valid.settings.Settings.{Settings}
 use Rattle.naga_rules.specs.Answers.{Refuses}
 use Rattle.naga_rules.specs.declared.function.FunctionError.{FunctionError}
+use Rattle.naga_valid.specs.Judged.{FunctionOutcome}
+use Rattle.naga_valid.specs.declared.trace.TraceState.{TraceState}
 use Rattle.naga_check.specs.Judged.{infos_from, with_info, plain_judgement, and_then}
 use Rattle.naga_check.specs.Ready.{IsReady}
 
@@ -20,26 +22,27 @@ refused_then : {A B : Type 0} (right : Result A FunctionError) (next : A → Res
 refused_then right next (refusal.Fault fault) h = ap (and_then next) h
 refused_then right next refusal.Memory h = tt
 
-module _ (settings : Settings) (m : Module) (infos : ModuleInfo) (fs : List Function) (i : ℕ) (f : Function) (lt : i < length fs) (is : f ≡ get_or fs i f) where
-  here : infos_from settings m infos (drop i fs) ≡ and_then (λ info. infos_from settings m (with_info infos info) (drop (i + 1) fs)) (plain_judgement settings m infos f)
+module _ (settings : Settings) (trace : TraceState) (m : Module) (infos : ModuleInfo) (fs : List Function) (i : ℕ) (f : Function) (lt : i < length fs) (is : f ≡ get_or fs i f) where
+  here : infos_from settings trace m infos (drop i fs) ≡ and_then (λ (found : FunctionOutcome). infos_from settings found.trace m (with_info infos found.info) (drop (i + 1) fs)) (plain_judgement settings trace m infos f)
   unfolding infos_from
   here =
-      at_drop_more (infos_from settings m infos) fs i f lt
-      ∙ ap (λ g. infos_from settings m infos (g ∷ drop (i + 1) fs)) (sym is)
+      at_drop_more (infos_from settings trace m infos) fs i f lt
+      ∙ ap (λ g. infos_from settings trace m infos (g ∷ drop (i + 1) fs)) (sym is)
 
   -- a function that is refused is the first fault
-  pub refused_here : (e : Refusal FunctionError) → Refuses (plain_judgement settings m infos f) e → Refuses (infos_from settings m infos (drop i fs)) e
-  refused_here e h = rw here (refused_then (plain_judgement settings m infos f) _ e h)
+  pub refused_here : (e : Refusal FunctionError) → Refuses (plain_judgement settings trace m infos f) e → Refuses (infos_from settings trace m infos (drop i fs)) e
+  refused_here e h = rw here (refused_then (plain_judgement settings trace m infos f) _ e h)
 
   -- an info goes behind those before it
-  pub info_here : (info : FunctionInfo) → plain_judgement settings m infos f ≡ Ok info → infos_from settings m infos (drop i fs) ≡ infos_from settings m (with_info infos info) (drop (i + 1) fs)
-  info_here info h = here ∙ ap (and_then (λ info. infos_from settings m (with_info infos info) (drop (i + 1) fs))) h
+  pub info_here : (info : FunctionInfo) (left : TraceState) → plain_judgement settings trace m infos f ≡ Ok (record { info = info; trace = left }) → infos_from settings trace m infos (drop i fs) ≡ infos_from settings left m (with_info infos info) (drop (i + 1) fs)
+  info_here info left h =
+      here ∙ ap (and_then (λ (found : FunctionOutcome). infos_from settings found.trace m (with_info infos found.info) (drop (i + 1) fs))) h
 
   -- it is ready
   pub ready_here : EachAt (IsReady m) fs → IsReady m i f
   ready_here each = each i f (slice_get_read fs (length fs) i f refl lt is)
 
 -- where none is left, these are the infos
-pub all_judged : (settings : Settings) (m : Module) (infos : ModuleInfo) (fs : List Function) (i : ℕ) → length fs ≤ i → infos_from settings m infos (drop i fs) ≡ Ok infos
+pub all_judged : (settings : Settings) (trace : TraceState) (m : Module) (infos : ModuleInfo) (fs : List Function) (i : ℕ) → length fs ≤ i → infos_from settings trace m infos (drop i fs) ≡ Ok infos
 unfolding infos_from
-all_judged settings m infos fs i le = ap (infos_from settings m infos) (drop_all i fs le)
+all_judged settings trace m infos fs i le = ap (infos_from settings trace m infos) (drop_all i fs le)

@@ -13,17 +13,18 @@ use Rattle.naga_below.specs.declared.valid.info.ModuleInfo.{ModuleInfo}
 use Rattle.naga_below.specs.declared.valid.settings.Settings.{Settings}
 use Rattle.naga_rules.specs.declared.function.FunctionError.{FunctionError}
 use Rattle.naga_rules.specs.declared.function.FunctionError.TheVariants.{InvalidCall}
-use Rattle.naga_runs.specs.Handles.{Handles}
 use Rattle.naga_runs.specs.Judgement.{judgement, by_earlier}
 use Rattle.naga_runs.specs.Positions.{Node, StatementNode}
 use Rattle.naga_runs.specs.Visits.{Place, Visit}
 use Rattle.naga_valid.specs.Calls.{arguments_of, has_result, arguments_points, call_result_points}
 use Rattle.naga_valid.specs.Context.{Context, pre_emitted}
 use Rattle.naga_valid.specs.Flags.{checks_blocks}
-use Rattle.naga_valid.specs.Judged.{body_judgement, stages_after, info_with, judged_with, function_judgement}
+use Rattle.naga_valid.specs.Judged.{FunctionOutcome, body_judgement, outcome_after, info_with, judged_with, function_judgement}
+use Rattle.naga_valid.specs.Parts.{no_traces}
+use Rattle.naga_valid.specs.Past.{Past, past_of}
 use Rattle.naga_valid.specs.Points.{within}
-use Rattle.naga_valid.specs.Results.{filled_before}
 use Rattle.naga_valid.specs.Rules.{points_at, body_rules}
+use Rattle.naga_valid.specs.declared.trace.TraceState.{TraceState}
 use Rattle.naga_below.specs.declared.proc.expression_kinds.ExpressionKind.{ExpressionKind}
 use Rattle.naga_check.specs.BenchModule.{IsBenchFunction, IsCallee, AreFunctionsOf, IsBenchModule, bench_types, bench_locals, bench_expressions}
 use Rattle.naga_check.specs.Judged.{IsJudgement, infos_from, with_info, and_then, no_infos, plain_judgement, settings_of}
@@ -46,38 +47,38 @@ DeclareTheSame fs gs =
     (h : ℕ) → (arguments_of (slice_get fs h) ≡ arguments_of (slice_get gs h)) × (has_result (slice_get fs h) ≡ has_result (slice_get gs h))
 
 module _ (c : Context) (fs : List Function) (b : Block) (same : DeclareTheSame c.program.functions fs) where
-  same_points : (filled : Handles) (place : Place) (node : Node) → points_at c filled place node ≡ points_at (with_bodies c fs b) filled place node
-  same_points filled place (StatementNode (Leaf acts (ir.Call f given result) span)) =
-      λ i. within (InvalidCall f) (arguments_points c place.scope ((same f).0 i) given ++ call_result_points c filled place.scope f ((same f).1 i) result)
-  same_points filled place node = refl
+  same_points : (past : Past) (place : Place) (node : Node) → points_at c past place node ≡ points_at (with_bodies c fs b) past place node
+  same_points past place (StatementNode (Leaf acts (ir.Call f given result) span)) =
+      λ i. within (InvalidCall f) (arguments_points c place.scope ((same f).0 i) given ++ call_result_points c past.filled place.scope f ((same f).1 i) result)
+  same_points past place node = refl
 
   same_rules : body_rules c ≡ body_rules (with_bodies c fs b)
   same_rules =
-      λ i. by_earlier (λ earlier visit. same_points (filled_before earlier) visit.place visit.node i)
+      λ i. by_earlier (λ earlier visit. same_points (past_of c earlier) visit.place visit.node i)
 
   same_body : body_of no_operands c.fun.body ≡ body_of no_operands b → body_judgement c ≡ body_judgement (with_bodies c fs b)
   unfolding body_judgement
   same_body tree = λ i. judgement (same_rules i) [] (pre_emitted c) (tree i)
 
-  same_stages : (found : Result (List Visit) FunctionError) → stages_after c found ≡ stages_after (with_bodies c fs b) found
-  same_stages (Ok visits) = refl
-  same_stages (Err fault) = refl
+  same_outcome : (found : Result (List Visit) FunctionError) → outcome_after c found ≡ outcome_after (with_bodies c fs b) found
+  same_outcome (Ok visits) = refl
+  same_outcome (Err fault) = refl
 
   pub same_judged : body_of no_operands c.fun.body ≡ body_of no_operands b → judged_with c ≡ judged_with (with_bodies c fs b)
   same_judged tree =
-      ap (λ r. if checks_blocks c.settings.flags then info_with c.info r else Ok c.info) (ap (stages_after c) (same_body tree) ∙ same_stages (body_judgement (with_bodies c fs b)))
+      ap (λ r. if checks_blocks c.settings.flags then info_with c.info r else Ok (record { info = c.info; trace = c.trace })) (ap (outcome_after c) (same_body tree) ∙ same_outcome (body_judgement (with_bodies c fs b)))
 
-module _ (settings : Settings) (m : Module) (infos : ModuleInfo) (f : Function) (fs : List Function) (b : Block) (same : DeclareTheSame m.functions fs) (tree : body_of no_operands f.body ≡ body_of no_operands b) where
-  same_answer : (kinds : List ExpressionKind) (r : Result FunctionInfo FunctionError) → function_judgement settings m infos f kinds r ≡ function_judgement settings (record m { functions = fs }) infos (record f { body = b }) kinds r
+module _ (settings : Settings) (trace : TraceState) (m : Module) (infos : ModuleInfo) (f : Function) (fs : List Function) (b : Block) (same : DeclareTheSame m.functions fs) (tree : body_of no_operands f.body ≡ body_of no_operands b) where
+  same_answer : (kinds : List ExpressionKind) (r : Result FunctionInfo FunctionError) → function_judgement settings trace m infos f kinds r ≡ function_judgement settings trace (record m { functions = fs }) infos (record f { body = b }) kinds r
   same_answer kinds (Err fault) = refl
   same_answer kinds (Ok info) =
-      same_judged (record { program = m; earlier = infos; fun = f; info = info; kinds = kinds; settings = settings }) fs b same tree
+      same_judged (record { program = m; earlier = infos; fun = f; info = info; kinds = kinds; settings = settings; trace = trace }) fs b same tree
 
-  same_plain : plain_info f m ≡ plain_info (record f { body = b }) (record m { functions = fs }) → plain_judgement settings m infos f ≡ plain_judgement settings (record m { functions = fs }) infos (record f { body = b })
+  same_plain : plain_info f m ≡ plain_info (record f { body = b }) (record m { functions = fs }) → plain_judgement settings trace m infos f ≡ plain_judgement settings trace (record m { functions = fs }) infos (record f { body = b })
   unfolding plain_judgement
   same_plain known =
       same_answer (kinds_from [] f.expressions) (plain_info f m)
-      ∙ ap (function_judgement settings (record m { functions = fs }) infos (record f { body = b }) (kinds_from [] f.expressions)) known
+      ∙ ap (function_judgement settings trace (record m { functions = fs }) infos (record f { body = b }) (kinds_from [] f.expressions)) known
 
 -- the functions and the module of a bench, round these blocks
 abbrev function_with : Bench → Block → Function
@@ -130,21 +131,21 @@ declare_c g b h d (suc zero) = (refl, refl)
 declare_c g b h d (suc (suc k)) = (refl, refl)
 
 abbrev judged_functions : Settings → List Function → Result ModuleInfo FunctionError
-judged_functions settings fs = infos_from settings (module_with fs) no_infos fs
+judged_functions settings fs = infos_from settings no_traces (module_with fs) no_infos fs
 
 one_p : (settings : Settings) (b d : Block) → body_of no_operands b ≡ body_of no_operands d → judged_functions settings (function_with P b ∷ []) ≡ judged_functions settings (function_with P d ∷ [])
 unfolding infos_from
 one_p settings b d tree =
-    ap (and_then (λ info. Ok (with_info no_infos info))) (same_plain settings (module_with (function_with P b ∷ [])) no_infos (function_with P b) (function_with P d ∷ []) d (declare_p b d) tree (known_p b d))
+    ap (and_then (λ (found : FunctionOutcome). Ok (with_info no_infos found.info))) (same_plain settings no_traces (module_with (function_with P b ∷ [])) no_infos (function_with P b) (function_with P d ∷ []) d (declare_p b d) tree (known_p b d))
 
 one_c : (settings : Settings) (g b h d : Block) → body_of no_operands g ≡ body_of no_operands h → body_of no_operands b ≡ body_of no_operands d → judged_functions settings (callee_with g ∷ function_with C b ∷ []) ≡ judged_functions settings (callee_with h ∷ function_with C d ∷ [])
 unfolding infos_from
 one_c settings g b h d callee tree =
     let m = module_with (callee_with g ∷ function_with C b ∷ []) in
     let fs = callee_with h ∷ function_with C d ∷ [] in
-    let first = same_plain settings m no_infos (callee_with g) fs h (declare_c g b h d) callee (known_callee g b h d) in
-    let second = λ (info : FunctionInfo). same_plain settings m (with_info no_infos info) (function_with C b) fs d (declare_c g b h d) tree (known_c g b h d) in
-    λ i. and_then (λ info. and_then (λ next. Ok (with_info (with_info no_infos info) next)) (second info i)) (first i)
+    let first = same_plain settings no_traces m no_infos (callee_with g) fs h (declare_c g b h d) callee (known_callee g b h d) in
+    let second = λ (found : FunctionOutcome). same_plain settings found.trace m (with_info no_infos found.info) (function_with C b) fs d (declare_c g b h d) tree (known_c g b h d) in
+    λ i. and_then (λ (found : FunctionOutcome). and_then (λ (next : FunctionOutcome). Ok (with_info (with_info no_infos found.info) next.info)) (second found i)) (first i)
 
 function_is : (bench : Bench) (body : Body) (f : Function) → IsBenchFunction bench body f → f ≡ function_with bench f.body
 function_is bench body f p =
@@ -158,8 +159,8 @@ module_is : (bench : Bench) (body : Body) (m : Module) → IsBenchModule bench b
 module_is bench body m p fs e =
     λ i. record { types = p.types i; special_types = p.special_types i; constants = p.constants i; overrides = p.overrides i; global_variables = p.global_variables i; global_expressions = p.global_expressions i; functions = e i; entry_points = p.entry_points i }
 
-judged_as : (settings : Settings) (bench : Bench) (body : Body) (m : Module) → IsBenchModule bench body m → (fs : List Function) → m.functions ≡ fs → infos_from settings m no_infos m.functions ≡ judged_functions settings fs
-judged_as settings bench body m p fs e = λ i. infos_from settings (module_is bench body m p fs e i) no_infos (e i)
+judged_as : (settings : Settings) (bench : Bench) (body : Body) (m : Module) → IsBenchModule bench body m → (fs : List Function) → m.functions ≡ fs → infos_from settings no_traces m no_infos m.functions ≡ judged_functions settings fs
+judged_as settings bench body m p fs e = λ i. infos_from settings no_traces (module_is bench body m p fs e i) no_infos (e i)
 
 -- the functions of a bench with the same trees have one judgement
 one_of : (settings : Settings) (bench : Bench) (body : Body) (fs gs : List Function) → AreFunctionsOf bench body fs → AreFunctionsOf bench body gs → judged_functions settings fs ≡ judged_functions settings gs

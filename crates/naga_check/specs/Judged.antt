@@ -11,8 +11,9 @@ use Rattle.naga_below.specs.declared.valid.info.FunctionInfo.{FunctionInfo}
 use Rattle.naga_below.specs.declared.valid.info.ModuleInfo.{ModuleInfo}
 use Rattle.naga_below.specs.declared.valid.settings.Settings.{Settings}
 use Rattle.naga_rules.specs.declared.function.FunctionError.{FunctionError}
-use Rattle.naga_valid.specs.Judged.{function_judgement}
-use Rattle.naga_valid.specs.Parts.{first_settings}
+use Rattle.naga_valid.specs.Judged.{FunctionOutcome, function_judgement}
+use Rattle.naga_valid.specs.Parts.{first_settings, no_traces}
+use Rattle.naga_valid.specs.declared.trace.TraceState.{TraceState}
 use Rattle.naga_check.specs.BenchModule.{IsBenchModule}
 use Rattle.naga_check.specs.Notation.Case.{Case}
 use Rattle.naga_check.specs.Plain.Infos.{plain_info}
@@ -37,23 +38,25 @@ abbrev pub with_info : ModuleInfo → FunctionInfo → ModuleInfo
 with_info infos info = record infos { functions = infos.functions ++ info ∷ [] }
 
 -- what the validator of functions says of a function over the plain layer, where these are the infos of those before it
-unfoldable pub plain_judgement : Settings → Module → ModuleInfo → Function → Result FunctionInfo FunctionError
-plain_judgement settings m infos f = function_judgement settings m infos f (kinds_from [] f.expressions) (plain_info f m)
+-- and ray traces left this
+unfoldable pub plain_judgement : Settings → TraceState → Module → ModuleInfo → Function → Result FunctionOutcome FunctionError
+plain_judgement settings trace m infos f = function_judgement settings trace m infos f (kinds_from [] f.expressions) (plain_info f m)
 
 abbrev pub and_then : {A B : Type 0} → (A → Result B FunctionError) → Result A FunctionError → Result B FunctionError
 and_then next (Ok x) = next x
 and_then next (Err fault) = Err fault
 
--- the infos of functions behind those before them, each judged with the infos before it; or the first fault
-unfoldable pub infos_from : Settings → Module → ModuleInfo → List Function → Result ModuleInfo FunctionError
-infos_from settings m infos [] = Ok infos
-infos_from settings m infos (f ∷ fs) =
-    and_then (λ info. infos_from settings m (with_info infos info) fs) (plain_judgement settings m infos f)
+-- the infos of functions behind those before them, each judged with the infos before it and what ray traces left; or
+-- the first fault
+unfoldable pub infos_from : Settings → TraceState → Module → ModuleInfo → List Function → Result ModuleInfo FunctionError
+infos_from settings trace m infos [] = Ok infos
+infos_from settings trace m infos (f ∷ fs) =
+    and_then (λ (found : FunctionOutcome). infos_from settings found.trace m (with_info infos found.info) fs) (plain_judgement settings trace m infos f)
 
 -- the judgement of a case: that of the functions of the bench's module with the case's body, in order
 unfoldable pub IsJudgement : Case → Result ModuleInfo FunctionError → Type 0
 IsJudgement c answer =
-    (m : Module) × IsBenchModule c.bench c.body m × (infos_from (settings_of c) m no_infos m.functions ≡ answer)
+    (m : Module) × IsBenchModule c.bench c.body m × (infos_from (settings_of c) no_traces m no_infos m.functions ≡ answer)
 
 -- the stages that the last function may run in
 abbrev pub stages_of_last : List FunctionInfo → ShaderStages

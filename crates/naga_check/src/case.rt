@@ -4,7 +4,8 @@ ghost use Rattle.std.specs.Prelude.{Result, ◌≡◌, ◌≤◌, ◌+◌, lengt
 ghost use Rattle.naga_below.specs.Each.{EachAt};
 ghost use Rattle.naga_below.specs.Fits.{FitsTypes};
 ghost use Rattle.naga_rules.specs.Answers.{Answers};
-ghost use Rattle.naga_valid.specs.Parts.{first_settings};
+ghost use Rattle.naga_valid.specs.Judged.{AnswersTracing};
+ghost use Rattle.naga_valid.specs.Parts.{first_settings, no_traces};
 ghost use Rattle.naga_check.specs.Bench.{names_of, callees_of};
 ghost use Rattle.naga_check.specs.Judged.{flags_of, all_capabilities, plain_judgement, no_infos, infos_from, stages_of_last, IsJudgement, Judges};
 ghost use Rattle.naga_check.specs.Ready.{IsReady};
@@ -98,8 +99,8 @@ fn judge_function(
 ) -> Result<FunctionInfo, Refusal<FunctionError>>
     requires types { FitsTypes «module».now }
     requires ready { IsReady «module».now (length infos.now.functions) fun.now }
-    ensures judged { Answers (plain_judgement validator.old.settings «module».now infos.now fun.now) result }
-    ensures kept { validator.new ≡ validator.old }
+    ensures judged { AnswersTracing (plain_judgement validator.old.settings validator.old.trace «module».now infos.now fun.now) validator.new.trace result }
+    ensures kept { validator.new ≡ record validator.old { trace = validator.new.trace } }
 {
     validator.validate_body(alloc, fun, module, infos)
 }
@@ -112,7 +113,7 @@ fn judge_functions(
 ) -> Result<ModuleInfo, Refusal<FunctionError>>
     requires types { FitsTypes «module».now }
     requires functions { EachAt (λ k f. IsReady «module».now k f) «module».now.functions }
-    ensures { Answers (infos_from (first_settings flags all_capabilities) «module».now no_infos «module».now.functions) result }
+    ensures { Answers (infos_from (first_settings flags all_capabilities) no_traces «module».now no_infos «module».now.functions) result }
 {
     let mut infos = no_infos(alloc);
     let mut validator = Validator::new(alloc, plain(), flags, all_capabilities());

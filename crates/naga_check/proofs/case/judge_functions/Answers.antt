@@ -10,7 +10,7 @@ use Rattle.naga_check.proofs.case.judge_functions.Goals as goal
 pub judge_function-requires-clause-ready : goal.judge_function-requires-clause-ready
 judge_function-requires-clause-ready c =
     let m = c.args.module.now in
-    let ready = ready_here (first_settings c.args.flags all_capabilities) m c.loop-fun.infos m.functions c.loop-fun.fun-index c.fun-item.result (rw c.as_slice-fun-items.ensures at c.loop-fun-test.true) (rw c.as_slice-fun-items.ensures at c.fun-item.is) c.requires.functions in
+    let ready = ready_here (first_settings c.args.flags all_capabilities) c.loop-fun.validator.trace m c.loop-fun.infos m.functions c.loop-fun.fun-index c.fun-item.result (rw c.as_slice-fun-items.ensures at c.loop-fun-test.true) (rw c.as_slice-fun-items.ensures at c.fun-item.is) c.requires.functions in
     subst (λ k. IsReady m k c.fun-item.result) (sym c.loop-fun.invariant.place) ready
 
 pub returns-in_err-info : goal.returns-in_err-info
@@ -18,14 +18,14 @@ returns-in_err-info c =
     let m = c.args.module.now in
     let p = err_from_is_err_and c.from_residual.result c.from_residual.ensures.1 in
     let settings = first_settings c.args.flags all_capabilities in
-    let refused = refused_here settings m c.loop-fun.infos m.functions c.loop-fun.fun-index c.fun-item.result (rw c.as_slice-fun-items.ensures at c.loop-fun-test.true) (rw c.as_slice-fun-items.ensures at c.fun-item.is) c.in_err-info.field-0.0 (rw c.loop-fun.invariant.settings at c.in_err-info.ensures.judged) in
+    let refused = refused_here settings c.loop-fun.validator.trace m c.loop-fun.infos m.functions c.loop-fun.fun-index c.fun-item.result (rw c.as_slice-fun-items.ensures at c.loop-fun-test.true) (rw c.as_slice-fun-items.ensures at c.fun-item.is) c.in_err-info.field-0.0 (rw c.loop-fun.invariant.settings at c.in_err-info.ensures.judged) in
     rw (p.1, p.2) (rw c.loop-fun.invariant.rest at refused)
 
 pub loop-fun-preserved : goal.loop-fun-preserved
 loop-fun-preserved c =
     let m = c.args.module.now in
     let settings = first_settings c.args.flags all_capabilities in
-    let found = info_here settings m c.loop-fun.infos m.functions c.loop-fun.fun-index c.fun-item.result (rw c.as_slice-fun-items.ensures at c.loop-fun-test.true) (rw c.as_slice-fun-items.ensures at c.fun-item.is) c.in_ok-info.info (rw c.loop-fun.invariant.settings at c.in_ok-info.ensures.judged) in
+    let found = info_here settings c.loop-fun.validator.trace m c.loop-fun.infos m.functions c.loop-fun.fun-index c.fun-item.result (rw c.as_slice-fun-items.ensures at c.loop-fun-test.true) (rw c.as_slice-fun-items.ensures at c.fun-item.is) c.in_ok-info.info c.judge_function.new.validator.trace (rw c.loop-fun.invariant.settings at c.in_ok-info.ensures.judged) in
     let pushed = c.in_ok-push.ensures.pushed in
     record {
       place = search (rules, c.loop-fun.invariant.place, pushed, length-append);
@@ -36,4 +36,4 @@ loop-fun-preserved c =
 pub returns : goal.returns
 returns c =
     let m = c.args.module.now in
-    sym c.loop-fun.invariant.rest ∙ all_judged (first_settings c.args.flags all_capabilities) m c.loop-fun.infos m.functions c.loop-fun.fun-index (rw c.as_slice-fun-items.ensures at c.loop-fun-test.false)
+    sym c.loop-fun.invariant.rest ∙ all_judged (first_settings c.args.flags all_capabilities) c.loop-fun.validator.trace m c.loop-fun.infos m.functions c.loop-fun.fun-index (rw c.as_slice-fun-items.ensures at c.loop-fun-test.false)
