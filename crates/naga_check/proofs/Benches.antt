@@ -28,9 +28,7 @@ use Rattle.naga_check.specs.Notation.Case.{Case}
 use Rattle.naga_check.specs.Notation.Plain.{is_plain, is_plain_statement, are_plain_cases, is_below_if_any, is_plain_leaf, is_empty}
 use Rattle.naga_check.specs.declared.bench.Bench.{Bench}
 use Rattle.naga_check.specs.declared.bench.Bench.TheVariants.{P, C}
-use Rattle.naga_check.proofs.PlainKinds.{plain_kinds}
 use Rattle.naga_valid.proofs.Parts.{both_hold}
-use Rattle.naga_valid.specs.Kinds.{body_has_kinds}
 
 pub types_fit : (bench : Bench) (body : Body) (m : Module) → IsBenchModule bench body m → FitsTypes m
 types_fit bench body m b =
@@ -63,6 +61,7 @@ module _ (m : Module) (n callees : ℕ) (there : (f : ℕ) → f < callees → C
       let rest = both_hold (is_empty xs) _ first.1 in
       let below = ltb-true f callees first.0 in
       (below, there f below, subst (All (λ h. h < n)) (sym (none_of xs rest.0)) (All-nil (λ h. h < n)), below_if_any r rest.1)
+  plain_leaf_fits (statement.ControlBarrier b) e = tt
   plain_leaf_fits x e = absurd cc
 
   mutual
@@ -164,13 +163,6 @@ callee_fits m g p types =
       body = subst (λ b. BodyFits m (length g.expressions) 0 b) (sym p.body_is) (subst (λ xs. 0 < length xs) (sym p.expressions) (omega arith), tt);
     }
 
-kinds_of_body : (n callees : ℕ) (body : Body) (f : Function) → body_of no_operands f.body ≡ body → is_plain n callees body ≡ true → body_has_kinds (body_of no_operands f.body) ≡ true
-kinds_of_body n callees body f same plain = subst (λ b. body_has_kinds b ≡ true) (sym same) (plain_kinds n callees body plain)
-
-kinds_of_return : body_has_kinds (Then (Return (Some 0)) Done) ≡ true
-unfolding body_has_kinds
-kinds_of_return = refl
-
 callee_there : (m : Module) (g f : Function) (h : ℕ) → m.functions ≡ g ∷ f ∷ [] → SignatureFits m g → h < 1 → CalleeFits m h
 callee_there m g f zero e fits lt = subst (λ fs. IsSomeAnd (slice_get fs 0) (SignatureFits m)) (sym e) fits
 callee_there m g f (suc h) e fits lt = absurd (omega arith)
@@ -181,15 +173,10 @@ functions_ready c m is plain = (each_from (IsReady m) m.functions).1 (ready_from
   where
     ready_from : (bench : Bench) (body : Body) (m : Module) (fs : List Function) → m.functions ≡ fs → AreFunctionsOf bench body fs → m.types ≡ bench_types → is_plain (length (names_of bench)) (callees_of bench) body ≡ true → EachFrom (IsReady m) 0 fs
     ready_from P body m (f ∷ []) e is types plain =
-        ((function_fits P body m f is types (λ g lt. absurd (omega arith)) plain, kinds_of_body (length (names_of P)) 0 body f is.body_is plain), tt)
+        (function_fits P body m f is types (λ g lt. absurd (omega arith)) plain, tt)
     ready_from C body m (g ∷ f ∷ []) e (callee, is) types plain =
-        let there : (h : ℕ) → h < 1 → CalleeFits m h = λ h lt. callee_there m g f h e (callee_signature m g callee types) lt in (
-          (callee_fits m g callee types, subst (λ b. body_has_kinds b ≡ true) (sym callee.body_is) kinds_of_return),
-          (
-            (function_fits C body m f is types there plain, kinds_of_body (length (names_of C)) 1 body f is.body_is plain),
-            tt,
-          ),
-        )
+        let there : (h : ℕ) → h < 1 → CalleeFits m h = λ h lt. callee_there m g f h e (callee_signature m g callee types) lt in
+        (callee_fits m g callee types, (function_fits C body m f is types there plain, tt))
     ready_from P body m [] e is types plain = absurd is
     ready_from P body m (f ∷ g ∷ fs) e is types plain = absurd is
     ready_from C body m [] e is types plain = absurd is

@@ -1,6 +1,5 @@
 pub mod Reading
 pub mod PlainTypes
-pub mod PlainKinds
 pub mod Benches
 pub mod Infos
 pub mod OneJudgement

@@ -6,6 +6,7 @@ use Rattle.naga_below.specs.declared.span.Refusal.{Refusal}
 use Rattle.naga_below.specs.declared.span.Refusal.TheVariants.{Fault, Memory}
 use Rattle.naga_below.specs.declared.valid.capabilities.Capabilities.{Capabilities}
 use Rattle.naga_below.specs.declared.valid.flags.ShaderStages.{ShaderStages}
+use Rattle.naga_below.specs.declared.valid.flags.SubgroupOperationSet.{SubgroupOperationSet}
 use Rattle.naga_below.specs.declared.valid.flags.ValidationFlags.{ValidationFlags}
 use Rattle.naga_below.specs.declared.valid.info.FunctionInfo.{FunctionInfo}
 use Rattle.naga_below.specs.declared.valid.info.ModuleInfo.{ModuleInfo}
@@ -16,7 +17,7 @@ use Rattle.naga_valid.specs.Parts.{first_settings, no_traces}
 use Rattle.naga_valid.specs.declared.trace.TraceState.{TraceState}
 use Rattle.naga_check.specs.BenchModule.{IsBenchModule}
 use Rattle.naga_check.specs.Notation.Case.{Case}
-use Rattle.naga_check.specs.Plain.Infos.{plain_info}
+use Rattle.naga_check.specs.Plain.Infos.{all_stages, plain_info}
 use Rattle.naga_check.specs.Plain.Kinds.{kinds_from}
 
 -- all flags but those that options take away: bit 0 is EXPRESSIONS, bit 1 BLOCKS
@@ -27,8 +28,17 @@ flags_of expressions blocks = record { 0 = 12 + ((if expressions then 1 else 0) 
 abbrev pub all_capabilities : Capabilities
 all_capabilities = record { 0 = 268435455 }
 
+-- the seven groups of subgroup operations, all of them
+abbrev pub all_operations : SubgroupOperationSet
+all_operations = record { 0 = 127 }
+
+-- these flags, for a target with every capability, and with subgroup operations of all groups in all stages
+abbrev pub settings_with : ValidationFlags → Settings
+settings_with flags =
+    record (first_settings flags all_capabilities) { subgroup_stages = all_stages; subgroup_operations = all_operations }
+
 abbrev pub settings_of : Case → Settings
-settings_of c = first_settings (flags_of c.expressions c.blocks) all_capabilities
+settings_of c = settings_with (flags_of c.expressions c.blocks)
 
 -- no function is judged yet
 abbrev pub no_infos : ModuleInfo

@@ -5,9 +5,9 @@ ghost use Rattle.naga_below.specs.Each.{EachAt};
 ghost use Rattle.naga_below.specs.Fits.{FitsTypes};
 ghost use Rattle.naga_rules.specs.Answers.{Answers};
 ghost use Rattle.naga_valid.specs.Judged.{AnswersTracing};
-ghost use Rattle.naga_valid.specs.Parts.{first_settings, no_traces};
+ghost use Rattle.naga_valid.specs.Parts.{no_traces};
 ghost use Rattle.naga_check.specs.Bench.{names_of, callees_of};
-ghost use Rattle.naga_check.specs.Judged.{flags_of, all_capabilities, plain_judgement, no_infos, infos_from, stages_of_last, IsJudgement, Judges};
+ghost use Rattle.naga_check.specs.Judged.{flags_of, all_capabilities, settings_with, plain_judgement, no_infos, infos_from, stages_of_last, IsJudgement, Judges};
 ghost use Rattle.naga_check.specs.Ready.{IsReady};
 ghost use Rattle.naga_check.specs.Line.{Replies, Writes};
 ghost use Rattle.naga_below.specs.declared.valid.info.ModuleInfo.{ModuleInfo};
@@ -26,7 +26,7 @@ use naga_below::ir::module::{MeshOutputTopology, MeshStageInfo, Module};
 use naga_below::sequence::Sequence;
 use naga_below::span::Refusal;
 use naga_below::valid::capabilities::Capabilities;
-use naga_below::valid::flags::{ShaderStages, ValidationFlags};
+use naga_below::valid::flags::{ShaderStages, SubgroupOperationSet, ValidationFlags};
 use naga_below::valid::info::{FunctionInfo, ModuleInfo};
 use naga_rules::function::FunctionError;
 use naga_rules::mesh::MeshAnalysis;
@@ -77,6 +77,19 @@ pub fn plain() -> Plain {
     }
 }
 
+/// A validator over the plain layer with these flags, for a target with every capability, and with subgroup operations
+/// of all groups in all stages.
+#[tactic(auto, unfolding(bitflags::proofs::OnLiterals::bitflags_on_literals))]
+fn validator_with(alloc: Global, flags: ValidationFlags) -> Validator<Plain>
+    ensures settings { result.settings ≡ settings_with flags }
+    ensures trace { result.trace ≡ no_traces }
+{
+    let mut validator = Validator::new(alloc, plain(), flags, all_capabilities());
+    validator.subgroup_stages(ShaderStages::all());
+    validator.subgroup_operations(SubgroupOperationSet::all());
+    validator
+}
+
 /// No infos, with the allocator for those to come.
 fn no_infos(alloc: Global) -> ModuleInfo
     ensures { result ≡ no_infos }
@@ -88,7 +101,8 @@ fn no_infos(alloc: Global) -> ModuleInfo
     }
 }
 
-/// The judgement of a function of a module, where these are the infos of those before it.
+/// The judgement of a function of a module, where these are the infos of those before it. What its ray traces leave is
+/// kept.
 #[tactic(auto, unfolding(crate::specs::Judged::plain_judgement))]
 fn judge_function(
     alloc: Global,
@@ -113,10 +127,10 @@ fn judge_functions(
 ) -> Result<ModuleInfo, Refusal<FunctionError>>
     requires types { FitsTypes «module».now }
     requires functions { EachAt (λ k f. IsReady «module».now k f) «module».now.functions }
-    ensures { Answers (infos_from (first_settings flags all_capabilities) no_traces «module».now no_infos «module».now.functions) result }
+    ensures { Answers (infos_from (settings_with flags) no_traces «module».now no_infos «module».now.functions) result }
 {
     let mut infos = no_infos(alloc);
-    let mut validator = Validator::new(alloc, plain(), flags, all_capabilities());
+    let mut validator = validator_with(alloc, flags);
     for fun in module.functions.as_slice() {
         let info = judge_function(alloc, &mut validator, fun, module, &infos)?;
         infos.functions.push(info)?;

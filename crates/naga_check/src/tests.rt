@@ -10,7 +10,7 @@ use std::io;
 use std::io::Read;
 use std::test::Fail;
 
-const ACCEPTED: [(&str, &str); 26] = [
+const ACCEPTED: [(&str, &str); 31] = [
     ("P :", "ok 1ff\n"),
     (
         "P : loop { switch u { default { continue } } } { }",
@@ -43,6 +43,11 @@ const ACCEPTED: [(&str, &str); 26] = [
     ("P : loop { } { block { kill } }", "ok 002\n"),
     ("P : block { emit e1 if e1 { return } { } }", "ok 1ff\n"),
     ("P : store v u", "ok 1ff\n"),
+    ("P : barrier", "ok 01c\n"),
+    ("P : kill barrier", "ok 000\n"),
+    ("P : if t { barrier } { }", "ok 01c\n"),
+    ("P -blocks : barrier", "ok 1ff\n"),
+    ("C : barrier call f -> r1", "ok 01c\n"),
     ("C : call f -> r1 store v r1", "ok 1ff\n"),
     ("C : call f -> r1", "ok 1ff\n"),
     ("C -blocks :", "ok 1ff\n"),
@@ -182,7 +187,7 @@ const UNREADABLE: [&str; 21] = [
     "P -blocks -blocks :",
     "P : switch u { 4294967296 { } default { } }",
     "P : switch i { -0i { } default { } }",
-    "P : kill barrier",
+    "P : barrier t",
     "P : store v",
     "P : store v u i",
     "P : store r1 u",

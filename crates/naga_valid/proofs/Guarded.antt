@@ -41,6 +41,7 @@ use Rattle.naga_valid.proofs.Loads.{load_fits}
 use Rattle.naga_valid.proofs.RayQueries.{ray_query_fits}
 use Rattle.naga_valid.proofs.RayTraces.{trace_ray_fits}
 use Rattle.naga_valid.proofs.Stores.{store_fits}
+use Rattle.naga_valid.proofs.Subgroups.{ballot_fits, collective_fits, gather_fits}
 
 -- the handles of an Emit are new, each also beside those before it
 emit_fits : (context : Context) (n first : ℕ) (s t : Handles) → ((k : ℕ) → first ≤ k → t k ≡ s k) → first_fault (emit_points_from context s first n) ≡ None → Fit t t (emitted no_operands first n)
@@ -80,15 +81,16 @@ node_fits context past place (StatementNode (Leaf acts (ir.ImageStore i k a v) s
     (subst (Fit place.scope place.scope) (sym made) (image_store_fits context place.scope i (record { coordinate = k; array_index = a }) v e), tt)
 node_fits context past place (StatementNode (Leaf acts (ir.ImageAtomic i k a f v) span)) made e =
     (subst (Fit place.scope place.scope) (sym made) (image_atomic_fits context place.scope f v i (record { coordinate = k; array_index = a }) e), tt)
-node_fits context past place (StatementNode (Leaf acts (ir.ControlBarrier b) span)) made e = cc
-node_fits context past place (StatementNode (Leaf acts (ir.MemoryBarrier b) span)) made e = cc
 node_fits context past place (StatementNode (Leaf acts (ir.RayQuery q f) span)) made e =
     (subst (Fit place.scope place.scope) (sym made) (ray_query_fits context place.scope q f e), tt)
 node_fits context past place (StatementNode (Leaf acts (ir.RayPipelineFunction (TraceRay a d p)) span)) made e =
     (subst (Fit place.scope place.scope) (sym made) (trace_ray_fits context past.payload place.scope a d p e), tt)
-node_fits context past place (StatementNode (Leaf acts (ir.SubgroupBallot r p) span)) made e = cc
-node_fits context past place (StatementNode (Leaf acts (ir.SubgroupGather m x r) span)) made e = cc
-node_fits context past place (StatementNode (Leaf acts (ir.SubgroupCollectiveOperation o k x r) span)) made e = cc
+node_fits context past place (StatementNode (Leaf acts (ir.SubgroupBallot r p) span)) made e =
+    (subst (Fit place.scope place.scope) (sym made) (ballot_fits context place.scope r p e), tt)
+node_fits context past place (StatementNode (Leaf acts (ir.SubgroupGather m x r) span)) made e =
+    (subst (Fit place.scope place.scope) (sym made) (gather_fits context place.scope m x r e), tt)
+node_fits context past place (StatementNode (Leaf acts (ir.SubgroupCollectiveOperation o k x r) span)) made e =
+    (subst (Fit place.scope place.scope) (sym made) (collective_fits context place.scope o k x r e), tt)
 node_fits context past place (StatementNode (Leaf acts _ span)) made e = (subst (Fit place.scope place.scope) (sym made) tt, tt)
 node_fits context past place (StatementNode (Block b)) made e = (tt, tt)
 node_fits context past place (StatementNode (Branch h x y)) made e = ((use_fits place.scope h ((is_bool_scalar (type_at context h), InvalidIfType h) ∷ []) e, tt), tt)

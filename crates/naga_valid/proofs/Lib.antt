@@ -16,6 +16,7 @@ pub mod Cooperative
 pub mod Images
 pub mod ImageAtomics
 pub mod StatesLeft
+pub mod Subgroups
 pub mod Walk
 pub mod Parts
 pub mod Own
@@ -23,4 +24,3 @@ pub mod PreEmitted
 pub mod Judged
 pub mod Accepted
 pub mod Guarded
-pub mod KindsOf

@@ -1,7 +1,6 @@
 -- A part of a body that is ready to be judged is ready.
-use Rattle.std.proofs.Common.{◌≡◌, ℕ, ◌+◌, ◌<◌, Bool, true, false, Option, List, ◌∷◌, drop, get_or, length, subst, refl, sym, ap, ◌∙◌}
+use Rattle.std.proofs.Common.{◌≡◌, ℕ, ◌+◌, ◌<◌, Bool, Option, List, ◌∷◌, drop, get_or, length, subst, sym, ap, ◌∙◌}
 use Rattle.std.proofs.lemmas.List.{at_drop_more}
-use Rattle.std.specs.Prelude.{◌&&◌}
 use Rattle.naga_below.specs.Fits.{FitsFunction}
 use Rattle.naga_below.specs.FitsBody.{CalleeFits}
 use Rattle.naga_below.specs.Tree.{Act, Stmt, Leaf, Block, Branch, Switch, Loop, Body, Then, Cases, OneCase}
@@ -12,47 +11,36 @@ use Rattle.naga_below.specs.declared.ir.statements.SwitchCase.{SwitchCase, out-S
 use Rattle.naga_below.specs.declared.ir.statements.SwitchValue.{SwitchValue}
 use Rattle.naga_valid.specs.Blocks.{tree_of, body_of, statement_list, case_list}
 use Rattle.naga_valid.specs.Context.{Context}
-use Rattle.naga_valid.specs.Kinds.{has_kind, body_has_kinds, parts_have_kinds}
 use Rattle.naga_valid.specs.Ready.{IsStatementReady, IsBodyReady, AreCasesReady}
-
-pub both_hold : (a b : Bool) → (a && b) ≡ true → (a ≡ true) × (b ≡ true)
-both_hold true b e = (refl, e)
-both_hold false b e = cc
-
-pub hold_both : (a b : Bool) → a ≡ true → b ≡ true → (a && b) ≡ true
-hold_both a b e f = ap (λ x. x && b) e ∙ f
 
 module _ (context : Context) where
   pub in_block : (b : Body) → IsStatementReady context (Block b) → IsBodyReady context b
-  unfolding IsStatementReady IsBodyReady body_has_kinds
-  in_block b r = (r.0, r.1)
+  unfolding IsStatementReady IsBodyReady
+  in_block b r = r
 
   pub in_branch : (h : ℕ) (p q : Body) → IsStatementReady context (Branch h p q) → IsBodyReady context p × IsBodyReady context q
-  unfolding IsStatementReady IsBodyReady body_has_kinds
-  in_branch h p q r = let kinds = both_hold _ _ r.1 in ((r.0.1, kinds.0), (r.0.2, kinds.1))
+  unfolding IsStatementReady IsBodyReady
+  in_branch h p q r = (r.1, r.2)
 
   pub in_switch : (h : ℕ) (cs : Cases) → IsStatementReady context (Switch h cs) → AreCasesReady context cs
-  unfolding IsStatementReady AreCasesReady body_has_kinds
-  in_switch h cs r = (r.0.1, r.1)
+  unfolding IsStatementReady AreCasesReady
+  in_switch h cs r = r.1
 
   pub in_lists : (b d : Body) (q : Option ℕ) → IsStatementReady context (Loop b d q) → IsBodyReady context b × IsBodyReady context d
-  unfolding IsStatementReady IsBodyReady body_has_kinds
-  in_lists b d q r = let kinds = both_hold _ _ r.1 in ((r.0.0, kinds.0), (r.0.1, kinds.1))
+  unfolding IsStatementReady IsBodyReady
+  in_lists b d q r = (r.0, r.1)
 
   pub in_call : (acts : List Act) (f : ℕ) (xs : List ℕ) (r : Option ℕ) (span : Span) → IsStatementReady context (Leaf acts (ir.Call f xs r) span) → CalleeFits context.program f
   unfolding IsStatementReady
-  in_call acts f xs r span ready = ready.0.1
+  in_call acts f xs r span ready = ready.1
 
   first_and_rest : (x : Stmt) (b : Body) → IsBodyReady context (Then x b) → IsStatementReady context x × IsBodyReady context b
-  unfolding IsStatementReady IsBodyReady body_has_kinds
-  first_and_rest x b r =
-      let first = both_hold (has_kind x) _ r.1 in
-      let rest = both_hold (parts_have_kinds x) _ first.1 in
-      ((r.0.0, hold_both _ _ first.0 rest.0), (r.0.1, rest.1))
+  unfolding IsStatementReady IsBodyReady
+  first_and_rest x b r = (r.0, r.1)
 
   first_case_and_rest : (v : SwitchValue) (f : Bool) (b : Body) (cs : Cases) → AreCasesReady context (OneCase v f b cs) → IsBodyReady context b × AreCasesReady context cs
-  unfolding IsBodyReady AreCasesReady body_has_kinds
-  first_case_and_rest v f b cs r = let kinds = both_hold (body_has_kinds b) _ r.1 in ((r.0.0, kinds.0), (r.0.1, kinds.1))
+  unfolding IsBodyReady AreCasesReady
+  first_case_and_rest v f b cs r = (r.0, r.1)
 
   pub in_list : (xs : List Located) (i : ℕ) (x : Located) → i < length xs → x ≡ get_or xs i x → IsBodyReady context (statement_list (drop i xs)) →
       IsStatementReady context (tree_of x) × IsBodyReady context (statement_list (drop (i + 1) xs))
@@ -66,7 +54,7 @@ module _ (context : Context) where
       let same = at_drop_more case_list cs i c lt ∙ ap (λ z. case_list (z ∷ drop (i + 1) cs)) (sym is) in
       first_case_and_rest _ _ _ _ (subst (AreCasesReady context) same r)
 
--- the body of a function that fits, where each statement has a kind that is judged by now
-pub ready : (context : Context) → FitsFunction context.fun context.program (length context.earlier.functions) → body_has_kinds (body_of context.fun.body) ≡ true → IsBodyReady context (body_of context.fun.body)
+-- the body of a function that fits
+pub ready : (context : Context) → FitsFunction context.fun context.program (length context.earlier.functions) → IsBodyReady context (body_of context.fun.body)
 unfolding IsBodyReady
-ready context fits kinds = (fits.body, kinds)
+ready context fits = fits.body

@@ -4,7 +4,6 @@ pub mod Stages
 pub mod State
 pub mod Scope
 pub mod Points
-pub mod Kinds
 pub mod Rules
 pub mod Answers
 pub mod Walk
@@ -22,6 +21,8 @@ pub mod RayTraces
 pub mod Traces
 pub mod Images
 pub mod ImageAtomics
+pub mod Subgroups
+pub mod Barriers
 pub mod Ready
 pub mod Blocks
 pub mod Seen

@@ -1,5 +1,5 @@
 -- The rules of a body: the check list of each visit, asked with the visits before it, and the stages that are left.
-use Rattle.std.specs.Prelude.{ℕ, false, List, [], ◌∷◌, Option, None, Some, slice_get}
+use Rattle.std.specs.Prelude.{ℕ, List, [], ◌∷◌, Option, None, Some, slice_get}
 use Rattle.naga_below.specs.Tree.{Stmt, Leaf, Branch, Switch, Break, Continue, Return, Kill}
 use Rattle.naga_below.specs.declared.ir.statements.RayPipelineFunction.TheVariants.{TraceRay}
 use Rattle.naga_below.specs.declared.ir.statements.Statement.{Statement}
@@ -8,13 +8,13 @@ use Rattle.naga_below.specs.declared.valid.flags.ShaderStages.{ShaderStages}
 use Rattle.naga_below.specs.declared.valid.info.FunctionInfo.{FunctionInfo}
 use Rattle.naga_below.specs.declared.valid.info.ModuleInfo.{ModuleInfo}
 use Rattle.naga_rules.specs.declared.function.FunctionError.{FunctionError}
-use Rattle.naga_rules.specs.declared.function.FunctionError.TheVariants.{MissingCapability}
 use Rattle.naga_runs.specs.Handles.{Handles}
 use Rattle.naga_runs.specs.Judgement.{Rules, by_earlier}
 use Rattle.naga_runs.specs.Positions.{Node, NoNode, StatementNode, BreakIfNode}
 use Rattle.naga_runs.specs.Visits.{Place, Visit}
 use Rattle.naga_valid.specs.Atomics.{atomic_points}
 use Rattle.naga_valid.specs.Past.{Past, past_of}
+use Rattle.naga_valid.specs.Barriers.{barrier_points}
 use Rattle.naga_valid.specs.Calls.{call_points}
 use Rattle.naga_valid.specs.Context.{Context}
 use Rattle.naga_valid.specs.Control.{emit_points, condition_points, switch_points, return_points, break_points, continue_points}
@@ -27,10 +27,7 @@ use Rattle.naga_valid.specs.RayQueries.{ray_query_points}
 use Rattle.naga_valid.specs.RayTraces.{trace_ray_points}
 use Rattle.naga_valid.specs.Stages.{meet, all_stages, compute_like_stages, compute_stage, fragment_stage}
 use Rattle.naga_valid.specs.Stores.{store_points}
-
--- a kind that has no check list yet is never accepted
-abbrev pub no_list : Points
-no_list = (false, MissingCapability (record { 0 = 0 })) ∷ []
+use Rattle.naga_valid.specs.Subgroups.{ballot_points, collective_points, gather_points}
 
 -- the check list of a statement that is neither a jump nor holds others, behind what the visits before it did
 abbrev pub leaf_points : Context → Past → Handles → Statement → Points
@@ -46,14 +43,15 @@ leaf_points context past scope (ir.ImageStore image coordinate array_index value
     image_store_points context scope image (record { coordinate = coordinate; array_index = array_index }) value
 leaf_points context past scope (ir.ImageAtomic image coordinate array_index fun value) =
     image_atomic_points context scope image (record { coordinate = coordinate; array_index = array_index }) fun value
-leaf_points context past scope (ir.ControlBarrier barrier) = no_list
-leaf_points context past scope (ir.MemoryBarrier barrier) = no_list
+leaf_points context past scope (ir.ControlBarrier barrier) = barrier_points context.settings barrier
+leaf_points context past scope (ir.MemoryBarrier barrier) = barrier_points context.settings barrier
 leaf_points context past scope (ir.RayQuery query fun) = ray_query_points context scope query fun
 leaf_points context past scope (ir.RayPipelineFunction (TraceRay structure descriptor payload)) =
     trace_ray_points context past.payload scope structure descriptor payload
-leaf_points context past scope (ir.SubgroupBallot result predicate) = no_list
-leaf_points context past scope (ir.SubgroupGather mode argument result) = no_list
-leaf_points context past scope (ir.SubgroupCollectiveOperation op collective_op argument result) = no_list
+leaf_points context past scope (ir.SubgroupBallot result predicate) = ballot_points context scope result predicate
+leaf_points context past scope (ir.SubgroupGather mode argument result) = gather_points context scope mode argument result
+leaf_points context past scope (ir.SubgroupCollectiveOperation op collective_op argument result) =
+    collective_points context scope op collective_op argument result
 leaf_points context past scope _ = []
 
 -- the check list of a statement

@@ -1,6 +1,7 @@
 //! The check list of each kind of statement.
 
 pub mod atomic;
+pub mod barrier;
 pub mod call;
 pub mod control;
 pub mod cooperative;
@@ -14,4 +15,7 @@ pub mod ray_trace;
 pub mod refuse;
 pub mod results;
 pub mod store;
+pub mod subgroup;
+pub mod subgroup_collective;
+pub mod subgroup_gather;
 pub mod types;

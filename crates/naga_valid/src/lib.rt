@@ -5,7 +5,6 @@ mod checks;
 mod context;
 mod function;
 mod handle_set;
-pub mod kinds;
 mod stages;
 mod state;
 #[cfg(test)]

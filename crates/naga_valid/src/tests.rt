@@ -2,8 +2,8 @@
 
 mod sample;
 
-use crate::kinds::has_kinds;
 use crate::tests::sample::Sample;
+use crate::trace::{TraceRayVertexReturnState, TraceState};
 use crate::validator::Validator;
 use naga_below::arena::Arena;
 use naga_below::arena::handle::Handle;
@@ -20,10 +20,12 @@ use naga_below::ir::types::{AddressSpace, Scalar, Type, TypeInner};
 use naga_below::sequence::Sequence;
 use naga_below::span::{Refusal, Span};
 use naga_below::valid::capabilities::Capabilities;
-use naga_below::valid::flags::{ShaderStages, TypeFlags, ValidationFlags};
+use naga_below::valid::flags::{
+    ShaderStages, SubgroupOperationSet, TypeFlags, ValidationFlags,
+};
 use naga_below::valid::info::{FunctionInfo, ModuleInfo};
 use naga_below::valid::types::TypeInfo;
-use naga_rules::function::{AtomicError, CallError, FunctionError};
+use naga_rules::function::{AtomicError, CallError, FunctionError, SubgroupError};
 use std::alloc::{AllocError, Global};
 use std::process::Abort;
 use std::test::Fail;
@@ -99,7 +101,6 @@ fn judge(
     let mut validator = Validator::new(rt.alloc(), Sample, flags, capabilities);
     assert!(rt; fits_types(module));
     assert!(rt; fits_function(fun, module, mod_info.functions.len()));
-    assert!(rt; has_kinds(fun));
     validator.validate_body(rt.alloc(), fun, module, mod_info)
 }
 
@@ -137,10 +138,33 @@ fn a_fault_has_the_place_of_its_statement(rt: HostRuntime) -> Result<(), Fail> {
 }
 
 #[test]
-fn a_barrier_is_of_no_kind_yet(rt: HostRuntime) -> Result<(), Fail> {
-    let barrier = Statement::ControlBarrier(Barrier::STORAGE);
+fn settings_let_subgroups_be_used(rt: HostRuntime) -> Result<(), Fail> {
+    let module = empty_module(rt.alloc());
+    let infos = no_infos(rt.alloc());
+    let barrier = Statement::ControlBarrier(Barrier::SUB_GROUP);
     let fun = function_of(rt.alloc(), barrier)?;
-    assert!(rt; !has_kinds(&fun));
+    assert!(rt; fits_types(&module));
+    assert!(rt; fits_function(&fun, &module, 0));
+    let all = Capabilities(0xfff_ffff);
+    let mut validator = Validator::new(rt.alloc(), Sample, ALL_FLAGS, all);
+    let basic = SubgroupOperationSet::BASIC;
+    let error = SubgroupError::UnsupportedOperation(basic);
+    let Err(Refusal::Fault(fault)) = validator.validate_body(rt.alloc(), &fun, &module, &infos)
+    else {
+        panic!(rt; "no fault");
+    };
+    assert_eq!(rt; *fault.as_inner(), FunctionError::InvalidSubgroup(error));
+    validator.subgroup_stages(ShaderStages::COMPUTE);
+    validator.subgroup_operations(basic);
+    let Ok(info) = validator.validate_body(rt.alloc(), &fun, &module, &infos) else {
+        panic!(rt; "refused");
+    };
+    assert_eq!(rt; info.available_stages, ShaderStages::COMPUTE_LIKE);
+    let nothing = TraceState {
+        payload: None,
+        vertex_return: TraceRayVertexReturnState::NoTraceRays,
+    };
+    assert_eq!(rt; validator.trace_state(), nothing);
     Ok(())
 }
 

@@ -8,7 +8,6 @@ ghost use Rattle.naga_valid.specs.Blocks.{body_of};
 ghost use Rattle.naga_valid.specs.Context.{pre_emitted_of};
 ghost use Rattle.naga_valid.specs.Flags.{checks_blocks, checks_expressions};
 ghost use Rattle.naga_valid.specs.Judged.{function_judgement, AnswersTracing};
-ghost use Rattle.naga_valid.specs.Kinds.{body_has_kinds};
 ghost use Rattle.naga_valid.specs.Parts.{Parts, first_settings, no_traces, NamesTypes, AreInfosOf};
 
 use crate::context::BlockContext;
@@ -86,6 +85,20 @@ impl<B: Below> Validator<B> {
         }
     }
 
+    /// Lets subgroup operations be used at these stages, where it was other ones before, and at first none.
+    pub fn subgroup_stages(&mut self, set: ShaderStages)
+        ensures { self.new ≡ record self.old { settings = record self.old.settings { subgroup_stages = set } } }
+    {
+        self.settings.subgroup_stages = set;
+    }
+
+    /// Lets these groups of subgroup operations be used, where it was other ones before, and at first none.
+    pub fn subgroup_operations(&mut self, set: SubgroupOperationSet)
+        ensures { self.new ≡ record self.old { settings = record self.old.settings { subgroup_operations = set } } }
+    {
+        self.settings.subgroup_operations = set;
+    }
+
     /// What the ray traces of the functions validated so far leave: the type that a payload must have, and how vertices
     /// are returned. No payload and `NoTraceRays` at first.
     pub fn trace_state(&self) -> TraceState
@@ -119,7 +132,6 @@ impl<B: Below> Validator<B> {
     ) -> Result<FunctionInfo, Refusal<FunctionError>>
         requires types { FitsTypes «module».now }
         requires function { FitsFunction fun.now «module».now (length mod_info.now.functions) }
-        requires kinds { body_has_kinds (body_of fun.now.body) ≡ true }
 
         // The answer is the judgement's, or there was no memory.
         ensures judged { AnswersTracing (function_judgement self.old.settings self.old.trace «module».now mod_info.now fun.now (B.kinds_of self.old.below fun.now.expressions) (B.function_info self.old.below fun.now «module».now mod_info.now self.old.settings.flags self.old.settings.capabilities)) self.new.trace result }
@@ -134,6 +146,7 @@ impl<B: Below> Validator<B> {
 
         // The stages of an accepted body are stages of each of its statements and of each function that it calls.
         ensures stages { IfOk result (λ info. checks_blocks self.old.settings.flags ≡ true → StagesAreOfAll self.old.settings.subgroup_stages mod_info.now (body_of fun.now.body) info.available_stages) }
+
         // Nothing but what ray traces leave may differ, and that only where the function is accepted.
         ensures kept { self.new ≡ record self.old { trace = self.new.trace } }
         ensures refused { OnErr result (self.new ≡ self.old) }

@@ -14,7 +14,7 @@ use Rattle.naga_check.specs.declared.notation.reader.Tail.TheVariants as tail
 use Rattle.naga_check.specs.declared.notation.reader.Wants.{Wants}
 use Rattle.naga_check.specs.declared.notation.reader.Wants.TheVariants as wants
 use Rattle.naga_check.specs.Notation.Feeding.{feeds}
-use Rattle.naga_check.specs.Notation.Grammar.{Spells, SpellsStatement, SpellsCases, depth, statement_depth, cases_depth, emission, calling, storing, arrow_if_any, SpellsEmit, in_braces, fall_if, break_if_any}
+use Rattle.naga_check.specs.Notation.Grammar.{Spells, SpellsStatement, SpellsCases, depth, statement_depth, cases_depth, emission, calling, storing, waiting, arrow_if_any, SpellsEmit, in_braces, fall_if, break_if_any}
 use Rattle.naga_check.specs.Notation.Reading.{State, Part, in_block, in_accept, in_reject, in_cases, in_case, in_turn, in_continuing, Clause, body_from, cases_from, begun, ready, wanting, enter, add_case, close, close_switch, end_loop, begin, begin_at, settle, go_on, take_name, open_brace, next, step, whole, end_at, finish, reading_of}
 use Rattle.naga_check.proofs.Reading.Lists.{statements_of, clauses_in, body_from-statements_of, cases_from-clauses_in}
 
@@ -110,6 +110,10 @@ module _ (o : Option State) (opened : List Part) (list : List Stmt) (h : Gets o 
   kill_one : Gets (and_then o token.Kill) opened (list ++ Kill ∷ [])
   unfolding begin settle
   kill_one = rw (key o opened list h token.Kill tt) refl
+
+  barrier_one : Gets (and_then o token.Barrier) opened (list ++ waiting ∷ [])
+  unfolding begin settle
+  barrier_one = rw (key o opened list h token.Barrier tt) refl
 
   store_one : (a b : ℕ) → Gets (and_then (and_then (and_then o token.Store) (token.Name a)) (token.Name b)) opened (list ++ storing a b ∷ [])
   unfolding begin next take_name settle
@@ -229,6 +233,10 @@ store_read : (acts : List Act) (x : Statement) (span : Span) (ts : List Token) (
 unfolding feeds
 store_read acts x span ts pointer value same e o opened list h d = rw (same, e) (store_one o opened list h pointer value)
 
+barrier_read : (acts : List Act) (x : Statement) (span : Span) (ts : List Token) → Leaf acts x span ≡ waiting → ts ≡ token.Barrier ∷ [] → StatementIsRead (Leaf acts x span) ts
+unfolding feeds
+barrier_read acts x span ts same e o opened list h d = rw (same, e) (barrier_one o opened list h)
+
 call_read : (acts : List Act) (x : Statement) (span : Span) (ts : List Token) (result : Option ℕ) → Leaf acts x span ≡ calling result → ts ≡ token.Call ∷ token.Callee ∷ arrow_if_any result → StatementIsRead (Leaf acts x span) ts
 unfolding feeds
 call_read acts x span ts None same e o opened list h d = rw (same, e) (call_none o opened list h)
@@ -286,7 +294,8 @@ mutual
   complete_statement : (x : Stmt) (ts : List Token) → SpellsStatement x ts → StatementIsRead x ts
   complete_statement (Leaf acts x span) ts (inl (first, last, same, how)) = emit_read acts x span ts first last same how
   complete_statement (Leaf acts x span) ts (inr (inl (result, same, e))) = call_read acts x span ts result same e
-  complete_statement (Leaf acts x span) ts (inr (inr (pointer, value, same, e))) = store_read acts x span ts pointer value same e
+  complete_statement (Leaf acts x span) ts (inr (inr (inl (pointer, value, same, e)))) = store_read acts x span ts pointer value same e
+  complete_statement (Leaf acts x span) ts (inr (inr (inr (same, e)))) = barrier_read acts x span ts same e
   complete_statement (Block body) ts (inner, within, e) = rw e (block_read body inner (complete body inner within))
   complete_statement (Branch c accept reject) ts (taken, other, first, second, e) =
       rw e (if_read c accept reject taken other (complete accept taken first) (complete reject other second))

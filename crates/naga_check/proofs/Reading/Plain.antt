@@ -15,7 +15,7 @@ use Rattle.naga_check.specs.Notation.Case.{Case, Say, Reads, case_of}
 use Rattle.naga_check.specs.Notation.Words.{words_of}
 use Rattle.naga_check.specs.declared.notation.Case as declared
 use Rattle.naga_check.specs.declared.notation.ReadError.{ReadError}
-use Rattle.naga_check.specs.Notation.Grammar.{Spells, SpellsStatement, SpellsCases, SpellsEmit, emission, calling, storing, arrow_if_any, in_braces, name_if_any, break_if_any, fall_if}
+use Rattle.naga_check.specs.Notation.Grammar.{Spells, SpellsStatement, SpellsCases, SpellsEmit, emission, calling, storing, waiting, arrow_if_any, in_braces, name_if_any, break_if_any, fall_if}
 use Rattle.naga_check.specs.Notation.Plain.{is_plain, is_plain_statement, are_plain_cases, is_below_if_any, is_plain_leaf}
 use Rattle.naga_check.specs.Notation.Text.{AreTextsOf}
 
@@ -85,6 +85,10 @@ store_plain n callees acts x span ts pointer value same e k =
     let names = rw e at k in
     rw is (both _ _ (lt-ltb pointer n names.0) (lt-ltb value n names.1.0))
 
+barrier_plain : (n callees : ℕ) (acts : List Act) (x : Statement) (span : Span) → Leaf acts x span ≡ waiting → is_plain_leaf n callees x ≡ true
+barrier_plain n callees acts x span same =
+    let is : x ≡ statement.ControlBarrier (record { 0 = 0 }) = cc in rw is refl
+
 call_plain : (n callees : ℕ) (acts : List Act) (x : Statement) (span : Span) (ts : List Token) (result : Option ℕ) → Leaf acts x span ≡ calling result → ts ≡ token.Call ∷ token.Callee ∷ arrow_if_any result → NamesBelow n callees ts → is_plain_leaf n callees x ≡ true
 call_plain n callees acts x span ts None same e k =
     let is : x ≡ statement.Call 0 [] None = cc in
@@ -119,7 +123,8 @@ mutual
   statement_plain : (n callees : ℕ) (x : Stmt) (ts : List Token) → SpellsStatement x ts → NamesBelow n callees ts → is_plain_statement n callees x ≡ true
   statement_plain n callees (Leaf acts x span) ts (inl (first, last, same, how)) k = emit_plain n callees acts x span ts first last same how k
   statement_plain n callees (Leaf acts x span) ts (inr (inl (result, same, e))) k = call_plain n callees acts x span ts result same e k
-  statement_plain n callees (Leaf acts x span) ts (inr (inr (pointer, value, same, e))) k = store_plain n callees acts x span ts pointer value same e k
+  statement_plain n callees (Leaf acts x span) ts (inr (inr (inl (pointer, value, same, e)))) k = store_plain n callees acts x span ts pointer value same e k
+  statement_plain n callees (Leaf acts x span) ts (inr (inr (inr (same, e)))) k = barrier_plain n callees acts x span same
   statement_plain n callees (Block inner) ts (within, spelled, e) k =
       let parts = names_in_braces n callees within [] (rw (append-nil (in_braces within)) (rw e at k)) in
       body_plain n callees inner within spelled parts.0

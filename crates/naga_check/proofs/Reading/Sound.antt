@@ -15,7 +15,7 @@ use Rattle.naga_check.specs.declared.notation.reader.Brace.TheVariants as brace
 use Rattle.naga_check.specs.declared.notation.reader.Wants.{Wants}
 use Rattle.naga_check.specs.declared.notation.reader.Wants.TheVariants as wants
 use Rattle.naga_check.specs.Notation.Feeding.{feeds}
-use Rattle.naga_check.specs.Notation.Grammar.{Spells, SpellsStatement, SpellsCases, depth, statement_depth, cases_depth, emission, calling, storing, in_braces, fall_if, break_if_any}
+use Rattle.naga_check.specs.Notation.Grammar.{Spells, SpellsStatement, SpellsCases, depth, statement_depth, cases_depth, emission, calling, storing, waiting, in_braces, fall_if, break_if_any}
 use Rattle.naga_check.specs.Notation.Reading.{State, Part, in_block, in_accept, in_reject, in_cases, in_case, in_turn, in_continuing, looped, Clause, body_from, cases_from, begun, wanting, enter, add_case, close, close_switch, end_loop, begin, begin_at, settle, go_on, take_name, open_brace, next, step, whole, end_at, finish, reading_of}
 
 -- one statement more, and one case more
@@ -234,6 +234,8 @@ begin_told opened list ts h token.Continue s to =
     leads_to _ _ _ _ (Told-flat opened list ts Continue (token.Continue ∷ []) _ h refl refl refl) s to
 begin_told opened list ts h token.Kill s to =
     leads_to _ _ _ _ (Told-flat opened list ts Kill (token.Kill ∷ []) _ h refl refl refl) s to
+begin_told opened list ts h token.Barrier s to =
+    leads_to _ _ _ _ (Told-flat opened list ts waiting (token.Barrier ∷ []) _ h (inr (inr (inr (refl, refl)))) refl refl) s to
 begin_told opened list ts h token.Close s to = close_told opened list ts h s to
 begin_told opened list ts h t s to = absurd (none_some _ to)
 
@@ -280,7 +282,7 @@ name_told opened list naming.Selector ts g h s to = leads_to _ _ _ _ (behind ope
 name_told opened list naming.BreakIf ts g h s to = end_told opened h ts g s to
 name_told opened list naming.Pointer ts g h s to = leads_to _ _ _ _ (behind opened list ts _ (token.Name h) g) s to
 name_told opened list (naming.Stored a) ts (before, told, e) h s to =
-    leads_to _ _ _ _ (Told-flat opened list before (storing a h) (token.Store ∷ token.Name a ∷ token.Name h ∷ []) _ told (inr (inr (a, h, refl, refl))) refl (rw (e, append_assoc) refl)) s to
+    leads_to _ _ _ _ (Told-flat opened list before (storing a h) (token.Store ∷ token.Name a ∷ token.Name h ∷ []) _ told (inr (inr (inl (a, h, refl, refl)))) refl (rw (e, append_assoc) refl)) s to
 name_told opened list naming.Result ts (before, told, e) h s to =
     leads_to _ _ _ _ (Told-flat opened list before (calling (Some h)) (token.Call ∷ token.Callee ∷ token.Arrow ∷ token.Name h ∷ []) _ told (inr (inl (Some h, refl, refl))) refl (rw (e, append_assoc) refl)) s to
 

@@ -42,7 +42,7 @@ lookup_found Q ((text, y) ∷ rest) w x all e =
 
 -- a keyword that is found has the text
 shared_texts : (bench : Bench) → AllEntries (IsTextOf bench) keywords
-shared_texts bench = (refl, (refl, (refl, (refl, (refl, (refl, (refl, (refl, (refl, (refl, (refl, (refl, (refl, (refl, (refl, tt)))))))))))))))
+shared_texts bench = (refl, (refl, (refl, (refl, (refl, (refl, (refl, (refl, (refl, (refl, (refl, (refl, (refl, (refl, (refl, (refl, tt))))))))))))))))
 
 pub keyword_found : (bench : Bench) (w : List ℕ) (t : Token) → keyword_of bench w ≡ Some t → IsTextOf bench t w
 unfolding keyword_of
@@ -107,7 +107,7 @@ position_numeric [] w from all e = refl
 position_numeric (n ∷ names) w from all e = rw (other_text w n all.0 e) (position_numeric names w (from + 1) all.1 e)
 
 shared_other : AllEntries IsOther keywords
-shared_other = (refl, (refl, (refl, (refl, (refl, (refl, (refl, (refl, (refl, (refl, (refl, (refl, (refl, (refl, (refl, tt)))))))))))))))
+shared_other = (refl, (refl, (refl, (refl, (refl, (refl, (refl, (refl, (refl, (refl, (refl, (refl, (refl, (refl, (refl, (refl, tt))))))))))))))))
 
 keyword_numeric : (bench : Bench) (w : List ℕ) → begins_numeric w ≡ true → keyword_of bench w ≡ None
 unfolding keyword_of

@@ -29,6 +29,10 @@ calling result = tree_of (λ _. []) (statement.Call 0 [] result) no_span
 abbrev pub storing : ℕ → ℕ → Stmt
 storing pointer value = tree_of (λ _. []) (statement.Store pointer value) no_span
 
+-- the control barrier that names no memory
+abbrev pub waiting : Stmt
+waiting = tree_of (λ _. []) (statement.ControlBarrier (record { 0 = 0 })) no_span
+
 abbrev pub arrow_if_any : Option ℕ → List Token
 arrow_if_any None = []
 arrow_if_any (Some h) = token.Arrow ∷ token.Name h ∷ []
@@ -61,7 +65,8 @@ unfoldable mutual
   SpellsStatement (Leaf acts x span) ts =
       ((first : ℕ) × (last : ℕ) × (Leaf acts x span ≡ emission first last) × SpellsEmit first last ts)
       ⊎ (((result : Option ℕ) × (Leaf acts x span ≡ calling result) × (ts ≡ token.Call ∷ token.Callee ∷ arrow_if_any result))
-      ⊎ ((pointer : ℕ) × (value : ℕ) × (Leaf acts x span ≡ storing pointer value) × (ts ≡ token.Store ∷ token.Name pointer ∷ token.Name value ∷ [])))
+      ⊎ (((pointer : ℕ) × (value : ℕ) × (Leaf acts x span ≡ storing pointer value) × (ts ≡ token.Store ∷ token.Name pointer ∷ token.Name value ∷ []))
+      ⊎ ((Leaf acts x span ≡ waiting) × (ts ≡ token.Barrier ∷ []))))
   SpellsStatement (Block body) ts = (inner : List Token) × Spells body inner × (ts ≡ token.Block ∷ in_braces inner)
   SpellsStatement (Branch condition accept reject) ts =
       (taken : List Token) × (other : List Token) × Spells accept taken × Spells reject other

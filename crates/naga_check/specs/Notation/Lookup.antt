@@ -18,7 +18,8 @@ keywords =
     (codes "emit", token.Emit) ∷ (codes "..", token.To) ∷ (codes "block", token.Block) ∷ (codes "if", token.If)
     ∷ (codes "switch", token.Switch) ∷ (codes "fall", token.Fall) ∷ (codes "loop", token.Loop)
     ∷ (codes "break_if", token.BreakIf) ∷ (codes "break", token.Break) ∷ (codes "continue", token.Continue)
-    ∷ (codes "return", token.Return) ∷ (codes "kill", token.Kill) ∷ (codes "store", token.Store) ∷ (codes "{", token.Open) ∷ (codes "}", token.Close)
+    ∷ (codes "return", token.Return) ∷ (codes "kill", token.Kill) ∷ (codes "store", token.Store) ∷ (codes "barrier", token.Barrier)
+    ∷ (codes "{", token.Open) ∷ (codes "}", token.Close)
     ∷ []
 
 -- in a case of a bench that has a function to call

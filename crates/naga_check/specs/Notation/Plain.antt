@@ -12,15 +12,17 @@ abbrev pub is_below_if_any : ℕ → Option ℕ → Bool
 is_below_if_any n None = true
 is_below_if_any n (Some h) = nat_lt h n
 
--- an Emit of a range of the first n expressions, a store, or a call of one of these functions without arguments
+-- an Emit of a range of the first n expressions, a store, a control barrier, or a call of one of these functions without
+-- arguments
 abbrev pub is_plain_leaf : (n callees : ℕ) → Statement → Bool
 is_plain_leaf n callees (statement.Emit r) = nat_le r.start r.end && nat_le r.end n
 is_plain_leaf n callees (statement.Call f arguments result) = nat_lt f callees && (is_empty arguments && is_below_if_any n result)
 is_plain_leaf n callees (statement.Store pointer value) = nat_lt pointer n && nat_lt value n
+is_plain_leaf n callees (statement.ControlBarrier b) = true
 is_plain_leaf n callees _ = false
 
 unfoldable mutual
-  -- each leaf is such an Emit, store or call, and each handle lies below n
+  -- each leaf is such an Emit, store, barrier or call, and each handle lies below n
   pub is_plain : (n callees : ℕ) → Body → Bool
   is_plain n callees Done = true
   is_plain n callees (Then x rest) = is_plain_statement n callees x && is_plain n callees rest

@@ -14,7 +14,7 @@ use Rattle.naga_check.specs.declared.notation.reader.Brace.TheVariants as brace
 use Rattle.naga_check.specs.declared.notation.reader.Wants.{Wants}
 use Rattle.naga_check.specs.declared.notation.reader.Wants.TheVariants as wants
 use Rattle.naga_check.specs.Notation.Feeding.{feeds}
-use Rattle.naga_check.specs.Notation.Grammar.{emission, calling, storing}
+use Rattle.naga_check.specs.Notation.Grammar.{emission, calling, storing, waiting}
 
 -- the statements of a list, as a body
 unfoldable pub body_from : List Stmt → Body
@@ -105,6 +105,7 @@ begin opened list token.Continue = ready opened (list ++ Continue ∷ [])
 begin opened list token.Return = wanting opened list (wants.Statement tail.Return)
 begin opened list token.Kill = ready opened (list ++ Kill ∷ [])
 begin opened list token.Store = wanting opened list (wants.Name naming.Pointer)
+begin opened list token.Barrier = ready opened (list ++ waiting ∷ [])
 begin opened list token.Call = wanting opened list wants.Callee
 begin opened list token.Close = close opened list
 begin opened list t = None

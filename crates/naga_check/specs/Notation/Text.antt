@@ -31,6 +31,7 @@ IsTextOf bench token.Continue text = text ≡ codes "continue"
 IsTextOf bench token.Return text = text ≡ codes "return"
 IsTextOf bench token.Kill text = text ≡ codes "kill"
 IsTextOf bench token.Store text = text ≡ codes "store"
+IsTextOf bench token.Barrier text = text ≡ codes "barrier"
 IsTextOf bench token.Call text = (has_callee bench ≡ true) × (text ≡ codes "call")
 IsTextOf bench token.Callee text = (has_callee bench ≡ true) × (text ≡ codes "f")
 IsTextOf bench token.Arrow text = (has_callee bench ≡ true) × (text ≡ codes "->")

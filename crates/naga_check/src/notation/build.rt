@@ -2,13 +2,14 @@
 
 ghost use Rattle.std.specs.Prelude.{◌≡◌, ◌++◌, ◌∷◌, [], OnOk};
 ghost use Rattle.naga_below.specs.Tree.{Branch, Loop, Switch};
-ghost use Rattle.naga_check.specs.Notation.Grammar.{emission, calling, storing};
+ghost use Rattle.naga_check.specs.Notation.Grammar.{emission, calling, storing, waiting};
 ghost use Rattle.naga_check.specs.Notation.Reading.{Clause, body_from, cases_from};
 ghost use Rattle.naga_check.specs.Notation.Views.{body_of, stmt_of, list_of, clause_of, clauses_of};
 
 use naga_below::arena::handle::Handle;
 use naga_below::arena::range::Range;
 use naga_below::arena::tag;
+use naga_below::ir::flags::Barrier;
 use naga_below::ir::statements::{Block, Located, Statement, SwitchCase, SwitchValue};
 use naga_below::sequence::Sequence;
 use naga_below::span::Span;
@@ -55,6 +56,13 @@ pub fn storing(pointer: u8, value: u8) -> Statement
         pointer: expression(pointer),
         value: expression(value),
     }
+}
+
+/// The control barrier that names no memory.
+pub fn waiting() -> Statement
+    ensures { stmt_of result ≡ waiting }
+{
+    Statement::ControlBarrier(Barrier(0))
 }
 
 /// A call of `f` with this result.

@@ -10,6 +10,7 @@ ghost use Rattle.naga_check.specs.Notation.Views.{body_of};
 use crate::notation::ReadError;
 use crate::notation::build::{
     block_of, calling, case_of, choice, emission, expression, push, repetition, storing, switch,
+    waiting,
 };
 use crate::notation::token::Token;
 use naga_below::ir::statements::{Block, Located, Statement, SwitchCase, SwitchValue};
@@ -266,6 +267,7 @@ impl Reader {
             Token::Return => self.want(Wants::Statement(Tail::Return)),
             Token::Kill => self.put(Statement::Kill),
             Token::Store => self.want(Wants::Name(Naming::Pointer)),
+            Token::Barrier => self.put(waiting()),
             Token::Call => self.want(Wants::Callee),
             Token::Close => self.close(),
             _ => Err(ReadError::Unreadable),

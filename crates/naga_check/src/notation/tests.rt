@@ -3,7 +3,7 @@ use crate::notation::{ReadError, read_case};
 use std::alloc::Global;
 use std::test::Fail;
 
-const ROWS: [(&str, bool); 65] = [
+const ROWS: [(&str, bool); 67] = [
     // the head
     ("P :", true),
     ("P -blocks :", true),
@@ -85,8 +85,10 @@ const ROWS: [(&str, bool); 65] = [
     ),
     ("P : switch u { 1{ } }", false),
     ("P : switch u { 1 fall fall { } }", false),
-    // words of later stages
-    ("P : barrier", false),
+    // barriers
+    ("P : barrier", true),
+    ("P : kill barrier barrier", true),
+    ("P : barrier t", false),
 ];
 
 /// Whether an input is a case. Where a request for memory is refused, it is read again.

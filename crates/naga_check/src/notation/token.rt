@@ -28,6 +28,7 @@ pub enum Token {
     Return,
     Kill,
     Store,
+    Barrier,
     Call,
     /// `f`, the function that is called.
     Callee,
@@ -92,6 +93,8 @@ fn shared_keyword_of(word: &[u8]) -> Option<Token>
         Some(Token::Kill)
     } else if word == b"store".as_slice() {
         Some(Token::Store)
+    } else if word == b"barrier".as_slice() {
+        Some(Token::Barrier)
     } else if word == b"{".as_slice() {
         Some(Token::Open)
     } else if word == b"}".as_slice() {

@@ -23,7 +23,6 @@ use naga_below::valid::flags::{GlobalUse, ShaderStages, ValidationFlags};
 use naga_below::valid::info::{FunctionInfo, ModuleInfo};
 use naga_rules::below::Below;
 use naga_rules::function::FunctionError;
-use naga_valid::kinds::has_kinds;
 use naga_valid::validator::Validator;
 use std::alloc::{AllocError, Global};
 use std::num::NonZeroU32;
@@ -97,7 +96,6 @@ fn judge(
     let mut validator = Validator::new(rt.alloc(), plain(), flags, Capabilities(0));
     assert!(rt; fits_types(module));
     assert!(rt; fits_function(fun, module, infos.functions.len()));
-    assert!(rt; has_kinds(fun));
     validator.validate_body(rt.alloc(), fun, module, &infos)
 }
 

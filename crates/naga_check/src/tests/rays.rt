@@ -21,7 +21,6 @@ use naga_below::valid::capabilities::Capabilities;
 use naga_below::valid::flags::{ShaderStages, ValidationFlags};
 use naga_below::valid::info::{FunctionInfo, ModuleInfo};
 use naga_rules::function::FunctionError;
-use naga_valid::kinds::has_kinds;
 use naga_valid::trace::{TraceRayVertexReturnState, TraceState};
 use naga_valid::validator::Validator;
 use std::alloc::{AllocError, Global};
@@ -210,7 +209,6 @@ fn judge(
 ) -> Option<FunctionError> {
     assert!(rt; fits_types(module));
     assert!(rt; fits_function(fun, module, infos.functions.len()));
-    assert!(rt; has_kinds(fun));
     match validator.validate_body(rt.alloc(), fun, module, infos) {
         Ok(_) => None,
         Err(Refusal::Fault(fault)) => Some(fault.into_inner()),

@@ -21,7 +21,6 @@ use naga_below::valid::expression_error::ExpressionError;
 use naga_below::valid::flags::{ShaderStages, ValidationFlags};
 use naga_below::valid::info::ModuleInfo;
 use naga_rules::function::FunctionError;
-use naga_valid::kinds::has_kinds;
 use naga_valid::validator::Validator;
 use std::alloc::{AllocError, Global};
 use std::process::Abort;
@@ -197,7 +196,6 @@ fn judge(
     let mut validator = Validator::new(alloc, plain(), flags, Capabilities(268435455));
     assert!(rt; fits_types(module));
     assert!(rt; fits_function(fun, module, infos.functions.len()));
-    assert!(rt; has_kinds(fun));
     match validator.validate_body(alloc, fun, module, &infos) {
         Ok(info) => Ok(info.available_stages),
         Err(Refusal::Fault(fault)) => Err(fault.into_inner()),

@@ -12,6 +12,7 @@ ghost use Rattle.naga_valid.specs.State.{seen};
 ghost use Rattle.naga_valid.specs.Walk.{puts};
 
 use crate::checks::atomic::check_atomic;
+use crate::checks::barrier::check_barrier;
 use crate::checks::call::check_call;
 use crate::checks::control;
 use crate::checks::cooperative::check_cooperative_store;
@@ -23,6 +24,9 @@ use crate::checks::ray_query::check_ray_query;
 use crate::checks::ray_trace::check_trace_ray;
 use crate::checks::refuse::answer;
 use crate::checks::store::check_store;
+use crate::checks::subgroup::check_ballot;
+use crate::checks::subgroup_collective::check_collective;
+use crate::checks::subgroup_gather::check_gather;
 use crate::context::BlockContext;
 use crate::handle_set::HandleSet;
 use crate::state::BodyState;
@@ -68,7 +72,16 @@ pub fn check_leaf(
             fun,
             value,
             result,
-        } => check_atomic(scope, &state.filled, context, *pointer, fun, *value, result, span),
+        } => check_atomic(
+            scope,
+            &state.filled,
+            context,
+            *pointer,
+            fun,
+            *value,
+            result,
+            span,
+        ),
         Statement::ImageAtomic {
             image,
             coordinate,
@@ -103,8 +116,10 @@ pub fn check_leaf(
             let checked = check_cooperative_store(scope, context, *target, source.pointer);
             answer(alloc, checked, span)
         }
-        Statement::ControlBarrier(_) => Ok(()),
-        Statement::MemoryBarrier(_) => Ok(()),
+        Statement::ControlBarrier(barrier) | Statement::MemoryBarrier(barrier) => {
+            let checked = check_barrier(&context.settings, *barrier);
+            answer(alloc, checked, span)
+        }
         Statement::RayQuery { query, fun } => check_ray_query(scope, context, *query, fun, span),
         Statement::RayPipelineFunction(
             RayPipelineFunction::TraceRay {
@@ -118,9 +133,28 @@ pub fn check_leaf(
                 check_trace_ray(scope, context, so_far, *structure, *descriptor, *payload);
             answer(alloc, checked, span)
         }
-        Statement::SubgroupBallot { .. } => Ok(()),
-        Statement::SubgroupGather { .. } => Ok(()),
-        Statement::SubgroupCollectiveOperation { .. } => Ok(()),
+        Statement::SubgroupBallot { result, predicate } => {
+            check_ballot(scope, context, *result, predicate, span)
+        }
+        Statement::SubgroupGather {
+            mode,
+            argument,
+            result,
+        } => check_gather(scope, context, mode, *argument, *result, span),
+        Statement::SubgroupCollectiveOperation {
+            op,
+            collective_op,
+            argument,
+            result,
+        } => check_collective(
+            scope,
+            context,
+            *op,
+            *collective_op,
+            *argument,
+            *result,
+            span,
+        ),
         Statement::Block(_)
         | Statement::If { .. }
         | Statement::Switch { .. }

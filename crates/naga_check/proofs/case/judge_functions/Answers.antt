@@ -1,8 +1,7 @@
 use Rattle.std.proofs.Common.{sym, ◌∙◌, subst, ap, rules}
 use Rattle.std.proofs.lemmas.List.{length-append}
 use Rattle.std.proofs.lemmas.Result.{err_from_is_err_and}
-use Rattle.naga_valid.specs.Parts.{first_settings}
-use Rattle.naga_check.specs.Judged.{all_capabilities}
+use Rattle.naga_check.specs.Judged.{settings_with}
 use Rattle.naga_check.specs.Ready.{IsReady}
 use Rattle.naga_check.proofs.Infos.{refused_here, info_here, ready_here, all_judged}
 use Rattle.naga_check.proofs.case.judge_functions.Goals as goal
@@ -10,21 +9,21 @@ use Rattle.naga_check.proofs.case.judge_functions.Goals as goal
 pub judge_function-requires-clause-ready : goal.judge_function-requires-clause-ready
 judge_function-requires-clause-ready c =
     let m = c.args.module.now in
-    let ready = ready_here (first_settings c.args.flags all_capabilities) c.loop-fun.validator.trace m c.loop-fun.infos m.functions c.loop-fun.fun-index c.fun-item.result (rw c.as_slice-fun-items.ensures at c.loop-fun-test.true) (rw c.as_slice-fun-items.ensures at c.fun-item.is) c.requires.functions in
+    let ready = ready_here (settings_with c.args.flags) c.loop-fun.validator.trace m c.loop-fun.infos m.functions c.loop-fun.fun-index c.fun-item.result (rw c.as_slice-fun-items.ensures at c.loop-fun-test.true) (rw c.as_slice-fun-items.ensures at c.fun-item.is) c.requires.functions in
     subst (λ k. IsReady m k c.fun-item.result) (sym c.loop-fun.invariant.place) ready
 
 pub returns-in_err-info : goal.returns-in_err-info
 returns-in_err-info c =
     let m = c.args.module.now in
     let p = err_from_is_err_and c.from_residual.result c.from_residual.ensures.1 in
-    let settings = first_settings c.args.flags all_capabilities in
+    let settings = settings_with c.args.flags in
     let refused = refused_here settings c.loop-fun.validator.trace m c.loop-fun.infos m.functions c.loop-fun.fun-index c.fun-item.result (rw c.as_slice-fun-items.ensures at c.loop-fun-test.true) (rw c.as_slice-fun-items.ensures at c.fun-item.is) c.in_err-info.field-0.0 (rw c.loop-fun.invariant.settings at c.in_err-info.ensures.judged) in
     rw (p.1, p.2) (rw c.loop-fun.invariant.rest at refused)
 
 pub loop-fun-preserved : goal.loop-fun-preserved
 loop-fun-preserved c =
     let m = c.args.module.now in
-    let settings = first_settings c.args.flags all_capabilities in
+    let settings = settings_with c.args.flags in
     let found = info_here settings c.loop-fun.validator.trace m c.loop-fun.infos m.functions c.loop-fun.fun-index c.fun-item.result (rw c.as_slice-fun-items.ensures at c.loop-fun-test.true) (rw c.as_slice-fun-items.ensures at c.fun-item.is) c.in_ok-info.info c.judge_function.new.validator.trace (rw c.loop-fun.invariant.settings at c.in_ok-info.ensures.judged) in
     let pushed = c.in_ok-push.ensures.pushed in
     record {
@@ -36,4 +35,4 @@ loop-fun-preserved c =
 pub returns : goal.returns
 returns c =
     let m = c.args.module.now in
-    sym c.loop-fun.invariant.rest ∙ all_judged (first_settings c.args.flags all_capabilities) c.loop-fun.validator.trace m c.loop-fun.infos m.functions c.loop-fun.fun-index (rw c.as_slice-fun-items.ensures at c.loop-fun-test.false)
+    sym c.loop-fun.invariant.rest ∙ all_judged (settings_with c.args.flags) c.loop-fun.validator.trace m c.loop-fun.infos m.functions c.loop-fun.fun-index (rw c.as_slice-fun-items.ensures at c.loop-fun-test.false)

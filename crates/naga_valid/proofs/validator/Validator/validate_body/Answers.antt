@@ -5,7 +5,7 @@ use Rattle.naga_valid.proofs.validator.Validator.validate_body.Goals.{then-conta
 
 pub validate_function_body-requires-clause-ready :
     goal.validate_function_body-requires-clause-ready
-validate_function_body-requires-clause-ready g c = ready _ c.requires.function c.requires.kinds
+validate_function_body-requires-clause-ready g c = ready _ c.requires.function
 
 pub returns-clause-filled : goal.returns-clause-filled
 returns-clause-filled g c = λ blocks expressions. elim c.if-contains.branch [

@@ -1,0 +1,208 @@
+-- The check lists of SubgroupBallot, SubgroupCollectiveOperation and SubgroupGather.
+use Rattle.std.specs.Prelude.{ℕ, Bool, true, false, not, ◌&&◌, ◌||◌, ◌==◌, nat_le, List, [], ◌∷◌, ◌++◌, Option, None, Some, slice_get}
+use Rattle.std.specs.Int.RustNames.{bit_and}
+use Rattle.naga_below.specs.Subgroups.{ballot, operation_group, gather_group}
+use Rattle.naga_below.specs.Types.{inner_at, bool_scalar}
+use Rattle.naga_below.specs.declared.ir.expressions.Expression.{Expression}
+use Rattle.naga_below.specs.declared.ir.expressions.Expression.TheVariants as e
+use Rattle.naga_below.specs.declared.ir.statements.CollectiveOperation.{CollectiveOperation}
+use Rattle.naga_below.specs.declared.ir.statements.CollectiveOperation.TheVariants as over
+use Rattle.naga_below.specs.declared.ir.statements.GatherMode.{GatherMode}
+use Rattle.naga_below.specs.declared.ir.statements.GatherMode.TheVariants as gather
+use Rattle.naga_below.specs.declared.ir.statements.SubgroupOperation.{SubgroupOperation}
+use Rattle.naga_below.specs.declared.ir.statements.SubgroupOperation.TheVariants as op
+use Rattle.naga_below.specs.declared.ir.types.Scalar.{Scalar}
+use Rattle.naga_below.specs.declared.ir.types.ScalarKind.{ScalarKind}
+use Rattle.naga_below.specs.declared.ir.types.ScalarKind.TheVariants as kind
+use Rattle.naga_below.specs.declared.ir.types.Type.{«Type» as IrType}
+use Rattle.naga_below.specs.declared.ir.types.TypeInner.{TypeInner}
+use Rattle.naga_below.specs.declared.ir.types.TypeInner.TheVariants as inner
+use Rattle.naga_below.specs.declared.proc.expression_kinds.ExpressionKind.{ExpressionKind}
+use Rattle.naga_below.specs.declared.proc.expression_kinds.ExpressionKind.TheVariants as known
+use Rattle.naga_below.specs.declared.valid.capabilities.Capabilities.{Capabilities}
+use Rattle.naga_below.specs.declared.valid.flags.SubgroupOperationSet.{SubgroupOperationSet}
+use Rattle.naga_below.specs.declared.valid.settings.Settings.{Settings}
+use Rattle.naga_rules.specs.declared.function.FunctionError.{FunctionError}
+use Rattle.naga_rules.specs.declared.function.FunctionError.TheVariants.{InvalidSubgroup, MissingCapability}
+use Rattle.naga_rules.specs.declared.function.SubgroupError.{SubgroupError}
+use Rattle.naga_rules.specs.declared.function.SubgroupError.TheVariants as wrong
+use Rattle.naga_runs.specs.Handles.{Handles}
+use Rattle.naga_runs.specs.Judgement.{Point}
+use Rattle.naga_valid.specs.Atomics.{has_capability}
+use Rattle.naga_valid.specs.Context.{Context}
+use Rattle.naga_valid.specs.Control.{is_bool_kind, is_integer}
+use Rattle.naga_valid.specs.Points.{Points, use_point, put_point}
+use Rattle.naga_valid.specs.Types.{expression_at, type_at, is_scalar, is_same_inner}
+
+-- a point whose fault stands inside InvalidSubgroup
+abbrev pub subgroup_point : Bool → SubgroupError → Point FunctionError
+subgroup_point holds error = (holds, InvalidSubgroup error)
+
+-- whether the target has these groups of operations
+abbrev pub has_operations : SubgroupOperationSet → SubgroupOperationSet → Bool
+has_operations operations these = bit_and operations.0 these.0 == these.0
+
+-- these groups of operations, which the target has
+abbrev pub operations_point : Settings → SubgroupOperationSet → Point FunctionError
+operations_point settings these =
+    subgroup_point (has_operations settings.subgroup_operations these) (wrong.UnsupportedOperation these)
+
+abbrev pub subgroup_capability : Capabilities
+subgroup_capability = record { 0 = 8388608 }
+
+-- what each statement of a subgroup needs of the target first: subgroups at all, and then these operations
+abbrev pub target_points : Settings → SubgroupOperationSet → Points
+target_points settings these =
+    (has_capability settings.capabilities subgroup_capability, MissingCapability subgroup_capability)
+    ∷ operations_point settings these
+    ∷ []
+
+-- the predicate, if there is one: in scope, and a bool of one byte
+abbrev pub predicate_points : Context → Handles → Option ℕ → Points
+predicate_points context scope None = []
+predicate_points context scope (Some h) =
+    use_point scope h ∷ subgroup_point (is_scalar bool_scalar (type_at context h)) (wrong.InvalidOperand h) ∷ []
+
+-- SubgroupBallot: its predicate; its result is put, of whatever kind
+abbrev pub ballot_points : Context → Handles → ℕ → Option ℕ → Points
+ballot_points context scope r predicate =
+    target_points context.settings ballot ++ (predicate_points context scope predicate ++ put_point scope r ∷ [])
+
+-- integers of either sign, and floats
+abbrev pub is_number_kind : ScalarKind → Bool
+is_number_kind kind.Sint = true
+is_number_kind kind.Uint = true
+is_number_kind kind.Float = true
+is_number_kind _ = false
+
+-- an integer of 32 bits or more, of either sign
+abbrev pub is_wide_integer : Scalar → Bool
+is_wide_integer s = is_integer (Some s.kind) && nat_le 4 s.width
+
+-- what an operation combines: All and Any bools; sums, products and extremes numbers; And, Or and Xor wide integers
+abbrev pub is_combined_by : SubgroupOperation → Scalar → Bool
+is_combined_by op.All s = is_bool_kind s.kind
+is_combined_by op.Any s = is_bool_kind s.kind
+is_combined_by op.Add s = is_number_kind s.kind
+is_combined_by op.Mul s = is_number_kind s.kind
+is_combined_by op.Min s = is_number_kind s.kind
+is_combined_by op.Max s = is_number_kind s.kind
+is_combined_by op.And s = is_wide_integer s
+is_combined_by op.Or s = is_wide_integer s
+is_combined_by op.Xor s = is_wide_integer s
+
+-- All and Any take no vectors
+abbrev pub takes_vectors : SubgroupOperation → Bool
+takes_vectors op.All = false
+takes_vectors op.Any = false
+takes_vectors _ = true
+
+-- a scalar that the operation combines, or a vector of one where it takes vectors
+abbrev pub is_operand_of : SubgroupOperation → Option TypeInner → Bool
+is_operand_of o (Some (inner.Scalar s)) = is_combined_by o s
+is_operand_of o (Some (inner.Vector size s)) = takes_vectors o && is_combined_by o s
+is_operand_of o _ = false
+
+-- scans are sums and products
+abbrev pub is_scanned : SubgroupOperation → Bool
+is_scanned op.Add = true
+is_scanned op.Mul = true
+is_scanned _ = false
+
+-- over all invocations each operation is done; over a part of them it is a scan
+abbrev pub is_done_over : CollectiveOperation → SubgroupOperation → Bool
+is_done_over over.Reduce o = true
+is_done_over over.InclusiveScan o = is_scanned o
+is_done_over over.ExclusiveScan o = is_scanned o
+
+-- the type that the result of a subgroup operation is declared with
+abbrev pub combined_type_of : List IrType → Option Expression → Option TypeInner
+combined_type_of types (Some (e.SubgroupOperationResult ty)) = inner_at types ty
+combined_type_of types _ = None
+
+abbrev pub combined_type_at : Context → ℕ → Option TypeInner
+combined_type_at context r = combined_type_of context.program.types (expression_at context r)
+
+-- both are there, and the same inside
+abbrev pub are_same_inners : Option TypeInner → Option TypeInner → Bool
+are_same_inners (Some a) (Some b) = is_same_inner a b
+are_same_inners _ _ = false
+
+-- the result: it is put, and then looked at. It is one of a subgroup operation, of the argument's type
+abbrev pub combined_points : Context → Handles → ℕ → ℕ → Points
+combined_points context scope argument r =
+    put_point scope r
+    ∷ subgroup_point (are_same_inners (combined_type_at context r) (type_at context argument)) (wrong.ResultTypeMismatch r)
+    ∷ []
+
+-- the argument and the operation, then the result
+abbrev pub combination_points : Context → Handles → SubgroupOperation → CollectiveOperation → ℕ → ℕ → Points
+combination_points context scope o part argument r =
+    use_point scope argument
+    ∷ subgroup_point (is_operand_of o (type_at context argument)) (wrong.InvalidOperand argument)
+    ∷ subgroup_point (is_done_over part o) wrong.UnknownOperation
+    ∷ combined_points context scope argument r
+
+-- SubgroupCollectiveOperation: its argument, its operation, and its result
+abbrev pub collective_points : Context → Handles → SubgroupOperation → CollectiveOperation → ℕ → ℕ → Points
+collective_points context scope o part argument r =
+    target_points context.settings (operation_group o) ++ combination_points context scope o part argument r
+
+abbrev pub u32_scalar : Scalar
+u32_scalar = record { kind = kind.Uint; width = 4 }
+
+-- the index of a gather, if its mode has one
+abbrev pub index_of : GatherMode → Option ℕ
+index_of gather.BroadcastFirst = None
+index_of (gather.QuadSwap d) = None
+index_of (gather.Broadcast h) = Some h
+index_of (gather.Shuffle h) = Some h
+index_of (gather.ShuffleDown h) = Some h
+index_of (gather.ShuffleUp h) = Some h
+index_of (gather.ShuffleXor h) = Some h
+index_of (gather.QuadBroadcast h) = Some h
+
+-- all take the value of one invocation, which is known as the module is made
+abbrev pub is_broadcast : GatherMode → Bool
+is_broadcast (gather.Broadcast h) = true
+is_broadcast (gather.QuadBroadcast h) = true
+is_broadcast _ = false
+
+abbrev pub is_const : Option ExpressionKind → Bool
+is_const (Some known.Const) = true
+is_const _ = false
+
+abbrev pub is_const_at : Context → ℕ → Bool
+is_const_at context h = is_const (slice_get context.kinds h)
+
+-- the index, if there is one: in scope, a u32, and in a broadcast const. What is no u32 is told of the argument
+abbrev pub index_points : Context → Handles → Bool → ℕ → Option ℕ → Points
+index_points context scope broadcasts argument None = []
+index_points context scope broadcasts argument (Some index) =
+    use_point scope index
+    ∷ subgroup_point (is_scalar u32_scalar (type_at context index)) (wrong.InvalidOperand argument)
+    ∷ subgroup_point (not broadcasts || is_const_at context index) (wrong.InvalidInvocationIdExprType index)
+    ∷ []
+
+-- a number, or a vector of numbers
+abbrev pub is_gathered : Option TypeInner → Bool
+is_gathered (Some (inner.Scalar s)) = is_number_kind s.kind
+is_gathered (Some (inner.Vector size s)) = is_number_kind s.kind
+is_gathered _ = false
+
+-- the argument, then the result
+abbrev pub gathered_points : Context → Handles → ℕ → ℕ → Points
+gathered_points context scope argument r =
+    use_point scope argument
+    ∷ subgroup_point (is_gathered (type_at context argument)) (wrong.InvalidOperand argument)
+    ∷ combined_points context scope argument r
+
+-- the index, the argument and the result
+abbrev pub indexed_points : Context → Handles → GatherMode → ℕ → ℕ → Points
+indexed_points context scope mode argument r =
+    index_points context scope (is_broadcast mode) argument (index_of mode) ++ gathered_points context scope argument r
+
+-- SubgroupGather: its index, its argument, and its result
+abbrev pub gather_points : Context → Handles → GatherMode → ℕ → ℕ → Points
+gather_points context scope mode argument r =
+    target_points context.settings (gather_group mode) ++ indexed_points context scope mode argument r

@@ -1,0 +1,44 @@
+//! The check list of ControlBarrier and of MemoryBarrier.
+
+ghost use Rattle.std.specs.Prelude.{◌≡◌};
+ghost use Rattle.std.specs.Result.{result_err};
+ghost use Rattle.naga_runs.specs.Judgement.{first_fault};
+ghost use Rattle.naga_valid.specs.Barriers.{barrier_capabilities, subgroup_barrier_points, barrier_points};
+
+use crate::checks::subgroup::check_operations;
+use bitflags::Flags;
+use naga_below::ir::flags::Barrier;
+use naga_below::valid::capabilities::Capabilities;
+use naga_below::valid::flags::SubgroupOperationSet;
+use naga_below::valid::settings::Settings;
+use naga_rules::function::FunctionError;
+
+/// ControlBarrier and MemoryBarrier: one of a subgroup needs what the target has.
+pub fn check_barrier(settings: &Settings, barrier: Barrier) -> Result<(), FunctionError>
+    ensures { result_err result ≡ first_fault (barrier_points settings.now barrier) }
+{
+    if barrier.contains(Barrier::SUB_GROUP) {
+        check_subgroup_barrier(settings)
+    } else {
+        Ok(())
+    }
+}
+
+/// Subgroups and their barriers, both, and the basic operations.
+fn check_subgroup_barrier(settings: &Settings) -> Result<(), FunctionError>
+    ensures { result_err result ≡ first_fault (subgroup_barrier_points settings.now) }
+{
+    let needed = barrier_capabilities();
+    if !settings.capabilities.contains(needed) {
+        return Err(FunctionError::MissingCapability(needed));
+    }
+    check_operations(settings, SubgroupOperationSet::BASIC)
+}
+
+/// What a barrier of a subgroup needs.
+#[tactic(auto, unfolding(bitflags::proofs::OnLiterals::bitflags_on_literals))]
+fn barrier_capabilities() -> Capabilities
+    ensures { result ≡ barrier_capabilities }
+{
+    Capabilities::SUBGROUP.union(Capabilities::SUBGROUP_BARRIER)
+}

@@ -1,0 +1,165 @@
+//! What the check lists of subgroup statements share; then the list of SubgroupBallot.
+
+ghost use Rattle.std.specs.Prelude.{◌≡◌, ◌++◌, ◌∷◌, [], OnOk};
+ghost use Rattle.std.specs.Option.{option_copied};
+ghost use Rattle.std.specs.Result.{result_err};
+ghost use Rattle.naga_runs.specs.Judgement.{first_fault};
+ghost use Rattle.naga_valid.specs.Answers.{AnswersPoints};
+ghost use Rattle.naga_valid.specs.Scope.{known};
+ghost use Rattle.naga_valid.specs.Seen.{context_of};
+ghost use Rattle.naga_valid.specs.Subgroups.{operations_point, target_points, predicate_points, ballot_points, is_number_kind, combined_type_at, are_same_inners, combined_points};
+
+use crate::checks::refuse::{answer, check_put, check_use};
+use crate::checks::types::is_scalar;
+use crate::context::BlockContext;
+use crate::handle_set::HandleSet;
+use bitflags::Flags;
+use naga_below::arena::handle::Handle;
+use naga_below::arena::tag;
+use naga_below::ir::expressions::Expression;
+use naga_below::ir::types::{Scalar, ScalarKind, TypeInner};
+use naga_below::span::{Refusal, Span};
+use naga_below::valid::capabilities::Capabilities;
+use naga_below::valid::flags::SubgroupOperationSet;
+use naga_below::valid::settings::Settings;
+use naga_rules::function::{FunctionError, SubgroupError};
+
+/// Groups of operations, which the target has.
+pub fn check_operations(
+    settings: &Settings,
+    needed: SubgroupOperationSet,
+) -> Result<(), FunctionError>
+    ensures { result_err result ≡ first_fault (operations_point settings.now needed ∷ []) }
+{
+    if !settings.subgroup_operations.contains(needed) {
+        let error = SubgroupError::UnsupportedOperation(needed);
+        return Err(FunctionError::InvalidSubgroup(error));
+    }
+    Ok(())
+}
+
+/// What each statement of a subgroup needs of the target first: subgroups at all, and then these operations.
+pub fn check_target(settings: &Settings, needed: SubgroupOperationSet) -> Result<(), FunctionError>
+    ensures { result_err result ≡ first_fault (target_points settings.now needed) }
+{
+    let subgroups = Capabilities::SUBGROUP;
+    if !settings.capabilities.contains(subgroups) {
+        return Err(FunctionError::MissingCapability(subgroups));
+    }
+    check_operations(settings, needed)
+}
+
+/// SubgroupBallot: its predicate and its result, which is in scope afterwards.
+pub fn check_ballot(
+    scope: &mut HandleSet,
+    context: &BlockContext,
+    ballot: Handle<tag::Expression>,
+    predicate: &Option<Handle<tag::Expression>>,
+    span: Span,
+) -> Result<(), Refusal<FunctionError>>
+    ensures fault { AnswersPoints (ballot_points (context_of context.now) (known scope.old) ballot predicate.now) result }
+    ensures scope { OnOk result (scope.new ≡ scope.old ++ ballot ∷ []) }
+{
+    let alloc = scope.allocator();
+    let checked = validate_ballot(scope, context, ballot, predicate);
+    answer(alloc, checked, span)?;
+    scope.put(ballot)?;
+    Ok(())
+}
+
+/// All that is checked of a ballot. Its result stays out of scope.
+#[tactic(auto, using(crate::proofs::Lists::appended))]
+fn validate_ballot(
+    scope: &HandleSet,
+    context: &BlockContext,
+    ballot: Handle<tag::Expression>,
+    predicate: &Option<Handle<tag::Expression>>,
+) -> Result<(), FunctionError>
+    ensures { result_err result ≡ first_fault (ballot_points (context_of context.now) (known scope.now) ballot predicate.now) }
+{
+    check_target(&context.settings, SubgroupOperationSet::BALLOT)?;
+    check_predicate(scope, context, predicate)?;
+    check_put(scope, ballot)
+}
+
+/// The predicate, if there is one: in scope, and a bool of one byte.
+fn check_predicate(
+    scope: &HandleSet,
+    context: &BlockContext,
+    predicate: &Option<Handle<tag::Expression>>,
+) -> Result<(), FunctionError>
+    ensures { result_err result ≡ first_fault (predicate_points (context_of context.now) (known scope.now) predicate.now) }
+{
+    match predicate {
+        Some(handle) => {
+            check_use(scope, *handle)?;
+            if !is_scalar(Scalar::BOOL, context.type_inner(*handle)) {
+                let error = SubgroupError::InvalidOperand(*handle);
+                return Err(FunctionError::InvalidSubgroup(error));
+            }
+            Ok(())
+        }
+        None => Ok(()),
+    }
+}
+
+/// Whether a kind is that of integers of either sign, or of floats.
+pub fn is_number_kind(kind: ScalarKind) -> bool
+    ensures { result ≡ is_number_kind kind }
+{
+    matches!(
+        kind,
+        ScalarKind::Sint | ScalarKind::Uint | ScalarKind::Float
+    )
+}
+
+/// The result of a collective operation or a gather: it is not in scope yet, and of the argument's type.
+pub fn check_combined(
+    scope: &HandleSet,
+    context: &BlockContext,
+    argument: Handle<tag::Expression>,
+    combined: Handle<tag::Expression>,
+) -> Result<(), FunctionError>
+    ensures { result_err result ≡ first_fault (combined_points (context_of context.now) (known scope.now) argument combined) }
+{
+    check_put(scope, combined)?;
+    if !are_same_inners(
+        combined_type(context, combined),
+        context.type_inner(argument),
+    ) {
+        let error = SubgroupError::ResultTypeMismatch(combined);
+        return Err(FunctionError::InvalidSubgroup(error));
+    }
+    Ok(())
+}
+
+/// The type that the result of a subgroup operation is declared with.
+fn combined_type<'a>(
+    context: &BlockContext<'a>,
+    combined: Handle<tag::Expression>,
+) -> Option<&'a TypeInner>
+    ensures { option_copied result ≡ combined_type_at (context_of context.now) combined }
+{
+    match context.expression(combined) {
+        Some(Expression::SubgroupOperationResult { ty }) => {
+            match context.program.types.as_slice().get(ty.index()) {
+                Some(ty) => Some(&ty.inner),
+                None => None,
+            }
+        }
+        _ => None,
+    }
+}
+
+/// Whether both are there, and the same inside.
+fn are_same_inners(first: Option<&TypeInner>, second: Option<&TypeInner>) -> bool
+    ensures { result ≡ are_same_inners (option_copied first.entry) (option_copied second.entry) }
+{
+    match first {
+        Some(first) => match second {
+            Some(second) => *first == *second,
+            None => false,
+        },
+        None => false,
+    }
+}

@@ -1,0 +1,156 @@
+//! The check list of SubgroupGather.
+
+ghost use Rattle.std.specs.Prelude.{◌≡◌, ◌++◌, ◌∷◌, [], OnOk, Some};
+ghost use Rattle.std.specs.Option.{option_copied};
+ghost use Rattle.std.specs.Result.{result_err};
+ghost use Rattle.naga_runs.specs.Judgement.{first_fault};
+ghost use Rattle.naga_valid.specs.Answers.{AnswersPoints};
+ghost use Rattle.naga_valid.specs.Scope.{known};
+ghost use Rattle.naga_valid.specs.Seen.{context_of};
+ghost use Rattle.naga_valid.specs.Subgroups.{index_of, is_broadcast, is_const_at, index_points, is_gathered, gathered_points, indexed_points, gather_points};
+
+use crate::checks::refuse::{answer, check_use};
+use crate::checks::subgroup::{check_combined, check_target, is_number_kind};
+use crate::checks::types::is_scalar;
+use crate::context::BlockContext;
+use crate::handle_set::HandleSet;
+use naga_below::arena::handle::Handle;
+use naga_below::arena::tag;
+use naga_below::ir::statements::GatherMode;
+use naga_below::ir::types::{Scalar, TypeInner};
+use naga_below::span::{Refusal, Span};
+use naga_rules::function::{FunctionError, SubgroupError};
+
+/// SubgroupGather: its index, its argument, and its result, which is in scope afterwards.
+pub fn check_gather(
+    scope: &mut HandleSet,
+    context: &BlockContext,
+    mode: &GatherMode,
+    argument: Handle<tag::Expression>,
+    gathered: Handle<tag::Expression>,
+    span: Span,
+) -> Result<(), Refusal<FunctionError>>
+    ensures fault { AnswersPoints (gather_points (context_of context.now) (known scope.old) mode.now argument gathered) result }
+    ensures scope { OnOk result (scope.new ≡ scope.old ++ gathered ∷ []) }
+{
+    let alloc = scope.allocator();
+    let checked = validate_gather(scope, context, mode, argument, gathered);
+    answer(alloc, checked, span)?;
+    scope.put(gathered)?;
+    Ok(())
+}
+
+/// All that is checked of a gather. Its result stays out of scope.
+#[tactic(auto, using(crate::proofs::Lists::appended))]
+fn validate_gather(
+    scope: &HandleSet,
+    context: &BlockContext,
+    mode: &GatherMode,
+    argument: Handle<tag::Expression>,
+    gathered: Handle<tag::Expression>,
+) -> Result<(), FunctionError>
+    ensures { result_err result ≡ first_fault (gather_points (context_of context.now) (known scope.now) mode.now argument gathered) }
+{
+    check_target(&context.settings, mode.required_operations())?;
+    check_indexed(scope, context, mode, argument, gathered)
+}
+
+/// The index, the argument and the result.
+#[tactic(auto, using(crate::proofs::Lists::appended))]
+fn check_indexed(
+    scope: &HandleSet,
+    context: &BlockContext,
+    mode: &GatherMode,
+    argument: Handle<tag::Expression>,
+    gathered: Handle<tag::Expression>,
+) -> Result<(), FunctionError>
+    ensures { result_err result ≡ first_fault (indexed_points (context_of context.now) (known scope.now) mode.now argument gathered) }
+{
+    if let Some(index) = index_of(mode) {
+        check_index(scope, context, is_broadcast(mode), argument, index)?;
+    }
+    check_gathered(scope, context, argument, gathered)
+}
+
+/// The index of a gather, if its mode has one.
+fn index_of(mode: &GatherMode) -> Option<Handle<tag::Expression>>
+    ensures { result ≡ index_of mode.now }
+{
+    match mode {
+        GatherMode::BroadcastFirst | GatherMode::QuadSwap(_) => None,
+        GatherMode::Broadcast(index)
+        | GatherMode::Shuffle(index)
+        | GatherMode::ShuffleDown(index)
+        | GatherMode::ShuffleUp(index)
+        | GatherMode::ShuffleXor(index)
+        | GatherMode::QuadBroadcast(index) => Some(*index),
+    }
+}
+
+/// Whether all take the value of one invocation, which is known as the module is made.
+fn is_broadcast(mode: &GatherMode) -> bool
+    ensures { result ≡ is_broadcast mode.now }
+{
+    matches!(
+        mode,
+        GatherMode::Broadcast(_) | GatherMode::QuadBroadcast(_)
+    )
+}
+
+/// The index: in scope, a u32, and in a broadcast const. What is no u32 is told of the argument, as naga does.
+fn check_index(
+    scope: &HandleSet,
+    context: &BlockContext,
+    broadcasts: bool,
+    argument: Handle<tag::Expression>,
+    index: Handle<tag::Expression>,
+) -> Result<(), FunctionError>
+    ensures { result_err result ≡ first_fault (index_points (context_of context.now) (known scope.now) broadcasts argument (Some index)) }
+{
+    check_use(scope, index)?;
+    if !is_scalar(Scalar::U32, context.type_inner(index)) {
+        let error = SubgroupError::InvalidOperand(argument);
+        return Err(FunctionError::InvalidSubgroup(error));
+    }
+    if broadcasts && !is_const_at(context, index) {
+        let error = SubgroupError::InvalidInvocationIdExprType(index);
+        return Err(FunctionError::InvalidSubgroup(error));
+    }
+    Ok(())
+}
+
+/// Whether the value of an expression is known as the module is made.
+fn is_const_at(context: &BlockContext, handle: Handle<tag::Expression>) -> bool
+    ensures { result ≡ is_const_at (context_of context.now) handle }
+{
+    handle.index() < context.kinds.len() && context.kinds.is_const(handle)
+}
+
+/// The argument, then the result.
+fn check_gathered(
+    scope: &HandleSet,
+    context: &BlockContext,
+    argument: Handle<tag::Expression>,
+    gathered: Handle<tag::Expression>,
+) -> Result<(), FunctionError>
+    ensures { result_err result ≡ first_fault (gathered_points (context_of context.now) (known scope.now) argument gathered) }
+{
+    check_use(scope, argument)?;
+    if !is_gathered(context.type_inner(argument)) {
+        let error = SubgroupError::InvalidOperand(argument);
+        return Err(FunctionError::InvalidSubgroup(error));
+    }
+    check_combined(scope, context, argument, gathered)
+}
+
+/// Whether a type is a number, or a vector of numbers.
+fn is_gathered(inner: Option<&TypeInner>) -> bool
+    ensures { result ≡ is_gathered (option_copied inner.entry) }
+{
+    match inner {
+        Some(TypeInner::Scalar(scalar) | TypeInner::Vector { scalar, .. }) => {
+            is_number_kind(scalar.kind)
+        }
+        _ => false,
+    }
+}
