@@ -1,5 +1,5 @@
 -- What the benches name is there, and so is what a body of the notation names.
-use Rattle.std.proofs.Common.{◌≡◌, ℕ, zero, suc, ◌++◌, ◌<◌, ◌≤◌, true, List, [], ◌∷◌, All, Option, Some, None, length, sym, ap, ◌∙◌, subst, refl, arith}
+use Rattle.std.proofs.Common.{◌≡◌, ℕ, zero, suc, ◌++◌, ◌<◌, ◌≤◌, Bool, true, false, ◌&&◌, List, [], ◌∷◌, All, Option, Some, None, length, sym, ap, ◌∙◌, subst, refl, arith}
 use Rattle.std.proofs.lemmas.Bool.{ltb-true, leb-true}
 use Rattle.std.proofs.lemmas.List.Elements.{All-nil, All-from_recursion}
 use Rattle.std.specs.Prelude.{IfSome, IsSomeAnd, nat_lt, slice_get}
@@ -28,7 +28,10 @@ use Rattle.naga_check.specs.Notation.Case.{Case}
 use Rattle.naga_check.specs.Notation.Plain.{is_plain, is_plain_statement, are_plain_cases, is_below_if_any, is_plain_leaf, is_empty}
 use Rattle.naga_check.specs.declared.bench.Bench.{Bench}
 use Rattle.naga_check.specs.declared.bench.Bench.TheVariants.{P, C}
-use Rattle.naga_valid.proofs.Parts.{both_hold}
+
+both_hold : (a b : Bool) → (a && b) ≡ true → (a ≡ true) × (b ≡ true)
+both_hold true b h = (refl, h)
+both_hold false b h = cc
 
 pub types_fit : (bench : Bench) (body : Body) (m : Module) → IsBenchModule bench body m → FitsTypes m
 types_fit bench body m b =
