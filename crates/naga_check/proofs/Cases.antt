@@ -12,8 +12,8 @@ use Rattle.naga_below.specs.declared.valid.info.FunctionInfo.{FunctionInfo}
 use Rattle.naga_below.specs.declared.valid.info.ModuleInfo.{ModuleInfo}
 use Rattle.naga_rules.specs.Answers.{Answers}
 use Rattle.naga_rules.specs.declared.function.FunctionError.{FunctionError}
-use Rattle.naga_check.specs.BenchModule.{IsBenchModule}
 use Rattle.naga_valid.specs.Parts.{no_traces}
+use Rattle.naga_check.specs.BenchModule.{IsBenchModule}
 use Rattle.naga_check.specs.Judged.{IsJudgement, Judges, infos_from, no_infos, settings_of, stages_of_last}
 use Rattle.naga_check.specs.Line.{Replies, Writes, IsLine, line_of, reply_line, reply_status}
 use Rattle.naga_check.specs.Notation.Case.{Case, Reads}

@@ -101,7 +101,8 @@ fn no_infos(alloc: Global) -> ModuleInfo
     }
 }
 
-/// The judgement of a function of a module, where these are the infos of those before it.
+/// The judgement of a function of a module, where these are the infos of those before it. What its ray traces leave is
+/// kept.
 #[tactic(auto, unfolding(crate::specs::Judged::plain_judgement))]
 fn judge_function(
     alloc: Global,

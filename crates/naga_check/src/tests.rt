@@ -1,6 +1,7 @@
 //! Whole runs of the program.
 
 mod plain;
+mod rays;
 mod stores;
 mod subgroups;
 

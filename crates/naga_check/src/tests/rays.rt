@@ -1,0 +1,353 @@
+//! Ray queries and ray traces, and what traces leave, judged over the plain layer.
+
+use crate::case::plain;
+use crate::plain::Plain;
+use naga_below::arena::Arena;
+use naga_below::arena::handle::Handle;
+use naga_below::arena::unique_arena::UniqueArena;
+use naga_below::fits::function::fits_function;
+use naga_below::fits::types::fits_types;
+use naga_below::ir::expressions::Expression;
+use naga_below::ir::flags::MemoryDecorations;
+use naga_below::ir::functions::{Function, FunctionResult, LocalVariable};
+use naga_below::ir::module::{GlobalVariable, Module, SpecialTypes};
+use naga_below::ir::statements::{
+    Block, Located, RayPipelineFunction, RayQueryFunction, Statement,
+};
+use naga_below::ir::types::{AddressSpace, Scalar, Type, TypeInner, VectorSize};
+use naga_below::sequence::Sequence;
+use naga_below::span::{Refusal, Span};
+use naga_below::valid::capabilities::Capabilities;
+use naga_below::valid::flags::{ShaderStages, ValidationFlags};
+use naga_below::valid::info::{FunctionInfo, ModuleInfo};
+use naga_rules::function::FunctionError;
+use naga_valid::trace::{TraceRayVertexReturnState, TraceState};
+use naga_valid::validator::Validator;
+use std::alloc::{AllocError, Global};
+use std::process::Abort;
+use std::test::Fail;
+
+const NOWHERE: Span = Span { start: 0, end: 0 };
+
+/// Puts a type without a name last.
+fn add_type(
+    rt: &(impl Abort + AllocGlobal),
+    types: &mut UniqueArena<Type>,
+    inner: TypeInner,
+) -> Result<(), AllocError> {
+    assert!(rt; types.len() < 16);
+    types.insert(Type { name: None, inner }, NOWHERE)?;
+    Ok(())
+}
+
+/// Types 0 u32 and 1 f32, of payloads; 2 a ray query; 3 an acceleration structure with the flag and 4 one without; 5 four
+/// f32, as ray descriptors are.
+fn types_of(rt: &(impl Abort + AllocGlobal)) -> Result<UniqueArena<Type>, AllocError> {
+    let mut types = UniqueArena::new(rt.alloc());
+    add_type(rt, &mut types, TypeInner::Scalar(Scalar::U32))?;
+    add_type(rt, &mut types, TypeInner::Scalar(Scalar::F32))?;
+    let query = TypeInner::RayQuery {
+        vertex_return: false,
+    };
+    add_type(rt, &mut types, query)?;
+    let with_flag = TypeInner::AccelerationStructure {
+        vertex_return: true,
+    };
+    add_type(rt, &mut types, with_flag)?;
+    let without = TypeInner::AccelerationStructure {
+        vertex_return: false,
+    };
+    add_type(rt, &mut types, without)?;
+    let descriptor = TypeInner::Vector {
+        size: VectorSize::Quad,
+        scalar: Scalar::F32,
+    };
+    add_type(rt, &mut types, descriptor)?;
+    Ok(types)
+}
+
+/// A global of a type in a space.
+fn global(space: AddressSpace, ty: u32) -> GlobalVariable {
+    GlobalVariable {
+        space,
+        binding: None,
+        ty: Handle::new(ty),
+        init: None,
+        memory_decorations: MemoryDecorations(0),
+    }
+}
+
+/// Globals 0 a payload of u32, 1 one of f32, 2 the structure with the flag and 3 the one without.
+fn globals_of(alloc: Global) -> Result<Arena<GlobalVariable>, AllocError> {
+    let mut globals = Arena::new(alloc);
+    globals.append(global(AddressSpace::RayPayload, 0), NOWHERE)?;
+    globals.append(global(AddressSpace::RayPayload, 1), NOWHERE)?;
+    globals.append(global(AddressSpace::Handle, 3), NOWHERE)?;
+    globals.append(global(AddressSpace::Handle, 4), NOWHERE)?;
+    Ok(globals)
+}
+
+/// A function that gives a u32, with an empty body.
+fn callee(alloc: Global) -> Function {
+    Function {
+        arguments: Sequence::new(alloc),
+        result: Some(FunctionResult {
+            ty: Handle::new(0),
+            binding: None,
+        }),
+        local_variables: Arena::new(alloc),
+        expressions: Arena::new(alloc),
+        body: Block {
+            list: Vec::new(alloc),
+        },
+    }
+}
+
+/// A module of these types and globals, with that function.
+fn module_of(rt: &(impl Abort + AllocGlobal)) -> Result<Module, AllocError> {
+    let alloc = rt.alloc();
+    let mut functions = Arena::new(alloc);
+    functions.append(callee(alloc), NOWHERE)?;
+    let global_variables = globals_of(alloc)?;
+    let types = types_of(rt)?;
+    Ok(Module {
+        types,
+        special_types: SpecialTypes {
+            ray_desc: Some(Handle::new(5)),
+        },
+        constants: Arena::new(alloc),
+        overrides: Arena::new(alloc),
+        global_variables,
+        global_expressions: Arena::new(alloc),
+        functions,
+        entry_points: Sequence::new(alloc),
+    })
+}
+
+/// What is known of that function.
+fn infos_of(alloc: Global) -> Result<ModuleInfo, AllocError> {
+    let mut functions = Sequence::new(alloc);
+    functions.push(FunctionInfo {
+        expression_types: Sequence::new(alloc),
+        global_uses: Sequence::new(alloc),
+        available_stages: ShaderStages(0x1ff),
+        dual_source_blending: false,
+    })?;
+    Ok(ModuleInfo {
+        functions,
+        entry_points: Sequence::new(alloc),
+        global_types: Sequence::new(alloc),
+    })
+}
+
+/// A ray query as a local.
+fn locals_of(alloc: Global) -> Result<Arena<LocalVariable>, AllocError> {
+    let mut locals = Arena::new(alloc);
+    let query = LocalVariable {
+        name: None,
+        ty: Handle::new(2),
+        init: None,
+    };
+    locals.append(query, NOWHERE)?;
+    Ok(locals)
+}
+
+/// Expressions 0 to 3 the globals, 4 a descriptor, 5 a u32, 6 the query, and 7 this last one.
+fn expressions_of(alloc: Global, last: Expression) -> Result<Arena<Expression>, AllocError> {
+    let mut expressions = Arena::new(alloc);
+    expressions.append(Expression::GlobalVariable(Handle::new(0)), NOWHERE)?;
+    expressions.append(Expression::GlobalVariable(Handle::new(1)), NOWHERE)?;
+    expressions.append(Expression::GlobalVariable(Handle::new(2)), NOWHERE)?;
+    expressions.append(Expression::GlobalVariable(Handle::new(3)), NOWHERE)?;
+    expressions.append(Expression::ZeroValue(Handle::new(5)), NOWHERE)?;
+    expressions.append(Expression::ZeroValue(Handle::new(0)), NOWHERE)?;
+    expressions.append(Expression::LocalVariable(Handle::new(0)), NOWHERE)?;
+    expressions.append(last, NOWHERE)?;
+    Ok(expressions)
+}
+
+/// An operation on the u32.
+fn unary(alloc: Global) -> Result<Expression, AllocError> {
+    let mut operands = Sequence::new(alloc);
+    operands.push(Handle::new(5))?;
+    Ok(Expression::Unary {
+        operands,
+        detail: 0,
+    })
+}
+
+/// A function of these expressions with this body.
+fn function_of(
+    alloc: Global,
+    last: Expression,
+    list: Vec<Located>,
+) -> Result<Function, AllocError> {
+    let local_variables = locals_of(alloc)?;
+    let expressions = expressions_of(alloc, last)?;
+    Ok(Function {
+        arguments: Sequence::new(alloc),
+        result: None,
+        local_variables,
+        expressions,
+        body: Block { list },
+    })
+}
+
+/// A validator with all flags and all capabilities.
+fn validator_of(alloc: Global) -> Validator<Plain> {
+    let flags = ValidationFlags(0xf);
+    Validator::new(alloc, plain(), flags, Capabilities(268435455))
+}
+
+/// What a validator answers to a function: its fault, if it has one.
+fn judge(
+    rt: &(impl Abort + AllocGlobal),
+    validator: &mut Validator<Plain>,
+    fun: &Function,
+    module: &Module,
+    infos: &ModuleInfo,
+) -> Option<FunctionError> {
+    assert!(rt; fits_types(module));
+    assert!(rt; fits_function(fun, module, infos.functions.len()));
+    match validator.validate_body(rt.alloc(), fun, module, infos) {
+        Ok(_) => None,
+        Err(Refusal::Fault(fault)) => Some(fault.into_inner()),
+        Err(Refusal::Memory) => panic!(rt; "no memory"),
+    }
+}
+
+/// The fault of a function, and what its ray traces left.
+fn answer_of(
+    rt: &(impl Abort + AllocGlobal),
+    fun: &Function,
+) -> Result<(Option<FunctionError>, TraceState), AllocError> {
+    let module = module_of(rt)?;
+    let infos = infos_of(rt.alloc())?;
+    let mut validator = validator_of(rt.alloc());
+    let fault = judge(rt, &mut validator, fun, &module, &infos);
+    Ok((fault, validator.trace_state()))
+}
+
+/// A query goes on, with expression 7 as its result.
+fn proceed() -> Statement {
+    Statement::RayQuery {
+        query: Handle::new(6),
+        fun: RayQueryFunction::Proceed {
+            result: Handle::new(7),
+        },
+    }
+}
+
+/// A ray through a structure with a descriptor and a payload, each an expression.
+fn ray(structure: u32, descriptor: u32, payload: u32) -> Statement {
+    Statement::RayPipelineFunction(RayPipelineFunction::TraceRay {
+        acceleration_structure: Handle::new(structure),
+        descriptor: Handle::new(descriptor),
+        payload: Handle::new(payload),
+    })
+}
+
+/// Puts a statement last, at a place of its own.
+fn add(list: &mut Vec<Located>, statement: Statement, start: u32) -> Result<(), AllocError> {
+    let span = Span {
+        start,
+        end: start,
+    };
+    list.push(Located { statement, span })
+}
+
+/// A function with this body, whose last expression is a Unary.
+fn traces(alloc: Global, list: Vec<Located>) -> Result<Function, AllocError> {
+    let last = unary(alloc)?;
+    function_of(alloc, last, list)
+}
+
+#[test]
+fn the_result_of_a_proceed_is_of_any_kind(rt: HostRuntime) -> Result<(), Fail> {
+    let mut list = Vec::new(rt.alloc());
+    add(&mut list, proceed(), 1)?;
+    let fun = traces(rt.alloc(), list)?;
+    let (fault, _) = answer_of(&rt, &fun)?;
+    assert!(rt; fault.is_none());
+    Ok(())
+}
+
+/// In a Block a Proceed whose result is a call's; behind it the call.
+fn proceed_and_call(alloc: Global) -> Result<Vec<Located>, AllocError> {
+    let mut inner = Vec::new(alloc);
+    add(&mut inner, proceed(), 1)?;
+    let mut list = Vec::new(alloc);
+    add(&mut list, Statement::Block(Block { list: inner }), 2)?;
+    let call = Statement::Call {
+        function: Handle::new(0),
+        arguments: Sequence::new(alloc),
+        result: Some(Handle::new(7)),
+    };
+    add(&mut list, call, 3)?;
+    Ok(list)
+}
+
+#[test]
+fn a_proceed_fills_no_result_of_a_call(rt: HostRuntime) -> Result<(), Fail> {
+    let list = proceed_and_call(rt.alloc())?;
+    let fun = function_of(rt.alloc(), Expression::CallResult(Handle::new(0)), list)?;
+    let (fault, _) = answer_of(&rt, &fun)?;
+    assert!(rt; fault.is_none());
+    Ok(())
+}
+
+#[test]
+fn all_payloads_are_of_one_type(rt: HostRuntime) -> Result<(), Fail> {
+    let mut list = Vec::new(rt.alloc());
+    add(&mut list, ray(2, 4, 0), 1)?;
+    add(&mut list, ray(2, 4, 1), 2)?;
+    let fun = traces(rt.alloc(), list)?;
+    let (fault, _) = answer_of(&rt, &fun)?;
+    let expected = FunctionError::MismatchedPayloadType(Handle::new(1), Handle::new(0));
+    assert!(rt; fault == Some(expected));
+    Ok(())
+}
+
+#[test]
+fn a_structure_without_the_flag_stays_in_the_trace_state(rt: HostRuntime) -> Result<(), Fail> {
+    let mut list = Vec::new(rt.alloc());
+    add(&mut list, ray(2, 4, 0), 1)?;
+    add(&mut list, ray(3, 4, 0), 2)?;
+    add(&mut list, ray(2, 4, 0), 3)?;
+    let fun = traces(rt.alloc(), list)?;
+    let (fault, trace) = answer_of(&rt, &fun)?;
+    assert!(rt; fault.is_none());
+    let second = Span { start: 2, end: 2 };
+    assert!(rt; trace.vertex_return == TraceRayVertexReturnState::NoVertexReturn(second));
+    Ok(())
+}
+
+/// On one validator a function that is refused for its descriptor alone, and then another. What the second is answered,
+/// and what the ray traces left.
+fn after_a_refusal(
+    rt: &(impl Abort + AllocGlobal),
+    refused: &Function,
+    fun: &Function,
+) -> Result<(Option<FunctionError>, TraceState), AllocError> {
+    let module = module_of(rt)?;
+    let infos = infos_of(rt.alloc())?;
+    let mut validator = validator_of(rt.alloc());
+    let fault = judge(rt, &mut validator, refused, &module, &infos);
+    assert!(rt; fault == Some(FunctionError::InvalidRayDescriptor(Handle::new(5))));
+    let second = judge(rt, &mut validator, fun, &module, &infos);
+    Ok((second, validator.trace_state()))
+}
+
+#[test]
+fn a_refused_function_leaves_no_payload_type(rt: HostRuntime) -> Result<(), Fail> {
+    let mut first = Vec::new(rt.alloc());
+    add(&mut first, ray(2, 5, 0), 1)?;
+    let refused = traces(rt.alloc(), first)?;
+    let mut second = Vec::new(rt.alloc());
+    add(&mut second, ray(2, 4, 1), 2)?;
+    let fun = traces(rt.alloc(), second)?;
+    let (fault, trace) = after_a_refusal(&rt, &refused, &fun)?;
+    assert!(rt; fault.is_none());
+    assert!(rt; trace.payload == Some(Handle::new(1)));
+    Ok(())
+}
