@@ -253,7 +253,8 @@ fn add(list: &mut Vec<Located>, statement: Statement, start: u32) -> Result<(), 
         start,
         end: start,
     };
-    list.push(Located { statement, span })
+    list.push(Located { statement, span })?;
+    Ok(())
 }
 
 /// A function with this body, whose last expression is a Unary.
