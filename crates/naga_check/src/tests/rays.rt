@@ -249,11 +249,9 @@ fn ray(structure: u32, descriptor: u32, payload: u32) -> Statement {
 
 /// Puts a statement last, at a place of its own.
 fn add(list: &mut Vec<Located>, statement: Statement, start: u32) -> Result<(), AllocError> {
-    let span = Span {
-        start,
-        end: start,
-    };
-    list.push(Located { statement, span })
+    let span = Span { start, end: start };
+    list.push(Located { statement, span })?;
+    Ok(())
 }
 
 /// A function with this body, whose last expression is a Unary.
