@@ -265,10 +265,7 @@ fn add(list: &mut Vec<Located>, statement: Statement, start: u32) -> Result<(), 
 }
 
 /// A function with this body, whose last expression is a Unary.
-fn traces(
-    rt: &(impl Abort + AllocGlobal),
-    list: Vec<Located>,
-) -> Result<Function, AllocError> {
+fn traces(rt: &(impl Abort + AllocGlobal), list: Vec<Located>) -> Result<Function, AllocError> {
     let last = unary(rt.alloc())?;
     function_of(rt, last, list)
 }
