@@ -66,24 +66,32 @@ fn types_of(rt: &(impl Abort + AllocGlobal)) -> Result<UniqueArena<Type>, AllocE
     Ok(types)
 }
 
-/// A global of a type in a space.
-fn global(space: AddressSpace, ty: u32) -> GlobalVariable {
-    GlobalVariable {
+/// Puts a global of a type in a space last.
+fn add_global(
+    rt: &(impl Abort + AllocGlobal),
+    globals: &mut Arena<GlobalVariable>,
+    space: AddressSpace,
+    ty: u32,
+) -> Result<(), AllocError> {
+    assert!(rt; globals.len() < 16);
+    let global = GlobalVariable {
         space,
         binding: None,
         ty: Handle::new(ty),
         init: None,
         memory_decorations: MemoryDecorations(0),
-    }
+    };
+    globals.append(global, NOWHERE)?;
+    Ok(())
 }
 
 /// Globals 0 a payload of u32, 1 one of f32, 2 the structure with the flag and 3 the one without.
-fn globals_of(alloc: Global) -> Result<Arena<GlobalVariable>, AllocError> {
-    let mut globals = Arena::new(alloc);
-    globals.append(global(AddressSpace::RayPayload, 0), NOWHERE)?;
-    globals.append(global(AddressSpace::RayPayload, 1), NOWHERE)?;
-    globals.append(global(AddressSpace::Handle, 3), NOWHERE)?;
-    globals.append(global(AddressSpace::Handle, 4), NOWHERE)?;
+fn globals_of(rt: &(impl Abort + AllocGlobal)) -> Result<Arena<GlobalVariable>, AllocError> {
+    let mut globals = Arena::new(rt.alloc());
+    add_global(rt, &mut globals, AddressSpace::RayPayload, 0)?;
+    add_global(rt, &mut globals, AddressSpace::RayPayload, 1)?;
+    add_global(rt, &mut globals, AddressSpace::Handle, 3)?;
+    add_global(rt, &mut globals, AddressSpace::Handle, 4)?;
     Ok(globals)
 }
 
@@ -108,7 +116,7 @@ fn module_of(rt: &(impl Abort + AllocGlobal)) -> Result<Module, AllocError> {
     let alloc = rt.alloc();
     let mut functions = Arena::new(alloc);
     functions.append(callee(alloc), NOWHERE)?;
-    let global_variables = globals_of(alloc)?;
+    let global_variables = globals_of(rt)?;
     let types = types_of(rt)?;
     Ok(Module {
         types,
@@ -152,8 +160,8 @@ fn locals_of(alloc: Global) -> Result<Arena<LocalVariable>, AllocError> {
     Ok(locals)
 }
 
-/// Expressions 0 to 3 the globals, 4 a descriptor, 5 a u32, 6 the query, and 7 this last one.
-fn expressions_of(alloc: Global, last: Expression) -> Result<Arena<Expression>, AllocError> {
+/// Expressions 0 to 3 the globals, 4 a descriptor, 5 a u32 and 6 the query.
+fn expressions_of(alloc: Global) -> Result<Arena<Expression>, AllocError> {
     let mut expressions = Arena::new(alloc);
     expressions.append(Expression::GlobalVariable(Handle::new(0)), NOWHERE)?;
     expressions.append(Expression::GlobalVariable(Handle::new(1)), NOWHERE)?;
@@ -162,7 +170,6 @@ fn expressions_of(alloc: Global, last: Expression) -> Result<Arena<Expression>, 
     expressions.append(Expression::ZeroValue(Handle::new(5)), NOWHERE)?;
     expressions.append(Expression::ZeroValue(Handle::new(0)), NOWHERE)?;
     expressions.append(Expression::LocalVariable(Handle::new(0)), NOWHERE)?;
-    expressions.append(last, NOWHERE)?;
     Ok(expressions)
 }
 
@@ -176,14 +183,17 @@ fn unary(alloc: Global) -> Result<Expression, AllocError> {
     })
 }
 
-/// A function of these expressions with this body.
+/// A function of these expressions and a last one, with this body.
 fn function_of(
-    alloc: Global,
+    rt: &(impl Abort + AllocGlobal),
     last: Expression,
     list: Vec<Located>,
 ) -> Result<Function, AllocError> {
+    let alloc = rt.alloc();
     let local_variables = locals_of(alloc)?;
-    let expressions = expressions_of(alloc, last)?;
+    let mut expressions = expressions_of(alloc)?;
+    assert!(rt; expressions.len() < 16);
+    expressions.append(last, NOWHERE)?;
     Ok(Function {
         arguments: Sequence::new(alloc),
         result: None,
@@ -255,16 +265,16 @@ fn add(list: &mut Vec<Located>, statement: Statement, start: u32) -> Result<(), 
 }
 
 /// A function with this body, whose last expression is a Unary.
-fn traces(alloc: Global, list: Vec<Located>) -> Result<Function, AllocError> {
-    let last = unary(alloc)?;
-    function_of(alloc, last, list)
+fn traces(rt: &(impl Abort + AllocGlobal), list: Vec<Located>) -> Result<Function, AllocError> {
+    let last = unary(rt.alloc())?;
+    function_of(rt, last, list)
 }
 
 #[test]
 fn the_result_of_a_proceed_is_of_any_kind(rt: HostRuntime) -> Result<(), Fail> {
     let mut list = Vec::new(rt.alloc());
     add(&mut list, proceed(), 1)?;
-    let fun = traces(rt.alloc(), list)?;
+    let fun = traces(&rt, list)?;
     let (fault, _) = answer_of(&rt, &fun)?;
     assert!(rt; fault.is_none());
     Ok(())
@@ -288,7 +298,7 @@ fn proceed_and_call(alloc: Global) -> Result<Vec<Located>, AllocError> {
 #[test]
 fn a_proceed_fills_no_result_of_a_call(rt: HostRuntime) -> Result<(), Fail> {
     let list = proceed_and_call(rt.alloc())?;
-    let fun = function_of(rt.alloc(), Expression::CallResult(Handle::new(0)), list)?;
+    let fun = function_of(&rt, Expression::CallResult(Handle::new(0)), list)?;
     let (fault, _) = answer_of(&rt, &fun)?;
     assert!(rt; fault.is_none());
     Ok(())
@@ -299,7 +309,7 @@ fn all_payloads_are_of_one_type(rt: HostRuntime) -> Result<(), Fail> {
     let mut list = Vec::new(rt.alloc());
     add(&mut list, ray(2, 4, 0), 1)?;
     add(&mut list, ray(2, 4, 1), 2)?;
-    let fun = traces(rt.alloc(), list)?;
+    let fun = traces(&rt, list)?;
     let (fault, _) = answer_of(&rt, &fun)?;
     let expected = FunctionError::MismatchedPayloadType(Handle::new(1), Handle::new(0));
     assert!(rt; fault == Some(expected));
@@ -312,7 +322,7 @@ fn a_structure_without_the_flag_stays_in_the_trace_state(rt: HostRuntime) -> Res
     add(&mut list, ray(2, 4, 0), 1)?;
     add(&mut list, ray(3, 4, 0), 2)?;
     add(&mut list, ray(2, 4, 0), 3)?;
-    let fun = traces(rt.alloc(), list)?;
+    let fun = traces(&rt, list)?;
     let (fault, trace) = answer_of(&rt, &fun)?;
     assert!(rt; fault.is_none());
     let second = Span { start: 2, end: 2 };
@@ -340,10 +350,10 @@ fn after_a_refusal(
 fn a_refused_function_leaves_no_payload_type(rt: HostRuntime) -> Result<(), Fail> {
     let mut first = Vec::new(rt.alloc());
     add(&mut first, ray(2, 5, 0), 1)?;
-    let refused = traces(rt.alloc(), first)?;
+    let refused = traces(&rt, first)?;
     let mut second = Vec::new(rt.alloc());
     add(&mut second, ray(2, 4, 1), 2)?;
-    let fun = traces(rt.alloc(), second)?;
+    let fun = traces(&rt, second)?;
     let (fault, trace) = after_a_refusal(&rt, &refused, &fun)?;
     assert!(rt; fault.is_none());
     assert!(rt; trace.payload == Some(Handle::new(1)));
