@@ -57,7 +57,7 @@ const ACCEPTED: [(&str, &str); 31] = [
     ("C : call f -> r1 switch r1 { default { } }", "ok 1ff\n"),
 ];
 
-const FAULTS: [(&str, &str); 46] = [
+const FAULTS: [(&str, &str); 30] = [
     ("P : break", "fault BreakOutsideOfLoopOrSwitch\n"),
     (
         "P : loop { } { switch u { default { continue } } }",
@@ -139,6 +139,9 @@ const FAULTS: [(&str, &str); 46] = [
         "fault BreakOutsideOfLoopOrSwitch\n",
     ),
     ("P : emit x1 return x1", "fault InvalidReturnType 5\n"),
+];
+
+const FAULTS_OF_CALLS_AND_STORES: [(&str, &str); 16] = [
     (
         "C : if t { call f -> r1 } { call f -> r1 }",
         "fault InvalidCall/ResultAlreadyPopulated 6\n",
@@ -228,19 +231,40 @@ fn gets(alloc: Global, input: &[u8], status: u8, line: &str) -> io::Result<bool>
 }
 
 #[test]
-fn rows(rt: HostRuntime) -> Result<(), Fail> {
+fn accepted_rows(rt: HostRuntime) -> Result<(), Fail> {
     for (input, line) in ACCEPTED {
         assert!(rt;
             gets(rt.alloc(), input.as_bytes(), 0, line)?,
             "at {input:?}"
         );
     }
+    Ok(())
+}
+
+#[test]
+fn fault_rows(rt: HostRuntime) -> Result<(), Fail> {
     for (input, line) in FAULTS {
         assert!(rt;
             gets(rt.alloc(), input.as_bytes(), 1, line)?,
             "at {input:?}"
         );
     }
+    Ok(())
+}
+
+#[test]
+fn fault_rows_of_calls_and_stores(rt: HostRuntime) -> Result<(), Fail> {
+    for (input, line) in FAULTS_OF_CALLS_AND_STORES {
+        assert!(rt;
+            gets(rt.alloc(), input.as_bytes(), 1, line)?,
+            "at {input:?}"
+        );
+    }
+    Ok(())
+}
+
+#[test]
+fn unreadable_rows(rt: HostRuntime) -> Result<(), Fail> {
     for input in UNREADABLE {
         assert!(rt;
             gets(rt.alloc(), input.as_bytes(), 2, "unreadable\n")?,

@@ -142,7 +142,7 @@ fn settings_let_subgroups_be_used(rt: HostRuntime) -> Result<(), Fail> {
     let barrier = Statement::ControlBarrier(Barrier::SUB_GROUP);
     let fun = function_of(rt.alloc(), barrier)?;
     assert!(rt; fits_types(&module));
-    assert!(rt; fits_function(&fun, &module, 0));
+    assert!(rt; fits_function(&fun, &module, infos.functions.len()));
     let all = Capabilities(0xfff_ffff);
     let mut validator = Validator::new(rt.alloc(), Sample, ALL_FLAGS, all);
     let basic = SubgroupOperationSet::BASIC;
