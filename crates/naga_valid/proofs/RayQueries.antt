@@ -12,8 +12,8 @@ use Rattle.naga_runs.specs.Handles.{Handles}
 use Rattle.naga_runs.specs.Judgement.{first_fault}
 use Rattle.naga_runs.specs.Soundness.{Fit}
 use Rattle.naga_valid.specs.Context.{Context}
-use Rattle.naga_valid.specs.RayQueries.{local_type_at, query_flag_of, structure_flag_at, structure_points, descriptor_type, are_same_inners, descriptor_points, returned_points, is_float_scalar, query_function_points, flagged_points, queried_points, ray_query_points}
-use Rattle.naga_valid.specs.Types.{type_at}
+use Rattle.naga_valid.specs.RayQueries.{local_type_at, query_flag_of, structure_flag_at, structure_points, descriptor_type, descriptor_points, returned_points, is_float_scalar, query_function_points, flagged_points, queried_points, ray_query_points}
+use Rattle.naga_valid.specs.Types.{type_at, are_same_inners}
 
 module _ (context : Context) (s : Handles) where
   pub structure_fits : (a : ℕ) → first_fault (structure_points context s a) ≡ None → s a ≡ true

@@ -18,8 +18,8 @@ use Rattle.naga_runs.specs.Judgement.{first_fault}
 use Rattle.naga_runs.specs.Soundness.{Fit}
 use Rattle.naga_valid.specs.Context.{Context}
 use Rattle.naga_valid.specs.Points.{Points, use_point, put_point}
-use Rattle.naga_valid.specs.Subgroups.{subgroup_point, target_points, predicate_points, ballot_points, is_operand_of, is_done_over, combined_type_at, are_same_inners, combined_points, combination_points, collective_points, u32_scalar, index_of, is_broadcast, is_const_at, index_points, is_gathered, gathered_points, indexed_points, gather_points}
-use Rattle.naga_valid.specs.Types.{type_at, is_scalar}
+use Rattle.naga_valid.specs.Subgroups.{subgroup_point, target_points, predicate_points, ballot_points, is_operand_of, is_done_over, combined_type_at, combined_points, combination_points, collective_points, u32_scalar, index_of, is_broadcast, is_const_at, index_points, is_gathered, gathered_points, indexed_points, gather_points}
+use Rattle.naga_valid.specs.Types.{type_at, is_scalar, are_same_inners}
 
 module _ (context : Context) (s : Handles) where
   used : (h : ℕ) (ps : Points) → first_fault (use_point s h ∷ ps) ≡ None → (s h ≡ true) × (first_fault ps ≡ None)

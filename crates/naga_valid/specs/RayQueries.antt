@@ -13,7 +13,7 @@ use Rattle.naga_runs.specs.Handles.{Handles}
 use Rattle.naga_valid.specs.Atomics.{is_float_kind}
 use Rattle.naga_valid.specs.Context.{Context}
 use Rattle.naga_valid.specs.Points.{Points, use_point, put_point}
-use Rattle.naga_valid.specs.Types.{expression_at, type_at, is_same_inner}
+use Rattle.naga_valid.specs.Types.{expression_at, type_at, are_same_inners}
 
 -- the type that the local is declared with which an expression is
 abbrev pub local_type_of : Context → Option Expression → Option ℕ
@@ -49,11 +49,6 @@ structure_points context scope structure =
 -- the module's type of ray descriptors, if it has one
 abbrev pub descriptor_type : Context → Option TypeInner
 descriptor_type context = option_and_then (inner_at context.program.types) context.program.special_types.ray_desc
-
--- both are there, and the same
-abbrev pub are_same_inners : Option TypeInner → Option TypeInner → Bool
-are_same_inners (Some a) (Some b) = is_same_inner a b
-are_same_inners _ _ = false
 
 -- the descriptor of a ray: in scope, and of the module's type of ray descriptors
 abbrev pub descriptor_points : Context → Handles → ℕ → Points

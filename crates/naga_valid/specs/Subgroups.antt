@@ -32,7 +32,7 @@ use Rattle.naga_valid.specs.Atomics.{has_capability}
 use Rattle.naga_valid.specs.Context.{Context}
 use Rattle.naga_valid.specs.Control.{is_bool_kind, is_integer}
 use Rattle.naga_valid.specs.Points.{Points, use_point, put_point}
-use Rattle.naga_valid.specs.Types.{expression_at, type_at, is_scalar, is_same_inner}
+use Rattle.naga_valid.specs.Types.{expression_at, type_at, is_scalar, are_same_inners}
 
 -- a point whose fault stands inside InvalidSubgroup
 abbrev pub subgroup_point : Bool → SubgroupError → Point FunctionError
@@ -122,11 +122,6 @@ combined_type_of types _ = None
 
 abbrev pub combined_type_at : Context → ℕ → Option TypeInner
 combined_type_at context r = combined_type_of context.program.types (expression_at context r)
-
--- both are there, and the same inside
-abbrev pub are_same_inners : Option TypeInner → Option TypeInner → Bool
-are_same_inners (Some a) (Some b) = is_same_inner a b
-are_same_inners _ _ = false
 
 -- the result: it is put, and then looked at. It is one of a subgroup operation, of the argument's type
 abbrev pub combined_points : Context → Handles → ℕ → ℕ → Points

@@ -31,6 +31,11 @@ scalar_kind_at context h = option_and_then scalar_kind_of (type_at context h)
 abbrev pub is_same_inner : TypeInner → TypeInner → Bool
 is_same_inner a b = (type_inner.ghosts).eq a b
 
+-- both are there, and the same inside
+abbrev pub are_same_inners : Option TypeInner → Option TypeInner → Bool
+are_same_inners (Some a) (Some b) = is_same_inner a b
+are_same_inners _ _ = false
+
 abbrev pub is_same_form : Option TypeInner → Option TypeInner → Bool
 is_same_form None None = true
 is_same_form (Some a) (Some b) = is_same_inner a b

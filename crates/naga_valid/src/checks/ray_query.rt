@@ -6,14 +6,15 @@ ghost use Rattle.std.specs.Result.{result_err};
 ghost use Rattle.naga_below.specs.View.{query_acts};
 ghost use Rattle.naga_runs.specs.Judgement.{first_fault};
 ghost use Rattle.naga_valid.specs.Answers.{AnswersPoints};
-ghost use Rattle.naga_valid.specs.RayQueries.{local_type_at, query_flag_of, structure_flag_at, structure_points, are_same_inners, descriptor_type, descriptor_points, returned_points, initialize_points, is_float_scalar, distance_points, query_function_points, queried_points, ray_query_points};
+ghost use Rattle.naga_valid.specs.RayQueries.{local_type_at, query_flag_of, structure_flag_at, structure_points, descriptor_type, descriptor_points, returned_points, initialize_points, is_float_scalar, distance_points, query_function_points, queried_points, ray_query_points};
 ghost use Rattle.naga_valid.specs.Scope.{known};
 ghost use Rattle.naga_valid.specs.Seen.{context_of};
-ghost use Rattle.naga_valid.specs.Types.{type_at};
+ghost use Rattle.naga_valid.specs.Types.{type_at, are_same_inners};
 ghost use Rattle.naga_valid.specs.Walk.{puts_of};
 
 use crate::checks::image::inner_at;
 use crate::checks::refuse::{answer, check_put, check_use};
+use crate::checks::types::are_same_inners;
 use crate::context::BlockContext;
 use crate::handle_set::HandleSet;
 use naga_below::arena::handle::Handle;
@@ -210,13 +211,7 @@ pub fn check_descriptor(
 fn is_descriptor(context: &BlockContext, descriptor: Handle<tag::Expression>) -> bool
     ensures { result ≡ are_same_inners (type_at (context_of context.now) descriptor) (descriptor_type (context_of context.now)) }
 {
-    match context.type_inner(descriptor) {
-        Some(given) => match descriptor_type(context) {
-            Some(expected) => *given == *expected,
-            None => false,
-        },
-        None => false,
-    }
+    are_same_inners(context.type_inner(descriptor), descriptor_type(context))
 }
 
 /// The module's type of ray descriptors, if it has one.

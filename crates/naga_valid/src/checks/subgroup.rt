@@ -7,10 +7,10 @@ ghost use Rattle.naga_runs.specs.Judgement.{first_fault};
 ghost use Rattle.naga_valid.specs.Answers.{AnswersPoints};
 ghost use Rattle.naga_valid.specs.Scope.{known};
 ghost use Rattle.naga_valid.specs.Seen.{context_of};
-ghost use Rattle.naga_valid.specs.Subgroups.{operations_point, target_points, predicate_points, ballot_points, is_number_kind, combined_type_at, are_same_inners, combined_points};
+ghost use Rattle.naga_valid.specs.Subgroups.{operations_point, target_points, predicate_points, ballot_points, is_number_kind, combined_type_at, combined_points};
 
 use crate::checks::refuse::{answer, check_put, check_use};
-use crate::checks::types::is_scalar;
+use crate::checks::types::{are_same_inners, is_scalar};
 use crate::context::BlockContext;
 use crate::handle_set::HandleSet;
 use bitflags::Flags;
@@ -148,18 +148,5 @@ fn combined_type<'a>(
             }
         }
         _ => None,
-    }
-}
-
-/// Whether both are there, and the same inside.
-fn are_same_inners(first: Option<&TypeInner>, second: Option<&TypeInner>) -> bool
-    ensures { result ≡ are_same_inners (option_copied first.entry) (option_copied second.entry) }
-{
-    match first {
-        Some(first) => match second {
-            Some(second) => *first == *second,
-            None => false,
-        },
-        None => false,
     }
 }

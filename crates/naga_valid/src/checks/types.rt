@@ -3,7 +3,7 @@
 ghost use Rattle.std.specs.Prelude.{◌≡◌, IfSome, length};
 ghost use Rattle.std.specs.Option.{option_copied};
 ghost use Rattle.naga_below.specs.Types.{NamesTypesBelow, NameEachOther, ResolutionFits};
-ghost use Rattle.naga_valid.specs.Types.{is_same_type, is_scalar, is_equivalent, is_exchange_struct};
+ghost use Rattle.naga_valid.specs.Types.{is_same_type, are_same_inners, is_scalar, is_equivalent, is_exchange_struct};
 
 use naga_below::ir::module::Module;
 use naga_below::ir::types::{Scalar, TypeInner};
@@ -58,6 +58,19 @@ pub fn is_exchange_struct(program: &Module, scalar: Scalar, inner: Option<&TypeI
 {
     match inner {
         Some(inner) => inner.is_compare_exchange_struct(scalar, &program.types),
+        None => false,
+    }
+}
+
+/// Whether both are there, and the same inside.
+pub fn are_same_inners(first: Option<&TypeInner>, second: Option<&TypeInner>) -> bool
+    ensures { result ≡ are_same_inners (option_copied first.entry) (option_copied second.entry) }
+{
+    match first {
+        Some(first) => match second {
+            Some(second) => *first == *second,
+            None => false,
+        },
         None => false,
     }
 }
