@@ -1,7 +1,7 @@
 -- The check lists of subgroup statements: what they say of uses and puts.
 use Rattle.std.proofs.Common.{◌≡◌, ℕ, Bool, true, false, not, ◌||◌, [], ◌∷◌, ◌++◌, Option, None, Some}
 use Rattle.naga_below.specs.Subgroups.{ballot, operation_group, gather_group}
-use Rattle.naga_below.specs.Tree.{Act, Use, Put}
+use Rattle.naga_below.specs.Tree.{Use, Put}
 use Rattle.naga_below.specs.Types.{bool_scalar}
 use Rattle.naga_below.specs.View.{used_if, mode_acts}
 use Rattle.naga_below.specs.declared.ir.statements.CollectiveOperation.{CollectiveOperation}
@@ -9,7 +9,6 @@ use Rattle.naga_below.specs.declared.ir.statements.GatherMode.{GatherMode}
 use Rattle.naga_below.specs.declared.ir.statements.GatherMode.TheVariants as gather
 use Rattle.naga_below.specs.declared.ir.statements.SubgroupOperation.{SubgroupOperation}
 use Rattle.naga_below.specs.declared.valid.expression_error.ExpressionError.TheVariants.{NotInScope}
-use Rattle.naga_rules.specs.declared.function.FunctionError.{FunctionError}
 use Rattle.naga_rules.specs.declared.function.FunctionError.TheVariants.{Expression, ExpressionAlreadyInScope}
 use Rattle.naga_rules.specs.declared.function.SubgroupError.TheVariants as wrong
 use Rattle.naga_runs.proofs.Points.{first_holds, both_hold, not_holds}

@@ -1,5 +1,5 @@
 -- The check list of RayQuery, and the descriptor of a ray, which TraceRay has too.
-use Rattle.std.specs.Prelude.{ℕ, Bool, true, false, not, ◌||◌, [], ◌∷◌, ◌++◌, Option, None, Some, is_some, slice_get, option_and_then}
+use Rattle.std.specs.Prelude.{ℕ, Bool, false, not, ◌||◌, [], ◌∷◌, ◌++◌, Option, None, Some, is_some, slice_get, option_and_then}
 use Rattle.std.specs.Option.{option_map}
 use Rattle.naga_below.specs.Types.{inner_at}
 use Rattle.naga_below.specs.declared.ir.expressions.Expression.{Expression}
