@@ -1,17 +1,11 @@
 -- What ray traces leave, one visit after another.
-use Rattle.std.proofs.Common.{◌≡◌, ℕ, Bool, true, false, ◌||◌, List, [], ◌∷◌, ◌++◌, Option, None, Some, refl, sym, ap, ◌∙◌}
+use Rattle.std.proofs.Common.{◌≡◌, Bool, true, false, ◌||◌, List, [], ◌∷◌, ◌++◌, Option, None, Some, refl, sym, ap, ◌∙◌}
 use Rattle.std.proofs.lemmas.List.Folds.{list_any-append}
 use Rattle.std.specs.Option.{option_or}
-use Rattle.naga_below.specs.View as view
-use Rattle.naga_below.specs.View.{no_operands}
-use Rattle.naga_below.specs.declared.ir.statements.RayPipelineFunction.TheVariants.{TraceRay}
-use Rattle.naga_below.specs.declared.ir.statements.Statement as ir
-use Rattle.naga_below.specs.declared.ir.statements.Statement.{Statement}
 use Rattle.naga_below.specs.declared.span.Span.{Span}
-use Rattle.naga_runs.specs.Positions.{StatementNode}
 use Rattle.naga_runs.specs.Visits.{Visit}
 use Rattle.naga_valid.specs.Context.{Context}
-use Rattle.naga_valid.specs.Traces.{trace_payload, first_payload, lacks_vertex_return_at, last_without, is_trace, any_trace, vertex_return_by, trace_after, with_trace, trace_left}
+use Rattle.naga_valid.specs.Traces.{trace_payload, first_payload, lacks_vertex_return_at, last_without, is_trace, any_trace, vertex_return_by, trace_after, with_trace}
 use Rattle.naga_valid.specs.declared.trace.TraceRayVertexReturnState.{TraceRayVertexReturnState}
 use Rattle.naga_valid.specs.declared.trace.TraceRayVertexReturnState.TheVariants.{NoTraceRays, VertexReturn, NoVertexReturn}
 use Rattle.naga_valid.specs.declared.trace.TraceState.{TraceState}
@@ -71,14 +65,6 @@ trace_more before context visits v =
     let both = by_both before.vertex_return (last_without context visits) (lacks_vertex_return_at context v.node) (any_trace visits) (is_trace v.node) in
     λ i. record { payload = payload i; vertex_return = (last ∙ any ∙ sym both) i }
 
--- one visit more, before the others
-trace_first : (before : TraceState) (context : Context) (v : Visit) (visits : List Visit) →
-    trace_after (with_trace context before v.node) context visits ≡ trace_after before context (v ∷ visits)
-trace_first before context v visits = λ i. record {
-  payload = or_assoc before.payload (trace_payload context v.node) (first_payload context visits) i;
-  vertex_return = by_both before.vertex_return (lacks_vertex_return_at context v.node) (last_without context visits) (is_trace v.node) (any_trace visits) i;
-}
-
 none_before : (b : TraceRayVertexReturnState) → b ≡ vertex_return_by b None false
 none_before NoTraceRays = refl
 none_before VertexReturn = refl
@@ -88,17 +74,3 @@ none_before (NoVertexReturn at) = refl
 pub no_trace : (trace : TraceState) → record { payload = option_or trace.payload None; vertex_return = vertex_return_by trace.vertex_return None false } ≡ trace
 no_trace trace i =
     record { payload = or_none trace.payload i; vertex_return = sym (none_before trace.vertex_return) i }
-
--- visit by visit, it is what all of them leave
-pub trace_left_is : (before : TraceState) (context : Context) (visits : List Visit) → trace_left context before visits ≡ trace_after before context visits
-trace_left_is before context [] =
-    λ i. record { payload = sym (or_none before.payload) i; vertex_return = none_before before.vertex_return i }
-trace_left_is before context (v ∷ visits) =
-    trace_left_is (with_trace context before v.node) context visits ∙ trace_first before context v visits
-
--- a statement that traces no ray leaves things as they are
-pub other_trace : (context : Context) (trace : TraceState) (span : Span) (st : Statement) → ((a d p : ℕ) → st ≡ ir.RayPipelineFunction (TraceRay a d p) → ⊥) →
-    with_trace context trace (StatementNode (view.tree_of no_operands st span)) ≡ trace
-other_trace context trace span (ir.RayPipelineFunction (TraceRay a d p)) other = absurd (other a d p refl)
-other_trace context trace span _ other =
-    λ i. record { payload = or_none trace.payload i; vertex_return = sym (none_before trace.vertex_return) i }

@@ -92,7 +92,3 @@ with_trace context trace node =
       payload = option_or trace.payload (trace_payload context node);
       vertex_return = vertex_return_by trace.vertex_return (lacks_vertex_return_at context node) (is_trace node);
     }
-
-abbrev pub trace_left : Context → TraceState → List Visit → TraceState
-trace_left context trace [] = trace
-trace_left context trace (v ∷ visits) = trace_left context (with_trace context trace v.node) visits
