@@ -10,7 +10,6 @@ use Rattle.naga_below.specs.FitsBody.{LeafFits, StatementFits, BodyFits, CasesFi
 use Rattle.naga_below.specs.Operands.{operands_of}
 use Rattle.naga_below.specs.Tree.{Stmt, Leaf, Block, Branch, Switch, Loop, Break, Continue, Return, Kill, Body, Done, Then, Cases, NoCase, OneCase}
 use Rattle.naga_below.specs.Types.{NamesTypesBelow}
-use Rattle.naga_below.specs.View.{body_of, no_operands}
 use Rattle.naga_below.specs.declared.ir.expressions.Expression.{Expression}
 use Rattle.naga_below.specs.declared.ir.expressions.Expression.TheVariants.{Literal, CallResult}
 use Rattle.naga_below.specs.declared.ir.functions.Function.{Function}
