@@ -3,7 +3,7 @@
 use Rattle.naga_below.specs.declared.ir.statements.Statement as s
 use Rattle.naga_below.specs.declared.ir.statements.SwitchValue.TheVariants.{Default}
 use Rattle.std.specs.List.{range_with_len}
-use Rattle.std.specs.Prelude.{ℕ, true, false, List, Some, None, filter, nat_lt, ◌∷◌, ◌||◌, ◌==◌, []}
+use Rattle.std.specs.Prelude.{ℕ, suc, true, false, List, Some, None, filter, nat_lt, ◌∷◌, ◌||◌, ◌==◌, []}
 use Rattle.naga_below.specs.Tree.{Act, Stmt, Body, Use, Put, Leaf, Block, Branch, Switch, Loop, Break, Continue, Done, Then, NoCase, OneCase}
 use Rattle.naga_below.specs.declared.span.Span.{Span}
 use Rattle.naga_runs.specs.Handles.{Handles}
@@ -19,20 +19,20 @@ members_below n s = filter s (range_with_len 0 n)
 abbrev pub nowhere : Span
 nowhere = record { start = 0; end = 0 }
 
--- an Emit that does these acts
-abbrev pub emits : List Act → Stmt
-emits acts = Leaf acts (s.Emit (record { start = 3; end = 7 })) nowhere
+-- an Emit of the handles from one on and before another, which does these acts
+abbrev pub emits : ℕ → ℕ → List Act → Stmt
+emits start end acts = Leaf acts (s.Emit (record { start = start; end = end })) nowhere
 
 -- an Emit of one handle that has no operands
 abbrev pub emit : ℕ → Stmt
-emit h = emits (Put h ∷ [])
+emit h = emits h (suc h) (Put h ∷ [])
 
 -- emit 5 and emit 6, where 5 has the operand 4 and 6 the operand 5
 abbrev pub emit_5 : Stmt
-emit_5 = emits (Use 4 ∷ Put 5 ∷ [])
+emit_5 = emits 5 6 (Use 4 ∷ Put 5 ∷ [])
 
 abbrev pub emit_6 : Stmt
-emit_6 = emits (Use 5 ∷ Put 6 ∷ [])
+emit_6 = emits 6 7 (Use 5 ∷ Put 6 ∷ [])
 
 -- if h { } { }
 abbrev pub reads : ℕ → Stmt
@@ -112,4 +112,4 @@ three_emits = one (Loop (Then (emit 3) (Then (emit 5) (one (emit 6)))) Done (Som
 
 -- emit 5 .. 6, where 5 has the operand 4 and 6 the operand 5
 abbrev pub several_acts : Body
-several_acts = one (emits (Use 4 ∷ Put 5 ∷ Use 5 ∷ Put 6 ∷ []))
+several_acts = one (emits 5 7 (Use 4 ∷ Put 5 ∷ Use 5 ∷ Put 6 ∷ []))

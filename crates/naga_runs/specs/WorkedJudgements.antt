@@ -80,7 +80,7 @@ pub record OperandRows : Type 0 where
   -- emit 6
   pub not_emitted : plainly (one emit_6) ≡ Err (NotInScope 5)
   -- emit 5 .. 6
-  pub same_range : plainly (one (emits (Use 4 ∷ Put 5 ∷ Use 5 ∷ Put 6 ∷ []))) ≡ Ok 1
+  pub same_range : plainly (one (emits 5 7 (Use 4 ∷ Put 5 ∷ Use 5 ∷ Put 6 ∷ []))) ≡ Ok 1
   -- block { emit 5 } emit 6
   pub left_block : plainly (Then (Block (one emit_5)) (one emit_6)) ≡ Err (NotInScope 5)
   -- emit 5 block { emit 6 } emit 6
