@@ -28,7 +28,7 @@ pub enum CallError {
     /// The result is in scope before the call.
     #[error("ResultAlreadyInScope")]
     ResultAlreadyInScope(Handle<tag::Expression>),
-    /// An earlier call or atomic operation names the result too.
+    /// An earlier call or atomic operation names the result too, or expressions are not looked at.
     #[error("ResultAlreadyPopulated")]
     ResultAlreadyPopulated(Handle<tag::Expression>),
     /// So many arguments are given where the callee declares another number.
@@ -83,7 +83,7 @@ pub enum AtomicError {
     /// The target lacks what the operation needs.
     #[error("MissingCapability")]
     MissingCapability(Capabilities),
-    /// An earlier call or atomic operation names the result too.
+    /// An earlier call or atomic operation names the result too, or expressions are not looked at.
     #[error("ResultAlreadyPopulated")]
     ResultAlreadyPopulated(Handle<tag::Expression>),
 }
@@ -151,9 +151,9 @@ pub enum FunctionError {
         name: Name,
         space: AddressSpace,
     },
-    /// A break has no loop or switch to leave.
+    /// A break has no case of a switch and no loop body to leave, or stands in a continuing part between.
     BreakOutsideOfLoopOrSwitch,
-    /// A continue has no loop body around it.
+    /// A continue has no loop body around it, or stands in a continuing part between.
     ContinueOutsideOfLoop,
     /// A return stands in a continuing part.
     InvalidReturnSpot,

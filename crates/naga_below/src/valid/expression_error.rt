@@ -41,3 +41,5 @@ impl fmt::Display for ExpressionError {
         })
     }
 }
+
+impl std::error::Error for ExpressionError {}
