@@ -84,7 +84,7 @@ fn validator_with(alloc: Global, flags: ValidationFlags) -> Validator<Plain>
     ensures settings { result.settings ≡ settings_with flags }
     ensures trace { result.trace ≡ no_traces }
 {
-    let mut validator = Validator::new(alloc, plain(), flags, all_capabilities());
+    let mut validator = Validator::new(plain(), flags, all_capabilities());
     validator.subgroup_stages(ShaderStages::all());
     validator.subgroup_operations(SubgroupOperationSet::all());
     validator

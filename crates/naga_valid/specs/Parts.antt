@@ -1,5 +1,5 @@
 -- What contracts see of a validator: four parts and nothing else.
-use Rattle.std.specs.Prelude.{ℕ, ◌≡◌, ◌<◌, List, All, IfErr, None, length}
+use Rattle.std.specs.Prelude.{ℕ, ◌≡◌, ◌<◌, List, All, IfErr, Option, None, Some, length, []}
 use Rattle.naga_below.specs.declared.ir.module.Module.{Module}
 use Rattle.naga_below.specs.declared.valid.capabilities.Capabilities.{Capabilities}
 use Rattle.naga_below.specs.declared.valid.flags.ValidationFlags.{ValidationFlags}
@@ -14,6 +14,11 @@ pub record Parts (B : Type 0) : Type 0 where
   pub settings : Settings
   pub types : List TypeInfo
   pub trace : TraceState
+
+-- the type infos that were given, none at first
+abbrev pub infos_given : Option (List TypeInfo) → List TypeInfo
+infos_given None = []
+infos_given (Some infos) = infos
 
 -- the settings that a validator begins with: no stage and no operation is one of subgroups yet
 abbrev pub first_settings : ValidationFlags → Capabilities → Settings

@@ -96,7 +96,7 @@ fn judge(
     module: &Module,
     mod_info: &ModuleInfo,
 ) -> Result<FunctionInfo, Refusal<FunctionError>> {
-    let mut validator = Validator::new(rt.alloc(), Sample, flags, capabilities);
+    let mut validator = Validator::new(Sample, flags, capabilities);
     assert!(rt; fits_types(module));
     assert!(rt; fits_function(fun, module, mod_info.functions.len()));
     validator.validate_body(rt.alloc(), fun, module, mod_info)
@@ -144,7 +144,7 @@ fn settings_let_subgroups_be_used(rt: HostRuntime) -> Result<(), Fail> {
     assert!(rt; fits_types(&module));
     assert!(rt; fits_function(&fun, &module, infos.functions.len()));
     let all = Capabilities(0xfff_ffff);
-    let mut validator = Validator::new(rt.alloc(), Sample, ALL_FLAGS, all);
+    let mut validator = Validator::new(Sample, ALL_FLAGS, all);
     let basic = SubgroupOperationSet::BASIC;
     let error = SubgroupError::UnsupportedOperation(basic);
     let Err(Refusal::Fault(fault)) = validator.validate_body(rt.alloc(), &fun, &module, &infos)
@@ -168,7 +168,7 @@ fn settings_let_subgroups_be_used(rt: HostRuntime) -> Result<(), Fail> {
 
 #[test]
 fn there_is_one_info_for_each_type(rt: HostRuntime) -> Result<(), Fail> {
-    let validator = Validator::new(rt.alloc(), Sample, ALL_FLAGS, Capabilities(0));
+    let validator = Validator::new(Sample, ALL_FLAGS, Capabilities(0));
     let module = empty_module(rt.alloc());
     assert!(rt; validator.has_types_of(&module));
     let info = TypeInfo {

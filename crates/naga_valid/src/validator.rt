@@ -8,7 +8,7 @@ ghost use Rattle.naga_valid.specs.Blocks.{body_of};
 ghost use Rattle.naga_valid.specs.Context.{pre_emitted_of};
 ghost use Rattle.naga_valid.specs.Flags.{checks_blocks, checks_expressions};
 ghost use Rattle.naga_valid.specs.Judged.{function_judgement, AnswersTracing};
-ghost use Rattle.naga_valid.specs.Parts.{Parts, first_settings, no_traces, NamesTypes, AreInfosOf};
+ghost use Rattle.naga_valid.specs.Parts.{Parts, infos_given, first_settings, no_traces, NamesTypes, AreInfosOf};
 
 use crate::context::BlockContext;
 use crate::function::validate_function_body;
@@ -33,20 +33,21 @@ use std::marker::Model;
 pub struct Validator<B> {
     below: B,
     settings: Settings,
-    types: Sequence<TypeInfo>,
+    // none until they are given
+    types: Option<Sequence<TypeInfo>>,
     trace: TraceState,
 }
 
 impl<B> Model for Validator<B> {
     ghost Value = { Parts B };
 
-    ghost view = { λ v. record { below = v.below; settings = v.settings; types = v.types; trace = v.trace } };
+    ghost view = { λ v. record { below = v.below; settings = v.settings; types = infos_given v.types; trace = v.trace } };
 }
 
 impl<B: Below> Validator<B> {
-    /// A validator over a lower layer that makes these checks for a target with these capabilities. It takes no
-    /// memory: the allocator is for the type infos to come.
-    pub fn new(alloc: Global, below: B, flags: ValidationFlags, capabilities: Capabilities) -> Self
+    /// A validator over a lower layer that makes these checks for a target with these capabilities. It has no type infos
+    /// yet, and takes no memory.
+    pub fn new(below: B, flags: ValidationFlags, capabilities: Capabilities) -> Self
         ensures { result ≡ record { below = below; settings = first_settings flags capabilities; types = []; trace = no_traces } }
     {
         Validator {
@@ -57,7 +58,7 @@ impl<B: Below> Validator<B> {
                 subgroup_stages: ShaderStages(0),
                 subgroup_operations: SubgroupOperationSet(0),
             },
-            types: Sequence::new(alloc),
+            types: None,
             trace: TraceState {
                 payload: None,
                 vertex_return: TraceRayVertexReturnState::NoTraceRays,
@@ -80,7 +81,7 @@ impl<B: Below> Validator<B> {
         Validator {
             below,
             settings,
-            types: Sequence::from(types),
+            types: Some(Sequence::from(types)),
             trace,
         }
     }
@@ -112,12 +113,11 @@ impl<B: Below> Validator<B> {
         ensures { IsTrue result ↔ AreInfosOf «module».now self.now.types }
     {
         let count = module.types.len();
-        self.types.len() == count
-            && self
-                .types
-                .as_slice()
-                .iter()
-                .all(|info| names_types(info, count))
+        let infos = match &self.types {
+            Some(infos) => infos.as_slice(),
+            None => &[],
+        };
+        infos.len() == count && infos.iter().all(|info| names_types(info, count))
     }
 
     /// Judges a function as far as it is judged by now: what the lower layer answers, and, with BLOCKS, its body.
