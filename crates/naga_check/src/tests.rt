@@ -1,5 +1,6 @@
 //! Whole runs of the program.
 
+mod bodies;
 mod plain;
 mod rays;
 mod stores;

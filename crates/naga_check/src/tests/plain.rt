@@ -93,7 +93,7 @@ fn judge(
 ) -> Result<FunctionInfo, Refusal<FunctionError>> {
     let infos = no_infos(rt.alloc());
     let flags = ValidationFlags(0xf);
-    let mut validator = Validator::new(rt.alloc(), plain(), flags, Capabilities(0));
+    let mut validator = Validator::new(plain(), flags, Capabilities(0));
     assert!(rt; fits_types(module));
     assert!(rt; fits_function(fun, module, infos.functions.len()));
     validator.validate_body(rt.alloc(), fun, module, &infos)

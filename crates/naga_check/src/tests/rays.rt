@@ -1,12 +1,11 @@
 //! Ray queries and ray traces, and what traces leave, judged over the plain layer.
 
-use crate::case::plain;
-use crate::plain::Plain;
+use crate::tests::bodies::{
+    EVERYTHING, NOWHERE, add, add_type, function_of, judge, module_of, no_infos, validator_for,
+};
 use naga_below::arena::Arena;
 use naga_below::arena::handle::Handle;
 use naga_below::arena::unique_arena::UniqueArena;
-use naga_below::fits::function::fits_function;
-use naga_below::fits::types::fits_types;
 use naga_below::ir::expressions::Expression;
 use naga_below::ir::flags::MemoryDecorations;
 use naga_below::ir::functions::{Function, FunctionResult, LocalVariable};
@@ -16,29 +15,14 @@ use naga_below::ir::statements::{
 };
 use naga_below::ir::types::{AddressSpace, Scalar, Type, TypeInner, VectorSize};
 use naga_below::sequence::Sequence;
-use naga_below::span::{Refusal, Span};
-use naga_below::valid::capabilities::Capabilities;
-use naga_below::valid::flags::{ShaderStages, ValidationFlags};
+use naga_below::span::Span;
+use naga_below::valid::flags::ShaderStages;
 use naga_below::valid::info::{FunctionInfo, ModuleInfo};
 use naga_rules::function::FunctionError;
 use naga_valid::trace::{TraceRayVertexReturnState, TraceState};
-use naga_valid::validator::Validator;
 use std::alloc::{AllocError, Global};
 use std::process::Abort;
 use std::test::Fail;
-
-const NOWHERE: Span = Span { start: 0, end: 0 };
-
-/// Puts a type without a name last.
-fn add_type(
-    rt: &(impl Abort + AllocGlobal),
-    types: &mut UniqueArena<Type>,
-    inner: TypeInner,
-) -> Result<(), AllocError> {
-    assert!(rt; types.len() < 16);
-    types.insert(Type { name: None, inner }, NOWHERE)?;
-    Ok(())
-}
 
 /// Types 0 u32 and 1 f32, of payloads; 2 a ray query; 3 an acceleration structure with the flag and 4 one without; 5 four
 /// f32, as ray descriptors are.
@@ -97,39 +81,25 @@ fn globals_of(rt: &(impl Abort + AllocGlobal)) -> Result<Arena<GlobalVariable>, 
 
 /// A function that gives a u32, with an empty body.
 fn callee(alloc: Global) -> Function {
-    Function {
-        arguments: Sequence::new(alloc),
-        result: Some(FunctionResult {
-            ty: Handle::new(0),
-            binding: None,
-        }),
-        local_variables: Arena::new(alloc),
-        expressions: Arena::new(alloc),
-        body: Block {
-            list: Vec::new(alloc),
-        },
-    }
+    let mut fun = function_of(alloc, Arena::new(alloc), Arena::new(alloc), Vec::new(alloc));
+    fun.result = Some(FunctionResult {
+        ty: Handle::new(0),
+        binding: None,
+    });
+    fun
 }
 
 /// A module of these types and globals, with that function.
-fn module_of(rt: &(impl Abort + AllocGlobal)) -> Result<Module, AllocError> {
-    let alloc = rt.alloc();
-    let mut functions = Arena::new(alloc);
-    functions.append(callee(alloc), NOWHERE)?;
-    let global_variables = globals_of(rt)?;
+fn module(rt: &(impl Abort + AllocGlobal)) -> Result<Module, AllocError> {
+    let mut functions = Arena::new(rt.alloc());
+    functions.append(callee(rt.alloc()), NOWHERE)?;
+    let globals = globals_of(rt)?;
     let types = types_of(rt)?;
-    Ok(Module {
-        types,
-        special_types: SpecialTypes {
-            ray_desc: Some(Handle::new(5)),
-        },
-        constants: Arena::new(alloc),
-        overrides: Arena::new(alloc),
-        global_variables,
-        global_expressions: Arena::new(alloc),
-        functions,
-        entry_points: Sequence::new(alloc),
-    })
+    let mut module = module_of(rt.alloc(), types, globals, functions);
+    module.special_types = SpecialTypes {
+        ray_desc: Some(Handle::new(5)),
+    };
+    Ok(module)
 }
 
 /// What is known of that function.
@@ -141,11 +111,9 @@ fn infos_of(alloc: Global) -> Result<ModuleInfo, AllocError> {
         available_stages: ShaderStages(0x1ff),
         dual_source_blending: false,
     })?;
-    Ok(ModuleInfo {
-        functions,
-        entry_points: Sequence::new(alloc),
-        global_types: Sequence::new(alloc),
-    })
+    let mut infos = no_infos(alloc);
+    infos.functions = functions;
+    Ok(infos)
 }
 
 /// A ray query as a local.
@@ -184,64 +152,35 @@ fn unary(alloc: Global) -> Result<Expression, AllocError> {
 }
 
 /// A function of these expressions and a last one, with this body.
-fn function_of(
+fn function(
     rt: &(impl Abort + AllocGlobal),
     last: Expression,
     list: Vec<Located>,
 ) -> Result<Function, AllocError> {
-    let alloc = rt.alloc();
-    let local_variables = locals_of(alloc)?;
-    let mut expressions = expressions_of(alloc)?;
+    let locals = locals_of(rt.alloc())?;
+    let mut expressions = expressions_of(rt.alloc())?;
     assert!(rt; expressions.len() < 16);
     expressions.append(last, NOWHERE)?;
-    Ok(Function {
-        arguments: Sequence::new(alloc),
-        result: None,
-        local_variables,
-        expressions,
-        body: Block { list },
-    })
+    Ok(function_of(rt.alloc(), locals, expressions, list))
 }
 
-/// A validator with all flags and all capabilities.
-fn validator_of(alloc: Global) -> Validator<Plain> {
-    let flags = ValidationFlags(0xf);
-    Validator::new(alloc, plain(), flags, Capabilities(268435455))
-}
-
-/// What a validator answers to a function: its fault, if it has one.
-fn judge(
-    rt: &(impl Abort + AllocGlobal),
-    validator: &mut Validator<Plain>,
-    fun: &Function,
-    module: &Module,
-    infos: &ModuleInfo,
-) -> Option<FunctionError> {
-    assert!(rt; fits_types(module));
-    assert!(rt; fits_function(fun, module, infos.functions.len()));
-    match validator.validate_body(rt.alloc(), fun, module, infos) {
-        Ok(_) => None,
-        Err(Refusal::Fault(fault)) => Some(fault.into_inner()),
-        Err(Refusal::Memory) => panic!(rt; "no memory"),
-    }
-}
-
-/// The fault of a function, and what its ray traces left.
+/// The stages of a function, or its fault at this place, and what its ray traces left.
 fn answer_of(
     rt: &(impl Abort + AllocGlobal),
     fun: &Function,
-) -> Result<(Option<FunctionError>, TraceState), AllocError> {
-    let module = module_of(rt)?;
+    place: Span,
+) -> Result<(Result<ShaderStages, FunctionError>, TraceState), AllocError> {
+    let module = module(rt)?;
     let infos = infos_of(rt.alloc())?;
-    let mut validator = validator_of(rt.alloc());
-    let fault = judge(rt, &mut validator, fun, &module, &infos);
-    Ok((fault, validator.trace_state()))
+    let mut validator = validator_for(EVERYTHING);
+    let answer = judge(rt, &mut validator, fun, &module, &infos, place);
+    Ok((answer, validator.trace_state()))
 }
 
 /// A query goes on, with expression 7 as its result.
-fn proceed() -> Statement {
+fn proceed(query: u32) -> Statement {
     Statement::RayQuery {
-        query: Handle::new(6),
+        query: Handle::new(query),
         fun: RayQueryFunction::Proceed {
             result: Handle::new(7),
         },
@@ -257,105 +196,112 @@ fn ray(structure: u32, descriptor: u32, payload: u32) -> Statement {
     })
 }
 
-/// Puts a statement last, at a place of its own.
-fn add(list: &mut Vec<Located>, statement: Statement, start: u32) -> Result<(), AllocError> {
-    let span = Span { start, end: start };
-    list.push(Located { statement, span })?;
-    Ok(())
+/// A place of its own for each number.
+fn at(start: u32) -> Span {
+    Span { start, end: start }
 }
 
 /// A function with this body, whose last expression is a Unary.
 fn traces(rt: &(impl Abort + AllocGlobal), list: Vec<Located>) -> Result<Function, AllocError> {
     let last = unary(rt.alloc())?;
-    function_of(rt, last, list)
+    function(rt, last, list)
 }
 
 #[test]
 fn the_result_of_a_proceed_is_of_any_kind(rt: HostRuntime) -> Result<(), Fail> {
     let mut list = Vec::new(rt.alloc());
-    add(&mut list, proceed(), 1)?;
+    add(&mut list, proceed(6), at(1))?;
     let fun = traces(&rt, list)?;
-    let (fault, _) = answer_of(&rt, &fun)?;
-    assert!(rt; fault.is_none());
+    let (answer, _) = answer_of(&rt, &fun, NOWHERE)?;
+    assert!(rt; answer.is_ok());
+    Ok(())
+}
+
+#[test]
+fn a_query_is_a_local(rt: HostRuntime) -> Result<(), Fail> {
+    let mut list = Vec::new(rt.alloc());
+    add(&mut list, proceed(5), at(1))?;
+    let fun = traces(&rt, list)?;
+    let (answer, _) = answer_of(&rt, &fun, at(1))?;
+    assert!(rt; answer == Err(FunctionError::InvalidRayQueryExpression(Handle::new(5))));
     Ok(())
 }
 
 /// In a Block a Proceed whose result is a call's; behind it the call.
 fn proceed_and_call(alloc: Global) -> Result<Vec<Located>, AllocError> {
     let mut inner = Vec::new(alloc);
-    add(&mut inner, proceed(), 1)?;
+    add(&mut inner, proceed(6), at(1))?;
     let mut list = Vec::new(alloc);
-    add(&mut list, Statement::Block(Block { list: inner }), 2)?;
+    add(&mut list, Statement::Block(Block { list: inner }), at(2))?;
     let call = Statement::Call {
         function: Handle::new(0),
         arguments: Sequence::new(alloc),
         result: Some(Handle::new(7)),
     };
-    add(&mut list, call, 3)?;
+    add(&mut list, call, at(3))?;
     Ok(list)
 }
 
 #[test]
 fn a_proceed_fills_no_result_of_a_call(rt: HostRuntime) -> Result<(), Fail> {
     let list = proceed_and_call(rt.alloc())?;
-    let fun = function_of(&rt, Expression::CallResult(Handle::new(0)), list)?;
-    let (fault, _) = answer_of(&rt, &fun)?;
-    assert!(rt; fault.is_none());
+    let fun = function(&rt, Expression::CallResult(Handle::new(0)), list)?;
+    let (answer, _) = answer_of(&rt, &fun, NOWHERE)?;
+    assert!(rt; answer.is_ok());
     Ok(())
 }
 
 #[test]
 fn all_payloads_are_of_one_type(rt: HostRuntime) -> Result<(), Fail> {
     let mut list = Vec::new(rt.alloc());
-    add(&mut list, ray(2, 4, 0), 1)?;
-    add(&mut list, ray(2, 4, 1), 2)?;
+    add(&mut list, ray(2, 4, 0), at(1))?;
+    add(&mut list, ray(2, 4, 1), at(2))?;
     let fun = traces(&rt, list)?;
-    let (fault, _) = answer_of(&rt, &fun)?;
+    let (answer, _) = answer_of(&rt, &fun, at(2))?;
     let expected = FunctionError::MismatchedPayloadType(Handle::new(1), Handle::new(0));
-    assert!(rt; fault == Some(expected));
+    assert!(rt; answer == Err(expected));
     Ok(())
 }
 
 #[test]
 fn a_structure_without_the_flag_stays_in_the_trace_state(rt: HostRuntime) -> Result<(), Fail> {
     let mut list = Vec::new(rt.alloc());
-    add(&mut list, ray(2, 4, 0), 1)?;
-    add(&mut list, ray(3, 4, 0), 2)?;
-    add(&mut list, ray(2, 4, 0), 3)?;
+    add(&mut list, ray(2, 4, 0), at(1))?;
+    add(&mut list, ray(3, 4, 0), at(2))?;
+    add(&mut list, ray(2, 4, 0), at(3))?;
     let fun = traces(&rt, list)?;
-    let (fault, trace) = answer_of(&rt, &fun)?;
-    assert!(rt; fault.is_none());
-    let second = Span { start: 2, end: 2 };
-    assert!(rt; trace.vertex_return == TraceRayVertexReturnState::NoVertexReturn(second));
+    let (answer, trace) = answer_of(&rt, &fun, NOWHERE)?;
+    assert!(rt; answer.is_ok());
+    assert!(rt; trace.vertex_return == TraceRayVertexReturnState::NoVertexReturn(at(2)));
     Ok(())
 }
 
-/// On one validator a function that is refused for its descriptor alone, and then another. What the second is answered,
-/// and what the ray traces left.
+/// On one validator a function that is refused for the descriptor of its first ray, and then another. What the second is
+/// answered, and what the ray traces left.
 fn after_a_refusal(
     rt: &(impl Abort + AllocGlobal),
     refused: &Function,
     fun: &Function,
-) -> Result<(Option<FunctionError>, TraceState), AllocError> {
-    let module = module_of(rt)?;
+) -> Result<(Result<ShaderStages, FunctionError>, TraceState), AllocError> {
+    let module = module(rt)?;
     let infos = infos_of(rt.alloc())?;
-    let mut validator = validator_of(rt.alloc());
-    let fault = judge(rt, &mut validator, refused, &module, &infos);
-    assert!(rt; fault == Some(FunctionError::InvalidRayDescriptor(Handle::new(5))));
-    let second = judge(rt, &mut validator, fun, &module, &infos);
+    let mut validator = validator_for(EVERYTHING);
+    let first = judge(rt, &mut validator, refused, &module, &infos, at(1));
+    assert!(rt; first == Err(FunctionError::InvalidRayDescriptor(Handle::new(5))));
+    let second = judge(rt, &mut validator, fun, &module, &infos, NOWHERE);
     Ok((second, validator.trace_state()))
 }
 
 #[test]
 fn a_refused_function_leaves_no_payload_type(rt: HostRuntime) -> Result<(), Fail> {
     let mut first = Vec::new(rt.alloc());
-    add(&mut first, ray(2, 5, 0), 1)?;
+    add(&mut first, ray(2, 5, 0), at(1))?;
     let refused = traces(&rt, first)?;
     let mut second = Vec::new(rt.alloc());
-    add(&mut second, ray(2, 4, 1), 2)?;
+    add(&mut second, ray(2, 4, 1), at(2))?;
     let fun = traces(&rt, second)?;
-    let (fault, trace) = after_a_refusal(&rt, &refused, &fun)?;
-    assert!(rt; fault.is_none());
+    let (answer, trace) = after_a_refusal(&rt, &refused, &fun)?;
+    assert!(rt; answer.is_ok());
     assert!(rt; trace.payload == Some(Handle::new(1)));
     Ok(())
 }

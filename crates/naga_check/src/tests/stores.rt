@@ -1,43 +1,25 @@
 //! Uniform loads of work groups and the stores that no bench shows, judged over the plain layer.
 
-use crate::case::plain;
+use crate::tests::bodies::{
+    EVERYTHING, HERE, NOWHERE, add, add_type, answer_for, function_of, module_of,
+};
 use naga_below::arena::Arena;
 use naga_below::arena::handle::Handle;
 use naga_below::arena::unique_arena::UniqueArena;
-use naga_below::fits::function::fits_function;
-use naga_below::fits::types::fits_types;
 use naga_below::ir::expressions::{Expression, Literal};
 use naga_below::ir::flags::{MemoryDecorations, StorageAccess};
 use naga_below::ir::functions::{Function, LocalVariable};
-use naga_below::ir::module::{GlobalVariable, Module, SpecialTypes};
-use naga_below::ir::statements::{AtomicFunction, Block, CooperativeData, Located, Statement};
+use naga_below::ir::module::{GlobalVariable, Module};
+use naga_below::ir::statements::{AtomicFunction, CooperativeData, Statement};
 use naga_below::ir::types::{
     AddressSpace, ImageClass, ImageDimension, Scalar, StorageFormat, Type, TypeInner, VectorSize,
 };
-use naga_below::sequence::Sequence;
-use naga_below::span::{Refusal, Span};
-use naga_below::valid::capabilities::Capabilities;
 use naga_below::valid::expression_error::ExpressionError;
-use naga_below::valid::flags::{ShaderStages, ValidationFlags};
-use naga_below::valid::info::ModuleInfo;
+use naga_below::valid::flags::ShaderStages;
 use naga_rules::function::FunctionError;
-use naga_valid::validator::Validator;
 use std::alloc::{AllocError, Global};
 use std::process::Abort;
 use std::test::Fail;
-
-const NOWHERE: Span = Span { start: 0, end: 0 };
-
-/// Puts a type without a name last.
-fn add_type(
-    rt: &(impl Abort + AllocGlobal),
-    types: &mut UniqueArena<Type>,
-    inner: TypeInner,
-) -> Result<(), AllocError> {
-    assert!(rt; types.len() < 16);
-    types.insert(Type { name: None, inner }, NOWHERE)?;
-    Ok(())
-}
 
 /// A vector type.
 fn vector(size: VectorSize, scalar: Scalar) -> TypeInner {
@@ -104,21 +86,11 @@ fn globals_of(alloc: Global) -> Result<Arena<GlobalVariable>, AllocError> {
     Ok(globals)
 }
 
-/// A module of these types and globals.
-fn module_of(rt: &(impl Abort + AllocGlobal)) -> Result<Module, AllocError> {
-    let alloc = rt.alloc();
-    let global_variables = globals_of(alloc)?;
+/// The module of these types and globals.
+fn module(rt: &(impl Abort + AllocGlobal)) -> Result<Module, AllocError> {
+    let globals = globals_of(rt.alloc())?;
     let types = types_of(rt)?;
-    Ok(Module {
-        types,
-        special_types: SpecialTypes { ray_desc: None },
-        constants: Arena::new(alloc),
-        overrides: Arena::new(alloc),
-        global_variables,
-        global_expressions: Arena::new(alloc),
-        functions: Arena::new(alloc),
-        entry_points: Sequence::new(alloc),
-    })
+    Ok(module_of(rt.alloc(), types, globals, Arena::new(rt.alloc())))
 }
 
 /// A local of f32.
@@ -156,51 +128,13 @@ fn expressions_of(alloc: Global) -> Result<Arena<Expression>, AllocError> {
     Ok(expressions)
 }
 
-/// A body of one statement.
-fn body_of(alloc: Global, statement: Statement) -> Result<Block, AllocError> {
-    let mut list = Vec::new(alloc);
-    list.push(Located {
-        statement,
-        span: NOWHERE,
-    })?;
-    Ok(Block { list })
-}
-
 /// A function of these expressions with one statement.
-fn function_of(alloc: Global, statement: Statement) -> Result<Function, AllocError> {
-    let body = body_of(alloc, statement)?;
-    let local_variables = locals_of(alloc)?;
+fn function(alloc: Global, statement: Statement) -> Result<Function, AllocError> {
+    let mut list = Vec::new(alloc);
+    add(&mut list, statement, HERE)?;
+    let locals = locals_of(alloc)?;
     let expressions = expressions_of(alloc)?;
-    Ok(Function {
-        arguments: Sequence::new(alloc),
-        result: None,
-        local_variables,
-        expressions,
-        body,
-    })
-}
-
-/// The stages that the validator leaves a function, with all flags and all capabilities, or its fault.
-fn judge(
-    rt: &(impl Abort + AllocGlobal),
-    fun: &Function,
-    module: &Module,
-) -> Result<ShaderStages, FunctionError> {
-    let alloc = rt.alloc();
-    let infos = ModuleInfo {
-        functions: Sequence::new(alloc),
-        entry_points: Sequence::new(alloc),
-        global_types: Sequence::new(alloc),
-    };
-    let flags = ValidationFlags(0xf);
-    let mut validator = Validator::new(alloc, plain(), flags, Capabilities(268435455));
-    assert!(rt; fits_types(module));
-    assert!(rt; fits_function(fun, module, infos.functions.len()));
-    match validator.validate_body(alloc, fun, module, &infos) {
-        Ok(info) => Ok(info.available_stages),
-        Err(Refusal::Fault(fault)) => Err(fault.into_inner()),
-        Err(Refusal::Memory) => panic!(rt; "no memory"),
-    }
+    Ok(function_of(alloc, locals, expressions, list))
 }
 
 /// What a function is answered in this module.
@@ -208,8 +142,8 @@ fn answer_of(
     rt: &(impl Abort + AllocGlobal),
     fun: &Function,
 ) -> Result<Result<ShaderStages, FunctionError>, AllocError> {
-    let module = module_of(rt)?;
-    Ok(judge(rt, fun, &module))
+    let module = module(rt)?;
+    Ok(answer_for(rt, EVERYTHING, fun, &module))
 }
 
 /// What a body of this statement is answered.
@@ -217,7 +151,7 @@ fn answer_to(
     rt: &(impl Abort + AllocGlobal),
     statement: Statement,
 ) -> Result<Result<ShaderStages, FunctionError>, AllocError> {
-    let fun = function_of(rt.alloc(), statement)?;
+    let fun = function(rt.alloc(), statement)?;
     answer_of(rt, &fun)
 }
 
@@ -233,16 +167,40 @@ fn a_uniform_load_runs_in_stages_with_work_groups(rt: HostRuntime) -> Result<(),
 }
 
 #[test]
-fn a_cooperative_store_runs_in_compute(rt: HostRuntime) -> Result<(), Fail> {
-    let store = Statement::CooperativeStore {
-        target: Handle::new(2),
+fn a_uniform_load_is_from_the_work_group(rt: HostRuntime) -> Result<(), Fail> {
+    let load = Statement::WorkGroupUniformLoad {
+        pointer: Handle::new(3),
+        result: Handle::new(1),
+    };
+    let answer = answer_to(&rt, load)?;
+    let expected = FunctionError::WorkgroupUniformLoadInvalidPointer(Handle::new(3));
+    assert!(rt; answer == Err(expected));
+    Ok(())
+}
+
+/// A cooperative store of an expression into the local.
+fn cooperative_store(target: u32) -> Statement {
+    Statement::CooperativeStore {
+        target: Handle::new(target),
         source: CooperativeData {
             pointer: Handle::new(3),
             detail: 0,
         },
-    };
-    let answer = answer_to(&rt, store)?;
+    }
+}
+
+#[test]
+fn a_cooperative_store_runs_in_compute(rt: HostRuntime) -> Result<(), Fail> {
+    let answer = answer_to(&rt, cooperative_store(2))?;
     assert!(rt; answer == Ok(ShaderStages(0x4)));
+    Ok(())
+}
+
+#[test]
+fn a_cooperative_store_is_of_a_matrix(rt: HostRuntime) -> Result<(), Fail> {
+    let answer = answer_to(&rt, cooperative_store(10))?;
+    let expected = FunctionError::InvalidCooperativeStoreTarget(Handle::new(10));
+    assert!(rt; answer == Err(expected));
     Ok(())
 }
 

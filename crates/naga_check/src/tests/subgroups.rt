@@ -1,58 +1,24 @@
 //! Barriers and the statements of subgroups, judged over the plain layer.
 
-use crate::case::plain;
+use crate::tests::bodies::{
+    EVERYTHING, HERE, NOWHERE, Target, add, add_type, answer_for, function_of, module_of,
+};
 use naga_below::arena::Arena;
 use naga_below::arena::handle::Handle;
 use naga_below::arena::range::Range;
 use naga_below::arena::unique_arena::UniqueArena;
-use naga_below::fits::function::fits_function;
-use naga_below::fits::types::fits_types;
 use naga_below::ir::expressions::{Expression, Literal};
 use naga_below::ir::flags::Barrier;
 use naga_below::ir::functions::{Function, LocalVariable};
-use naga_below::ir::module::{Module, SpecialTypes};
-use naga_below::ir::statements::{
-    Block, CollectiveOperation, GatherMode, Located, Statement, SubgroupOperation,
-};
+use naga_below::ir::module::Module;
+use naga_below::ir::statements::{CollectiveOperation, GatherMode, Statement, SubgroupOperation};
 use naga_below::ir::types::{Scalar, Type, TypeInner, VectorSize};
-use naga_below::sequence::Sequence;
-use naga_below::span::{Refusal, Span};
 use naga_below::valid::capabilities::Capabilities;
-use naga_below::valid::flags::{ShaderStages, SubgroupOperationSet, ValidationFlags};
-use naga_below::valid::info::ModuleInfo;
+use naga_below::valid::flags::{ShaderStages, SubgroupOperationSet};
 use naga_rules::function::{FunctionError, SubgroupError};
-use naga_valid::validator::Validator;
 use std::alloc::{AllocError, Global};
 use std::process::Abort;
 use std::test::Fail;
-
-const NOWHERE: Span = Span { start: 0, end: 0 };
-
-/// All capabilities, all stages and all groups of operations.
-const EVERYTHING: Target = Target {
-    capabilities: Capabilities(268435455),
-    stages: ShaderStages(0x1ff),
-    operations: SubgroupOperationSet(0x7f),
-};
-
-/// What the target can do.
-#[derive(Clone, Copy)]
-struct Target {
-    capabilities: Capabilities,
-    stages: ShaderStages,
-    operations: SubgroupOperationSet,
-}
-
-/// Puts a type without a name last.
-fn add_type(
-    rt: &(impl Abort + AllocGlobal),
-    types: &mut UniqueArena<Type>,
-    inner: TypeInner,
-) -> Result<(), AllocError> {
-    assert!(rt; types.len() < 16);
-    types.insert(Type { name: None, inner }, NOWHERE)?;
-    Ok(())
-}
 
 /// Types 0 u32, 1 i32, 2 bool and 3 two bools.
 fn types_of(rt: &(impl Abort + AllocGlobal)) -> Result<UniqueArena<Type>, AllocError> {
@@ -68,20 +34,11 @@ fn types_of(rt: &(impl Abort + AllocGlobal)) -> Result<UniqueArena<Type>, AllocE
     Ok(types)
 }
 
-/// A module of these types.
-fn module_of(rt: &(impl Abort + AllocGlobal)) -> Result<Module, AllocError> {
-    let alloc = rt.alloc();
+/// The module of these types.
+fn module(rt: &(impl Abort + AllocGlobal)) -> Result<Module, AllocError> {
     let types = types_of(rt)?;
-    Ok(Module {
-        types,
-        special_types: SpecialTypes { ray_desc: None },
-        constants: Arena::new(alloc),
-        overrides: Arena::new(alloc),
-        global_variables: Arena::new(alloc),
-        global_expressions: Arena::new(alloc),
-        functions: Arena::new(alloc),
-        entry_points: Sequence::new(alloc),
-    })
+    let alloc = rt.alloc();
+    Ok(module_of(alloc, types, Arena::new(alloc), Arena::new(alloc)))
 }
 
 /// A local of u32.
@@ -121,58 +78,18 @@ fn expressions_of(alloc: Global) -> Result<Arena<Expression>, AllocError> {
     Ok(expressions)
 }
 
-/// A body that emits the load, and then this statement.
-fn body_of(alloc: Global, statement: Statement) -> Result<Block, AllocError> {
+/// A function of these expressions that emits the load, and then has this statement.
+fn function(alloc: Global, statement: Statement) -> Result<Function, AllocError> {
     let mut list = Vec::new(alloc);
-    list.push(Located {
-        statement: Statement::Emit(Range { start: 5, end: 6 }),
-        span: NOWHERE,
-    })?;
-    list.push(Located {
-        statement,
-        span: NOWHERE,
-    })?;
-    Ok(Block { list })
-}
-
-/// A function of these expressions with this statement.
-fn function_of(alloc: Global, statement: Statement) -> Result<Function, AllocError> {
-    let body = body_of(alloc, statement)?;
-    let local_variables = locals_of(alloc)?;
+    add(
+        &mut list,
+        Statement::Emit(Range { start: 5, end: 6 }),
+        NOWHERE,
+    )?;
+    add(&mut list, statement, HERE)?;
+    let locals = locals_of(alloc)?;
     let expressions = expressions_of(alloc)?;
-    Ok(Function {
-        arguments: Sequence::new(alloc),
-        result: None,
-        local_variables,
-        expressions,
-        body,
-    })
-}
-
-/// The stages that the validator leaves a function for this target, with all flags, or its fault.
-fn judge(
-    rt: &(impl Abort + AllocGlobal),
-    target: Target,
-    fun: &Function,
-    module: &Module,
-) -> Result<ShaderStages, FunctionError> {
-    let alloc = rt.alloc();
-    let infos = ModuleInfo {
-        functions: Sequence::new(alloc),
-        entry_points: Sequence::new(alloc),
-        global_types: Sequence::new(alloc),
-    };
-    let flags = ValidationFlags(0xf);
-    let mut validator = Validator::new(alloc, plain(), flags, target.capabilities);
-    validator.subgroup_stages(target.stages);
-    validator.subgroup_operations(target.operations);
-    assert!(rt; fits_types(module));
-    assert!(rt; fits_function(fun, module, infos.functions.len()));
-    match validator.validate_body(alloc, fun, module, &infos) {
-        Ok(info) => Ok(info.available_stages),
-        Err(Refusal::Fault(fault)) => Err(fault.into_inner()),
-        Err(Refusal::Memory) => panic!(rt; "no memory"),
-    }
+    Ok(function_of(alloc, locals, expressions, list))
 }
 
 /// What a function is answered in this module.
@@ -181,8 +98,8 @@ fn answer_of(
     target: Target,
     fun: &Function,
 ) -> Result<Result<ShaderStages, FunctionError>, AllocError> {
-    let module = module_of(rt)?;
-    Ok(judge(rt, target, fun, &module))
+    let module = module(rt)?;
+    Ok(answer_for(rt, target, fun, &module))
 }
 
 /// What a body of this statement is answered for this target.
@@ -191,7 +108,7 @@ fn answer_to(
     target: Target,
     statement: Statement,
 ) -> Result<Result<ShaderStages, FunctionError>, AllocError> {
-    let fun = function_of(rt.alloc(), statement)?;
+    let fun = function(rt.alloc(), statement)?;
     answer_of(rt, target, &fun)
 }
 
@@ -220,6 +137,22 @@ fn a_ballot_runs_at_the_stages_of_subgroups(rt: HostRuntime) -> Result<(), Fail>
     };
     let answer = answer_to(&rt, target, ballot)?;
     assert!(rt; answer == Ok(ShaderStages(0x1c)));
+    Ok(())
+}
+
+#[test]
+fn a_ballot_needs_its_operations(rt: HostRuntime) -> Result<(), Fail> {
+    let target = Target {
+        operations: SubgroupOperationSet(0x77),
+        ..EVERYTHING
+    };
+    let ballot = Statement::SubgroupBallot {
+        result: Handle::new(9),
+        predicate: None,
+    };
+    let answer = answer_to(&rt, target, ballot)?;
+    let error = SubgroupError::UnsupportedOperation(SubgroupOperationSet::BALLOT);
+    assert!(rt; answer == refused(error));
     Ok(())
 }
 

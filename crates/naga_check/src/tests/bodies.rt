@@ -1,0 +1,147 @@
+//! What the tests of statements share: a module and a function from their parts, and what the validator answers to them
+//! over the plain layer.
+
+use crate::case::plain;
+use crate::plain::Plain;
+use naga_below::arena::Arena;
+use naga_below::arena::unique_arena::UniqueArena;
+use naga_below::fits::function::fits_function;
+use naga_below::fits::types::fits_types;
+use naga_below::ir::expressions::Expression;
+use naga_below::ir::functions::{Function, LocalVariable};
+use naga_below::ir::module::{GlobalVariable, Module, SpecialTypes};
+use naga_below::ir::statements::{Block, Located, Statement};
+use naga_below::ir::types::{Type, TypeInner};
+use naga_below::sequence::Sequence;
+use naga_below::span::{Refusal, Span};
+use naga_below::valid::capabilities::Capabilities;
+use naga_below::valid::flags::{ShaderStages, SubgroupOperationSet, ValidationFlags};
+use naga_below::valid::info::ModuleInfo;
+use naga_rules::function::FunctionError;
+use naga_valid::validator::Validator;
+use std::alloc::{AllocError, Global};
+use std::process::Abort;
+
+/// Where nothing is.
+pub const NOWHERE: Span = Span { start: 0, end: 0 };
+
+/// Where statements are.
+pub const HERE: Span = Span { start: 3, end: 7 };
+
+/// All capabilities, all stages and all groups of operations.
+pub const EVERYTHING: Target = Target {
+    capabilities: Capabilities(268435455),
+    stages: ShaderStages(0x1ff),
+    operations: SubgroupOperationSet(0x7f),
+};
+
+/// What the target can do.
+#[derive(Clone, Copy)]
+pub struct Target {
+    pub capabilities: Capabilities,
+    pub stages: ShaderStages,
+    pub operations: SubgroupOperationSet,
+}
+
+/// Puts a type without a name last.
+pub fn add_type(
+    rt: &(impl Abort + AllocGlobal),
+    types: &mut UniqueArena<Type>,
+    inner: TypeInner,
+) -> Result<(), AllocError> {
+    assert!(rt; types.len() < 16);
+    types.insert(Type { name: None, inner }, NOWHERE)?;
+    Ok(())
+}
+
+/// A module of these types, globals and functions, and whose ray descriptors are of no type.
+pub fn module_of(
+    alloc: Global,
+    types: UniqueArena<Type>,
+    global_variables: Arena<GlobalVariable>,
+    functions: Arena<Function>,
+) -> Module {
+    Module {
+        types,
+        special_types: SpecialTypes { ray_desc: None },
+        constants: Arena::new(alloc),
+        overrides: Arena::new(alloc),
+        global_variables,
+        global_expressions: Arena::new(alloc),
+        functions,
+        entry_points: Sequence::new(alloc),
+    }
+}
+
+/// A function of these locals and expressions with this body, without arguments or result.
+pub fn function_of(
+    alloc: Global,
+    local_variables: Arena<LocalVariable>,
+    expressions: Arena<Expression>,
+    list: Vec<Located>,
+) -> Function {
+    Function {
+        arguments: Sequence::new(alloc),
+        result: None,
+        local_variables,
+        expressions,
+        body: Block { list },
+    }
+}
+
+/// Puts a statement last.
+pub fn add(list: &mut Vec<Located>, statement: Statement, span: Span) -> Result<(), AllocError> {
+    list.push(Located { statement, span })?;
+    Ok(())
+}
+
+/// No function and no global of a module is known.
+pub fn no_infos(alloc: Global) -> ModuleInfo {
+    ModuleInfo {
+        functions: Sequence::new(alloc),
+        entry_points: Sequence::new(alloc),
+        global_types: Sequence::new(alloc),
+    }
+}
+
+/// A validator with all flags for this target.
+pub fn validator_for(target: Target) -> Validator<Plain> {
+    let flags = ValidationFlags(0xf);
+    let mut validator = Validator::new(plain(), flags, target.capabilities);
+    validator.subgroup_stages(target.stages);
+    validator.subgroup_operations(target.operations);
+    validator
+}
+
+/// The stages that a validator leaves a function, or its fault, which must be at this place.
+pub fn judge(
+    rt: &(impl Abort + AllocGlobal),
+    validator: &mut Validator<Plain>,
+    fun: &Function,
+    module: &Module,
+    infos: &ModuleInfo,
+    place: Span,
+) -> Result<ShaderStages, FunctionError> {
+    assert!(rt; fits_types(module));
+    assert!(rt; fits_function(fun, module, infos.functions.len()));
+    match validator.validate_body(rt.alloc(), fun, module, infos) {
+        Ok(info) => Ok(info.available_stages),
+        Err(Refusal::Fault(fault)) => {
+            assert!(rt; fault.spans() == [place].as_slice());
+            Err(fault.into_inner())
+        }
+        Err(Refusal::Memory) => panic!(rt; "no memory"),
+    }
+}
+
+/// What a function of statements at `HERE` is answered for this target, in a module without functions before it.
+pub fn answer_for(
+    rt: &(impl Abort + AllocGlobal),
+    target: Target,
+    fun: &Function,
+    module: &Module,
+) -> Result<ShaderStages, FunctionError> {
+    let infos = no_infos(rt.alloc());
+    let mut validator = validator_for(target);
+    judge(rt, &mut validator, fun, module, &infos, HERE)
+}
