@@ -1,5 +1,5 @@
 -- The judgement by the tree over the scope's list: one equation for each form of statement.
-use Rattle.std.proofs.Common.{Vec, Global, ◌≡◌, ℕ, ◌+◌, ◌<◌, ◌≤◌, Bool, true, false, Option, Some, None, Result, Ok, Err, List, [], ◌∷◌, ◌++◌, drop, get_or, length, refl, sym, ap, ◌∙◌, append-nil, append_assoc}
+use Rattle.std.proofs.Common.{Vec, Global, ◌≡◌, ℕ, ◌+◌, ◌<◌, ◌≤◌, Bool, true, false, Option, Some, None, Result, Ok, List, [], ◌∷◌, ◌++◌, drop, get_or, length, refl, sym, ap, ◌∙◌, append-nil, append_assoc}
 use Rattle.std.proofs.lemmas.List.{at_drop_more, at_drop_all}
 use Rattle.std.proofs.lemmas.List.Folds.{list_any-append}
 use Rattle.std.specs.Prelude.{◌||◌, ◌==◌, if◌then◌else◌}
@@ -26,10 +26,10 @@ use Rattle.naga_runs.specs.ByTree.{then_on, judge_visits, judge_body, judge_stmt
 use Rattle.naga_runs.proofs.Judgements.{judge_done, judge_more, judge_own, judge_block, judge_branch, judge_switch, judge_loop, judge_no_case, judge_one_case}
 use Rattle.naga_runs.proofs.WithoutMust.{must_is_free}
 use Rattle.naga_rules.specs.Answers.{Refuses}
-use Rattle.naga_valid.specs.Answers.{IsFirstFault, AnswersPoints, AnswersLeaving}
+use Rattle.naga_valid.specs.Answers.{IsFirstFault}
 use Rattle.naga_valid.specs.Blocks.{tree_of, body_of, statement_list, case_list}
 use Rattle.naga_valid.specs.Context.{Context}
-use Rattle.naga_valid.specs.Control.{condition_points}
+use Rattle.naga_valid.specs.Control.{break_if_points}
 use Rattle.naga_valid.specs.Rules.{statement_points}
 use Rattle.naga_valid.specs.Scope.{in_scope, known}
 use Rattle.naga_valid.specs.Walk.{puts_of, puts, body_puts, place, own_answer, parts_answer, stmt_answer, body_answer, cases_answer, break_if_answer}
@@ -176,11 +176,16 @@ module _ (context : Context) (k : State) (a : Abilities) (s : List ℕ) (x : Stm
   own_refuses refusal.Memory h = tt
 
 -- a break condition
-pub condition_answers : {T : Type 0} (r : Result T (Refusal FunctionError)) (context : Context) (k : State) (a : Abilities) (s : List ℕ) (h : ℕ) → AnswersPoints (condition_points context (known s) h) r → AnswersLeaving (break_if_answer context k a s (Some h)) k r
+pub break_if_passes : (context : Context) (k : State) (a : Abilities) (s : List ℕ) (q : Option ℕ) → first_fault (break_if_points context (known s) q) ≡ None → break_if_answer context k a s q ≡ Ok k
 unfolding break_if_answer judge_break_if judge_visits Rattle.naga_runs.specs.ByTree.judge
-condition_answers (Ok t) context k a s h e = ap (λ o. then_on (answer o k) (λ st. Ok st)) e
-condition_answers (Err (refusal.Fault f)) context k a s h e = ap (λ o. then_on (answer o k) (λ st. Ok st)) e
-condition_answers (Err refusal.Memory) context k a s h e = tt
+break_if_passes context k a s None e = refl
+break_if_passes context k a s (Some h) e = ap (λ o. then_on (answer o k) (λ st. Ok st)) e
+
+pub break_if_refuses : (context : Context) (k : State) (a : Abilities) (s : List ℕ) (q : Option ℕ) (e : Refusal FunctionError) → IsFirstFault (break_if_points context (known s) q) e → Refuses (break_if_answer context k a s q) e
+unfolding break_if_answer judge_break_if judge_visits Rattle.naga_runs.specs.ByTree.judge
+break_if_refuses context k a s None (refusal.Fault f) i = ap (λ o. answer o k) i
+break_if_refuses context k a s (Some h) (refusal.Fault f) i = ap (λ o. then_on (answer o k) (λ st. Ok st)) i
+break_if_refuses context k a s q refusal.Memory i = tt
 
 -- a statement that is none of the kinds with parts
 pub no_parts : (context : Context) (k : State) (a : Abilities) (s : List ℕ) (st : Statement) (span : Span) →
@@ -194,4 +199,4 @@ no_parts context k a s (Switch' h shape row) span nb ni ns nl =
 no_parts context k a s (ir.Loop p q last) span nb ni ns nl = absurd (nl p q last refl)
 no_parts context k a s _ span nb ni ns nl = refl
 
-pub ruleset walking = (parts_block, parts_branch, parts_switch, parts_loop, stmt_more, own_passes, own_refuses, passes, stops_first, stops_next, answers_next)
+pub ruleset walking = (parts_block, parts_branch, parts_switch, parts_loop, stmt_more, own_passes, own_refuses, break_if_passes, break_if_refuses, passes, stops_first, stops_next, answers_next)

@@ -59,6 +59,11 @@ abbrev pub condition_points : Context → Handles → ℕ → Points
 condition_points context scope h =
     use_point scope h ∷ (is_bool_scalar (type_at context h), InvalidIfType h) ∷ []
 
+-- the break condition of a Loop, if it has one
+abbrev pub break_if_points : Context → Handles → Option ℕ → Points
+break_if_points context scope None = []
+break_if_points context scope (Some h) = condition_points context scope h
+
 abbrev pub is_integer : Option ScalarKind → Bool
 is_integer (Some kind.Uint) = true
 is_integer (Some kind.Sint) = true

@@ -10,15 +10,16 @@ ghost use Rattle.naga_valid.specs.Answers.{AnswersLeaving, AnswersPoints};
 ghost use Rattle.naga_valid.specs.Blocks.{tree_of, body_of, case_list};
 ghost use Rattle.naga_runs.specs.Soundness.{RunsAreSound};
 ghost use Rattle.naga_valid.specs.Context.{ContextFits, pre_emitted};
+ghost use Rattle.naga_valid.specs.Control.{break_if_points};
 ghost use Rattle.naga_valid.specs.Flags.{checks_expressions};
 ghost use Rattle.naga_valid.specs.Judged.{body_judgement, outcome_after};
 ghost use Rattle.naga_valid.specs.Ready.{IsStatementReady, IsBodyReady, AreCasesReady};
 ghost use Rattle.naga_valid.specs.Results.{result_of};
 ghost use Rattle.naga_valid.specs.Rules.{statement_points};
-ghost use Rattle.naga_valid.specs.Scope.{in_scope};
+ghost use Rattle.naga_valid.specs.Scope.{in_scope, known};
 ghost use Rattle.naga_valid.specs.Seen.{context_of};
 ghost use Rattle.naga_valid.specs.State.{seen, state_left, with_statement};
-ghost use Rattle.naga_valid.specs.Walk.{place, pre_emitted_from, puts, body_puts, parts_answer, stmt_answer, body_answer, cases_answer, break_if_answer, body_abilities};
+ghost use Rattle.naga_valid.specs.Walk.{place, pre_emitted_from, puts, body_puts, parts_answer, stmt_answer, body_answer, cases_answer, body_abilities};
 
 use crate::checks::control;
 use crate::checks::leaf::check_leaf;
@@ -162,16 +163,13 @@ fn advance(
 }
 
 /// The break condition of a Loop, if it has one. A fault has the place of the Loop.
-#[tactic(auto, unfolding(crate::specs::Walk::break_if_answer, naga_runs::specs::ByTree::judge_break_if, naga_runs::specs::ByTree::judge_visits, naga_runs::specs::ByTree::judge))]
 fn check_break_if(
     scope: &HandleSet,
-    state: &mut BodyState,
     context: &BlockContext,
-    abilities: Abilities,
     break_if: Option<Handle<tag::Expression>>,
     span: Span,
 ) -> Result<(), Refusal<FunctionError>>
-    ensures { AnswersLeaving (break_if_answer (context_of context.now) state.old abilities scope.now break_if) state.new result }
+    ensures { AnswersPoints (break_if_points (context_of context.now) (known scope.now) break_if) result }
 {
     match break_if {
         Some(condition) => {
@@ -215,7 +213,7 @@ fn validate_parts(
             let mark = scope.len();
             validate_statements(scope, state, context, in_loop(abilities), body)?;
             validate_statements(scope, state, context, in_continuing(), continuing)?;
-            check_break_if(scope, state, context, abilities, *break_if, located.span)?;
+            check_break_if(scope, context, *break_if, located.span)?;
             scope.shorten(mark);
             Ok(())
         }
