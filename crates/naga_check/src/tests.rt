@@ -1,6 +1,7 @@
 //! Whole runs of the program.
 
 mod bodies;
+mod places;
 mod plain;
 mod rays;
 mod stores;

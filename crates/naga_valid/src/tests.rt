@@ -271,14 +271,19 @@ fn atomic_module(rt: &(impl Abort + AllocGlobal), scalar: Scalar) -> Result<Modu
     })
 }
 
-/// The fault of an answer, if it is one.
+/// The fault of an answer, if it is one. It is at its statement, but for a result that nothing fills, which has no place.
 fn fault_of(
     rt: &(impl Abort + AllocGlobal),
     answer: Result<FunctionInfo, Refusal<FunctionError>>,
 ) -> Option<FunctionError> {
     match answer {
         Ok(_) => None,
-        Err(Refusal::Fault(fault)) => Some(fault.into_inner()),
+        Err(Refusal::Fault(fault)) => {
+            let is_unvisited = matches!(fault.as_inner(), FunctionError::UnvisitedExpression(_));
+            let place = if is_unvisited { &[] } else { [HERE].as_slice() };
+            assert!(rt; fault.spans() == place);
+            Some(fault.into_inner())
+        }
         Err(Refusal::Memory) => panic!(rt; "no memory"),
     }
 }

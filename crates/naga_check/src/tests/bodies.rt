@@ -113,21 +113,27 @@ pub fn validator_for(target: Target) -> Validator<Plain> {
     validator
 }
 
-/// The stages that a validator leaves a function, or its fault, which must be at this place.
+/// What is judged: the stages, or the fault.
+pub type Answer = Result<ShaderStages, FunctionError>;
+
+/// The stages that a validator leaves a function, or its fault, which must be at this place, or at none.
 pub fn judge(
     rt: &(impl Abort + AllocGlobal),
     validator: &mut Validator<Plain>,
     fun: &Function,
     module: &Module,
     infos: &ModuleInfo,
-    place: Span,
-) -> Result<ShaderStages, FunctionError> {
+    place: Option<Span>,
+) -> Answer {
     assert!(rt; fits_types(module));
     assert!(rt; fits_function(fun, module, infos.functions.len()));
     match validator.validate_body(rt.alloc(), fun, module, infos) {
         Ok(info) => Ok(info.available_stages),
         Err(Refusal::Fault(fault)) => {
-            assert!(rt; fault.spans() == [place].as_slice());
+            match place {
+                Some(span) => assert!(rt; fault.spans() == [span].as_slice()),
+                None => assert!(rt; fault.spans().is_empty()),
+            }
             Err(fault.into_inner())
         }
         Err(Refusal::Memory) => panic!(rt; "no memory"),
@@ -140,8 +146,13 @@ pub fn answer_for(
     target: Target,
     fun: &Function,
     module: &Module,
-) -> Result<ShaderStages, FunctionError> {
+) -> Answer {
     let infos = no_infos(rt.alloc());
     let mut validator = validator_for(target);
-    judge(rt, &mut validator, fun, module, &infos, HERE)
+    judge(rt, &mut validator, fun, module, &infos, Some(HERE))
+}
+
+/// An answer is the expected one.
+pub fn expect(rt: &(impl Abort + AllocGlobal), answer: Answer, expected: Answer) {
+    assert!(rt; answer == expected);
 }

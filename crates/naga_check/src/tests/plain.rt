@@ -3,11 +3,12 @@
 use crate::bench::Bench;
 use crate::bench_module::bench_module;
 use crate::case::plain;
+use crate::tests::bodies::{
+    Answer, EVERYTHING, HERE, add, expect, function_of, judge, module_of, no_infos, validator_for,
+};
 use naga_below::arena::Arena;
 use naga_below::arena::handle::Handle;
 use naga_below::arena::unique_arena::UniqueArena;
-use naga_below::fits::function::fits_function;
-use naga_below::fits::types::fits_types;
 use naga_below::ir::expressions::{Expression, Literal};
 use naga_below::ir::flags::MemoryDecorations;
 use naga_below::ir::functions::{Function, FunctionResult};
@@ -16,20 +17,17 @@ use naga_below::ir::statements::{Block, Located, Statement};
 use naga_below::ir::types::{AddressSpace, ArraySize, Scalar, Type, TypeInner, VectorSize};
 use naga_below::proc::typifier::TypeResolution;
 use naga_below::sequence::Sequence;
-use naga_below::span::{Refusal, Span};
+use naga_below::span::Span;
 use naga_below::valid::capabilities::Capabilities;
 use naga_below::valid::expression_error::ExpressionError;
 use naga_below::valid::flags::{GlobalUse, ShaderStages, ValidationFlags};
-use naga_below::valid::info::{FunctionInfo, ModuleInfo};
+use naga_below::valid::info::FunctionInfo;
 use naga_rules::below::Below;
 use naga_rules::function::FunctionError;
-use naga_valid::validator::Validator;
 use std::alloc::{AllocError, Global};
 use std::num::NonZeroU32;
 use std::process::Abort;
 use std::test::Fail;
-
-const HERE: Span = Span { start: 3, end: 7 };
 
 /// The module of bench P, whose types are 0 bool, 1 u32 and 2 i32.
 fn module_p(alloc: Global) -> Result<Module, AllocError> {
@@ -37,21 +35,21 @@ fn module_p(alloc: Global) -> Result<Module, AllocError> {
     bench_module(alloc, Bench::P, Block { list })
 }
 
-fn no_infos(alloc: Global) -> ModuleInfo {
-    ModuleInfo {
-        functions: Sequence::new(alloc),
-        entry_points: Sequence::new(alloc),
-        global_types: Sequence::new(alloc),
-    }
-}
-
 const LITERAL: Expression = Expression::Literal(Literal {
     scalar: Scalar::U32,
     bits: 7,
 });
 
+/// A body that returns the literal where it returns something.
+fn body_of(alloc: Global, returns: bool) -> Result<Vec<Located>, AllocError> {
+    let value = if returns { Some(Handle::new(0)) } else { None };
+    let mut list = Vec::new(alloc);
+    add(&mut list, Statement::Return { value }, HERE)?;
+    Ok(list)
+}
+
 /// A function of this expression and a u32 literal before it, which returns the literal where a type is declared.
-fn function_of(
+fn function(
     alloc: Global,
     second: Expression,
     declared: Option<u32>,
@@ -59,91 +57,86 @@ fn function_of(
     let mut expressions = Arena::new(alloc);
     expressions.append(LITERAL, HERE)?;
     expressions.append(second, HERE)?;
-    let mut list = Vec::new(alloc);
-    let value = if declared.is_some() {
-        Some(Handle::new(0))
-    } else {
-        None
-    };
-    list.push(Located {
-        statement: Statement::Return { value },
-        span: HERE,
-    })?;
-    let result = match declared {
-        Some(ty) => Some(FunctionResult {
+    let list = body_of(alloc, declared.is_some())?;
+    let mut fun = function_of(alloc, Arena::new(alloc), expressions, list);
+    if let Some(ty) = declared {
+        fun.result = Some(FunctionResult {
             ty: Handle::new(ty),
             binding: None,
-        }),
-        None => None,
-    };
-    Ok(Function {
-        arguments: Sequence::new(alloc),
-        result,
-        local_variables: Arena::new(alloc),
-        expressions,
-        body: Block { list },
-    })
+        });
+    }
+    Ok(fun)
 }
 
-/// What the validator answers over the plain layer.
-fn judge(
+/// A function has the expected answer in the module of bench P, a fault at this place.
+fn expect_of(
     rt: &(impl Abort + AllocGlobal),
     fun: &Function,
-    module: &Module,
-) -> Result<FunctionInfo, Refusal<FunctionError>> {
+    place: Option<Span>,
+    expected: Answer,
+) -> Result<(), AllocError> {
+    let module = module_p(rt.alloc())?;
     let infos = no_infos(rt.alloc());
-    let flags = ValidationFlags(0xf);
-    let mut validator = Validator::new(plain(), flags, Capabilities(0));
-    assert!(rt; fits_types(module));
-    assert!(rt; fits_function(fun, module, infos.functions.len()));
-    validator.validate_body(rt.alloc(), fun, module, &infos)
+    let mut validator = validator_for(EVERYTHING);
+    let answer = judge(rt, &mut validator, fun, &module, &infos, place);
+    expect(rt, answer, expected);
+    Ok(())
 }
 
 #[test]
 fn a_returned_literal_has_the_declared_type(rt: HostRuntime) -> Result<(), Fail> {
-    let module = module_p(rt.alloc())?;
-    let fun = function_of(rt.alloc(), LITERAL, Some(1))?;
-    match judge(&rt, &fun, &module) {
-        Ok(info) => assert_eq!(rt; info.available_stages, ShaderStages(0x1ff)),
-        Err(_) => assert!(rt; false),
-    }
+    let fun = function(rt.alloc(), LITERAL, Some(1))?;
+    expect_of(&rt, &fun, None, Ok(ShaderStages(0x1ff)))?;
     Ok(())
 }
 
 #[test]
 fn a_returned_literal_has_another_type(rt: HostRuntime) -> Result<(), Fail> {
-    let module = module_p(rt.alloc())?;
-    let fun = function_of(rt.alloc(), LITERAL, Some(2))?;
-    let Err(Refusal::Fault(fault)) = judge(&rt, &fun, &module) else {
-        panic!(rt; "accepted");
-    };
-    let expected = FunctionError::InvalidReturnType {
+    let fun = function(rt.alloc(), LITERAL, Some(2))?;
+    let declared = FunctionError::InvalidReturnType {
         expression: Some(Handle::new(0)),
         expected_ty: Some(Handle::new(2)),
     };
-    assert_eq!(rt; *fault.as_inner(), expected);
-    assert_eq!(rt; fault.spans(), [HERE].as_slice());
+    expect_of(&rt, &fun, Some(HERE), Err(declared))?;
     Ok(())
 }
 
 #[test]
 fn a_splat_has_no_type(rt: HostRuntime) -> Result<(), Fail> {
-    let module = module_p(rt.alloc())?;
     let splat = Expression::Splat {
         operands: Sequence::new(rt.alloc()),
         detail: 0,
     };
-    let fun = function_of(rt.alloc(), splat, None)?;
-    let Err(Refusal::Fault(fault)) = judge(&rt, &fun, &module) else {
-        panic!(rt; "accepted");
-    };
-    let expected = FunctionError::Expression {
+    let fun = function(rt.alloc(), splat, None)?;
+    let untyped = FunctionError::Expression {
         handle: Handle::new(1),
         source: ExpressionError::Lower(1),
     };
-    assert_eq!(rt; *fault.as_inner(), expected);
-    assert!(rt; fault.spans().is_empty());
+    expect_of(&rt, &fun, None, Err(untyped))?;
     Ok(())
+}
+
+/// What the plain layer answers to a function, with no other before it.
+fn info_of(alloc: Global, fun: &Function, module: &Module) -> Option<FunctionInfo> {
+    let infos = no_infos(alloc);
+    let flags = ValidationFlags(0);
+    let found = plain().process_function(alloc, fun, module, &infos, flags, Capabilities(0));
+    match found {
+        Ok(info) => Some(info),
+        Err(_) => None,
+    }
+}
+
+/// The type of an expression in an info.
+fn type_in(
+    alloc: Global,
+    info: &FunctionInfo,
+    index: usize,
+) -> Result<Option<TypeResolution>, Fail> {
+    match info.expression_types.as_slice().get(index) {
+        Some(ty) => Ok(Some(ty.clone(alloc)?)),
+        None => Ok(None),
+    }
 }
 
 /// The type that the plain layer gives an expression behind a u32 literal; `None` where it has none for it.
@@ -152,22 +145,10 @@ fn type_of(
     module: &Module,
     expression: Expression,
 ) -> Result<Option<TypeResolution>, Fail> {
-    let fun = function_of(alloc, expression, None)?;
-    let infos = no_infos(alloc);
-    let found = plain().process_function(
-        alloc,
-        &fun,
-        module,
-        &infos,
-        ValidationFlags(0),
-        Capabilities(0),
-    );
-    match found {
-        Ok(info) => match info.expression_types.as_slice().get(1) {
-            Some(ty) => Ok(Some(ty.clone(alloc)?)),
-            None => Ok(None),
-        },
-        Err(_) => Ok(None),
+    let fun = function(alloc, expression, None)?;
+    match info_of(alloc, &fun, module) {
+        Some(info) => type_in(alloc, &info, 1),
+        None => Ok(None),
     }
 }
 
@@ -223,16 +204,27 @@ fn global_u32() -> GlobalVariable {
     }
 }
 
-#[test]
-fn a_global_is_read_and_stands_for_a_pointer(rt: HostRuntime) -> Result<(), Fail> {
-    let alloc = rt.alloc();
-    let mut module = module_p(alloc)?;
+/// The module of bench P with two globals.
+fn module_with_globals(alloc: Global) -> Result<Module, AllocError> {
     let mut globals = Arena::new(alloc);
     globals.append(global_u32(), HERE)?;
     globals.append(global_u32(), HERE)?;
+    let mut module = module_p(alloc)?;
     module.global_variables = globals;
-    let fun = function_of(alloc, Expression::GlobalVariable(Handle::new(1)), None)?;
-    let Ok(info) = judge(&rt, &fun, &module) else {
+    Ok(module)
+}
+
+/// What the plain layer answers to a function in that module.
+fn info_with_globals(alloc: Global, fun: &Function) -> Result<Option<FunctionInfo>, AllocError> {
+    let module = module_with_globals(alloc)?;
+    Ok(info_of(alloc, fun, &module))
+}
+
+#[test]
+fn a_global_is_read_and_stands_for_a_pointer(rt: HostRuntime) -> Result<(), Fail> {
+    let alloc = rt.alloc();
+    let fun = function(alloc, Expression::GlobalVariable(Handle::new(1)), None)?;
+    let Some(info) = info_with_globals(alloc, &fun)? else {
         panic!(rt; "refused");
     };
     assert_eq!(rt;
@@ -243,10 +235,7 @@ fn a_global_is_read_and_stands_for_a_pointer(rt: HostRuntime) -> Result<(), Fail
         base: Handle::new(1),
         space: AddressSpace::Private,
     });
-    match info.expression_types.as_slice().get(1) {
-        Some(ty) => assert_eq!(rt; *ty, pointer),
-        None => assert!(rt; false),
-    }
+    assert_eq!(rt; type_in(alloc, &info, 1)?, Some(pointer));
     Ok(())
 }
 
@@ -277,10 +266,9 @@ fn kinds(rt: HostRuntime) -> Result<(), Fail> {
 
 /// The size that the plain layer gives a type.
 fn size_of(alloc: Global, inner: TypeInner) -> Result<Option<u32>, AllocError> {
-    let mut module = module_p(alloc)?;
     let mut types = UniqueArena::new(alloc);
     let handle = types.insert(Type { name: None, inner }, HERE)?;
-    module.types = types;
+    let module = module_of(alloc, types, Arena::new(alloc), Arena::new(alloc));
     Ok(plain().type_size(&module, handle))
 }
 

@@ -1,7 +1,8 @@
 //! Ray queries and ray traces, and what traces leave, judged over the plain layer.
 
 use crate::tests::bodies::{
-    EVERYTHING, NOWHERE, add, add_type, function_of, judge, module_of, no_infos, validator_for,
+    Answer, EVERYTHING, NOWHERE, add, add_type, expect, function_of, judge, module_of, no_infos,
+    validator_for,
 };
 use naga_below::arena::Arena;
 use naga_below::arena::handle::Handle;
@@ -164,17 +165,19 @@ fn function(
     Ok(function_of(rt.alloc(), locals, expressions, list))
 }
 
-/// The stages of a function, or its fault at this place, and what its ray traces left.
-fn answer_of(
+/// A function has the expected answer, a fault at this place. What its ray traces left.
+fn expect_of(
     rt: &(impl Abort + AllocGlobal),
     fun: &Function,
     place: Span,
-) -> Result<(Result<ShaderStages, FunctionError>, TraceState), AllocError> {
+    expected: Answer,
+) -> Result<TraceState, AllocError> {
     let module = module(rt)?;
     let infos = infos_of(rt.alloc())?;
     let mut validator = validator_for(EVERYTHING);
-    let answer = judge(rt, &mut validator, fun, &module, &infos, place);
-    Ok((answer, validator.trace_state()))
+    let answer = judge(rt, &mut validator, fun, &module, &infos, Some(place));
+    expect(rt, answer, expected);
+    Ok(validator.trace_state())
 }
 
 /// A query goes on, with expression 7 as its result.
@@ -187,52 +190,45 @@ fn proceed(query: u32) -> Statement {
     }
 }
 
-/// A ray through a structure with a descriptor and a payload, each an expression.
-fn ray(structure: u32, descriptor: u32, payload: u32) -> Statement {
-    Statement::RayPipelineFunction(RayPipelineFunction::TraceRay {
-        acceleration_structure: Handle::new(structure),
-        descriptor: Handle::new(descriptor),
-        payload: Handle::new(payload),
-    })
-}
-
 /// A place of its own for each number.
 fn at(start: u32) -> Span {
     Span { start, end: start }
 }
 
-/// A function with this body, whose last expression is a Unary.
-fn traces(rt: &(impl Abort + AllocGlobal), list: Vec<Located>) -> Result<Function, AllocError> {
+/// A query that goes on, with a Unary as its result, has the expected answer.
+fn proceed_gets(
+    rt: &(impl Abort + AllocGlobal),
+    query: u32,
+    expected: Answer,
+) -> Result<(), AllocError> {
+    let mut list = Vec::new(rt.alloc());
+    add(&mut list, proceed(query), at(1))?;
     let last = unary(rt.alloc())?;
-    function(rt, last, list)
-}
-
-#[test]
-fn the_result_of_a_proceed_is_of_any_kind(rt: HostRuntime) -> Result<(), Fail> {
-    let mut list = Vec::new(rt.alloc());
-    add(&mut list, proceed(6), at(1))?;
-    let fun = traces(&rt, list)?;
-    let (answer, _) = answer_of(&rt, &fun, NOWHERE)?;
-    assert!(rt; answer.is_ok());
+    let fun = function(rt, last, list)?;
+    expect_of(rt, &fun, at(1), expected)?;
     Ok(())
 }
 
 #[test]
-fn a_query_is_a_local(rt: HostRuntime) -> Result<(), Fail> {
-    let mut list = Vec::new(rt.alloc());
-    add(&mut list, proceed(5), at(1))?;
-    let fun = traces(&rt, list)?;
-    let (answer, _) = answer_of(&rt, &fun, at(1))?;
-    assert!(rt; answer == Err(FunctionError::InvalidRayQueryExpression(Handle::new(5))));
+fn a_query_is_a_local_and_its_result_of_any_kind(rt: HostRuntime) -> Result<(), Fail> {
+    proceed_gets(&rt, 6, Ok(ShaderStages(0x1ff)))?;
+    let no_local = FunctionError::InvalidRayQueryExpression(Handle::new(5));
+    proceed_gets(&rt, 5, Err(no_local))?;
     Ok(())
 }
 
-/// In a Block a Proceed whose result is a call's; behind it the call.
-fn proceed_and_call(alloc: Global) -> Result<Vec<Located>, AllocError> {
-    let mut inner = Vec::new(alloc);
-    add(&mut inner, proceed(6), at(1))?;
+/// A Block of a Proceed whose result is a call's.
+fn block(alloc: Global) -> Result<Statement, AllocError> {
     let mut list = Vec::new(alloc);
-    add(&mut list, Statement::Block(Block { list: inner }), at(2))?;
+    add(&mut list, proceed(6), at(1))?;
+    Ok(Statement::Block(Block { list }))
+}
+
+/// That Block, and behind it the call.
+fn proceed_and_call(alloc: Global) -> Result<Vec<Located>, AllocError> {
+    let block = block(alloc)?;
+    let mut list = Vec::new(alloc);
+    add(&mut list, block, at(2))?;
     let call = Statement::Call {
         function: Handle::new(0),
         arguments: Sequence::new(alloc),
@@ -246,62 +242,88 @@ fn proceed_and_call(alloc: Global) -> Result<Vec<Located>, AllocError> {
 fn a_proceed_fills_no_result_of_a_call(rt: HostRuntime) -> Result<(), Fail> {
     let list = proceed_and_call(rt.alloc())?;
     let fun = function(&rt, Expression::CallResult(Handle::new(0)), list)?;
-    let (answer, _) = answer_of(&rt, &fun, NOWHERE)?;
-    assert!(rt; answer.is_ok());
+    expect_of(&rt, &fun, at(3), Ok(ShaderStages(0x1ff)))?;
     Ok(())
 }
 
+/// A ray through a structure with a descriptor and a payload, each an expression.
+#[derive(Clone, Copy)]
+struct Ray {
+    structure: u32,
+    descriptor: u32,
+    payload: u32,
+}
+
+/// A function that traces these rays, whose places are counted from 0.
+fn traces(rt: &(impl Abort + AllocGlobal), rays: &[Ray]) -> Result<Function, AllocError> {
+    let mut list = Vec::new(rt.alloc());
+    for (place, ray) in rays.iter().enumerate() {
+        assert!(rt; place < 16);
+        let trace = RayPipelineFunction::TraceRay {
+            acceleration_structure: Handle::new(ray.structure),
+            descriptor: Handle::new(ray.descriptor),
+            payload: Handle::new(ray.payload),
+        };
+        let statement = Statement::RayPipelineFunction(trace);
+        add(&mut list, statement, at(place as u32))?;
+    }
+    function(rt, Expression::ZeroValue(Handle::new(0)), list)
+}
+
+/// A good ray whose payload is of u32.
+const GOOD: Ray = Ray {
+    structure: 2,
+    descriptor: 4,
+    payload: 0,
+};
+
 #[test]
 fn all_payloads_are_of_one_type(rt: HostRuntime) -> Result<(), Fail> {
-    let mut list = Vec::new(rt.alloc());
-    add(&mut list, ray(2, 4, 0), at(1))?;
-    add(&mut list, ray(2, 4, 1), at(2))?;
-    let fun = traces(&rt, list)?;
-    let (answer, _) = answer_of(&rt, &fun, at(2))?;
-    let expected = FunctionError::MismatchedPayloadType(Handle::new(1), Handle::new(0));
-    assert!(rt; answer == Err(expected));
+    let fun = traces(&rt, [GOOD, Ray { payload: 1, ..GOOD }].as_slice())?;
+    let mismatch = FunctionError::MismatchedPayloadType(Handle::new(1), Handle::new(0));
+    expect_of(&rt, &fun, at(1), Err(mismatch))?;
     Ok(())
 }
 
 #[test]
 fn a_structure_without_the_flag_stays_in_the_trace_state(rt: HostRuntime) -> Result<(), Fail> {
-    let mut list = Vec::new(rt.alloc());
-    add(&mut list, ray(2, 4, 0), at(1))?;
-    add(&mut list, ray(3, 4, 0), at(2))?;
-    add(&mut list, ray(2, 4, 0), at(3))?;
-    let fun = traces(&rt, list)?;
-    let (answer, trace) = answer_of(&rt, &fun, NOWHERE)?;
-    assert!(rt; answer.is_ok());
-    assert!(rt; trace.vertex_return == TraceRayVertexReturnState::NoVertexReturn(at(2)));
+    let without = Ray {
+        structure: 3,
+        ..GOOD
+    };
+    let fun = traces(&rt, [GOOD, without, GOOD].as_slice())?;
+    let trace = expect_of(&rt, &fun, NOWHERE, Ok(ShaderStages(0x1ff)))?;
+    assert!(rt; trace.vertex_return == TraceRayVertexReturnState::NoVertexReturn(at(1)));
     Ok(())
 }
 
-/// On one validator a function that is refused for the descriptor of its first ray, and then another. What the second is
-/// answered, and what the ray traces left.
+/// On one validator a function that is refused for the descriptor of its first ray, and then one that is accepted. What
+/// the ray traces left.
 fn after_a_refusal(
     rt: &(impl Abort + AllocGlobal),
     refused: &Function,
     fun: &Function,
-) -> Result<(Result<ShaderStages, FunctionError>, TraceState), AllocError> {
+) -> Result<TraceState, AllocError> {
     let module = module(rt)?;
     let infos = infos_of(rt.alloc())?;
     let mut validator = validator_for(EVERYTHING);
-    let first = judge(rt, &mut validator, refused, &module, &infos, at(1));
-    assert!(rt; first == Err(FunctionError::InvalidRayDescriptor(Handle::new(5))));
-    let second = judge(rt, &mut validator, fun, &module, &infos, NOWHERE);
-    Ok((second, validator.trace_state()))
+    let first = judge(rt, &mut validator, refused, &module, &infos, Some(at(0)));
+    let descriptor = FunctionError::InvalidRayDescriptor(Handle::new(5));
+    expect(rt, first, Err(descriptor));
+    let second = judge(rt, &mut validator, fun, &module, &infos, None);
+    expect(rt, second, Ok(ShaderStages(0x1ff)));
+    Ok(validator.trace_state())
 }
 
 #[test]
 fn a_refused_function_leaves_no_payload_type(rt: HostRuntime) -> Result<(), Fail> {
-    let mut first = Vec::new(rt.alloc());
-    add(&mut first, ray(2, 5, 0), at(1))?;
-    let refused = traces(&rt, first)?;
-    let mut second = Vec::new(rt.alloc());
-    add(&mut second, ray(2, 4, 1), at(2))?;
-    let fun = traces(&rt, second)?;
-    let (answer, trace) = after_a_refusal(&rt, &refused, &fun)?;
-    assert!(rt; answer.is_ok());
+    let bad = Ray {
+        descriptor: 5,
+        ..GOOD
+    };
+    let refused = traces(&rt, [bad].as_slice())?;
+    let fun = traces(&rt, [Ray { payload: 1, ..GOOD }].as_slice())?;
+    let trace = after_a_refusal(&rt, &refused, &fun)?;
     assert!(rt; trace.payload == Some(Handle::new(1)));
     Ok(())
 }

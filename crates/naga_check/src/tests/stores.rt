@@ -1,7 +1,7 @@
 //! Uniform loads of work groups and the stores that no bench shows, judged over the plain layer.
 
 use crate::tests::bodies::{
-    EVERYTHING, HERE, NOWHERE, add, add_type, answer_for, function_of, module_of,
+    Answer, EVERYTHING, HERE, NOWHERE, add, add_type, answer_for, expect, function_of, module_of,
 };
 use naga_below::arena::Arena;
 use naga_below::arena::handle::Handle;
@@ -137,44 +137,40 @@ fn function(alloc: Global, statement: Statement) -> Result<Function, AllocError>
     Ok(function_of(alloc, locals, expressions, list))
 }
 
-/// What a function is answered in this module.
-fn answer_of(
+/// A function has the expected answer in this module.
+fn expect_of(
     rt: &(impl Abort + AllocGlobal),
     fun: &Function,
-) -> Result<Result<ShaderStages, FunctionError>, AllocError> {
+    expected: Answer,
+) -> Result<(), AllocError> {
     let module = module(rt)?;
-    Ok(answer_for(rt, EVERYTHING, fun, &module))
-}
-
-/// What a body of this statement is answered.
-fn answer_to(
-    rt: &(impl Abort + AllocGlobal),
-    statement: Statement,
-) -> Result<Result<ShaderStages, FunctionError>, AllocError> {
-    let fun = function(rt.alloc(), statement)?;
-    answer_of(rt, &fun)
-}
-
-#[test]
-fn a_uniform_load_runs_in_stages_with_work_groups(rt: HostRuntime) -> Result<(), Fail> {
-    let load = Statement::WorkGroupUniformLoad {
-        pointer: Handle::new(0),
-        result: Handle::new(1),
-    };
-    let answer = answer_to(&rt, load)?;
-    assert!(rt; answer == Ok(ShaderStages(0x1c)));
+    expect(rt, answer_for(rt, EVERYTHING, fun, &module), expected);
     Ok(())
 }
 
-#[test]
-fn a_uniform_load_is_from_the_work_group(rt: HostRuntime) -> Result<(), Fail> {
-    let load = Statement::WorkGroupUniformLoad {
-        pointer: Handle::new(3),
+/// A body of this statement has the expected answer.
+fn gets(
+    rt: &(impl Abort + AllocGlobal),
+    statement: Statement,
+    expected: Answer,
+) -> Result<(), AllocError> {
+    let fun = function(rt.alloc(), statement)?;
+    expect_of(rt, &fun, expected)
+}
+
+/// A load from an expression, whose result is expression 1.
+fn load(pointer: u32) -> Statement {
+    Statement::WorkGroupUniformLoad {
+        pointer: Handle::new(pointer),
         result: Handle::new(1),
-    };
-    let answer = answer_to(&rt, load)?;
-    let expected = FunctionError::WorkgroupUniformLoadInvalidPointer(Handle::new(3));
-    assert!(rt; answer == Err(expected));
+    }
+}
+
+#[test]
+fn uniform_loads_run_in_stages_with_work_groups(rt: HostRuntime) -> Result<(), Fail> {
+    gets(&rt, load(0), Ok(ShaderStages(0x1c)))?;
+    let local = FunctionError::WorkgroupUniformLoadInvalidPointer(Handle::new(3));
+    gets(&rt, load(3), Err(local))?;
     Ok(())
 }
 
@@ -190,17 +186,10 @@ fn cooperative_store(target: u32) -> Statement {
 }
 
 #[test]
-fn a_cooperative_store_runs_in_compute(rt: HostRuntime) -> Result<(), Fail> {
-    let answer = answer_to(&rt, cooperative_store(2))?;
-    assert!(rt; answer == Ok(ShaderStages(0x4)));
-    Ok(())
-}
-
-#[test]
-fn a_cooperative_store_is_of_a_matrix(rt: HostRuntime) -> Result<(), Fail> {
-    let answer = answer_to(&rt, cooperative_store(10))?;
-    let expected = FunctionError::InvalidCooperativeStoreTarget(Handle::new(10));
-    assert!(rt; answer == Err(expected));
+fn cooperative_stores_run_in_compute(rt: HostRuntime) -> Result<(), Fail> {
+    gets(&rt, cooperative_store(2), Ok(ShaderStages(0x4)))?;
+    let no_matrix = FunctionError::InvalidCooperativeStoreTarget(Handle::new(10));
+    gets(&rt, cooperative_store(10), Err(no_matrix))?;
     Ok(())
 }
 
@@ -219,38 +208,29 @@ fn image_store(coordinate: u32, is_indexed: bool, value: u32) -> Statement {
     }
 }
 
-#[test]
-fn an_image_takes_what_its_format_holds(rt: HostRuntime) -> Result<(), Fail> {
-    let answer = answer_to(&rt, image_store(5, false, 6))?;
-    assert!(rt; answer.is_ok());
-    Ok(())
+/// What an image store is refused for.
+fn refused_store(error: ExpressionError) -> Answer {
+    Err(FunctionError::InvalidImageStore(error))
 }
 
 #[test]
-fn an_image_of_integers_takes_no_floats(rt: HostRuntime) -> Result<(), Fail> {
-    let answer = answer_to(&rt, image_store(5, false, 7))?;
-    let expected = FunctionError::InvalidStoreValue {
+fn an_image_takes_what_its_format_holds(rt: HostRuntime) -> Result<(), Fail> {
+    gets(&rt, image_store(5, false, 6), Ok(ShaderStages(0x1ff)))?;
+    let floats = FunctionError::InvalidStoreValue {
         actual: Handle::new(7),
         actual_ty: vector(VectorSize::Quad, Scalar::F32),
         expected_ty: vector(VectorSize::Quad, Scalar::U32),
     };
-    assert!(rt; answer == Err(expected));
+    gets(&rt, image_store(5, false, 7), Err(floats))?;
     Ok(())
 }
 
 #[test]
-fn a_coordinate_has_as_many_parts_as_the_image(rt: HostRuntime) -> Result<(), Fail> {
-    let answer = answer_to(&rt, image_store(8, false, 6))?;
-    let error = ExpressionError::InvalidImageCoordinateType(ImageDimension::D2, Handle::new(8));
-    assert!(rt; answer == Err(FunctionError::InvalidImageStore(error)));
-    Ok(())
-}
-
-#[test]
-fn an_image_that_is_not_arrayed_has_no_index(rt: HostRuntime) -> Result<(), Fail> {
-    let answer = answer_to(&rt, image_store(5, true, 6))?;
-    let error = ExpressionError::InvalidImageArrayIndex;
-    assert!(rt; answer == Err(FunctionError::InvalidImageStore(error)));
+fn a_texel_has_the_coordinates_of_its_image(rt: HostRuntime) -> Result<(), Fail> {
+    let too_few = ExpressionError::InvalidImageCoordinateType(ImageDimension::D2, Handle::new(8));
+    gets(&rt, image_store(8, false, 6), refused_store(too_few))?;
+    let index = ExpressionError::InvalidImageArrayIndex;
+    gets(&rt, image_store(5, true, 6), refused_store(index))?;
     Ok(())
 }
 
@@ -265,18 +245,16 @@ fn image_add(image: u32) -> Statement {
     }
 }
 
-#[test]
-fn an_image_atomic_needs_its_access(rt: HostRuntime) -> Result<(), Fail> {
-    let answer = answer_to(&rt, image_add(4))?;
-    let error = ExpressionError::InvalidImageStorageAccess(StorageAccess(3));
-    assert!(rt; answer == Err(FunctionError::InvalidImageAtomic(error)));
-    Ok(())
+/// What an atomic operation on an image is refused for.
+fn refused_atomic(error: ExpressionError) -> Answer {
+    Err(FunctionError::InvalidImageAtomic(error))
 }
 
 #[test]
-fn an_image_atomic_needs_integers(rt: HostRuntime) -> Result<(), Fail> {
-    let answer = answer_to(&rt, image_add(9))?;
-    let error = ExpressionError::InvalidImageFormat(StorageFormat::R32Float);
-    assert!(rt; answer == Err(FunctionError::InvalidImageAtomic(error)));
+fn image_atomics_need_access_and_integers(rt: HostRuntime) -> Result<(), Fail> {
+    let access = ExpressionError::InvalidImageStorageAccess(StorageAccess(3));
+    gets(&rt, image_add(4), refused_atomic(access))?;
+    let floats = ExpressionError::InvalidImageFormat(StorageFormat::R32Float);
+    gets(&rt, image_add(9), refused_atomic(floats))?;
     Ok(())
 }

@@ -1,7 +1,8 @@
 //! Barriers and the statements of subgroups, judged over the plain layer.
 
 use crate::tests::bodies::{
-    EVERYTHING, HERE, NOWHERE, Target, add, add_type, answer_for, function_of, module_of,
+    Answer, EVERYTHING, HERE, NOWHERE, Target, add, add_type, answer_for, expect, function_of,
+    module_of,
 };
 use naga_below::arena::Arena;
 use naga_below::arena::handle::Handle;
@@ -92,36 +93,47 @@ fn function(alloc: Global, statement: Statement) -> Result<Function, AllocError>
     Ok(function_of(alloc, locals, expressions, list))
 }
 
-/// What a function is answered in this module.
-fn answer_of(
+/// A function has the expected answer in this module.
+fn expect_of(
     rt: &(impl Abort + AllocGlobal),
     target: Target,
     fun: &Function,
-) -> Result<Result<ShaderStages, FunctionError>, AllocError> {
+    expected: Answer,
+) -> Result<(), AllocError> {
     let module = module(rt)?;
-    Ok(answer_for(rt, target, fun, &module))
+    expect(rt, answer_for(rt, target, fun, &module), expected);
+    Ok(())
 }
 
-/// What a body of this statement is answered for this target.
-fn answer_to(
+/// A body of this statement has the expected answer for this target.
+fn gets(
     rt: &(impl Abort + AllocGlobal),
     target: Target,
     statement: Statement,
-) -> Result<Result<ShaderStages, FunctionError>, AllocError> {
+    expected: Answer,
+) -> Result<(), AllocError> {
     let fun = function(rt.alloc(), statement)?;
-    answer_of(rt, target, &fun)
+    expect_of(rt, target, &fun, expected)
 }
 
 /// A fault of a subgroup statement.
-fn refused(error: SubgroupError) -> Result<ShaderStages, FunctionError> {
+fn refused(error: SubgroupError) -> Answer {
     Err(FunctionError::InvalidSubgroup(error))
 }
 
-/// A target without VOTE.
-fn without_votes() -> Target {
+/// A target that lacks some groups of operations.
+fn without(operations: u8) -> Target {
     Target {
-        operations: SubgroupOperationSet(0x7d),
+        operations: SubgroupOperationSet(0x7f ^ operations),
         ..EVERYTHING
+    }
+}
+
+/// A ballot of all invocations.
+fn ballot() -> Statement {
+    Statement::SubgroupBallot {
+        result: Handle::new(9),
+        predicate: None,
     }
 }
 
@@ -131,28 +143,9 @@ fn a_ballot_runs_at_the_stages_of_subgroups(rt: HostRuntime) -> Result<(), Fail>
         stages: ShaderStages(0x1c),
         ..EVERYTHING
     };
-    let ballot = Statement::SubgroupBallot {
-        result: Handle::new(9),
-        predicate: None,
-    };
-    let answer = answer_to(&rt, target, ballot)?;
-    assert!(rt; answer == Ok(ShaderStages(0x1c)));
-    Ok(())
-}
-
-#[test]
-fn a_ballot_needs_its_operations(rt: HostRuntime) -> Result<(), Fail> {
-    let target = Target {
-        operations: SubgroupOperationSet(0x77),
-        ..EVERYTHING
-    };
-    let ballot = Statement::SubgroupBallot {
-        result: Handle::new(9),
-        predicate: None,
-    };
-    let answer = answer_to(&rt, target, ballot)?;
+    gets(&rt, target, ballot(), Ok(ShaderStages(0x1c)))?;
     let error = SubgroupError::UnsupportedOperation(SubgroupOperationSet::BALLOT);
-    assert!(rt; answer == refused(error));
+    gets(&rt, without(0x8), ballot(), refused(error))?;
     Ok(())
 }
 
@@ -172,100 +165,70 @@ fn collective(
 }
 
 #[test]
-fn bits_are_combined_over_all_invocations(rt: HostRuntime) -> Result<(), Fail> {
-    let all = collective(SubgroupOperation::And, CollectiveOperation::Reduce, 0, 6);
-    let answer = answer_to(&rt, EVERYTHING, all)?;
-    assert!(rt; answer.is_ok());
+fn bits_are_combined_over_all_invocations_alone(rt: HostRuntime) -> Result<(), Fail> {
+    let and = SubgroupOperation::And;
+    let all = collective(and, CollectiveOperation::Reduce, 0, 6);
+    gets(&rt, EVERYTHING, all, Ok(ShaderStages(0x1ff)))?;
+    let scan = collective(and, CollectiveOperation::InclusiveScan, 0, 6);
+    gets(
+        &rt,
+        EVERYTHING,
+        scan,
+        refused(SubgroupError::UnknownOperation),
+    )?;
     Ok(())
 }
 
 #[test]
-fn bits_are_not_scanned(rt: HostRuntime) -> Result<(), Fail> {
-    let scan = collective(
-        SubgroupOperation::And,
-        CollectiveOperation::InclusiveScan,
-        0,
-        6,
-    );
-    let answer = answer_to(&rt, EVERYTHING, scan)?;
-    assert!(rt; answer == refused(SubgroupError::UnknownOperation));
-    Ok(())
-}
-
-#[test]
-fn votes_are_no_vectors(rt: HostRuntime) -> Result<(), Fail> {
-    let vote = collective(SubgroupOperation::All, CollectiveOperation::Reduce, 3, 8);
-    let answer = answer_to(&rt, EVERYTHING, vote)?;
-    assert!(rt; answer == refused(SubgroupError::InvalidOperand(Handle::new(3))));
-    Ok(())
-}
-
-#[test]
-fn votes_need_their_operations(rt: HostRuntime) -> Result<(), Fail> {
-    let vote = collective(SubgroupOperation::All, CollectiveOperation::Reduce, 2, 8);
-    let answer = answer_to(&rt, without_votes(), vote)?;
+fn votes_are_of_one_bool(rt: HostRuntime) -> Result<(), Fail> {
+    let all = SubgroupOperation::All;
+    let bools = collective(all, CollectiveOperation::Reduce, 3, 8);
+    let vector = SubgroupError::InvalidOperand(Handle::new(3));
+    gets(&rt, EVERYTHING, bools, refused(vector))?;
+    let vote = collective(all, CollectiveOperation::Reduce, 2, 8);
     let error = SubgroupError::UnsupportedOperation(SubgroupOperationSet::VOTE);
-    assert!(rt; answer == refused(error));
+    gets(&rt, without(0x2), vote, refused(error))?;
     Ok(())
 }
 
-/// A broadcast of an i32 from this index.
-fn broadcast(index: u32) -> Statement {
+/// A broadcast of an argument from an index.
+fn broadcast(index: u32, argument: u32, gathered: u32) -> Statement {
     Statement::SubgroupGather {
         mode: GatherMode::Broadcast(Handle::new(index)),
-        argument: Handle::new(1),
-        result: Handle::new(7),
+        argument: Handle::new(argument),
+        result: Handle::new(gathered),
     }
 }
 
 #[test]
-fn a_wrong_index_is_told_of_the_argument(rt: HostRuntime) -> Result<(), Fail> {
-    let fault = SubgroupError::InvalidOperand(Handle::new(0));
-    let gather = Statement::SubgroupGather {
-        mode: GatherMode::Broadcast(Handle::new(1)),
-        argument: Handle::new(0),
-        result: Handle::new(6),
-    };
-    let answer = answer_to(&rt, EVERYTHING, gather)?;
-    assert!(rt; answer == refused(fault));
-    Ok(())
-}
-
-#[test]
 fn a_broadcast_is_from_a_constant_index(rt: HostRuntime) -> Result<(), Fail> {
-    let answer = answer_to(&rt, EVERYTHING, broadcast(5))?;
-    let error = SubgroupError::InvalidInvocationIdExprType(Handle::new(5));
-    assert!(rt; answer == refused(error));
-    Ok(())
-}
-
-#[test]
-fn a_broadcast_from_a_constant_index_is_accepted(rt: HostRuntime) -> Result<(), Fail> {
-    let answer = answer_to(&rt, EVERYTHING, broadcast(0))?;
-    assert!(rt; answer.is_ok());
+    gets(&rt, EVERYTHING, broadcast(0, 1, 7), Ok(ShaderStages(0x1ff)))?;
+    let loaded = SubgroupError::InvalidInvocationIdExprType(Handle::new(5));
+    gets(&rt, EVERYTHING, broadcast(5, 1, 7), refused(loaded))?;
+    let signed = SubgroupError::InvalidOperand(Handle::new(0));
+    gets(&rt, EVERYTHING, broadcast(1, 0, 6), refused(signed))?;
     Ok(())
 }
 
 #[test]
 fn barriers_run_in_stages_with_work_groups(rt: HostRuntime) -> Result<(), Fail> {
-    let barrier = Statement::ControlBarrier(Barrier::WORK_GROUP);
     let none = Target {
         capabilities: Capabilities(0),
         ..EVERYTHING
     };
-    let answer = answer_to(&rt, none, barrier)?;
-    assert!(rt; answer == Ok(ShaderStages(0x1c)));
+    let barrier = Statement::ControlBarrier(Barrier::WORK_GROUP);
+    gets(&rt, none, barrier, Ok(ShaderStages(0x1c)))?;
     Ok(())
 }
 
 #[test]
 fn a_subgroup_barrier_needs_both_capabilities(rt: HostRuntime) -> Result<(), Fail> {
-    let barrier = Statement::MemoryBarrier(Barrier::SUB_GROUP);
     let subgroups = Target {
         capabilities: Capabilities::SUBGROUP,
         ..EVERYTHING
     };
-    let answer = answer_to(&rt, subgroups, barrier)?;
-    assert!(rt; answer == Err(FunctionError::MissingCapability(Capabilities(0x1800000))));
+    let barrier = Statement::MemoryBarrier(Barrier::SUB_GROUP);
+    let both = FunctionError::MissingCapability(Capabilities(0x1800000));
+    gets(&rt, subgroups, barrier, Err(both))?;
     Ok(())
 }
