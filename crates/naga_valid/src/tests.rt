@@ -56,35 +56,64 @@ fn no_infos(alloc: Global) -> ModuleInfo {
     }
 }
 
-/// A function of a literal and its negation, with one statement.
-fn function_of(alloc: Global, statement: Statement) -> Result<Function, AllocError> {
-    let mut expressions = Arena::new(alloc);
+/// A literal and its negation.
+fn expressions_of(alloc: Global) -> Result<Arena<Expression>, AllocError> {
+    let mut operands = Sequence::new(alloc);
+    operands.push(Handle::new(0))?;
+    let negation = Expression::Unary {
+        operands,
+        detail: 0,
+    };
     let literal = Literal {
         scalar: Scalar::BOOL,
         bits: 1,
     };
+    let mut expressions = Arena::new(alloc);
     expressions.append(Expression::Literal(literal), NOWHERE)?;
-    let mut operands = Sequence::new(alloc);
-    operands.push(Handle::new(0))?;
-    expressions.append(
-        Expression::Unary {
-            operands,
-            detail: 0,
-        },
-        NOWHERE,
-    )?;
-    let mut list = Vec::new(alloc);
-    list.push(Located {
-        statement,
-        span: HERE,
-    })?;
-    Ok(Function {
+    expressions.append(negation, NOWHERE)?;
+    Ok(expressions)
+}
+
+/// A function of these expressions with this body, without arguments, result or locals.
+fn function_with(alloc: Global, expressions: Arena<Expression>, list: Vec<Located>) -> Function {
+    Function {
         arguments: Sequence::new(alloc),
         result: None,
         local_variables: Arena::new(alloc),
         expressions,
         body: Block { list },
-    })
+    }
+}
+
+/// A function of a literal and its negation, with one statement.
+fn function_of(alloc: Global, statement: Statement) -> Result<Function, AllocError> {
+    let mut list = Vec::new(alloc);
+    list.push(Located {
+        statement,
+        span: HERE,
+    })?;
+    let expressions = expressions_of(alloc)?;
+    Ok(function_with(alloc, expressions, list))
+}
+
+/// What is judged: the stages, or the fault.
+type Answer = Result<ShaderStages, FunctionError>;
+
+/// What the validator answered. A fault is at its statement, but for a result that nothing fills, which has no place.
+fn answer_of(
+    rt: &(impl Abort + AllocGlobal),
+    answered: Result<FunctionInfo, Refusal<FunctionError>>,
+) -> Answer {
+    match answered {
+        Ok(info) => Ok(info.available_stages),
+        Err(Refusal::Fault(fault)) => {
+            let is_unvisited = matches!(fault.as_inner(), FunctionError::UnvisitedExpression(_));
+            let place = if is_unvisited { &[] } else { [HERE].as_slice() };
+            assert!(rt; fault.spans() == place);
+            Err(fault.into_inner())
+        }
+        Err(Refusal::Memory) => panic!(rt; "no memory"),
+    }
 }
 
 /// What a validator answers for a target with these capabilities.
@@ -95,69 +124,71 @@ fn judge(
     fun: &Function,
     module: &Module,
     mod_info: &ModuleInfo,
-) -> Result<FunctionInfo, Refusal<FunctionError>> {
+) -> Answer {
     let mut validator = Validator::new(Sample, flags, capabilities);
     assert!(rt; fits_types(module));
     assert!(rt; fits_function(fun, module, mod_info.functions.len()));
-    validator.validate_body(rt.alloc(), fun, module, mod_info)
+    answer_of(
+        rt,
+        validator.validate_body(rt.alloc(), fun, module, mod_info),
+    )
+}
+
+/// An answer is the expected one.
+fn expect(rt: &(impl Abort + AllocGlobal), answer: Answer, expected: Answer) {
+    assert!(rt; answer == expected);
+}
+
+/// A body of one statement has the expected answer under these flags.
+fn gets(
+    rt: &(impl Abort + AllocGlobal),
+    flags: ValidationFlags,
+    statement: Statement,
+    expected: Answer,
+) -> Result<(), AllocError> {
+    let fun = function_of(rt.alloc(), statement)?;
+    let (module, infos) = (empty_module(rt.alloc()), no_infos(rt.alloc()));
+    let answer = judge(rt, flags, Capabilities(0), &fun, &module, &infos);
+    expect(rt, answer, expected);
+    Ok(())
 }
 
 #[test]
 fn a_kill_runs_in_the_fragment_stage(rt: HostRuntime) -> Result<(), Fail> {
-    let module = empty_module(rt.alloc());
-    let infos = no_infos(rt.alloc());
-    let fun = function_of(rt.alloc(), Statement::Kill)?;
-    let Ok(info) = judge(&rt, ALL_FLAGS, Capabilities(0), &fun, &module, &infos) else {
-        panic!(rt; "refused");
-    };
-    assert_eq!(rt; info.available_stages, ShaderStages::FRAGMENT);
+    gets(&rt, ALL_FLAGS, Statement::Kill, Ok(ShaderStages::FRAGMENT))?;
     let flags = ValidationFlags::EXPRESSIONS;
-    let Ok(info) = judge(&rt, flags, Capabilities(0), &fun, &module, &infos) else {
-        panic!(rt; "refused without BLOCKS");
-    };
-    assert_eq!(rt; info.available_stages, ShaderStages(0x1ff));
+    gets(&rt, flags, Statement::Kill, Ok(ShaderStages(0x1ff)))?;
     Ok(())
 }
 
 #[test]
 fn a_fault_has_the_place_of_its_statement(rt: HostRuntime) -> Result<(), Fail> {
-    let module = empty_module(rt.alloc());
-    let infos = no_infos(rt.alloc());
     let range = Range { start: 0, end: 2 };
-    let fun = function_of(rt.alloc(), Statement::Emit(range))?;
-    let Err(Refusal::Fault(fault)) = judge(&rt, ALL_FLAGS, Capabilities(0), &fun, &module, &infos)
-    else {
-        panic!(rt; "no fault");
-    };
     let expected = FunctionError::ExpressionAlreadyInScope(Handle::new(0));
-    assert_eq!(rt; *fault.as_inner(), expected);
-    assert_eq!(rt; fault.spans(), [HERE].as_slice());
+    gets(&rt, ALL_FLAGS, Statement::Emit(range), Err(expected))?;
     Ok(())
 }
 
 #[test]
 fn settings_let_subgroups_be_used(rt: HostRuntime) -> Result<(), Fail> {
-    let module = empty_module(rt.alloc());
-    let infos = no_infos(rt.alloc());
-    let barrier = Statement::ControlBarrier(Barrier::SUB_GROUP);
-    let fun = function_of(rt.alloc(), barrier)?;
+    let fun = function_of(rt.alloc(), Statement::ControlBarrier(Barrier::SUB_GROUP))?;
+    let (module, infos) = (empty_module(rt.alloc()), no_infos(rt.alloc()));
     assert!(rt; fits_types(&module));
     assert!(rt; fits_function(&fun, &module, infos.functions.len()));
-    let all = Capabilities(0xfff_ffff);
-    let mut validator = Validator::new(Sample, ALL_FLAGS, all);
+    let mut validator = Validator::new(Sample, ALL_FLAGS, Capabilities(0xfff_ffff));
     let basic = SubgroupOperationSet::BASIC;
-    let error = SubgroupError::UnsupportedOperation(basic);
-    let Err(Refusal::Fault(fault)) = validator.validate_body(rt.alloc(), &fun, &module, &infos)
-    else {
-        panic!(rt; "no fault");
-    };
-    assert_eq!(rt; *fault.as_inner(), FunctionError::InvalidSubgroup(error));
+    let unsupported = SubgroupError::UnsupportedOperation(basic);
+    let answered = validator.validate_body(rt.alloc(), &fun, &module, &infos);
+    let expected = FunctionError::InvalidSubgroup(unsupported);
+    expect(&rt, answer_of(&rt, answered), Err(expected));
     validator.subgroup_stages(ShaderStages::COMPUTE);
     validator.subgroup_operations(basic);
-    let Ok(info) = validator.validate_body(rt.alloc(), &fun, &module, &infos) else {
-        panic!(rt; "refused");
-    };
-    assert_eq!(rt; info.available_stages, ShaderStages::COMPUTE_LIKE);
+    let answered = validator.validate_body(rt.alloc(), &fun, &module, &infos);
+    expect(
+        &rt,
+        answer_of(&rt, answered),
+        Ok(ShaderStages::COMPUTE_LIKE),
+    );
     let nothing = TraceState {
         payload: None,
         vertex_return: TraceRayVertexReturnState::NoTraceRays,
@@ -224,13 +255,7 @@ fn atomic_function(
         },
     };
     expressions.append(last, NOWHERE)?;
-    Ok(Function {
-        arguments: Sequence::new(alloc),
-        result: None,
-        local_variables: Arena::new(alloc),
-        expressions,
-        body: Block { list },
-    })
+    Ok(function_with(alloc, expressions, list))
 }
 
 /// A module with an atomic of this scalar in storage. Type 0 is the atomic's, type 1 the scalar.
@@ -259,112 +284,111 @@ fn atomic_module(rt: &(impl Abort + AllocGlobal), scalar: Scalar) -> Result<Modu
         memory_decorations: MemoryDecorations(0),
     };
     global_variables.append(place, NOWHERE)?;
-    Ok(Module {
-        types,
-        special_types: SpecialTypes { ray_desc: None },
-        constants: Arena::new(alloc),
-        overrides: Arena::new(alloc),
-        global_variables,
-        global_expressions: Arena::new(alloc),
-        functions: Arena::new(alloc),
-        entry_points: Sequence::new(alloc),
-    })
+    let mut module = empty_module(alloc);
+    module.types = types;
+    module.global_variables = global_variables;
+    Ok(module)
 }
 
-/// The fault of an answer, if it is one. It is at its statement, but for a result that nothing fills, which has no place.
-fn fault_of(
-    rt: &(impl Abort + AllocGlobal),
-    answer: Result<FunctionInfo, Refusal<FunctionError>>,
-) -> Option<FunctionError> {
-    match answer {
-        Ok(_) => None,
-        Err(Refusal::Fault(fault)) => {
-            let is_unvisited = matches!(fault.as_inner(), FunctionError::UnvisitedExpression(_));
-            let place = if is_unvisited { &[] } else { [HERE].as_slice() };
-            assert!(rt; fault.spans() == place);
-            Some(fault.into_inner())
-        }
-        Err(Refusal::Memory) => panic!(rt; "no memory"),
-    }
-}
-
-/// The fault of a body of these statements, over an atomic of this scalar.
-fn fault_of_atomics(
+/// A body of these statements, over an atomic of this scalar, has the expected answer.
+fn atomics_get(
     rt: &(impl Abort + AllocGlobal),
     capabilities: Capabilities,
     scalar: Scalar,
     mark: Option<bool>,
     list: Vec<Located>,
-) -> Result<Option<FunctionError>, AllocError> {
-    let infos = no_infos(rt.alloc());
+    expected: Answer,
+) -> Result<(), AllocError> {
     let fun = atomic_function(rt.alloc(), scalar, mark, list)?;
     let module = atomic_module(rt, scalar)?;
+    let infos = no_infos(rt.alloc());
     let answer = judge(rt, ALL_FLAGS, capabilities, &fun, &module, &infos);
-    Ok(fault_of(rt, answer))
+    expect(rt, answer, expected);
+    Ok(())
+}
+
+/// A fault of an atomic operation.
+fn refused(error: AtomicError) -> Answer {
+    Err(FunctionError::InvalidAtomic(error))
+}
+
+const EVERYWHERE: ShaderStages = ShaderStages(0x1ff);
+
+/// A body of one addition to a u32 has the expected answer.
+fn addition_gets(
+    rt: &(impl Abort + AllocGlobal),
+    mark: bool,
+    has_result: bool,
+    expected: Answer,
+) -> Result<(), AllocError> {
+    let list = vec![in rt.alloc(); atomic(&AtomicFunction::Add, has_result)]?;
+    atomics_get(rt, Capabilities(0), Scalar::U32, Some(mark), list, expected)
+}
+
+#[test]
+fn an_atomic_result_is_filled(rt: HostRuntime) -> Result<(), Fail> {
+    let result = Handle::new(2);
+    addition_gets(&rt, false, true, Ok(EVERYWHERE))?;
+    let marked = AtomicError::ResultExpressionExchange(result);
+    addition_gets(&rt, true, true, refused(marked))?;
+    let unvisited = FunctionError::UnvisitedExpression(result);
+    addition_gets(&rt, false, false, Err(unvisited))?;
+    Ok(())
 }
 
 #[test]
 fn an_atomic_result_is_filled_once(rt: HostRuntime) -> Result<(), Fail> {
-    let none = Capabilities(0);
     let add = AtomicFunction::Add;
-    let result = Handle::new(2);
-
-    let list = vec![in rt.alloc(); atomic(&add, true)]?;
-    let fault = fault_of_atomics(&rt, none, Scalar::U32, Some(false), list)?;
-    assert!(rt; fault == None);
-
-    let list = vec![in rt.alloc(); atomic(&add, true)]?;
-    let fault = fault_of_atomics(&rt, none, Scalar::U32, Some(true), list)?;
-    let expected = AtomicError::ResultExpressionExchange(result);
-    assert!(rt; fault == Some(FunctionError::InvalidAtomic(expected)));
-
     let list = vec![in rt.alloc(); atomic(&add, true), atomic(&add, true)]?;
-    let fault = fault_of_atomics(&rt, none, Scalar::U32, Some(false), list)?;
-    let expected = AtomicError::ResultAlreadyPopulated(result);
-    assert!(rt; fault == Some(FunctionError::InvalidAtomic(expected)));
-
-    let list = vec![in rt.alloc(); atomic(&add, false)]?;
-    let fault = fault_of_atomics(&rt, none, Scalar::U32, Some(false), list)?;
-    assert!(rt; fault == Some(FunctionError::UnvisitedExpression(result)));
+    let twice = refused(AtomicError::ResultAlreadyPopulated(Handle::new(2)));
+    atomics_get(&rt, Capabilities(0), Scalar::U32, Some(false), list, twice)?;
     Ok(())
+}
+
+/// A body of one atomic operation without a result has the expected answer.
+fn operation_gets(
+    rt: &(impl Abort + AllocGlobal),
+    capabilities: Capabilities,
+    scalar: Scalar,
+    fun: &AtomicFunction,
+    expected: Answer,
+) -> Result<(), AllocError> {
+    let list = vec![in rt.alloc(); atomic(fun, false)]?;
+    atomics_get(rt, capabilities, scalar, None, list, expected)
 }
 
 #[test]
 fn an_exchange_without_a_result_compares(rt: HostRuntime) -> Result<(), Fail> {
     let none = Capabilities(0);
     let plain = AtomicFunction::Exchange { compare: None };
-    let list = vec![in rt.alloc(); atomic(&plain, false)]?;
-    let fault = fault_of_atomics(&rt, none, Scalar::U32, None, list)?;
-    let expected = AtomicError::MissingReturnValue;
-    assert!(rt; fault == Some(FunctionError::InvalidAtomic(expected)));
-
+    let missing = refused(AtomicError::MissingReturnValue);
+    operation_gets(&rt, none, Scalar::U32, &plain, missing)?;
     let compare = AtomicFunction::Exchange {
         compare: Some(Handle::new(2)),
     };
-    let list = vec![in rt.alloc(); atomic(&compare, false)]?;
-    let fault = fault_of_atomics(&rt, none, Scalar::U32, None, list)?;
-    assert!(rt; fault == None);
+    operation_gets(&rt, none, Scalar::U32, &compare, Ok(EVERYWHERE))?;
     Ok(())
 }
 
 #[test]
 fn atomics_need_capabilities(rt: HostRuntime) -> Result<(), Fail> {
-    let min = AtomicFunction::Min;
     let weaker = Capabilities::SHADER_INT64_ATOMIC_MIN_MAX;
-    let list = vec![in rt.alloc(); atomic(&min, false)]?;
-    let fault = fault_of_atomics(&rt, weaker, Scalar::U64, None, list)?;
-    assert!(rt; fault == None);
-
-    let list = vec![in rt.alloc(); atomic(&min, true)]?;
-    let fault = fault_of_atomics(&rt, weaker, Scalar::U64, Some(false), list)?;
-    let expected = AtomicError::MissingCapability(Capabilities::SHADER_INT64_ATOMIC_ALL_OPS);
-    assert!(rt; fault == Some(FunctionError::InvalidAtomic(expected)));
-
-    let list = vec![in rt.alloc(); atomic(&AtomicFunction::Max, false)]?;
+    let min = AtomicFunction::Min;
+    operation_gets(&rt, weaker, Scalar::U64, &min, Ok(EVERYWHERE))?;
     let floats = Capabilities::SHADER_FLOAT32_ATOMIC;
-    let fault = fault_of_atomics(&rt, floats, Scalar::F32, None, list)?;
-    let expected = AtomicError::InvalidOperator(AtomicFunction::Max);
-    assert!(rt; fault == Some(FunctionError::InvalidAtomic(expected)));
+    let max = AtomicFunction::Max;
+    let no_operator = refused(AtomicError::InvalidOperator(max));
+    operation_gets(&rt, floats, Scalar::F32, &max, no_operator)?;
+    Ok(())
+}
+
+#[test]
+fn a_result_of_64_bits_needs_all_operations(rt: HostRuntime) -> Result<(), Fail> {
+    let weaker = Capabilities::SHADER_INT64_ATOMIC_MIN_MAX;
+    let list = vec![in rt.alloc(); atomic(&AtomicFunction::Min, true)]?;
+    let all = Capabilities::SHADER_INT64_ATOMIC_ALL_OPS;
+    let missing = refused(AtomicError::MissingCapability(all));
+    atomics_get(&rt, weaker, Scalar::U64, Some(false), list, missing)?;
     Ok(())
 }
 
@@ -404,13 +428,7 @@ fn caller(alloc: Global, list: Vec<Located>) -> Result<Function, AllocError> {
     };
     expressions.append(negation, NOWHERE)?;
     expressions.append(Expression::CallResult(Handle::new(0)), NOWHERE)?;
-    Ok(Function {
-        arguments: Sequence::new(alloc),
-        result: None,
-        local_variables: Arena::new(alloc),
-        expressions,
-        body: Block { list },
-    })
+    Ok(function_with(alloc, expressions, list))
 }
 
 /// A module with a function that returns a bool.
@@ -435,16 +453,10 @@ fn callee_module(alloc: Global) -> Result<Module, AllocError> {
         },
     };
     functions.append(callee, NOWHERE)?;
-    Ok(Module {
-        types,
-        special_types: SpecialTypes { ray_desc: None },
-        constants: Arena::new(alloc),
-        overrides: Arena::new(alloc),
-        global_variables: Arena::new(alloc),
-        global_expressions: Arena::new(alloc),
-        functions,
-        entry_points: Sequence::new(alloc),
-    })
+    let mut module = empty_module(alloc);
+    module.types = types;
+    module.functions = functions;
+    Ok(module)
 }
 
 /// The info of a function that runs in compute stages alone.
@@ -463,33 +475,33 @@ fn callee_infos(alloc: Global) -> Result<ModuleInfo, AllocError> {
     })
 }
 
-/// The stages that a body of these calls leaves, or its fault.
-fn answer_to_calls(
+/// A body of these calls has the expected answer.
+fn calls_get(
     rt: &(impl Abort + AllocGlobal),
     list: Vec<Located>,
-) -> Result<Result<ShaderStages, FunctionError>, AllocError> {
-    let infos = callee_infos(rt.alloc())?;
+    expected: Answer,
+) -> Result<(), AllocError> {
     let fun = caller(rt.alloc(), list)?;
+    let infos = callee_infos(rt.alloc())?;
     let module = callee_module(rt.alloc())?;
-    match judge(rt, ALL_FLAGS, Capabilities(0), &fun, &module, &infos) {
-        Ok(info) => Ok(Ok(info.available_stages)),
-        Err(Refusal::Fault(fault)) => Ok(Err(fault.into_inner())),
-        Err(Refusal::Memory) => panic!(rt; "no memory"),
-    }
+    let answer = judge(rt, ALL_FLAGS, Capabilities(0), &fun, &module, &infos);
+    expect(rt, answer, expected);
+    Ok(())
 }
 
-/// The same of one call that names this expression.
-fn answer_to_call(
+/// A body of one call that names this expression has the expected answer.
+fn call_gets(
     rt: &(impl Abort + AllocGlobal),
     named: u32,
-) -> Result<Result<ShaderStages, FunctionError>, AllocError> {
+    expected: Answer,
+) -> Result<(), AllocError> {
     let mut list = Vec::new(rt.alloc());
     list.push(call(rt.alloc(), named))?;
-    answer_to_calls(rt, list)
+    calls_get(rt, list, expected)
 }
 
 /// The fault of a call of function 0.
-fn in_call(error: CallError) -> Result<ShaderStages, FunctionError> {
+fn in_call(error: CallError) -> Answer {
     Err(FunctionError::InvalidCall {
         function: Handle::new(0),
         error,
@@ -498,24 +510,28 @@ fn in_call(error: CallError) -> Result<ShaderStages, FunctionError> {
 
 #[test]
 fn a_call_names_its_own_result(rt: HostRuntime) -> Result<(), Fail> {
-    let answer = answer_to_call(&rt, 2)?;
-    assert!(rt; answer == Ok(ShaderStages::COMPUTE_LIKE));
-    let answer = answer_to_call(&rt, 1)?;
-    let error = CallError::ExpressionMismatch(Some(Handle::new(1)));
-    assert!(rt; answer == in_call(error));
-    let answer = answer_to_call(&rt, 0)?;
-    let error = CallError::ResultAlreadyInScope(Handle::new(0));
-    assert!(rt; answer == in_call(error));
+    call_gets(&rt, 2, Ok(ShaderStages::COMPUTE_LIKE))?;
+    let another = CallError::ExpressionMismatch(Some(Handle::new(1)));
+    call_gets(&rt, 1, in_call(another))?;
+    let in_scope = CallError::ResultAlreadyInScope(Handle::new(0));
+    call_gets(&rt, 0, in_call(in_scope))?;
     Ok(())
+}
+
+/// Two Blocks of one call each, which name the same result.
+fn siblings(alloc: Global) -> Result<Vec<Located>, AllocError> {
+    let first = block_of(alloc, call(alloc, 2))?;
+    let second = block_of(alloc, call(alloc, 2))?;
+    let mut list = Vec::new(alloc);
+    list.push(first)?;
+    list.push(second)?;
+    Ok(list)
 }
 
 #[test]
 fn siblings_fill_no_result_twice(rt: HostRuntime) -> Result<(), Fail> {
-    let mut list = Vec::new(rt.alloc());
-    list.push(block_of(rt.alloc(), call(rt.alloc(), 2))?)?;
-    list.push(block_of(rt.alloc(), call(rt.alloc(), 2))?)?;
-    let answer = answer_to_calls(&rt, list)?;
-    let error = CallError::ResultAlreadyPopulated(Handle::new(2));
-    assert!(rt; answer == in_call(error));
+    let list = siblings(rt.alloc())?;
+    let twice = CallError::ResultAlreadyPopulated(Handle::new(2));
+    calls_get(&rt, list, in_call(twice))?;
     Ok(())
 }
