@@ -7,98 +7,143 @@ use crate::arena::unique_arena::UniqueArena;
 use crate::ir::expressions::Expression;
 use crate::ir::flags::MemoryDecorations;
 use crate::ir::functions::{Function, FunctionArgument, FunctionResult, LocalVariable};
-use crate::ir::module::{
-    Constant, EntryPoint, GlobalVariable, Module, Override, ShaderStage, SpecialTypes,
-};
+use crate::ir::module::{Constant, EntryPoint, GlobalVariable, Module, Override, ShaderStage};
 use crate::ir::name::{Name, clone_name};
 use crate::ir::statements::{Block, Located, Statement, SwitchCase, SwitchValue};
 use crate::ir::types::{AddressSpace, Scalar, StructMember, Type, TypeInner};
 use crate::proc::typifier::TypeResolution;
 use crate::sequence::Sequence;
 use crate::span::Span;
-use crate::tests::{NOWHERE, arena_of, block_of, scalar_type};
+use crate::tests::{NOWHERE, arena_of, block_of, empty_module, scalar_type};
 use bitflags::Flags;
 use std::alloc::{AllocError, Global};
+use std::process::Abort;
 use std::test::Fail;
 
 const SPAN: Span = Span { start: 4, end: 9 };
 
-/// A block with an Emit, and one with a loop round it.
-#[test]
-fn a_block_with_an_emit(rt: HostRuntime) -> Result<(), Fail> {
-    let emit = Statement::Emit(Range { start: 1, end: 3 });
-    let mut body = block_of(rt.alloc(), emit)?;
-    body.list.push(Located {
+/// A block of an Emit and a Continue.
+fn emit_and_continue(alloc: Global) -> Result<Block, AllocError> {
+    let mut list = Vec::new(alloc);
+    list.push(Located {
+        statement: Statement::Emit(Range { start: 1, end: 3 }),
+        span: NOWHERE,
+    })?;
+    list.push(Located {
         statement: Statement::Continue,
         span: SPAN,
     })?;
-    let copy = body.clone(rt.alloc())?;
-    assert!(rt; copy == body);
+    Ok(Block { list })
+}
+
+/// A block of a loop over such blocks.
+fn loop_over(alloc: Global) -> Result<Block, AllocError> {
+    let body = emit_and_continue(alloc)?;
+    let continuing = emit_and_continue(alloc)?;
     let statement = Statement::Loop {
         body,
-        continuing: copy,
+        continuing,
         break_if: Some(Handle::new(1)),
     };
-    let mut list = Vec::new(rt.alloc());
-    list.push(Located {
-        statement,
-        span: SPAN,
-    })?;
-    let outer = Block { list };
-    assert!(rt; outer.clone(rt.alloc())? == outer);
+    block_of(alloc, statement)
+}
+
+/// Whether the clone of a block equals it.
+fn is_cloned(alloc: Global, block: &Block) -> Result<bool, AllocError> {
+    Ok(block.clone(alloc)? == *block)
+}
+
+#[test]
+fn a_block_with_an_emit(rt: HostRuntime) -> Result<(), Fail> {
+    let block = emit_and_continue(rt.alloc())?;
+    assert!(rt; is_cloned(rt.alloc(), &block)?);
     Ok(())
 }
 
 #[test]
-fn types_and_expressions(rt: HostRuntime) -> Result<(), Fail> {
-    let alloc = rt.alloc();
-    let name = Name::from(String::from_str(alloc, "v")?);
-    assert_eq!(rt; name.as_str(), "v");
+fn a_block_with_a_loop(rt: HostRuntime) -> Result<(), Fail> {
+    let block = loop_over(rt.alloc())?;
+    assert!(rt; is_cloned(rt.alloc(), &block)?);
+    Ok(())
+}
+
+/// A name of one letter.
+fn letter(alloc: Global) -> Result<Name, Fail> {
+    Ok(Name::from(String::from_str(alloc, "v")?))
+}
+
+#[test]
+fn names(rt: HostRuntime) -> Result<(), Fail> {
+    let name = Some(letter(rt.alloc())?);
+    let Some(copy) = clone_name(&name, rt.alloc())? else {
+        panic!(rt; "no name");
+    };
+    assert_eq!(rt; copy.as_str(), "v");
+    assert_eq!(rt; copy.into_string().as_str(), "v");
+    Ok(())
+}
+
+/// A struct of one member, which has a name.
+fn struct_of_one(alloc: Global) -> Result<Type, Fail> {
+    let name = Some(letter(alloc)?);
     let mut members = Sequence::new(alloc);
     members.push(StructMember {
-        name: Some(name.clone(alloc)?),
+        name,
         ty: Handle::new(0),
         binding: None,
         offset: 4,
     })?;
-    let ty = Type {
-        name: clone_name(&Some(name), alloc)?,
+    Ok(Type {
+        name: None,
         inner: TypeInner::Struct { members, span: 8 },
-    };
-    assert!(rt; ty.clone(alloc)? == ty);
-    let resolution = TypeResolution::Value(ty.inner);
-    assert!(rt; resolution.clone(alloc)? == resolution);
-    let mut components = Sequence::new(alloc);
+    })
+}
+
+#[test]
+fn types(rt: HostRuntime) -> Result<(), Fail> {
+    let ty = struct_of_one(rt.alloc())?;
+    assert!(rt; ty.clone(rt.alloc())? == ty);
+    Ok(())
+}
+
+#[test]
+fn resolutions(rt: HostRuntime) -> Result<(), Fail> {
+    let resolution = TypeResolution::Value(struct_of_one(rt.alloc())?.inner);
+    assert!(rt; resolution.clone(rt.alloc())? == resolution);
+    Ok(())
+}
+
+#[test]
+fn expressions(rt: HostRuntime) -> Result<(), Fail> {
+    let mut components = Sequence::new(rt.alloc());
     components.push(Handle::new(2))?;
     let compose = Expression::Compose {
         ty: Handle::new(0),
         components,
     };
-    assert!(rt; compose.clone(alloc)? == compose);
+    assert!(rt; compose.clone(rt.alloc())? == compose);
     Ok(())
 }
 
 #[test]
-fn variables_and_arguments(rt: HostRuntime) -> Result<(), Fail> {
-    let alloc = rt.alloc();
-    let name = Name::from(String::from_str(alloc, "i")?);
+fn locals(rt: HostRuntime) -> Result<(), Fail> {
     let local = LocalVariable {
-        name: Some(name),
+        name: Some(letter(rt.alloc())?),
         ty: Handle::new(0),
         init: None,
     };
-    let copy = local.clone(alloc)?;
-    assert!(rt; copy == local);
+    assert!(rt; local.clone(rt.alloc())? == local);
+    Ok(())
+}
+
+#[test]
+fn arguments(rt: HostRuntime) -> Result<(), Fail> {
     let argument = FunctionArgument {
-        name: copy.name,
+        name: Some(letter(rt.alloc())?),
         ty: Handle::new(1),
         binding: None,
     };
-    assert!(rt; argument.clone(alloc)? == argument);
-    match argument.name {
-        Some(name) => assert_eq!(rt; name.into_string().as_str(), "i"),
-        None => assert!(rt; false),
-    }
+    assert!(rt; argument.clone(rt.alloc())? == argument);
     Ok(())
 }
 
@@ -233,11 +278,8 @@ fn an_entry_point(rt: HostRuntime) -> Result<(), Fail> {
     Ok(())
 }
 
-fn module_of_each(alloc: Global) -> Result<Module, AllocError> {
-    let mut types = UniqueArena::new(alloc);
-    types.insert(scalar_type(Scalar::F32), SPAN)?;
-    let mut entry_points = Sequence::new(alloc);
-    entry_points.push(entry_point_of_each(alloc)?)?;
+/// A module of one constant, override, global and global expression.
+fn globals_of_each(alloc: Global) -> Result<Module, AllocError> {
     let global = GlobalVariable {
         space: AddressSpace::Private,
         binding: None,
@@ -245,18 +287,38 @@ fn module_of_each(alloc: Global) -> Result<Module, AllocError> {
         init: None,
         memory_decorations: MemoryDecorations::empty(),
     };
-    Ok(Module {
-        types,
-        special_types: SpecialTypes {
-            ray_desc: Some(Handle::new(0)),
-        },
-        constants: arena_of(alloc, SPAN, Constant { ty: Handle::new(7) })?,
-        overrides: arena_of(alloc, SPAN, Override { ty: Handle::new(8) })?,
-        global_variables: arena_of(alloc, SPAN, global)?,
-        global_expressions: arena_of(alloc, SPAN, Expression::ZeroValue(Handle::new(9)))?,
-        functions: arena_of(alloc, SPAN, function_of_each(alloc)?)?,
-        entry_points,
-    })
+    let constants = arena_of(alloc, SPAN, Constant { ty: Handle::new(7) })?;
+    let overrides = arena_of(alloc, SPAN, Override { ty: Handle::new(8) })?;
+    let globals = arena_of(alloc, SPAN, global)?;
+    let expressions = arena_of(alloc, SPAN, Expression::ZeroValue(Handle::new(9)))?;
+    let mut module = empty_module(alloc);
+    module.constants = constants;
+    module.overrides = overrides;
+    module.global_variables = globals;
+    module.global_expressions = expressions;
+    Ok(module)
+}
+
+/// One entry point.
+fn entry_points_of_each(alloc: Global) -> Result<Sequence<EntryPoint>, AllocError> {
+    let entry_point = entry_point_of_each(alloc)?;
+    let mut entry_points = Sequence::new(alloc);
+    entry_points.push(entry_point)?;
+    Ok(entry_points)
+}
+
+/// That module with a type, a function and an entry point.
+fn module_of_each(alloc: Global) -> Result<Module, AllocError> {
+    let mut types = UniqueArena::new(alloc);
+    types.insert(scalar_type(Scalar::F32), SPAN)?;
+    let functions = arena_of(alloc, SPAN, function_of_each(alloc)?)?;
+    let entry_points = entry_points_of_each(alloc)?;
+    let mut module = globals_of_each(alloc)?;
+    module.types = types;
+    module.special_types.ray_desc = Some(Handle::new(0));
+    module.functions = functions;
+    module.entry_points = entry_points;
+    Ok(module)
 }
 
 /// Whether types and globals are those of `module_of_each`.

@@ -1,6 +1,7 @@
 //! The tests of conditions on types, globals and entry points.
 
 use crate::arena::handle::Handle;
+use crate::arena::tag;
 use crate::arena::unique_arena::UniqueArena;
 use crate::fits::entry::fits_entry;
 use crate::fits::globals::fits_globals;
@@ -12,7 +13,7 @@ use crate::ir::module::{
     ShaderStage,
 };
 use crate::ir::types::{
-    AddressSpace, ArraySize, ImageClass, ImageDimension, Scalar, StructMember, TypeInner,
+    AddressSpace, ArraySize, ImageClass, ImageDimension, Scalar, StructMember, Type, TypeInner,
 };
 use crate::proc::typifier::TypeResolution;
 use crate::sequence::Sequence;
@@ -22,12 +23,17 @@ use bitflags::Flags;
 use std::alloc::{AllocError, Global};
 use std::test::Fail;
 
-fn no_infos(alloc: Global) -> ModuleInfo {
-    ModuleInfo {
+/// The infos of no function, and of a global expression where one is typed, by type 0.
+fn infos_of(alloc: Global, is_typed: bool) -> Result<ModuleInfo, AllocError> {
+    let mut global_types = Sequence::new(alloc);
+    if is_typed {
+        global_types.push(TypeResolution::Handle(Handle::new(0)))?;
+    }
+    Ok(ModuleInfo {
         functions: Sequence::new(alloc),
         entry_points: Sequence::new(alloc),
-        global_types: Sequence::new(alloc),
-    }
+        global_types,
+    })
 }
 
 fn global_in(space: AddressSpace, ty: u32) -> GlobalVariable {
@@ -40,21 +46,30 @@ fn global_in(space: AddressSpace, ty: u32) -> GlobalVariable {
     }
 }
 
+/// Whether a module of one type fits, with a type of ray descriptors or without.
+fn type_fits(alloc: Global, inner: TypeInner, ray_desc: Option<u32>) -> Result<bool, AllocError> {
+    let mut types = UniqueArena::new(alloc);
+    types.insert(unnamed(inner), NOWHERE)?;
+    let mut module = empty_module(alloc);
+    module.types = types;
+    if let Some(ty) = ray_desc {
+        module.special_types.ray_desc = Some(Handle::new(ty));
+    }
+    Ok(fits_types(&module))
+}
+
 /// A pointer whose base is its own handle.
 #[test]
 fn a_type_names_only_earlier_types(rt: HostRuntime) -> Result<(), Fail> {
-    let mut module = empty_module(rt.alloc());
     let own = TypeInner::Pointer {
         base: Handle::new(0),
         space: AddressSpace::Function,
     };
-    module.types.insert(unnamed(own), NOWHERE)?;
-    assert!(rt; !fits_types(&module));
-    let mut good = empty_module(rt.alloc());
-    good.types.insert(scalar_type(Scalar::U32), NOWHERE)?;
-    assert!(rt; fits_types(&good));
-    good.special_types.ray_desc = Some(Handle::new(1));
-    assert!(rt; !fits_types(&good));
+    assert!(rt; !type_fits(rt.alloc(), own, None)?);
+    for (ray_desc, fits) in [(None, true), (Some(0), true), (Some(1), false)] {
+        let scalar = TypeInner::Scalar(Scalar::U32);
+        assert_eq!(rt; type_fits(rt.alloc(), scalar, ray_desc)?, fits);
+    }
     Ok(())
 }
 
@@ -102,64 +117,86 @@ fn members_constants_and_overrides_have_types(rt: HostRuntime) -> Result<(), Fai
     Ok(())
 }
 
-/// A binding array of external images is refused in `AddressSpace::Handle` alone.
-#[test]
-fn globals_have_types_and_initializers(rt: HostRuntime) -> Result<(), Fail> {
-    let mut module = empty_module(rt.alloc());
+/// The types 0, an external image, and 1, a binding array of them.
+fn types_of_images(alloc: Global) -> Result<UniqueArena<Type>, AllocError> {
+    let mut types = UniqueArena::new(alloc);
     let image = TypeInner::Image {
         dim: ImageDimension::D2,
         arrayed: false,
         class: ImageClass::External,
     };
-    let base = module.types.insert(unnamed(image), NOWHERE)?;
-    assert!(rt; module.types.len() == 1);
+    types.insert(unnamed(image), NOWHERE)?;
     let images = TypeInner::BindingArray {
-        base,
+        base: Handle::new(0),
         size: ArraySize::Dynamic,
     };
-    module.types.insert(unnamed(images), NOWHERE)?;
-    let mut infos = no_infos(rt.alloc());
-    module
-        .global_variables
-        .append(global_in(AddressSpace::Private, 1), NOWHERE)?;
-    assert!(rt; fits_globals(&module, &infos));
-    module
-        .global_expressions
-        .append(Expression::ZeroValue(base), NOWHERE)?;
-    assert!(rt; !fits_globals(&module, &infos));
-    infos.global_types.push(TypeResolution::Handle(base))?;
-    assert!(rt; fits_globals(&module, &infos));
-    assert!(rt; module.global_variables.len() == 1);
-    module
-        .global_variables
-        .append(global_in(AddressSpace::Handle, 1), NOWHERE)?;
-    assert!(rt; !fits_globals(&module, &infos));
+    types.insert(unnamed(images), NOWHERE)?;
+    Ok(types)
+}
+
+/// A module with a global of the images in a space, and an expression of type 0.
+fn module_of_images(alloc: Global, space: AddressSpace) -> Result<Module, AllocError> {
+    let types = types_of_images(alloc)?;
+    let globals = arena_of(alloc, NOWHERE, global_in(space, 1))?;
+    let expressions = arena_of(alloc, NOWHERE, Expression::ZeroValue(Handle::new(0)))?;
+    let mut module = empty_module(alloc);
+    module.types = types;
+    module.global_variables = globals;
+    module.global_expressions = expressions;
+    Ok(module)
+}
+
+/// Whether the globals of that module fit, with its expression typed or not.
+fn images_fit(alloc: Global, space: AddressSpace, is_typed: bool) -> Result<bool, AllocError> {
+    let infos = infos_of(alloc, is_typed)?;
+    let module = module_of_images(alloc, space)?;
+    Ok(fits_globals(&module, &infos))
+}
+
+/// A binding array of external images is refused in `AddressSpace::Handle` alone; an expression has a type.
+#[test]
+fn globals_have_types_and_initializers(rt: HostRuntime) -> Result<(), Fail> {
+    for (space, is_typed, fits) in [
+        (AddressSpace::Private, true, true),
+        (AddressSpace::Private, false, false),
+        (AddressSpace::Handle, true, false),
+    ] {
+        assert_eq!(rt; images_fit(rt.alloc(), space, is_typed)?, fits);
+    }
     Ok(())
+}
+
+/// Whether an entry point with this payload fits a module with a global in this space.
+fn payload_fits(
+    alloc: Global,
+    space: AddressSpace,
+    task_payload: Option<Handle<tag::GlobalVariable>>,
+) -> Result<bool, AllocError> {
+    let globals = arena_of(alloc, NOWHERE, global_in(space, 0))?;
+    let mut module = empty_module(alloc);
+    module.global_variables = globals;
+    let ep = EntryPoint {
+        stage: ShaderStage::Task,
+        early_depth_test: None,
+        workgroup_size: [1, 1, 1],
+        function: empty_function(alloc),
+        mesh_info: None,
+        task_payload,
+    };
+    Ok(fits_entry(&ep, &module))
 }
 
 #[test]
 fn an_entry_point_names_globals_of_its_module(rt: HostRuntime) -> Result<(), Fail> {
-    let mut module = empty_module(rt.alloc());
-    module
-        .global_variables
-        .append(global_in(AddressSpace::TaskPayload, 0), NOWHERE)?;
-    let mut ep = EntryPoint {
-        stage: ShaderStage::Task,
-        early_depth_test: None,
-        workgroup_size: [1, 1, 1],
-        function: empty_function(rt.alloc()),
-        mesh_info: None,
-        task_payload: Some(Handle::new(0)),
-    };
-    assert!(rt; fits_entry(&ep, &module));
-    ep.task_payload = Some(Handle::new(1));
-    assert!(rt; !fits_entry(&ep, &module));
-    ep.task_payload = None;
-    assert!(rt; module.global_variables.len() == 1);
-    module
-        .global_variables
-        .append(global_in(AddressSpace::Function, 0), NOWHERE)?;
-    assert!(rt; !fits_entry(&ep, &module));
+    let (first, second) = (Some(Handle::new(0)), Some(Handle::new(1)));
+    for (space, payload, fits) in [
+        (AddressSpace::TaskPayload, first, true),
+        (AddressSpace::TaskPayload, second, false),
+        (AddressSpace::TaskPayload, None, true),
+        (AddressSpace::Function, None, false),
+    ] {
+        assert_eq!(rt; payload_fits(rt.alloc(), space, payload)?, fits);
+    }
     Ok(())
 }
 
@@ -176,10 +213,23 @@ fn module_of_one(alloc: Global) -> Result<Module, AllocError> {
     Ok(module)
 }
 
+/// Whether an entry point with this mesh fits that module.
+fn mesh_fits(alloc: Global, info: MeshStageInfo) -> Result<bool, AllocError> {
+    let module = module_of_one(alloc)?;
+    let ep = EntryPoint {
+        stage: ShaderStage::Mesh,
+        early_depth_test: None,
+        workgroup_size: [1, 1, 1],
+        function: empty_function(alloc),
+        mesh_info: Some(info),
+        task_payload: None,
+    };
+    Ok(fits_entry(&ep, &module))
+}
+
 /// The two overrides, the two types and the variable of a mesh, each past the end of its arena in turn.
 #[test]
 fn a_mesh_names_what_its_module_has(rt: HostRuntime) -> Result<(), Fail> {
-    let module = module_of_one(rt.alloc())?;
     for (overrides, types, variable, fits) in [
         ((0, 0), (0, 0), 0, true),
         ((1, 0), (0, 0), 0, false),
@@ -198,15 +248,7 @@ fn a_mesh_names_what_its_module_has(rt: HostRuntime) -> Result<(), Fail> {
             primitive_output_type: Handle::new(types.1),
             output_variable: Handle::new(variable),
         };
-        let ep = EntryPoint {
-            stage: ShaderStage::Mesh,
-            early_depth_test: None,
-            workgroup_size: [1, 1, 1],
-            function: empty_function(rt.alloc()),
-            mesh_info: Some(info),
-            task_payload: None,
-        };
-        assert_eq!(rt; fits_entry(&ep, &module), fits);
+        assert_eq!(rt; mesh_fits(rt.alloc(), info)?, fits);
     }
     Ok(())
 }
