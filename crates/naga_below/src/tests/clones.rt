@@ -179,13 +179,18 @@ fn an_arena_with_spans(rt: HostRuntime) -> Result<(), Fail> {
     Ok(())
 }
 
+/// The types u32 and i32.
+fn two_types(alloc: Global) -> Result<UniqueArena<Type>, AllocError> {
+    let mut types = UniqueArena::new(alloc);
+    types.insert(scalar_type(Scalar::U32), SPAN)?;
+    types.insert(scalar_type(Scalar::I32), NOWHERE)?;
+    Ok(types)
+}
+
 /// The clone also finds the values that are there.
 #[test]
 fn a_unique_arena_with_spans(rt: HostRuntime) -> Result<(), Fail> {
-    let mut types = UniqueArena::new(rt.alloc());
-    types.insert(scalar_type(Scalar::U32), SPAN)?;
-    assert!(rt; types.len() < 10);
-    types.insert(scalar_type(Scalar::I32), NOWHERE)?;
+    let types = two_types(rt.alloc())?;
     let mut copy = types.clone(rt.alloc())?;
     assert!(rt; copy.len() == 2);
     let (first, second) = (Handle::new(0), Handle::new(1));

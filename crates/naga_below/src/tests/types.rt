@@ -8,7 +8,7 @@ use crate::ir::flags::StorageAccess;
 use crate::ir::name::Name;
 use crate::ir::statements::{GatherMode, SubgroupOperation};
 use crate::ir::types::{
-    AddressSpace, ImageDimension, Scalar, ScalarKind, StorageFormat, StructMember, TypeInner,
+    AddressSpace, ImageDimension, Scalar, ScalarKind, StorageFormat, StructMember, Type, TypeInner,
     VectorSize,
 };
 use crate::proc::expression_kinds::{ExpressionKind, ExpressionKindTracker};
@@ -21,32 +21,64 @@ use bitflags::Flags;
 use std::alloc::{AllocError, Global};
 use std::test::Fail;
 
-/// A pointer to u32 in Function and the value pointer of u32 there are the same type.
-#[test]
-#[tactic(auto, using(crate::proofs::Callers::types_name_each_other))]
-fn a_pointer_to_a_scalar_is_a_value_pointer(rt: HostRuntime) -> Result<(), Fail> {
-    let mut module = empty_module(rt.alloc());
-    let base = module.types.insert(scalar_type(Scalar::U32), NOWHERE)?;
-    assert!(rt; base.index() < module.types.len());
-    let pointer = TypeInner::Pointer {
-        base,
+/// The type u32 alone.
+fn types_of_u32(alloc: Global) -> Result<UniqueArena<Type>, AllocError> {
+    let mut types = UniqueArena::new(alloc);
+    types.insert(scalar_type(Scalar::U32), NOWHERE)?;
+    Ok(types)
+}
+
+/// A pointer to type 0 in Function.
+fn pointer() -> TypeInner {
+    TypeInner::Pointer {
+        base: Handle::new(0),
         space: AddressSpace::Function,
-    };
-    let value_pointer = TypeInner::ValuePointer {
+    }
+}
+
+/// The value pointer of u32 there.
+fn value_pointer() -> TypeInner {
+    TypeInner::ValuePointer {
         size: None,
         scalar: Scalar::U32,
         space: AddressSpace::Function,
-    };
-    let types = &module.types;
+    }
+}
+
+/// A pointer to u32 in Function and the value pointer of u32 there are the same type.
+#[test]
+fn a_pointer_to_a_scalar_is_a_value_pointer(rt: HostRuntime) -> Result<(), Fail> {
+    let types = types_of_u32(rt.alloc())?;
+    assert!(rt; types.len() == 1);
+    let (pointer, value_pointer) = (pointer(), value_pointer());
     assert!(rt; pointer != value_pointer);
-    assert!(rt; pointer.canonical_form(types) == Some(value_pointer.clone(rt.alloc())?));
-    assert!(rt; value_pointer.canonical_form(types) == None);
-    assert!(rt; pointer.equivalent(&value_pointer, types));
+    assert!(rt; names_types_below(&pointer, types.len()));
+    assert!(rt; names_types_below(&value_pointer, types.len()));
+    assert!(rt; pointer.canonical_form(&types) == Some(self::value_pointer()));
+    assert!(rt; value_pointer.canonical_form(&types) == None);
+    assert!(rt; pointer.equivalent(&value_pointer, &types));
     assert_eq!(rt; pointer.pointer_space(), Some(AddressSpace::Function));
-    assert!(rt; pointer.pointer_base_type() == Some(TypeResolution::Handle(base)));
+    let base = TypeResolution::Handle(Handle::new(0));
+    assert!(rt; pointer.pointer_base_type() == Some(base));
+    Ok(())
+}
+
+#[test]
+#[tactic(auto, using(crate::proofs::Callers::types_name_each_other))]
+fn resolutions_are_compared(rt: HostRuntime) -> Result<(), Fail> {
+    let mut module = empty_module(rt.alloc());
+    let base = module.types.insert(scalar_type(Scalar::U32), NOWHERE)?;
+    assert!(rt; base.index() < module.types.len());
+    let first = TypeResolution::Value(TypeInner::Pointer {
+        base,
+        space: AddressSpace::Function,
+    });
+    let second = TypeResolution::Value(TypeInner::ValuePointer {
+        size: None,
+        scalar: Scalar::U32,
+        space: AddressSpace::Function,
+    });
     assert!(rt; fits_types(&module));
-    let first = TypeResolution::Value(pointer);
-    let second = TypeResolution::Value(value_pointer);
     assert!(rt; compare_types(&first, &second, &module.types));
     let third = TypeResolution::Handle(base);
     assert!(rt; *third.inner_with(&module.types) == TypeInner::Scalar(Scalar::U32));
@@ -120,17 +152,29 @@ fn member(alloc: Global, name: &str, ty: u32) -> Result<StructMember, AllocError
     })
 }
 
+/// The types i32 and bool.
+fn types_of_exchange(alloc: Global) -> Result<UniqueArena<Type>, AllocError> {
+    let mut types = UniqueArena::new(alloc);
+    types.insert(scalar_type(Scalar::I32), NOWHERE)?;
+    types.insert(scalar_type(Scalar::BOOL), NOWHERE)?;
+    Ok(types)
+}
+
+/// What a compare exchange of the first gives.
+fn exchanged(alloc: Global) -> Result<TypeInner, AllocError> {
+    let old_value = member(alloc, "old_value", 0)?;
+    let exchanged = member(alloc, "exchanged", 1)?;
+    let mut members = Sequence::new(alloc);
+    members.push(old_value)?;
+    members.push(exchanged)?;
+    Ok(TypeInner::Struct { members, span: 8 })
+}
+
 #[test]
 fn a_compare_exchange_gives_a_struct(rt: HostRuntime) -> Result<(), Fail> {
-    let mut types = UniqueArena::new(rt.alloc());
-    types.insert(scalar_type(Scalar::I32), NOWHERE)?;
-    assert!(rt; types.len() == 1);
-    types.insert(scalar_type(Scalar::BOOL), NOWHERE)?;
+    let types = types_of_exchange(rt.alloc())?;
+    let outcome = exchanged(rt.alloc())?;
     assert!(rt; types.len() == 2);
-    let mut members = Sequence::new(rt.alloc());
-    members.push(member(rt.alloc(), "old_value", 0)?)?;
-    members.push(member(rt.alloc(), "exchanged", 1)?)?;
-    let outcome = TypeInner::Struct { members, span: 8 };
     assert!(rt; names_types_below(&outcome, types.len()));
     assert!(rt; outcome.is_compare_exchange_struct(Scalar::I32, &types));
     assert!(rt; !outcome.is_compare_exchange_struct(Scalar::U32, &types));
