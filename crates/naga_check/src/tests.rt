@@ -1,9 +1,11 @@
 //! Whole runs of the program.
 
+mod atomics;
 mod bodies;
 mod places;
 mod plain;
 mod rays;
+mod settings;
 mod stores;
 mod subgroups;
 

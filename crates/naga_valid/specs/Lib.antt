@@ -29,4 +29,3 @@ pub mod Seen
 pub mod Judged
 pub mod Parts
 pub mod Accepted
-pub mod Sample

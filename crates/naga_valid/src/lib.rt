@@ -7,7 +7,5 @@ mod function;
 mod handle_set;
 mod stages;
 mod state;
-#[cfg(test)]
-mod tests;
 pub mod trace;
 pub mod validator;
