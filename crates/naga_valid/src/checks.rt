@@ -14,6 +14,7 @@ pub mod ray_query;
 pub mod ray_trace;
 pub mod refuse;
 pub mod results;
+pub mod statement;
 pub mod store;
 pub mod subgroup;
 pub mod subgroup_collective;

@@ -1,6 +1,7 @@
 //! The validator of whole functions.
 #![tactic(auto)]
 
+mod abilities;
 mod checks;
 mod context;
 mod function;

@@ -6,7 +6,7 @@ use Rattle.naga_valid.specs.Seen.{context_of}
 use Rattle.naga_valid.specs.State.{seen}
 use Rattle.naga_valid.specs.Walk.{place}
 use Rattle.naga_valid.proofs.Own.{points_of_leaf}
-use Rattle.naga_valid.proofs.function.check_points.Goals as goal
+use Rattle.naga_valid.proofs.checks.statement.check_points.Goals as goal
 
 pub returns-in-Switch-clause-fault : goal.returns-in-Switch-clause-fault
 returns-in-Switch-clause-fault c =
