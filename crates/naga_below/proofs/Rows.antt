@@ -1,5 +1,5 @@
 -- The trees of the IR's recursive lists, as their generated rows and as lists of items.
-use Rattle.std.proofs.Common.{rules, ◌≡◌, ℕ, List, Vec, Global, refl, ap}
+use Rattle.std.proofs.Common.{rules, ◌≡◌, ℕ, List, refl, ap}
 use Rattle.naga_below.specs.declared.ir.statements.Block.{Block, Block', out-Block, the_lemmas, Row_of-Located, end_of-Located, more_of-Located, items-the_row-Located}
 use Rattle.naga_below.specs.declared.ir.statements.Statement.{Switch, Row_of-SwitchCase, end_of-SwitchCase, more_of-SwitchCase, items-the_row-SwitchCase}
 use Rattle.naga_below.specs.declared.ir.statements.SwitchCase as case
@@ -15,7 +15,7 @@ module _ (operands : ℕ → List ℕ) where
   row_body-items (more_of-Located x span rest) = ap (Then (tree_of operands x span)) (row_body-items rest)
 
   -- the tree of a block is that of its list
-  pub body_of-list : (b : Block) → body_of operands b ≡ list_body operands (out-Block b).list.items
+  pub body_of-list : (b : Block) → body_of operands b ≡ list_body operands (out-Block b).list
   body_of-list (Block' k row) = search (rules, the_lemmas, row_body-items)
 
   pub row_cases-items : {m : _} (row : Row_of-SwitchCase m) → row_cases operands row ≡ list_cases operands (items-the_row-SwitchCase m row)
@@ -24,5 +24,5 @@ module _ (operands : ℕ → List ℕ) where
   row_cases-items (more_of-SwitchCase (SwitchCase' v b f) rest) = ap (OneCase v f (body_of operands b)) (row_cases-items rest)
 
   -- the tree of a switch is that of its list of cases
-  pub tree_of-switch : (h : ℕ) (v : Vec SwitchCase Global) (span : Span) → tree_of operands (Switch h v) span ≡ tree.Switch h (list_cases operands v.items)
+  pub tree_of-switch : (h : ℕ) (v : List SwitchCase) (span : Span) → tree_of operands (Switch h v) span ≡ tree.Switch h (list_cases operands v)
   tree_of-switch h v span = search (rules, the_lemmas, row_cases-items)

@@ -12,4 +12,4 @@ pub mod Fits
 pub mod Unique
 pub mod EqualBuiltIns
 pub mod EqualTypes
-pub mod Clones
+pub mod formers

@@ -1,7 +1,6 @@
 //! Arenas: lists of values that are read by handles.
 
 ghost use Rattle.std.specs.Prelude.{◌≡◌, ◌↔◌, ◌<◌, ◌≤◌, ◌++◌, ◌∷◌, [], IsTrue, IfOk, OnOk, OnErr, Some, length, slice_get};
-ghost use Rattle.std.specs.List.{AllZip};
 
 pub mod handle;
 pub mod range;
@@ -92,9 +91,8 @@ impl<T: Tagged + Drop> Arena<T> {
 
 impl<T: Tagged + Duplicate> Arena<T> {
     /// An arena of equal values, each with the same span.
-    #[tactic(auto, using(std::proofs::lemmas::List::Elements::length_all_zip))]
     pub fn clone(&self, alloc: Global) -> Result<Self, AllocError>
-        ensures { IfOk result (AllZip T.alike self.now) }
+        ensures { IfOk result (λ made. made ≡ self.now) }
     {
         Ok(Arena {
             values: duplicates(self.values.as_slice(), alloc)?,

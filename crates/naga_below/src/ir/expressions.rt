@@ -250,8 +250,6 @@ impl Expression {
 }
 
 impl Duplicate for Expression {
-    ghost alike = { λ x y. y ≡ x };
-
     fn duplicate(&self, alloc: Global) -> Result<Self, AllocError> {
         self.clone(alloc)
     }

@@ -1,7 +1,6 @@
 //! Functions.
 
 ghost use Rattle.std.specs.Prelude.{◌≡◌, IfOk};
-ghost use Rattle.naga_below.specs.Clones.{IsSameFunction};
 
 use crate::arena::handle::{Handle, Tagged};
 use crate::arena::{Arena, tag};
@@ -84,16 +83,12 @@ impl FunctionArgument {
 }
 
 impl Duplicate for LocalVariable {
-    ghost alike = { λ x y. y ≡ x };
-
     fn duplicate(&self, alloc: Global) -> Result<Self, AllocError> {
         self.clone(alloc)
     }
 }
 
 impl Duplicate for FunctionArgument {
-    ghost alike = { λ x y. y ≡ x };
-
     fn duplicate(&self, alloc: Global) -> Result<Self, AllocError> {
         self.clone(alloc)
     }
@@ -101,9 +96,8 @@ impl Duplicate for FunctionArgument {
 
 impl Function {
     /// An equal function.
-    #[tactic(auto, using(std::proofs::lemmas::List::Elements::same_from_all_zip))]
     pub fn clone(&self, alloc: Global) -> Result<Self, AllocError>
-        ensures { IfOk result (IsSameFunction self.now) }
+        ensures { IfOk result (λ made. made ≡ self.now) }
     {
         let arguments = duplicates(self.arguments.as_slice(), alloc)?;
         Ok(Function {
@@ -117,10 +111,6 @@ impl Function {
 }
 
 impl Duplicate for Function {
-    ghost use Rattle.naga_below.specs.Clones.{IsSameFunction};
-
-    ghost alike = { IsSameFunction };
-
     fn duplicate(&self, alloc: Global) -> Result<Self, AllocError> {
         self.clone(alloc)
     }

@@ -1,7 +1,6 @@
 //! Globals, entry points and modules.
 
 ghost use Rattle.std.specs.Prelude.{◌≡◌, IfOk};
-ghost use Rattle.naga_below.specs.Clones.{IsSameEntryPoint, IsSameModule};
 
 use crate::arena::handle::{Handle, Tagged};
 use crate::arena::unique_arena::{Identical, UniqueArena};
@@ -138,24 +137,18 @@ pub struct Module {
 }
 
 impl Duplicate for GlobalVariable {
-    ghost alike = { λ x y. y ≡ x };
-
     fn duplicate(&self, _alloc: Global) -> Result<Self, AllocError> {
         Ok(*self)
     }
 }
 
 impl Duplicate for Constant {
-    ghost alike = { λ x y. y ≡ x };
-
     fn duplicate(&self, _alloc: Global) -> Result<Self, AllocError> {
         Ok(*self)
     }
 }
 
 impl Duplicate for Override {
-    ghost alike = { λ x y. y ≡ x };
-
     fn duplicate(&self, _alloc: Global) -> Result<Self, AllocError> {
         Ok(*self)
     }
@@ -164,7 +157,7 @@ impl Duplicate for Override {
 impl EntryPoint {
     /// An equal entry point.
     pub fn clone(&self, alloc: Global) -> Result<Self, AllocError>
-        ensures { IfOk result (IsSameEntryPoint self.now) }
+        ensures { IfOk result (λ made. made ≡ self.now) }
     {
         Ok(EntryPoint {
             stage: self.stage,
@@ -178,10 +171,6 @@ impl EntryPoint {
 }
 
 impl Duplicate for EntryPoint {
-    ghost use Rattle.naga_below.specs.Clones.{IsSameEntryPoint};
-
-    ghost alike = { IsSameEntryPoint };
-
     fn duplicate(&self, alloc: Global) -> Result<Self, AllocError> {
         self.clone(alloc)
     }
@@ -190,7 +179,7 @@ impl Duplicate for EntryPoint {
 impl Module {
     /// An equal module.
     pub fn clone(&self, alloc: Global) -> Result<Self, AllocError>
-        ensures { IfOk result (IsSameModule self.now) }
+        ensures { IfOk result (λ made. made ≡ self.now) }
     {
         let entry_points = duplicates(self.entry_points.as_slice(), alloc)?;
         Ok(Module {

@@ -1,14 +1,13 @@
 //! Statements and blocks.
 
-ghost use Rattle.std.specs.Prelude.{◌≡◌, ◌∷◌, [], IfOk};
-ghost use Rattle.naga_below.specs.View.{no_operands, tree_of, body_of, list_body, list_cases};
-ghost use Rattle.naga_below.specs.declared.span.Span.{Span as SpanOf};
+ghost use Rattle.std.specs.Prelude.{◌≡◌, IfOk};
 
 use crate::arena::handle::Handle;
 use crate::arena::range::Range;
 use crate::arena::tag;
 use crate::ir::expressions::Operands;
 use crate::ir::flags::Barrier;
+use crate::sequence::Sequence;
 use crate::span::Span;
 use std::alloc::{AllocError, Global};
 
@@ -117,7 +116,7 @@ pub struct Located {
 #[cycle(statement)]
 #[derive(PartialEq, Debug, Drop)]
 pub struct Block {
-    pub list: Vec<Located>,
+    pub list: Sequence<Located>,
 }
 
 /// A case of a switch; where it falls through, the next case runs after its body.
@@ -142,7 +141,7 @@ pub enum Statement {
     },
     Switch {
         selector: Handle<tag::Expression>,
-        cases: Vec<SwitchCase>,
+        cases: Sequence<SwitchCase>,
     },
     Loop {
         body: Block,
@@ -219,7 +218,7 @@ impl Block {
     /// An equal block.
     #[cycle(clone)]
     pub fn clone(&self, alloc: Global) -> Result<Self, AllocError>
-        ensures { IfOk result (λ made. body_of no_operands made ≡ body_of no_operands self.now) }
+        ensures { IfOk result (λ made. made ≡ self.now) }
     {
         let list = clone_list(self.list.as_slice(), alloc)?;
         Ok(Block { list })
@@ -227,10 +226,10 @@ impl Block {
 }
 
 #[cycle(clone)]
-fn clone_list(list: &[Located], alloc: Global) -> Result<Vec<Located>, AllocError>
-    ensures { IfOk result (λ made. list_body no_operands made.items ≡ list_body no_operands list.now) }
+fn clone_list(list: &[Located], alloc: Global) -> Result<Sequence<Located>, AllocError>
+    ensures { IfOk result (λ made. made ≡ list.now) }
 {
-    let mut made = Vec::new(alloc);
+    let mut made = Sequence::new(alloc);
     for located in list {
         let statement = located.statement.clone(alloc)?;
         made.push(Located {
@@ -242,10 +241,10 @@ fn clone_list(list: &[Located], alloc: Global) -> Result<Vec<Located>, AllocErro
 }
 
 #[cycle(clone)]
-fn clone_cases(cases: &[SwitchCase], alloc: Global) -> Result<Vec<SwitchCase>, AllocError>
-    ensures { IfOk result (λ made. list_cases no_operands made.items ≡ list_cases no_operands cases.now) }
+fn clone_cases(cases: &[SwitchCase], alloc: Global) -> Result<Sequence<SwitchCase>, AllocError>
+    ensures { IfOk result (λ made. made ≡ cases.now) }
 {
-    let mut made = Vec::new(alloc);
+    let mut made = Sequence::new(alloc);
     for case in cases {
         made.push(case.clone(alloc)?)?;
     }
@@ -256,7 +255,7 @@ impl SwitchCase {
     /// An equal case.
     #[cycle(clone)]
     pub fn clone(&self, alloc: Global) -> Result<Self, AllocError>
-        ensures { IfOk result (λ made. list_cases no_operands (made ∷ []) ≡ list_cases no_operands (self.now ∷ [])) }
+        ensures { IfOk result (λ made. made ≡ self.now) }
     {
         let body = self.body.clone(alloc)?;
         Ok(SwitchCase {
@@ -271,7 +270,7 @@ impl Statement {
     /// An equal statement.
     #[cycle(clone)]
     pub fn clone(&self, alloc: Global) -> Result<Self, AllocError>
-        ensures { IfOk result (λ made. (span : SpanOf) → tree_of no_operands made span ≡ tree_of no_operands self.now span) }
+        ensures { IfOk result (λ made. made ≡ self.now) }
     {
         match self {
             Statement::Emit(range) => Ok(Statement::Emit(*range)),

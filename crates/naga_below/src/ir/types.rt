@@ -299,8 +299,6 @@ impl StructMember {
 }
 
 impl Duplicate for StructMember {
-    ghost alike = { λ x y. y ≡ x };
-
     fn duplicate(&self, alloc: Global) -> Result<Self, AllocError> {
         self.clone(alloc)
     }
@@ -402,8 +400,6 @@ impl Type {
 }
 
 impl Duplicate for Type {
-    ghost alike = { λ x y. y ≡ x };
-
     fn duplicate(&self, alloc: Global) -> Result<Self, AllocError> {
         self.clone(alloc)
     }
