@@ -1,5 +1,6 @@
 pub mod Callers
 pub mod Each
 pub mod OtherOperands
+pub mod Points
 pub mod Rows
 pub mod Unique

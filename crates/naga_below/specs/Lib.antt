@@ -1,4 +1,6 @@
 pub mod Tree
+pub mod Points
+pub mod Bits
 pub mod View
 pub mod Types
 pub mod Formats

@@ -1,6 +1,8 @@
 -- What is said of a type: its scalar, what it points to, its canonical form, and when two types are the same.
 use Rattle.std.specs.Prelude.{ℕ, ◌<◌, ◌≡◌, List, [], ◌∷◌, Option, None, Some, All, ⊤, length, slice_get, unwrap_or, codes}
+use Rattle.std.specs.Int.RustNames.{bit_or}
 use Rattle.std.specs.Option.{option_map}
+use Rattle.naga_below.specs.Bits.{LOAD, STORE}
 use Rattle.naga_below.specs.declared.ir.types.ScalarKind.{ScalarKind}
 use Rattle.naga_below.specs.declared.ir.types.ScalarKind.TheVariants.{Sint, Uint, Bool}
 use Rattle.naga_below.specs.declared.ir.types.Scalar.{Scalar}
@@ -64,18 +66,22 @@ image_coordinates_of (inner.Scalar s) = if_integer s.kind D1
 image_coordinates_of (inner.Vector n s) = vector_coordinates n s.kind
 image_coordinates_of _ = None
 
--- what may be done in an address space, as bits: 1 is load, 2 is store
+-- load and store, both
+abbrev pub load_and_store : StorageAccess
+load_and_store = record { 0 = bit_or LOAD.0 STORE.0 }
+
+-- what may be done in an address space
 abbrev pub access_of : AddressSpace → StorageAccess
-access_of space.Function = record { 0 = 3 }
-access_of space.Private = record { 0 = 3 }
-access_of space.WorkGroup = record { 0 = 3 }
-access_of space.Uniform = record { 0 = 1 }
+access_of space.Function = load_and_store
+access_of space.Private = load_and_store
+access_of space.WorkGroup = load_and_store
+access_of space.Uniform = LOAD
 access_of (space.Storage access) = access
-access_of space.Handle = record { 0 = 1 }
-access_of space.Immediate = record { 0 = 1 }
-access_of space.TaskPayload = record { 0 = 3 }
-access_of space.RayPayload = record { 0 = 3 }
-access_of space.IncomingRayPayload = record { 0 = 3 }
+access_of space.Handle = LOAD
+access_of space.Immediate = LOAD
+access_of space.TaskPayload = load_and_store
+access_of space.RayPayload = load_and_store
+access_of space.IncomingRayPayload = load_and_store
 
 -- every type that this one names has a handle below n
 abbrev pub NamesTypesBelow : ℕ → TypeInner → Type 0

@@ -16,7 +16,8 @@ use Rattle.naga_below.specs.declared.valid.info.ModuleInfo.{ModuleInfo}
 use Rattle.naga_below.specs.declared.valid.settings.Settings.{Settings}
 use Rattle.naga_rules.specs.declared.function.FunctionError.{FunctionError}
 use Rattle.naga_rules.specs.declared.function.FunctionError.TheVariants.{InvalidCall}
-use Rattle.naga_runs.specs.Judgement.{answer, first_fault, judgement, by_earlier}
+use Rattle.naga_below.specs.Points.{first_fault, within}
+use Rattle.naga_runs.specs.Judgement.{answer, judgement, by_earlier}
 use Rattle.naga_runs.specs.Positions.{Node, StatementNode}
 use Rattle.naga_runs.specs.Visits.{Place, Visit}
 use Rattle.naga_valid.specs.Calls.{arguments_of, has_result, arguments_points, call_result_points}
@@ -25,7 +26,6 @@ use Rattle.naga_valid.specs.Flags.{checks_blocks}
 use Rattle.naga_valid.specs.Judged.{FunctionOutcome, body_judgement, outcome_of, outcome_after, info_with, judged_with, function_judgement}
 use Rattle.naga_valid.specs.Parts.{no_traces}
 use Rattle.naga_valid.specs.Past.{Past, past_of}
-use Rattle.naga_valid.specs.Points.{within}
 use Rattle.naga_valid.specs.Results.{filled_before, filled_points}
 use Rattle.naga_valid.specs.Rules.{points_at, body_rules, stages_behind, stages_left}
 use Rattle.naga_valid.specs.Traces.{trace_payload, first_payload, lacks_vertex_return_at, last_without, any_trace, vertex_return_by}

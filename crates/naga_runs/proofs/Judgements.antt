@@ -10,7 +10,8 @@ use Rattle.naga_below.specs.declared.span.Span.{Span}
 use Rattle.naga_runs.specs.ByTree.{past, in_case, in_loop, in_continuing, at_break_if, break_if_visits, body_visits, part_visits, case_visits, then_on, judge, judge_visits, judge_body, judge_stmt, judge_parts, judge_cases, judge_break_if, JudgementIsByTree, Compositional}
 use Rattle.naga_runs.specs.Guards.{FitsIn, AcceptedIsSound, AcceptedIsSure, IsRead, AcceptedBlockIsSound, AcceptedBlockIsSure}
 use Rattle.naga_runs.specs.Handles.{Handles}
-use Rattle.naga_runs.specs.Judgement.{Point, first_fault, Rules, answer, state_after, points_after, judgement, by_earlier, Follows, viewed, FollowedAgrees, EarlierAgrees}
+use Rattle.naga_below.specs.Points.{Point, first_fault}
+use Rattle.naga_runs.specs.Judgement.{Rules, answer, state_after, points_after, judgement, by_earlier, Follows, viewed, FollowedAgrees, EarlierAgrees}
 use Rattle.naga_runs.specs.Positions.{Position, StatementNode, BreakIfNode}
 use Rattle.naga_runs.specs.Soundness.{IsFit, IsSurelyFit}
 use Rattle.naga_runs.specs.VisitOrder.{positions}

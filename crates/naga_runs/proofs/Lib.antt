@@ -9,7 +9,6 @@ pub mod Paths
 pub mod UnionsAre
 pub mod SkippedIs
 pub mod LastSteps
-pub mod Points
 pub mod Reading
 pub mod Judgements
 pub mod WithoutMust

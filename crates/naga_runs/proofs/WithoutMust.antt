@@ -4,7 +4,8 @@ use Rattle.std.proofs.Common.{refl, sym, ap, ◌∙◌}
 use Rattle.naga_below.specs.Tree.{Stmt, Body, Cases, Leaf, Block, Branch, Switch, Loop, Break, Continue, Return, Kill, Done, Then, NoCase, OneCase}
 use Rattle.naga_runs.specs.ByTree.{past, in_case, in_loop, in_continuing, at_break_if, break_if_visits, body_visits, part_visits, case_visits, then_on, judge, judge_visits, judge_body, judge_stmt, judge_parts, judge_cases, judge_break_if, place_with, IgnoresMust, MustIsFree}
 use Rattle.naga_runs.specs.Handles.{Handles, no_handles}
-use Rattle.naga_runs.specs.Judgement.{first_fault, Rules, answer}
+use Rattle.naga_below.specs.Points.{first_fault}
+use Rattle.naga_runs.specs.Judgement.{Rules, answer}
 use Rattle.naga_runs.specs.Positions.{StatementNode, BreakIfNode}
 use Rattle.naga_runs.specs.Visits.{Place, Visit}
 use Rattle.naga_runs.specs.declared.Abilities.{Abilities}

@@ -6,7 +6,8 @@ use Rattle.naga_below.specs.declared.ir.statements.Statement.{Statement}
 use Rattle.naga_below.specs.declared.ir.statements.SwitchValue.{SwitchValue}
 use Rattle.naga_below.specs.declared.span.Span.{Span}
 use Rattle.naga_runs.specs.Handles.{Handles}
-use Rattle.naga_runs.specs.Judgement.{first_fault, Rules, answer, judgement}
+use Rattle.naga_below.specs.Points.{first_fault}
+use Rattle.naga_runs.specs.Judgement.{Rules, answer, judgement}
 use Rattle.naga_runs.specs.Must.{with_sure}
 use Rattle.naga_runs.specs.Positions.{Node, StatementNode, BreakIfNode}
 use Rattle.naga_runs.specs.PutsAndUses.{acts_of, with_acts, with_body}

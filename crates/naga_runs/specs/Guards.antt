@@ -6,7 +6,8 @@ use Rattle.naga_below.specs.declared.ir.statements.Block.{Block}
 use Rattle.naga_below.specs.View.{statement_acts, body_of}
 use Rattle.naga_runs.specs.Abilities.{node_jump}
 use Rattle.naga_runs.specs.Handles.{Handles}
-use Rattle.naga_runs.specs.Judgement.{first_fault, Rules, judgement}
+use Rattle.naga_below.specs.Points.{first_fault}
+use Rattle.naga_runs.specs.Judgement.{Rules, judgement}
 use Rattle.naga_runs.specs.Positions.{Node, node_at, StatementNode}
 use Rattle.naga_runs.specs.PutsAndUses.{node_acts}
 use Rattle.naga_runs.specs.Soundness.{Fit, Allowed, IsFit, IsSurelyFit, RunsAreSound, RunsAreSure}

@@ -1,18 +1,10 @@
 -- The judgement of a body: the fault of the first point that fails, over all its visits in visit order; where none
 -- fails, the state that the visits leave.
-use Rattle.std.specs.Prelude.{Bool, List, Option, Some, None, Result, Ok, Err, ◌≡◌, ◌∷◌, ◌++◌, if◌then◌else◌, []}
+use Rattle.std.specs.Prelude.{List, Option, Some, None, Result, Ok, Err, ◌≡◌, ◌∷◌, ◌++◌, []}
+use Rattle.naga_below.specs.Points.{Point, first_fault}
 use Rattle.naga_below.specs.Tree.{Body}
 use Rattle.naga_runs.specs.Handles.{Handles}
 use Rattle.naga_runs.specs.Visits.{Visit, visits_of}
-
--- A condition that computes, and the fault where it is false.
-abbrev pub Point : Type 0 → Type 0
-Point Fault = Bool × Fault
-
--- the fault of the first point that fails
-abbrev pub first_fault : {Fault : Type 0} → List (Point Fault) → Option Fault
-first_fault [] = None
-first_fault (p ∷ ps) = if p.0 then first_fault ps else Some p.1
 
 -- The points of a visit, asked with a state of the visits before it, and what a visit adds to that state.
 pub record Rules (State Fault : Type 0) : Type 0 where

@@ -5,7 +5,8 @@ use Rattle.naga_below.specs.View.{statement_acts}
 use Rattle.naga_runs.specs.Abilities.{Jump, node_jump, NoJump, ToBreak, ToContinue, ToReturn}
 use Rattle.naga_runs.specs.Guards.{Guards, SurelyGuards, ReadGuards, SurelyReadGuards}
 use Rattle.naga_runs.specs.Handles.{Handles, with_handle}
-use Rattle.naga_runs.specs.Judgement.{Point, Rules, judgement}
+use Rattle.naga_below.specs.Points.{Point}
+use Rattle.naga_runs.specs.Judgement.{Rules, judgement}
 use Rattle.naga_runs.specs.Positions.{Node, StatementNode}
 use Rattle.naga_runs.specs.PutsAndUses.{node_acts}
 use Rattle.naga_runs.specs.Samples.{given, skipping_loop, sure_loop}

@@ -14,10 +14,11 @@ use Rattle.naga_below.specs.declared.valid.flags.ShaderStages.{ShaderStages}
 use Rattle.naga_rules.specs.declared.function.FunctionError.{FunctionError}
 use Rattle.naga_rules.specs.declared.function.FunctionError.TheVariants.{UnvisitedExpression}
 use Rattle.naga_runs.proofs.Judgements.{judgement_is_visits, earlier_is_all}
-use Rattle.naga_runs.proofs.Points.{first_holds, not_holds}
+use Rattle.naga_below.proofs.Points.{first_holds, not_holds}
 use Rattle.naga_runs.specs.ByTree.{then_on, judge_visits}
 use Rattle.naga_runs.specs.Handles.{Handles}
-use Rattle.naga_runs.specs.Judgement.{answer, first_fault, viewed}
+use Rattle.naga_below.specs.Points.{first_fault}
+use Rattle.naga_runs.specs.Judgement.{answer, viewed}
 use Rattle.naga_runs.specs.Positions.{Node, NoNode, StatementNode, BreakIfNode, Position, node_at}
 use Rattle.naga_runs.specs.VisitOrder.{positions}
 use Rattle.naga_runs.specs.Visits.{Visit, Place, visit_at, visits_of}

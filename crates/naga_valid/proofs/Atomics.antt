@@ -9,9 +9,9 @@ use Rattle.naga_below.specs.declared.ir.types.Scalar.{Scalar}
 use Rattle.naga_below.specs.declared.valid.expression_error.ExpressionError.TheVariants.{NotInScope}
 use Rattle.naga_rules.specs.declared.function.AtomicError.TheVariants as wrong
 use Rattle.naga_rules.specs.declared.function.FunctionError.TheVariants.{Expression, ExpressionAlreadyInScope, InvalidAtomic}
-use Rattle.naga_runs.proofs.Points.{first_holds, both_hold, not_holds}
+use Rattle.naga_below.proofs.Points.{first_holds, both_hold, not_holds}
 use Rattle.naga_runs.specs.Handles.{Handles}
-use Rattle.naga_runs.specs.Judgement.{first_fault}
+use Rattle.naga_below.specs.Points.{first_fault}
 use Rattle.naga_runs.specs.Soundness.{Fit}
 use Rattle.naga_valid.specs.Atomics.{atomic_point, atomic_at, scalar_points, value_points, is_atomic_result, is_comparison, result_type_at, compared_points, result_type_points, typed_points, named_points, atomic_result_points, operation_points, atomic_points}
 use Rattle.naga_valid.specs.Context.{Context}

@@ -12,9 +12,9 @@ use Rattle.naga_below.specs.declared.valid.expression_error.ExpressionError.TheV
 use Rattle.naga_rules.specs.declared.function.CallError.{CallError}
 use Rattle.naga_rules.specs.declared.function.CallError.TheVariants.{Argument, ArgumentCount, ArgumentType, ExpressionMismatch, ResultAlreadyInScope, ResultAlreadyPopulated}
 use Rattle.naga_rules.specs.declared.function.FunctionError.TheVariants.{InvalidCall}
-use Rattle.naga_runs.proofs.Points.{first_holds, both_hold, not_holds}
+use Rattle.naga_below.proofs.Points.{first_holds, both_hold, not_holds}
 use Rattle.naga_runs.specs.Handles.{Handles}
-use Rattle.naga_runs.specs.Judgement.{Point, first_fault}
+use Rattle.naga_below.specs.Points.{Point, first_fault}
 use Rattle.naga_runs.specs.Soundness.{Fit}
 use Rattle.naga_valid.specs.Calls.{arguments_of, has_result, is_passed_as, argument_points, argument_points_from, arguments_points, is_call_result_of, call_result_points, callee_points, call_points}
 use Rattle.naga_valid.specs.Context.{Context}

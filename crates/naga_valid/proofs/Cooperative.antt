@@ -4,9 +4,9 @@ use Rattle.std.specs.Prelude.{is_some}
 use Rattle.naga_below.specs.Tree.{Use}
 use Rattle.naga_below.specs.declared.valid.expression_error.ExpressionError.TheVariants.{NotInScope}
 use Rattle.naga_rules.specs.declared.function.FunctionError.TheVariants.{Expression, InvalidCooperativeStoreTarget}
-use Rattle.naga_runs.proofs.Points.{first_holds}
+use Rattle.naga_below.proofs.Points.{first_holds}
 use Rattle.naga_runs.specs.Handles.{Handles}
-use Rattle.naga_runs.specs.Judgement.{first_fault}
+use Rattle.naga_below.specs.Points.{first_fault}
 use Rattle.naga_runs.specs.Soundness.{Fit}
 use Rattle.naga_valid.specs.Context.{Context}
 use Rattle.naga_valid.specs.Cooperative.{matrix_scalar_at, data_points, cooperative_points}

@@ -11,10 +11,11 @@ use Rattle.naga_below.specs.declared.valid.expression_error.ExpressionError.TheV
 use Rattle.naga_rules.specs.declared.function.FunctionError.{FunctionError}
 use Rattle.naga_rules.specs.declared.function.FunctionError.TheVariants.{EmitResult, Expression, ExpressionAlreadyInScope, InvalidIfType, InvalidSwitchType, BreakOutsideOfLoopOrSwitch, ContinueOutsideOfLoop, InvalidReturnSpot, InvalidReturnType}
 use Rattle.naga_runs.proofs.Judgements.{accepted_block_is_sound}
-use Rattle.naga_runs.proofs.Points.{first_holds, not_holds}
+use Rattle.naga_below.proofs.Points.{first_holds, not_holds}
 use Rattle.naga_runs.specs.Guards.{ReadGuards, IsRead}
 use Rattle.naga_runs.specs.Handles.{Handles, with_handle}
-use Rattle.naga_runs.specs.Judgement.{Point, first_fault, viewed}
+use Rattle.naga_below.specs.Points.{Point, first_fault}
+use Rattle.naga_runs.specs.Judgement.{viewed}
 use Rattle.naga_runs.specs.Abilities.{node_jump}
 use Rattle.naga_runs.specs.Positions.{Node, NoNode, StatementNode, BreakIfNode}
 use Rattle.naga_runs.specs.PutsAndUses.{node_acts}

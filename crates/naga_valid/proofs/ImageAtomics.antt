@@ -7,9 +7,9 @@ use Rattle.naga_below.specs.View.{used_if}
 use Rattle.naga_below.specs.declared.ir.statements.AtomicFunction.{AtomicFunction}
 use Rattle.naga_below.specs.declared.valid.expression_error.ExpressionError.TheVariants as wrong
 use Rattle.naga_rules.specs.declared.function.FunctionError.TheVariants.{Expression, InvalidImageAtomicValue}
-use Rattle.naga_runs.proofs.Points.{first_holds, both_hold}
+use Rattle.naga_below.proofs.Points.{first_holds, both_hold}
 use Rattle.naga_runs.specs.Handles.{Handles}
-use Rattle.naga_runs.specs.Judgement.{first_fault}
+use Rattle.naga_below.specs.Points.{first_fault}
 use Rattle.naga_runs.specs.Soundness.{Fit}
 use Rattle.naga_valid.specs.Context.{Context}
 use Rattle.naga_valid.specs.ImageAtomics.{changed_image, takes_atomics, format_points, changed_value_points, changed_texel_points, changed_storage_points, changed_class_points, changed_image_points, changed_global_points, image_atomic_points}

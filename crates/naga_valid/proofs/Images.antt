@@ -6,9 +6,9 @@ use Rattle.naga_below.specs.Types.{image_coordinates_of, inner_at}
 use Rattle.naga_below.specs.View.{used_if}
 use Rattle.naga_below.specs.declared.valid.expression_error.ExpressionError.TheVariants as wrong
 use Rattle.naga_rules.specs.declared.function.FunctionError.TheVariants.{Expression}
-use Rattle.naga_runs.proofs.Points.{first_holds, both_hold}
+use Rattle.naga_below.proofs.Points.{first_holds, both_hold}
 use Rattle.naga_runs.specs.Handles.{Handles}
-use Rattle.naga_runs.specs.Judgement.{first_fault}
+use Rattle.naga_below.specs.Points.{first_fault}
 use Rattle.naga_runs.specs.Soundness.{Fit}
 use Rattle.naga_valid.specs.Context.{Context}
 use Rattle.naga_valid.specs.Images.{image_fault, image_point, image_global_at, element_of, storage_of, is_dimension, coordinate_points, is_integer_scalar, array_index_points, texel_points, texel_type, is_texel_points, texel_value_points, stored_texel_points, stored_image_points, stored_image, stored_global_points, image_store_points}

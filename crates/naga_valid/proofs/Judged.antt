@@ -7,7 +7,8 @@ use Rattle.naga_below.specs.declared.span.Refusal.TheVariants as refusal
 use Rattle.naga_rules.specs.Answers.{Answers, Refuses}
 use Rattle.naga_rules.specs.declared.function.FunctionError.{FunctionError}
 use Rattle.naga_runs.proofs.Judgements.{by_tree, earlier_agrees}
-use Rattle.naga_runs.specs.Judgement.{Follows, answer, first_fault, judgement, viewed}
+use Rattle.naga_below.specs.Points.{first_fault}
+use Rattle.naga_runs.specs.Judgement.{Follows, answer, judgement, viewed}
 use Rattle.naga_runs.specs.Visits.{Visit}
 use Rattle.naga_valid.specs.Answers.{AnswersPoints}
 use Rattle.naga_valid.specs.Blocks.{body_of}

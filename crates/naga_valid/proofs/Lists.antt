@@ -7,13 +7,12 @@ use Rattle.std.specs.Option.{option_or, option_map}
 use Rattle.naga_below.specs.declared.ir.statements.SwitchCase.{SwitchCase, out-SwitchCase}
 use Rattle.naga_below.specs.declared.ir.statements.SwitchValue.{SwitchValue}
 use Rattle.naga_below.specs.View.{emitted, no_operands}
-use Rattle.naga_runs.specs.Judgement.{Point, first_fault}
+use Rattle.naga_below.specs.Points.{Point, first_fault, within}
 use Rattle.naga_valid.specs.Blocks.{case_list}
 use Rattle.naga_valid.specs.Scope.{in_scope, known}
 use Rattle.naga_valid.specs.Walk.{puts_of, handles_from, handles_between}
 use Rattle.naga_valid.specs.Context.{Context}
 use Rattle.naga_valid.specs.Control.{emit_points, emit_points_from, is_result, values_of, last_falls_through}
-use Rattle.naga_valid.specs.Points.{within}
 use Rattle.naga_valid.specs.Types.{expression_at}
 use Rattle.naga_rules.specs.declared.function.FunctionError.{FunctionError}
 use Rattle.naga_rules.specs.declared.function.FunctionError.TheVariants.{EmitResult, ExpressionAlreadyInScope}

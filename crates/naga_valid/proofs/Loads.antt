@@ -3,9 +3,9 @@ use Rattle.std.proofs.Common.{◌≡◌, ℕ, true, false, not, [], ◌∷◌, N
 use Rattle.naga_below.specs.Tree.{Use, Put}
 use Rattle.naga_below.specs.declared.valid.expression_error.ExpressionError.TheVariants.{NotInScope}
 use Rattle.naga_rules.specs.declared.function.FunctionError.TheVariants.{Expression, ExpressionAlreadyInScope, WorkgroupUniformLoadInvalidPointer}
-use Rattle.naga_runs.proofs.Points.{first_holds, not_holds}
+use Rattle.naga_below.proofs.Points.{first_holds, not_holds}
 use Rattle.naga_runs.specs.Handles.{Handles}
-use Rattle.naga_runs.specs.Judgement.{Point, first_fault}
+use Rattle.naga_below.specs.Points.{Point, first_fault}
 use Rattle.naga_rules.specs.declared.function.FunctionError.{FunctionError}
 use Rattle.naga_runs.specs.Soundness.{Fit}
 use Rattle.naga_valid.specs.Context.{Context}

@@ -7,9 +7,9 @@ use Rattle.naga_below.specs.declared.ir.statements.RayQueryFunction.{RayQueryFun
 use Rattle.naga_below.specs.declared.ir.statements.RayQueryFunction.TheVariants as query
 use Rattle.naga_below.specs.declared.valid.expression_error.ExpressionError.TheVariants.{NotInScope}
 use Rattle.naga_rules.specs.declared.function.FunctionError.TheVariants.{Expression, ExpressionAlreadyInScope, InvalidRayQueryExpression, InvalidRayQueryType, InvalidAccelerationStructure, InvalidRayDescriptor, InvalidHitDistanceType}
-use Rattle.naga_runs.proofs.Points.{first_holds, both_hold, not_holds}
+use Rattle.naga_below.proofs.Points.{first_holds, both_hold, not_holds}
 use Rattle.naga_runs.specs.Handles.{Handles}
-use Rattle.naga_runs.specs.Judgement.{first_fault}
+use Rattle.naga_below.specs.Points.{first_fault}
 use Rattle.naga_runs.specs.Soundness.{Fit}
 use Rattle.naga_valid.specs.Context.{Context}
 use Rattle.naga_valid.specs.RayQueries.{local_type_at, query_flag_of, structure_flag_at, structure_points, descriptor_type, descriptor_points, returned_points, is_float_scalar, query_function_points, flagged_points, queried_points, ray_query_points}

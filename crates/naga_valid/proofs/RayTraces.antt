@@ -4,9 +4,9 @@ use Rattle.naga_below.specs.View.{pipeline_acts}
 use Rattle.naga_below.specs.declared.ir.statements.RayPipelineFunction.TheVariants.{TraceRay}
 use Rattle.naga_below.specs.declared.valid.expression_error.ExpressionError.TheVariants.{NotInScope}
 use Rattle.naga_rules.specs.declared.function.FunctionError.TheVariants.{Expression}
-use Rattle.naga_runs.proofs.Points.{first_holds, both_hold}
+use Rattle.naga_below.proofs.Points.{first_holds, both_hold}
 use Rattle.naga_runs.specs.Handles.{Handles}
-use Rattle.naga_runs.specs.Judgement.{first_fault}
+use Rattle.naga_below.specs.Points.{first_fault}
 use Rattle.naga_runs.specs.Soundness.{Fit}
 use Rattle.naga_valid.specs.Context.{Context}
 use Rattle.naga_valid.specs.RayQueries.{structure_points, descriptor_points}

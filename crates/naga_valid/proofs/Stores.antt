@@ -8,9 +8,9 @@ use Rattle.naga_below.specs.declared.ir.expressions.Expression.{Expression as Ir
 use Rattle.naga_below.specs.declared.ir.expressions.Expression.TheVariants as e
 use Rattle.naga_below.specs.declared.valid.expression_error.ExpressionError.TheVariants.{NotInScope}
 use Rattle.naga_rules.specs.declared.function.FunctionError.TheVariants.{Expression, InvalidStorePointer}
-use Rattle.naga_runs.proofs.Points.{first_holds}
+use Rattle.naga_below.proofs.Points.{first_holds}
 use Rattle.naga_runs.specs.Handles.{Handles}
-use Rattle.naga_runs.specs.Judgement.{first_fault}
+use Rattle.naga_below.specs.Points.{first_fault}
 use Rattle.naga_runs.specs.Soundness.{Fit}
 use Rattle.naga_valid.specs.Context.{Context}
 use Rattle.naga_valid.specs.Points.{use_point}

@@ -21,7 +21,8 @@ use Rattle.naga_runs.specs.declared.Abilities.{Abilities}
 use Rattle.naga_runs.specs.Handles.{Handles, no_handles, with_handle}
 use Rattle.naga_runs.specs.Must.{with_sure}
 use Rattle.naga_runs.specs.PutsAndUses.{with_acts, with_body, acts_of}
-use Rattle.naga_runs.specs.Judgement.{answer, first_fault}
+use Rattle.naga_below.specs.Points.{first_fault}
+use Rattle.naga_runs.specs.Judgement.{answer}
 use Rattle.naga_runs.specs.ByTree.{then_on, judge_visits, judge_body, judge_stmt, judge_parts, judge_cases, judge_break_if, IgnoresMust, case_abilities, loop_abilities, continuing_abilities}
 use Rattle.naga_runs.proofs.Judgements.{judge_done, judge_more, judge_own, judge_block, judge_branch, judge_switch, judge_loop, judge_no_case, judge_one_case}
 use Rattle.naga_runs.proofs.WithoutMust.{must_is_free}

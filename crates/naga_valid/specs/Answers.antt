@@ -4,7 +4,7 @@ use Rattle.naga_below.specs.declared.span.Refusal.{Refusal}
 use Rattle.naga_below.specs.declared.span.Refusal.TheVariants as refusal
 use Rattle.naga_rules.specs.Answers.{Refuses}
 use Rattle.naga_rules.specs.declared.function.FunctionError.{FunctionError}
-use Rattle.naga_runs.specs.Judgement.{first_fault}
+use Rattle.naga_below.specs.Points.{first_fault}
 use Rattle.naga_valid.specs.Points.{Points}
 
 -- a judgement of which the code keeps the state: it is right, or there was no memory

@@ -20,7 +20,7 @@ use Rattle.naga_rules.specs.declared.function.AtomicError.TheVariants as wrong
 use Rattle.naga_rules.specs.declared.function.FunctionError.{FunctionError}
 use Rattle.naga_rules.specs.declared.function.FunctionError.TheVariants.{InvalidAtomic}
 use Rattle.naga_runs.specs.Handles.{Handles}
-use Rattle.naga_runs.specs.Judgement.{Point}
+use Rattle.naga_below.specs.Points.{Point}
 use Rattle.naga_valid.specs.Context.{Context}
 use Rattle.naga_valid.specs.Control.{is_integer}
 use Rattle.naga_valid.specs.Points.{Points, use_point, put_point}

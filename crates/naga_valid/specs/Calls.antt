@@ -11,9 +11,9 @@ use Rattle.naga_rules.specs.declared.function.CallError.{CallError}
 use Rattle.naga_rules.specs.declared.function.CallError.TheVariants.{Argument, ArgumentCount, ArgumentType, ExpressionMismatch, ResultAlreadyInScope, ResultAlreadyPopulated}
 use Rattle.naga_rules.specs.declared.function.FunctionError.TheVariants.{InvalidCall}
 use Rattle.naga_runs.specs.Handles.{Handles}
-use Rattle.naga_runs.specs.Judgement.{Point}
+use Rattle.naga_below.specs.Points.{Point, within}
 use Rattle.naga_valid.specs.Context.{Context}
-use Rattle.naga_valid.specs.Points.{Points, within}
+use Rattle.naga_valid.specs.Points.{Points}
 use Rattle.naga_valid.specs.Results.{is_fresh}
 use Rattle.naga_valid.specs.Types.{expression_at, resolution_at, is_same_type}
 

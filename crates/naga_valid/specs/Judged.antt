@@ -9,7 +9,8 @@ use Rattle.naga_below.specs.declared.valid.info.ModuleInfo.{ModuleInfo}
 use Rattle.naga_below.specs.declared.valid.settings.Settings.{Settings}
 use Rattle.naga_rules.specs.Answers.{Refuses}
 use Rattle.naga_rules.specs.declared.function.FunctionError.{FunctionError}
-use Rattle.naga_runs.specs.Judgement.{answer, first_fault, judgement}
+use Rattle.naga_below.specs.Points.{first_fault}
+use Rattle.naga_runs.specs.Judgement.{answer, judgement}
 use Rattle.naga_runs.specs.Visits.{Visit}
 use Rattle.naga_valid.specs.Blocks.{body_of}
 use Rattle.naga_valid.specs.Context.{Context, pre_emitted}

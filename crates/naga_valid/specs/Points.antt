@@ -1,10 +1,10 @@
 -- Check points: what must hold where a statement stands, and the fault where it does not.
-use Rattle.std.specs.Prelude.{ℕ, not, List, map}
+use Rattle.std.specs.Prelude.{ℕ, not, List}
 use Rattle.naga_below.specs.declared.valid.expression_error.ExpressionError.TheVariants.{NotInScope}
 use Rattle.naga_rules.specs.declared.function.FunctionError.{FunctionError}
 use Rattle.naga_rules.specs.declared.function.FunctionError.TheVariants.{Expression, ExpressionAlreadyInScope}
 use Rattle.naga_runs.specs.Handles.{Handles}
-use Rattle.naga_runs.specs.Judgement.{Point}
+use Rattle.naga_below.specs.Points.{Point}
 
 abbrev pub Points : Type 0
 Points = List (Point FunctionError)
@@ -16,7 +16,3 @@ use_point scope h = (scope h, Expression h NotInScope)
 -- a put: the handle is not in scope yet
 abbrev pub put_point : Handles → ℕ → Point FunctionError
 put_point scope h = (not (scope h), ExpressionAlreadyInScope h)
-
--- points whose faults stand inside another
-abbrev pub within : {Inner : Type 0} → (Inner → FunctionError) → List (Point Inner) → Points
-within outer points = map (λ p. (p.0, outer p.1)) points

@@ -27,7 +27,7 @@ use Rattle.naga_rules.specs.declared.function.FunctionError.TheVariants.{Invalid
 use Rattle.naga_rules.specs.declared.function.SubgroupError.{SubgroupError}
 use Rattle.naga_rules.specs.declared.function.SubgroupError.TheVariants as wrong
 use Rattle.naga_runs.specs.Handles.{Handles}
-use Rattle.naga_runs.specs.Judgement.{Point}
+use Rattle.naga_below.specs.Points.{Point}
 use Rattle.naga_valid.specs.Atomics.{has_capability}
 use Rattle.naga_valid.specs.Context.{Context}
 use Rattle.naga_valid.specs.Control.{is_bool_kind, is_integer}

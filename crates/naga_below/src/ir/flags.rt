@@ -1,6 +1,6 @@
 //! Sets of named bits in the IR. `bitflags` gives the operations; contracts see the bits as field `0`.
 
-ghost use Rattle.std.specs.Prelude.{⊤, [], ◌∷◌, codes};
+ghost use Rattle.std.specs.Prelude.{◌≡◌, ⊤, [], ◌∷◌, codes};
 
 use bitflags::{Flag, Flags, bitflag_items};
 
@@ -17,11 +17,13 @@ bitflag_items! {
 }
 
 impl Flags for StorageAccess {
+    ghost use Rattle.naga_below.specs.Bits as bit;
+
     type Bits = u8;
 
     ghost exact = { ⊤ };
 
-    ghost table = { (codes "LOAD", 1) ∷ (codes "STORE", 2) ∷ (codes "ATOMIC", 4) ∷ [] };
+    ghost table = { (codes "LOAD", bit.LOAD.0) ∷ (codes "STORE", bit.STORE.0) ∷ (codes "ATOMIC", bit.ATOMIC.0) ∷ [] };
 
     ghost set_of = { λ p. p.0 };
 
@@ -35,6 +37,17 @@ impl Flags for StorageAccess {
 
     fn from_bits_retain(bits: u8) -> StorageAccess {
         StorageAccess(bits)
+    }
+}
+
+impl StorageAccess {
+    ghost use Rattle.naga_below.specs.Bits.{contains};
+
+    /// Whether it has all of these.
+    pub fn contains(self, some: StorageAccess) -> bool
+        ensures { result ≡ contains self.0 some.0 }
+    {
+        Flags::contains(&self, some)
     }
 }
 
@@ -52,11 +65,13 @@ bitflag_items! {
 }
 
 impl Flags for Barrier {
+    ghost use Rattle.naga_below.specs.Bits as bit;
+
     type Bits = u8;
 
     ghost exact = { ⊤ };
 
-    ghost table = { (codes "STORAGE", 1) ∷ (codes "WORK_GROUP", 2) ∷ (codes "SUB_GROUP", 4) ∷ (codes "TEXTURE", 8) ∷ [] };
+    ghost table = { (codes "STORAGE", bit.STORAGE.0) ∷ (codes "WORK_GROUP", bit.WORK_GROUP.0) ∷ (codes "SUB_GROUP", bit.SUB_GROUP.0) ∷ (codes "TEXTURE", bit.TEXTURE.0) ∷ [] };
 
     ghost set_of = { λ p. p.0 };
 
@@ -73,6 +88,17 @@ impl Flags for Barrier {
     }
 }
 
+impl Barrier {
+    ghost use Rattle.naga_below.specs.Bits.{contains};
+
+    /// Whether it has all of these.
+    pub fn contains(self, some: Barrier) -> bool
+        ensures { result ≡ contains self.0 some.0 }
+    {
+        Flags::contains(&self, some)
+    }
+}
+
 /// How a global is decorated in SPIR-V's terms: bit 0 `Coherent`, bit 1 `Volatile`.
 #[derive(Clone, Copy, PartialEq, Eq, PartialOrd, Ord, Hash, Debug)]
 pub struct MemoryDecorations(pub u8);
@@ -85,11 +111,13 @@ bitflag_items! {
 }
 
 impl Flags for MemoryDecorations {
+    ghost use Rattle.naga_below.specs.Bits as bit;
+
     type Bits = u8;
 
     ghost exact = { ⊤ };
 
-    ghost table = { (codes "COHERENT", 1) ∷ (codes "VOLATILE", 2) ∷ [] };
+    ghost table = { (codes "COHERENT", bit.COHERENT.0) ∷ (codes "VOLATILE", bit.VOLATILE.0) ∷ [] };
 
     ghost set_of = { λ p. p.0 };
 
@@ -103,5 +131,16 @@ impl Flags for MemoryDecorations {
 
     fn from_bits_retain(bits: u8) -> MemoryDecorations {
         MemoryDecorations(bits)
+    }
+}
+
+impl MemoryDecorations {
+    ghost use Rattle.naga_below.specs.Bits.{contains};
+
+    /// Whether it has all of these.
+    pub fn contains(self, some: MemoryDecorations) -> bool
+        ensures { result ≡ contains self.0 some.0 }
+    {
+        Flags::contains(&self, some)
     }
 }

@@ -1,6 +1,6 @@
 //! Capabilities of a target.
 
-ghost use Rattle.std.specs.Prelude.{⊤, [], ◌∷◌, codes};
+ghost use Rattle.std.specs.Prelude.{◌≡◌, ⊤, [], ◌∷◌, codes};
 
 use bitflags::{Flag, Flags, bitflag_items};
 
@@ -42,11 +42,13 @@ bitflag_items! {
 }
 
 impl Flags for Capabilities {
+    ghost use Rattle.naga_below.specs.Bits as bit;
+
     type Bits = u32;
 
     ghost exact = { ⊤ };
 
-    ghost table = { (codes "ACCELERATION_STRUCTURE_BINDING_ARRAY", 1) ∷ (codes "BUFFER_BINDING_ARRAY", 2) ∷ (codes "CLIP_DISTANCES", 4) ∷ (codes "CULL_DISTANCE", 8) ∷ (codes "DRAW_INDEX", 16) ∷ (codes "EARLY_DEPTH_TEST", 32) ∷ (codes "IMMEDIATES", 64) ∷ (codes "MEMORY_DECORATION_COHERENT", 128) ∷ (codes "MEMORY_DECORATION_VOLATILE", 256) ∷ (codes "MESH_SHADER", 512) ∷ (codes "MESH_SHADER_POINT_TOPOLOGY", 1024) ∷ (codes "MULTISAMPLED_SHADING", 2048) ∷ (codes "MULTIVIEW", 4096) ∷ (codes "PER_VERTEX", 8192) ∷ (codes "PRIMITIVE_INDEX", 16384) ∷ (codes "RAY_TRACING_PIPELINE", 32768) ∷ (codes "SHADER_BARYCENTRICS", 65536) ∷ (codes "SHADER_FLOAT32_ATOMIC", 131072) ∷ (codes "SHADER_INT64_ATOMIC_ALL_OPS", 262144) ∷ (codes "SHADER_INT64_ATOMIC_MIN_MAX", 524288) ∷ (codes "STORAGE_BUFFER_BINDING_ARRAY", 1048576) ∷ (codes "STORAGE_TEXTURE_16BIT_NORM_FORMATS", 2097152) ∷ (codes "STORAGE_TEXTURE_BINDING_ARRAY", 4194304) ∷ (codes "SUBGROUP", 8388608) ∷ (codes "SUBGROUP_BARRIER", 16777216) ∷ (codes "TEXTURE_AND_SAMPLER_BINDING_ARRAY", 33554432) ∷ (codes "TEXTURE_ATOMIC", 67108864) ∷ (codes "TEXTURE_INT64_ATOMIC", 134217728) ∷ [] };
+    ghost table = { (codes "ACCELERATION_STRUCTURE_BINDING_ARRAY", bit.ACCELERATION_STRUCTURE_BINDING_ARRAY.0) ∷ (codes "BUFFER_BINDING_ARRAY", bit.BUFFER_BINDING_ARRAY.0) ∷ (codes "CLIP_DISTANCES", bit.CLIP_DISTANCES.0) ∷ (codes "CULL_DISTANCE", bit.CULL_DISTANCE.0) ∷ (codes "DRAW_INDEX", bit.DRAW_INDEX.0) ∷ (codes "EARLY_DEPTH_TEST", bit.EARLY_DEPTH_TEST.0) ∷ (codes "IMMEDIATES", bit.IMMEDIATES.0) ∷ (codes "MEMORY_DECORATION_COHERENT", bit.MEMORY_DECORATION_COHERENT.0) ∷ (codes "MEMORY_DECORATION_VOLATILE", bit.MEMORY_DECORATION_VOLATILE.0) ∷ (codes "MESH_SHADER", bit.MESH_SHADER.0) ∷ (codes "MESH_SHADER_POINT_TOPOLOGY", bit.MESH_SHADER_POINT_TOPOLOGY.0) ∷ (codes "MULTISAMPLED_SHADING", bit.MULTISAMPLED_SHADING.0) ∷ (codes "MULTIVIEW", bit.MULTIVIEW.0) ∷ (codes "PER_VERTEX", bit.PER_VERTEX.0) ∷ (codes "PRIMITIVE_INDEX", bit.PRIMITIVE_INDEX.0) ∷ (codes "RAY_TRACING_PIPELINE", bit.RAY_TRACING_PIPELINE.0) ∷ (codes "SHADER_BARYCENTRICS", bit.SHADER_BARYCENTRICS.0) ∷ (codes "SHADER_FLOAT32_ATOMIC", bit.SHADER_FLOAT32_ATOMIC.0) ∷ (codes "SHADER_INT64_ATOMIC_ALL_OPS", bit.SHADER_INT64_ATOMIC_ALL_OPS.0) ∷ (codes "SHADER_INT64_ATOMIC_MIN_MAX", bit.SHADER_INT64_ATOMIC_MIN_MAX.0) ∷ (codes "STORAGE_BUFFER_BINDING_ARRAY", bit.STORAGE_BUFFER_BINDING_ARRAY.0) ∷ (codes "STORAGE_TEXTURE_16BIT_NORM_FORMATS", bit.STORAGE_TEXTURE_16BIT_NORM_FORMATS.0) ∷ (codes "STORAGE_TEXTURE_BINDING_ARRAY", bit.STORAGE_TEXTURE_BINDING_ARRAY.0) ∷ (codes "SUBGROUP", bit.SUBGROUP.0) ∷ (codes "SUBGROUP_BARRIER", bit.SUBGROUP_BARRIER.0) ∷ (codes "TEXTURE_AND_SAMPLER_BINDING_ARRAY", bit.TEXTURE_AND_SAMPLER_BINDING_ARRAY.0) ∷ (codes "TEXTURE_ATOMIC", bit.TEXTURE_ATOMIC.0) ∷ (codes "TEXTURE_INT64_ATOMIC", bit.TEXTURE_INT64_ATOMIC.0) ∷ [] };
 
     ghost set_of = { λ p. p.0 };
 
@@ -60,5 +62,19 @@ impl Flags for Capabilities {
 
     fn from_bits_retain(bits: u32) -> Capabilities {
         Capabilities(bits)
+    }
+}
+
+impl Capabilities {
+    /// Every capability.
+    pub const ALL: Capabilities = Capabilities(0xfffffff);
+
+    ghost use Rattle.naga_below.specs.Bits.{contains};
+
+    /// Whether it has all of these.
+    pub fn contains(self, some: Capabilities) -> bool
+        ensures { result ≡ contains self.0 some.0 }
+    {
+        Flags::contains(&self, some)
     }
 }

@@ -1,6 +1,6 @@
 //! Sets of named bits of the validator. `bitflags` gives the operations; contracts see the bits as field `0`.
 
-ghost use Rattle.std.specs.Prelude.{⊤, [], ◌∷◌, codes};
+ghost use Rattle.std.specs.Prelude.{◌≡◌, ⊤, [], ◌∷◌, codes};
 
 use bitflags::{Flag, Flags, bitflag_items};
 
@@ -18,11 +18,13 @@ bitflag_items! {
 }
 
 impl Flags for ValidationFlags {
+    ghost use Rattle.naga_below.specs.Bits as bit;
+
     type Bits = u8;
 
     ghost exact = { ⊤ };
 
-    ghost table = { (codes "EXPRESSIONS", 1) ∷ (codes "BLOCKS", 2) ∷ (codes "STRUCT_LAYOUTS", 4) ∷ (codes "BINDINGS", 8) ∷ [] };
+    ghost table = { (codes "EXPRESSIONS", bit.EXPRESSIONS.0) ∷ (codes "BLOCKS", bit.BLOCKS.0) ∷ (codes "STRUCT_LAYOUTS", bit.STRUCT_LAYOUTS.0) ∷ (codes "BINDINGS", bit.BINDINGS.0) ∷ [] };
 
     ghost set_of = { λ p. p.0 };
 
@@ -36,6 +38,17 @@ impl Flags for ValidationFlags {
 
     fn from_bits_retain(bits: u8) -> ValidationFlags {
         ValidationFlags(bits)
+    }
+}
+
+impl ValidationFlags {
+    ghost use Rattle.naga_below.specs.Bits.{contains};
+
+    /// Whether it has all of these.
+    pub fn contains(self, some: ValidationFlags) -> bool
+        ensures { result ≡ contains self.0 some.0 }
+    {
+        Flags::contains(&self, some)
     }
 }
 
@@ -57,11 +70,13 @@ bitflag_items! {
 }
 
 impl Flags for TypeFlags {
+    ghost use Rattle.naga_below.specs.Bits as bit;
+
     type Bits = u8;
 
     ghost exact = { ⊤ };
 
-    ghost table = { (codes "DATA", 1) ∷ (codes "SIZED", 2) ∷ (codes "COPY", 4) ∷ (codes "IO_SHAREABLE", 8) ∷ (codes "HOST_SHAREABLE", 16) ∷ (codes "CREATION_RESOLVED", 32) ∷ (codes "ARGUMENT", 64) ∷ (codes "CONSTRUCTIBLE", 128) ∷ [] };
+    ghost table = { (codes "DATA", bit.DATA.0) ∷ (codes "SIZED", bit.SIZED.0) ∷ (codes "COPY", bit.COPY.0) ∷ (codes "IO_SHAREABLE", bit.IO_SHAREABLE.0) ∷ (codes "HOST_SHAREABLE", bit.HOST_SHAREABLE.0) ∷ (codes "CREATION_RESOLVED", bit.CREATION_RESOLVED.0) ∷ (codes "ARGUMENT", bit.ARGUMENT.0) ∷ (codes "CONSTRUCTIBLE", bit.CONSTRUCTIBLE.0) ∷ [] };
 
     ghost set_of = { λ p. p.0 };
 
@@ -75,6 +90,17 @@ impl Flags for TypeFlags {
 
     fn from_bits_retain(bits: u8) -> TypeFlags {
         TypeFlags(bits)
+    }
+}
+
+impl TypeFlags {
+    ghost use Rattle.naga_below.specs.Bits.{contains};
+
+    /// Whether it has all of these.
+    pub fn contains(self, some: TypeFlags) -> bool
+        ensures { result ≡ contains self.0 some.0 }
+    {
+        Flags::contains(&self, some)
     }
 }
 
@@ -92,11 +118,13 @@ bitflag_items! {
 }
 
 impl Flags for GlobalUse {
+    ghost use Rattle.naga_below.specs.Bits as bit;
+
     type Bits = u8;
 
     ghost exact = { ⊤ };
 
-    ghost table = { (codes "READ", 1) ∷ (codes "WRITE", 2) ∷ (codes "QUERY", 4) ∷ (codes "ATOMIC", 8) ∷ [] };
+    ghost table = { (codes "READ", bit.READ.0) ∷ (codes "WRITE", bit.WRITE.0) ∷ (codes "QUERY", bit.QUERY.0) ∷ (codes "ATOMIC", bit.ATOMIC_USE.0) ∷ [] };
 
     ghost set_of = { λ p. p.0 };
 
@@ -110,6 +138,17 @@ impl Flags for GlobalUse {
 
     fn from_bits_retain(bits: u8) -> GlobalUse {
         GlobalUse(bits)
+    }
+}
+
+impl GlobalUse {
+    ghost use Rattle.naga_below.specs.Bits.{contains};
+
+    /// Whether it has all of these.
+    pub fn contains(self, some: GlobalUse) -> bool
+        ensures { result ≡ contains self.0 some.0 }
+    {
+        Flags::contains(&self, some)
     }
 }
 
@@ -130,11 +169,13 @@ bitflag_items! {
 }
 
 impl Flags for SubgroupOperationSet {
+    ghost use Rattle.naga_below.specs.Bits as bit;
+
     type Bits = u8;
 
     ghost exact = { ⊤ };
 
-    ghost table = { (codes "BASIC", 1) ∷ (codes "VOTE", 2) ∷ (codes "ARITHMETIC", 4) ∷ (codes "BALLOT", 8) ∷ (codes "SHUFFLE", 16) ∷ (codes "SHUFFLE_RELATIVE", 32) ∷ (codes "QUAD", 64) ∷ [] };
+    ghost table = { (codes "BASIC", bit.BASIC.0) ∷ (codes "VOTE", bit.VOTE.0) ∷ (codes "ARITHMETIC", bit.ARITHMETIC.0) ∷ (codes "BALLOT", bit.BALLOT.0) ∷ (codes "SHUFFLE", bit.SHUFFLE.0) ∷ (codes "SHUFFLE_RELATIVE", bit.SHUFFLE_RELATIVE.0) ∷ (codes "QUAD", bit.QUAD.0) ∷ [] };
 
     ghost set_of = { λ p. p.0 };
 
@@ -148,6 +189,20 @@ impl Flags for SubgroupOperationSet {
 
     fn from_bits_retain(bits: u8) -> SubgroupOperationSet {
         SubgroupOperationSet(bits)
+    }
+}
+
+impl SubgroupOperationSet {
+    /// Every group of operations.
+    pub const ALL: SubgroupOperationSet = SubgroupOperationSet(0x7f);
+
+    ghost use Rattle.naga_below.specs.Bits.{contains};
+
+    /// Whether it has all of these.
+    pub fn contains(self, some: SubgroupOperationSet) -> bool
+        ensures { result ≡ contains self.0 some.0 }
+    {
+        Flags::contains(&self, some)
     }
 }
 
@@ -171,11 +226,13 @@ bitflag_items! {
 }
 
 impl Flags for ShaderStages {
+    ghost use Rattle.naga_below.specs.Bits as bit;
+
     type Bits = u16;
 
     ghost exact = { ⊤ };
 
-    ghost table = { (codes "VERTEX", 1) ∷ (codes "FRAGMENT", 2) ∷ (codes "COMPUTE", 4) ∷ (codes "MESH", 8) ∷ (codes "TASK", 16) ∷ (codes "RAY_GENERATION", 32) ∷ (codes "ANY_HIT", 64) ∷ (codes "CLOSEST_HIT", 128) ∷ (codes "MISS", 256) ∷ (codes "COMPUTE_LIKE", 28) ∷ [] };
+    ghost table = { (codes "VERTEX", bit.VERTEX.0) ∷ (codes "FRAGMENT", bit.FRAGMENT.0) ∷ (codes "COMPUTE", bit.COMPUTE.0) ∷ (codes "MESH", bit.MESH.0) ∷ (codes "TASK", bit.TASK.0) ∷ (codes "RAY_GENERATION", bit.RAY_GENERATION.0) ∷ (codes "ANY_HIT", bit.ANY_HIT.0) ∷ (codes "CLOSEST_HIT", bit.CLOSEST_HIT.0) ∷ (codes "MISS", bit.MISS.0) ∷ (codes "COMPUTE_LIKE", bit.COMPUTE_LIKE.0) ∷ [] };
 
     ghost set_of = { λ p. p.0 };
 
@@ -189,5 +246,19 @@ impl Flags for ShaderStages {
 
     fn from_bits_retain(bits: u16) -> ShaderStages {
         ShaderStages(bits)
+    }
+}
+
+impl ShaderStages {
+    /// Every stage.
+    pub const ALL: ShaderStages = ShaderStages(0x1ff);
+
+    ghost use Rattle.naga_below.specs.Bits.{contains};
+
+    /// Whether it has all of these.
+    pub fn contains(self, some: ShaderStages) -> bool
+        ensures { result ≡ contains self.0 some.0 }
+    {
+        Flags::contains(&self, some)
     }
 }

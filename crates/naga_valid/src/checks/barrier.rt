@@ -2,7 +2,7 @@
 
 ghost use Rattle.std.specs.Prelude.{◌≡◌};
 ghost use Rattle.std.specs.Result.{result_err};
-ghost use Rattle.naga_runs.specs.Judgement.{first_fault};
+ghost use Rattle.naga_below.specs.Points.{first_fault};
 ghost use Rattle.naga_valid.specs.Barriers.{barrier_capabilities, subgroup_barrier_points, barrier_points};
 
 use crate::checks::subgroup::check_operations;

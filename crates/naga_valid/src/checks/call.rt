@@ -6,7 +6,7 @@ ghost use Rattle.std.specs.Option.{option_copied, option_map};
 ghost use Rattle.naga_below.specs.FitsBody.{CalleeFits};
 ghost use Rattle.naga_below.specs.View.{put_if};
 ghost use Rattle.naga_rules.specs.declared.function.FunctionError.TheVariants.{InvalidCall};
-ghost use Rattle.naga_runs.specs.Judgement.{first_fault};
+ghost use Rattle.naga_below.specs.Points.{first_fault};
 ghost use Rattle.naga_valid.specs.Answers.{AnswersPoints};
 ghost use Rattle.naga_valid.specs.Calls.{is_passed_as, argument_points, arguments_points, is_call_result_of, call_result_points, callee_points, call_points};
 ghost use Rattle.naga_valid.specs.Context.{ContextFits};

@@ -4,7 +4,7 @@ ghost use Rattle.std.specs.Prelude.{◌≡◌};
 ghost use Rattle.std.specs.Result.{result_err};
 ghost use Rattle.std.specs.Option.{option_copied};
 ghost use Rattle.naga_below.specs.Types.{inner_at};
-ghost use Rattle.naga_runs.specs.Judgement.{first_fault};
+ghost use Rattle.naga_below.specs.Points.{first_fault};
 ghost use Rattle.naga_valid.specs.Images.{image_fault, global_type_at, image_global_at, image_of, element_of, storage_of, is_dimension, coordinate_points, is_integer_scalar, array_index_points, texel_points};
 ghost use Rattle.naga_valid.specs.Scope.{known};
 ghost use Rattle.naga_valid.specs.Seen.{context_of};

@@ -2,7 +2,7 @@
 
 ghost use Rattle.std.specs.Prelude.{◌≡◌, Some, IfOk};
 ghost use Rattle.std.specs.Result.{result_err};
-ghost use Rattle.naga_runs.specs.Judgement.{first_fault};
+ghost use Rattle.naga_below.specs.Points.{first_fault};
 ghost use Rattle.naga_valid.specs.Answers.{AnswersPoints};
 ghost use Rattle.naga_valid.specs.Images.{stored_image, texel_value_points, stored_texel_points, stored_image_points, stored_global_points, image_store_points};
 ghost use Rattle.naga_valid.specs.Scope.{known};

@@ -3,7 +3,7 @@
 ghost use Rattle.std.specs.Prelude.{◌≡◌, length};
 ghost use Rattle.std.specs.Result.{result_err};
 ghost use Rattle.std.specs.Option.{option_copied};
-ghost use Rattle.naga_runs.specs.Judgement.{first_fault};
+ghost use Rattle.naga_below.specs.Points.{first_fault};
 ghost use Rattle.naga_valid.specs.Results.{is_to_fill, is_unfilled, is_fresh, filled_points_from, filled_points};
 ghost use Rattle.naga_valid.specs.Scope.{known};
 ghost use Rattle.naga_valid.specs.Seen.{context_of};

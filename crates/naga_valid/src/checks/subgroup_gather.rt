@@ -3,7 +3,7 @@
 ghost use Rattle.std.specs.Prelude.{◌≡◌, ◌++◌, ◌∷◌, [], OnOk, Some};
 ghost use Rattle.std.specs.Option.{option_copied};
 ghost use Rattle.std.specs.Result.{result_err};
-ghost use Rattle.naga_runs.specs.Judgement.{first_fault};
+ghost use Rattle.naga_below.specs.Points.{first_fault};
 ghost use Rattle.naga_valid.specs.Answers.{AnswersPoints};
 ghost use Rattle.naga_valid.specs.Scope.{known};
 ghost use Rattle.naga_valid.specs.Seen.{context_of};

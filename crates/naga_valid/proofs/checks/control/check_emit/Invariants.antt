@@ -1,5 +1,5 @@
 use Rattle.std.proofs.Common.{◌≡◌, ◌≤◌, ◌++◌}
-use Rattle.naga_runs.specs.Judgement.{first_fault}
+use Rattle.naga_below.specs.Points.{first_fault}
 use Rattle.naga_valid.specs.Scope.{known}
 use Rattle.naga_valid.specs.Control.{emit_points}
 use Rattle.naga_valid.specs.Walk.{handles_between}

@@ -1,5 +1,5 @@
 use Rattle.std.proofs.Common.{◌≡◌, [], take, drop}
-use Rattle.naga_runs.specs.Judgement.{first_fault}
+use Rattle.naga_below.specs.Points.{first_fault}
 use Rattle.naga_valid.specs.Blocks.{case_list}
 use Rattle.naga_valid.specs.Control.{value_points, values_of}
 use Rattle.naga_valid.proofs.Values.{HasValues}

@@ -1,5 +1,5 @@
 use Rattle.std.proofs.Common.{◌≡◌, ◌-◌, length}
-use Rattle.naga_runs.specs.Judgement.{first_fault}
+use Rattle.naga_below.specs.Points.{first_fault}
 use Rattle.naga_valid.specs.Results.{filled_points_from}
 use Rattle.naga_valid.specs.Scope.{known}
 use Rattle.naga_valid.specs.Seen.{context_of}

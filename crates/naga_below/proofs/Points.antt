@@ -1,7 +1,7 @@
 -- What it says that no point fails.
 use Rattle.std.specs.Prelude.{Bool, true, false, not, List, None, ◌≡◌, ◌∷◌, ◌++◌, []}
 use Rattle.std.proofs.Common.{refl}
-use Rattle.naga_runs.specs.Judgement.{Point, first_fault}
+use Rattle.naga_below.specs.Points.{Point, first_fault}
 
 module _ {Fault : Type 0} where
   -- of the first point and the others
