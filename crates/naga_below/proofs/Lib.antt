@@ -3,4 +3,5 @@ pub mod Each
 pub mod OtherOperands
 pub mod Points
 pub mod Rows
+pub mod TypeTests
 pub mod Unique

@@ -14,4 +14,5 @@ pub mod Fits
 pub mod Unique
 pub mod EqualBuiltIns
 pub mod EqualTypes
+pub mod TypeTests
 pub mod formers

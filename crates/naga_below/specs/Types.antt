@@ -140,11 +140,16 @@ abbrev pub handle_of : TypeResolution → Option ℕ
 handle_of (Handle h) = Some h
 handle_of (Value i) = None
 
+-- two types that may be missing are both there, and equivalent
+abbrev pub AreBothEquivalent : List IrType → Option TypeInner → Option TypeInner → Type 0
+AreBothEquivalent types (Some a) (Some b) = AreEquivalent types a b
+AreBothEquivalent types _ _ = ⊥
+
 abbrev pub SameBy : List IrType → Option ℕ → TypeResolution → TypeResolution → Type 0
 SameBy types (Some h) a b = handle_of b ≡ Some h
-SameBy types None a b = option_map (canonical_of types) (resolved types a) ≡ option_map (canonical_of types) (resolved types b)
+SameBy types None a b = AreBothEquivalent types (resolved types a) (resolved types b)
 
--- where the first is the handle of a struct, the second is the same handle; else their canonical forms are equal
+-- where the first is the handle of a struct, the second is the same handle; else both are there and equivalent
 abbrev pub IsSameType : List IrType → TypeResolution → TypeResolution → Type 0
 IsSameType types a b = SameBy types (struct_handle types a) a b
 

@@ -8,7 +8,6 @@ pub mod Calls
 pub mod Atomics
 pub mod Values
 pub mod Refusals
-pub mod SameTypes
 pub mod InRange
 pub mod Stores
 pub mod Loads

@@ -1,7 +1,8 @@
 //! Questions about types. None takes memory.
 
-ghost use Rattle.std.specs.Prelude.{◌≡◌, ◌↔◌, ◌<◌, IsTrue, All, length};
-ghost use Rattle.naga_below.specs.Types.{scalar_of, scalar_kind_of, pointer_space_of, pointer_base_of, image_coordinates_of, access_of, NamesTypesBelow, NameEachOther, ResolutionFits, value_pointer_of, AreEquivalent, IsSameType, IsScalarMember, IsCompareExchangeStruct};
+ghost use Rattle.std.specs.Prelude.{◌≡◌, ◌<◌, length};
+ghost use Rattle.naga_below.specs.Types.{scalar_of, scalar_kind_of, pointer_space_of, pointer_base_of, image_coordinates_of, access_of, NamesTypesBelow, NameEachOther, ResolutionFits, value_pointer_of};
+ghost use Rattle.naga_below.specs.TypeTests.{is_equivalent, is_exchange_struct, is_scalar_member, is_same_type, SameIsDecided, EquivalentIsDecided, ExchangeStructIsDecided, ScalarIsDecided};
 ghost use Rattle.naga_below.specs.Formats.{format_kind, format_scalar};
 
 use crate::arena::unique_arena::UniqueArena;
@@ -123,11 +124,10 @@ impl TypeInner {
     }
 
     /// Whether the canonical forms are equal.
-    #[tactic(auto, using(crate::specs::EqualTypes::inner_iff))]
     pub fn equivalent(&self, other: &TypeInner, types: &UniqueArena<Type>) -> bool
         requires first { NamesTypesBelow (length types.now) self.now }
         requires second { NamesTypesBelow (length types.now) other.now }
-        ensures { IsTrue result ↔ AreEquivalent types.now self.now other.now }
+        ensures { result ≡ is_equivalent types.now self.now other.now }
     {
         match (self.canonical_form(types), other.canonical_form(types)) {
             (None, None) => *self == *other,
@@ -139,9 +139,10 @@ impl TypeInner {
 
     /// Whether this is the struct that an atomic compare exchange of `scalar` gives: `old_value` of that scalar and
     /// `exchanged`, a bool, in this order and nothing else.
+    #[tactic(auto, unfolding(crate::specs::TypeTests::is_exchange_struct))]
     pub fn is_compare_exchange_struct(&self, scalar: Scalar, types: &UniqueArena<Type>) -> bool
         requires { NamesTypesBelow (length types.now) self.now }
-        ensures { IsTrue result ↔ IsCompareExchangeStruct types.now scalar self.now }
+        ensures { result ≡ is_exchange_struct types.now scalar self.now }
     {
         let TypeInner::Struct { members, .. } = self else {
             return false;
@@ -157,7 +158,6 @@ impl TypeInner {
 }
 
 /// Whether a member has this name and this scalar as its type.
-#[tactic(auto, using(crate::specs::EqualTypes::inner_iff))]
 fn is_scalar_member(
     member: &StructMember,
     name: &str,
@@ -165,7 +165,7 @@ fn is_scalar_member(
     types: &UniqueArena<Type>,
 ) -> bool
     requires { member.now.ty < length types.now }
-    ensures { IsTrue result ↔ IsScalarMember types.now name.now scalar member.now }
+    ensures { result ≡ is_scalar_member types.now name.now scalar member.now }
 {
     match &member.name {
         Some(member_name) => member_name.as_str() == name
@@ -176,6 +176,7 @@ fn is_scalar_member(
 
 /// Whether two resolved types are the same: where the first is the handle of a struct the handles are equal, else
 /// the canonical forms.
+#[tactic(auto, unfolding(crate::specs::TypeTests::is_same_type))]
 pub fn compare_types(
     first: &TypeResolution,
     second: &TypeResolution,
@@ -184,7 +185,7 @@ pub fn compare_types(
     requires first { ResolutionFits (length types.now) first.now }
     requires second { ResolutionFits (length types.now) second.now }
     requires types { NameEachOther types.now }
-    ensures { IsTrue result ↔ IsSameType types.now first.now second.now }
+    ensures { result ≡ is_same_type types.now first.now second.now }
 {
     if let TypeResolution::Handle(handle) = first {
         if let TypeInner::Struct { .. } = types[*handle].inner {
@@ -198,6 +199,14 @@ pub fn compare_types(
         .inner_with(types)
         .equivalent(second.inner_with(types), types)
 }
+
+/// The tests of types that compute say what the words for them say.
+pub fn type_tests_law()
+    ensures same { SameIsDecided }
+    ensures equivalent { EquivalentIsDecided }
+    ensures exchange_struct { ExchangeStructIsDecided }
+    ensures scalar { ScalarIsDecided }
+{}
 
 impl AddressSpace {
     /// What may be done in the address space.

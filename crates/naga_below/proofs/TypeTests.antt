@@ -3,28 +3,25 @@ use Rattle.std.proofs.Common.{◌≡◌, ◌↔◌, ℕ, ◌==◌, IsTrue, Bool,
 use Rattle.std.specs.Cmp.Lexicographic.{pointwise}
 use Rattle.std.proofs.lemmas.Bool.Decides.{nat_tests}
 use Rattle.naga_below.specs.EqualTypes.{inner_iff, list_same}
-use Rattle.naga_below.specs.Types.{inner_at, bool_scalar, canonical_of, AreEquivalent, IsSameType, SameBy, IsScalarMember, AreCompareExchangeMembers, IsCompareExchangeStruct, struct_handle, handle_of}
+use Rattle.naga_below.specs.Types.{inner_at, bool_scalar, canonical_of, resolved, AreEquivalent, AreBothEquivalent, IsSameType, SameBy, IsScalarMember, AreCompareExchangeMembers, IsCompareExchangeStruct, struct_handle, handle_of}
 use Rattle.naga_below.specs.declared.ir.types.Scalar.{Scalar}
 use Rattle.naga_below.specs.declared.ir.types.StructMember.{StructMember}
 use Rattle.naga_below.specs.declared.ir.types.TypeInner.TheVariants as inner
 use Rattle.naga_below.specs.declared.ir.types.Type.{«Type» as IrType}
 use Rattle.naga_below.specs.declared.ir.types.TypeInner.{TypeInner}
 use Rattle.naga_below.specs.declared.proc.typifier.TypeResolution.{TypeResolution}
-use Rattle.naga_valid.specs.Types.{is_same_form, is_handle, is_same_by, is_same_type, is_equivalent, is_scalar, is_named, is_scalar_member, are_exchange_members, is_exchange_struct}
+use Rattle.naga_below.specs.TypeTests.{both_are, is_handle, is_same_by, is_same_type, is_equivalent, is_scalar, is_named, is_scalar_member, are_exchange_members, is_exchange_struct}
 
--- two tests that decide one fact are equal
-pub decide_one : (a b : Bool) (P : Type 0) → IsTrue a ↔ P → IsTrue b ↔ P → a ≡ b
-decide_one true true P f g = refl
-decide_one false false P f g = refl
-decide_one true false P f g = sym (g.1 (f.0 refl))
-decide_one false true P f g = f.1 (g.0 refl)
+no_truth : IsTrue false → ⊥
+no_truth h = cc
 
-form_iff : (a b : Option TypeInner) → IsTrue (is_same_form a b) ↔ (a ≡ b)
-form_iff None None = (λ h. refl, λ e. refl)
-form_iff (Some a) (Some b) =
-    (λ h. ap Some ((inner_iff a b).0 h), λ e. let same : a ≡ b = cc in (inner_iff a b).1 same)
-form_iff None (Some b) = (λ h. cc, λ e. cc)
-form_iff (Some a) None = (λ h. cc, λ e. cc)
+pub equivalent_iff : (types : List IrType) (a b : TypeInner) → IsTrue (is_equivalent types a b) ↔ AreEquivalent types a b
+equivalent_iff types a b = inner_iff (canonical_of types a) (canonical_of types b)
+
+both_equivalent_iff : (types : List IrType) (a b : Option TypeInner) → IsTrue (both_are (is_equivalent types) a b) ↔ AreBothEquivalent types a b
+both_equivalent_iff types (Some a) (Some b) = equivalent_iff types a b
+both_equivalent_iff types None b = (no_truth, λ e. absurd e)
+both_equivalent_iff types (Some a) None = (no_truth, λ e. absurd e)
 
 handle_iff : (h : ℕ) (k : Option ℕ) → IsTrue (is_handle h k) ↔ (k ≡ Some h)
 handle_iff h None = (λ e. cc, λ e. cc)
@@ -33,14 +30,11 @@ handle_iff h (Some k) =
 
 by_iff : (types : List IrType) (s : Option ℕ) (a b : TypeResolution) → IsTrue (is_same_by types s a b) ↔ SameBy types s a b
 by_iff types (Some h) a b = handle_iff h (handle_of b)
-by_iff types None a b = form_iff _ _
+by_iff types None a b = both_equivalent_iff types (resolved types a) (resolved types b)
 
-pub same_type : (types : List IrType) (a b : TypeResolution) (r : Bool) → IsTrue r ↔ IsSameType types a b → r ≡ is_same_type types a b
+pub same_iff : (types : List IrType) (a b : TypeResolution) → IsTrue (is_same_type types a b) ↔ IsSameType types a b
 unfolding is_same_type
-same_type types a b r f = decide_one r _ _ f (by_iff types (struct_handle types a) a b)
-
-pub same_equivalent : (types : List IrType) (a b : TypeInner) (r : Bool) → IsTrue r ↔ AreEquivalent types a b → r ≡ is_equivalent types (Some a) (Some b)
-same_equivalent types a b r f = decide_one r _ _ f (inner_iff (canonical_of types a) (canonical_of types b))
+same_iff types a b = by_iff types (struct_handle types a) a b
 
 both_iff : (a b : Bool) (P Q : Type 0) → IsTrue a ↔ P → IsTrue b ↔ Q → IsTrue (a && b) ↔ (P × Q)
 both_iff true b P Q f g = (λ h. (f.0 refl, g.0 h), λ h. g.1 h.1)
@@ -64,16 +58,13 @@ named_iff name None = (λ h. cc, λ e. cc)
 named_iff name (Some given) =
     (λ h. ap Some ((bytes_iff given name).0 h), λ e. let same : given ≡ name = cc in (bytes_iff given name).1 same)
 
-scalar_iff : (s : Scalar) (o : Option TypeInner) → IsTrue (is_scalar s o) ↔ (o ≡ Some (inner.Scalar s))
+pub scalar_iff : (s : Scalar) (o : Option TypeInner) → IsTrue (is_scalar s o) ↔ (o ≡ Some (inner.Scalar s))
 scalar_iff s None = (λ h. cc, λ e. cc)
 scalar_iff s (Some i) =
     (λ h. ap Some ((inner_iff i (inner.Scalar s)).0 h), λ e. let same : i ≡ inner.Scalar s = cc in (inner_iff i (inner.Scalar s)).1 same)
 
 member_iff : (types : List IrType) (name : List ℕ) (s : Scalar) (m : StructMember) → IsTrue (is_scalar_member types name s m) ↔ IsScalarMember types name s m
 member_iff types name s m = both_iff _ _ _ _ (named_iff name m.name) (scalar_iff s (inner_at types m.ty))
-
-no_truth : IsTrue false → ⊥
-no_truth h = cc
 
 members_iff : (types : List IrType) (s : Scalar) (ms : List StructMember) → IsTrue (are_exchange_members types s ms) ↔ AreCompareExchangeMembers types s ms
 members_iff types s (old ∷ exchanged ∷ []) =
@@ -82,14 +73,7 @@ members_iff types s [] = (no_truth, λ e. absurd e)
 members_iff types s (m ∷ []) = (no_truth, λ e. absurd e)
 members_iff types s (m ∷ n ∷ o ∷ ms) = (no_truth, λ e. absurd e)
 
-exchange_iff : (types : List IrType) (s : Scalar) (i : TypeInner) → IsTrue (is_exchange_struct types s (Some i)) ↔ IsCompareExchangeStruct types s i
+pub exchange_iff : (types : List IrType) (s : Scalar) (i : TypeInner) → IsTrue (is_exchange_struct types s i) ↔ IsCompareExchangeStruct types s i
 unfolding is_exchange_struct
 exchange_iff types s (inner.Struct members span) = members_iff types s members
 exchange_iff types s _ = (no_truth, λ e. absurd e)
-
-pub same_exchange : (types : List IrType) (s : Scalar) (i : TypeInner) (r : Bool) → IsTrue r ↔ IsCompareExchangeStruct types s i → r ≡ is_exchange_struct types s (Some i)
-same_exchange types s i r f = decide_one r _ _ f (exchange_iff types s i)
-
-pub no_exchange : (types : List IrType) (s : Scalar) → false ≡ is_exchange_struct types s None
-unfolding is_exchange_struct
-no_exchange types s = refl
