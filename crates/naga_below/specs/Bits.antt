@@ -15,6 +15,10 @@ use Rattle.naga_below.specs.declared.valid.flags.ValidationFlags.{ValidationFlag
 abbrev pub contains : ℕ → ℕ → Bool
 contains set some = bit_and set some == some
 
+-- whether a target has all of these
+abbrev pub has_capability : Capabilities → Capabilities → Bool
+has_capability capabilities some = contains capabilities.0 some.0
+
 -- ValidationFlags: which checks are made
 abbrev pub EXPRESSIONS : ValidationFlags
 EXPRESSIONS = record { 0 = 0x1 }

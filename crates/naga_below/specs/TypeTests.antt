@@ -16,6 +16,11 @@ abbrev pub both_are : (TypeInner → TypeInner → Bool) → Option TypeInner �
 both_are test (Some a) (Some b) = test a b
 both_are test _ _ = false
 
+-- a test of a type that may be missing: it is there, and it holds of it
+abbrev pub it_is : (TypeInner → Bool) → Option TypeInner → Bool
+it_is test None = false
+it_is test (Some i) = test i
+
 -- the same type inside
 abbrev pub is_same_inner : TypeInner → TypeInner → Bool
 is_same_inner a b = (type_inner.ghosts).eq a b
@@ -26,8 +31,7 @@ is_equivalent types a b = is_same_inner (canonical_of types a) (canonical_of typ
 
 -- it is this scalar, and no vector
 abbrev pub is_scalar : Scalar → Option TypeInner → Bool
-is_scalar s None = false
-is_scalar s (Some i) = is_same_inner i (inner.Scalar s)
+is_scalar s i = it_is (λ i. is_same_inner i (inner.Scalar s)) i
 
 abbrev pub is_named : List ℕ → Option (List ℕ) → Bool
 is_named name None = false

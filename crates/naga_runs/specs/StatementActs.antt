@@ -4,10 +4,9 @@ use Rattle.naga_below.specs.declared.ir.statements.AtomicFunction.TheVariants as
 use Rattle.naga_below.specs.declared.ir.statements.GatherMode.TheVariants as gather
 use Rattle.naga_below.specs.declared.ir.statements.RayQueryFunction.TheVariants as query
 use Rattle.naga_below.specs.declared.ir.statements.RayPipelineFunction.TheVariants.{TraceRay}
-use Rattle.std.specs.Prelude.{Vec, ℕ, List, Option, Some, None, ◌≡◌, ◌∷◌, ◌==◌, if◌then◌else◌, []}
+use Rattle.std.specs.Prelude.{ℕ, List, Option, Some, None, ◌≡◌, ◌∷◌, ◌==◌, if◌then◌else◌, []}
 use Rattle.naga_below.specs.Tree.{Act, Use, Put}
 use Rattle.naga_below.specs.declared.ir.statements.Block.{Block}
-use Rattle.std.specs.declared.alloc.Global.{Global}
 use Rattle.naga_below.specs.View.{tree_of}
 use Rattle.naga_below.specs.declared.ir.flags.Barrier.{Barrier}
 use Rattle.naga_below.specs.declared.ir.statements.AtomicFunction.{AtomicFunction}
@@ -33,7 +32,7 @@ pub record ActsOfStatements : Type 0 where
   -- statements that hold others, and jumps
   pub block : (b : Block) → does (s.Block b) ≡ []
   pub if_else : (c : ℕ) (a r : Block) → does (s.If c a r) ≡ Use c ∷ []
-  pub switch : (h : ℕ) (cases : Vec SwitchCase Global) → does (s.Switch h cases) ≡ Use h ∷ []
+  pub switch : (h : ℕ) (cases : List SwitchCase) → does (s.Switch h cases) ≡ Use h ∷ []
   pub loop : (b c : Block) (q : Option ℕ) → does (s.Loop b c q) ≡ []
   pub break : does s.Break ≡ []
   pub continue : does s.Continue ≡ []

@@ -17,7 +17,8 @@ use Rattle.naga_valid.specs.Atomics.{atomic_point, atomic_at, scalar_points, val
 use Rattle.naga_valid.specs.Context.{Context}
 use Rattle.naga_valid.specs.Points.{Points, put_point}
 use Rattle.naga_valid.specs.Results.{is_fresh}
-use Rattle.naga_valid.specs.Types.{expression_at, type_at, is_scalar, is_equivalent, is_exchange_struct}
+use Rattle.naga_below.specs.TypeTests.{is_scalar, both_are, is_equivalent, it_is, is_exchange_struct}
+use Rattle.naga_valid.specs.Types.{expression_at, type_at}
 use Rattle.naga_valid.specs.Walk.{puts_of}
 use Rattle.naga_valid.specs.declared.checks.atomic.AtomicPlace.{AtomicPlace}
 
@@ -37,8 +38,8 @@ module _ (context : Context) (filled s : Handles) (value : ℕ) where
   typed_fits sc (Exchange (Some c)) r e =
       let both = both_hold (compared_points context s sc c value r) (put_point s r ∷ []) e in
       let rest : Points =
-      atomic_point (is_equivalent context.program.types (type_at context c) (type_at context value)) (wrong.InvalidOperand c)
-      ∷ atomic_point (is_exchange_struct context.program.types sc (result_type_at context r)) (wrong.ResultTypeMismatch r)
+      atomic_point (both_are (is_equivalent context.program.types) (type_at context c) (type_at context value)) (wrong.InvalidOperand c)
+      ∷ atomic_point (it_is (is_exchange_struct context.program.types sc) (result_type_at context r)) (wrong.ResultTypeMismatch r)
       ∷ atomic_point (is_comparison (expression_at context r)) (wrong.ResultExpressionNotExchange r)
       ∷ [] in
       ((first_holds (s c) (Expression c NotInScope) rest both.0).0, (put_holds sc (Exchange (Some c)) r e, tt))

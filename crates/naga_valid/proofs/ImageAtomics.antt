@@ -14,7 +14,8 @@ use Rattle.naga_runs.specs.Soundness.{Fit}
 use Rattle.naga_valid.specs.Context.{Context}
 use Rattle.naga_valid.specs.ImageAtomics.{changed_image, takes_atomics, format_points, changed_value_points, changed_texel_points, changed_storage_points, changed_class_points, changed_image_points, changed_global_points, image_atomic_points}
 use Rattle.naga_valid.specs.Images.{image_fault, image_global_at, storage_of, texel_points}
-use Rattle.naga_valid.specs.Types.{type_at, is_scalar}
+use Rattle.naga_below.specs.TypeTests.{is_scalar}
+use Rattle.naga_valid.specs.Types.{type_at}
 use Rattle.naga_valid.specs.declared.checks.image.ImageShape.{ImageShape}
 use Rattle.naga_valid.specs.declared.checks.image.ImageStatement.TheVariants as by
 use Rattle.naga_valid.specs.declared.checks.image.ImageStorage.{ImageStorage}

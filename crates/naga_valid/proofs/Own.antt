@@ -1,6 +1,6 @@
 -- A statement that is neither a jump nor asks a condition has the check list of a leaf, which is empty where it holds
 -- others.
-use Rattle.std.proofs.Common.{◌≡◌, ℕ, Option, Vec, Global, refl, sym}
+use Rattle.std.proofs.Common.{◌≡◌, ℕ, Option, List, refl, sym}
 use Rattle.naga_below.specs.View as view
 use Rattle.naga_below.specs.View.{no_operands}
 use Rattle.naga_below.specs.declared.ir.statements.Block.{Block}
@@ -16,7 +16,7 @@ use Rattle.naga_valid.specs.Rules.{leaf_points, statement_points}
 
 module _ (context : Context) (past : Past) (place : Place) (span : Span) where
   pub points_of_leaf : (st : Statement) →
-      ((h : ℕ) (p q : Block) → st ≡ ir.If h p q → ⊥) → ((h : ℕ) (cases : Vec SwitchCase Global) → st ≡ ir.Switch h cases → ⊥) → (st ≡ ir.Break → ⊥) → (st ≡ ir.Continue → ⊥) → ((v : Option ℕ) → st ≡ ir.Return v → ⊥) →
+      ((h : ℕ) (p q : Block) → st ≡ ir.If h p q → ⊥) → ((h : ℕ) (cases : List SwitchCase) → st ≡ ir.Switch h cases → ⊥) → (st ≡ ir.Break → ⊥) → (st ≡ ir.Continue → ⊥) → ((v : Option ℕ) → st ≡ ir.Return v → ⊥) →
       leaf_points context past place.scope st ≡ statement_points context past place (view.tree_of no_operands st span)
   points_of_leaf (ir.If h p q) ni ns nb nc nr = absurd (ni h p q refl)
   points_of_leaf (Switch' h shape row) ni ns nb nc nr =

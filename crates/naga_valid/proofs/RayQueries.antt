@@ -13,7 +13,8 @@ use Rattle.naga_below.specs.Points.{first_fault}
 use Rattle.naga_runs.specs.Soundness.{Fit}
 use Rattle.naga_valid.specs.Context.{Context}
 use Rattle.naga_valid.specs.RayQueries.{local_type_at, query_flag_of, structure_flag_at, structure_points, descriptor_type, descriptor_points, returned_points, is_float_scalar, query_function_points, flagged_points, queried_points, ray_query_points}
-use Rattle.naga_valid.specs.Types.{type_at, are_same_inners}
+use Rattle.naga_below.specs.TypeTests.{both_are, is_same_inner}
+use Rattle.naga_valid.specs.Types.{type_at}
 
 module _ (context : Context) (s : Handles) where
   pub structure_fits : (a : ℕ) → first_fault (structure_points context s a) ≡ None → s a ≡ true
@@ -22,7 +23,7 @@ module _ (context : Context) (s : Handles) where
 
   pub descriptor_fits : (d : ℕ) → first_fault (descriptor_points context s d) ≡ None → s d ≡ true
   descriptor_fits d e =
-      (first_holds (s d) (Expression d NotInScope) ((are_same_inners (type_at context d) (descriptor_type context), InvalidRayDescriptor d) ∷ []) e).0
+      (first_holds (s d) (Expression d NotInScope) ((both_are is_same_inner (type_at context d) (descriptor_type context), InvalidRayDescriptor d) ∷ []) e).0
 
   function_fits : (q : ℕ) (flag : Bool) (fun : RayQueryFunction) → first_fault (query_function_points context s q flag fun) ≡ None → Fit s s (query_acts fun)
   function_fits q flag (query.Initialize a d) e =

@@ -1,6 +1,7 @@
 -- The check lists of subgroup statements: what they say of uses and puts.
 use Rattle.std.proofs.Common.{◌≡◌, ℕ, Bool, true, false, not, ◌||◌, [], ◌∷◌, ◌++◌, Option, None, Some}
-use Rattle.naga_below.specs.Subgroups.{ballot, operation_group, gather_group}
+use Rattle.naga_below.specs.Bits as bit
+use Rattle.naga_below.specs.Subgroups.{operation_group, gather_group}
 use Rattle.naga_below.specs.Tree.{Use, Put}
 use Rattle.naga_below.specs.Types.{bool_scalar}
 use Rattle.naga_below.specs.View.{used_if, mode_acts}
@@ -18,7 +19,8 @@ use Rattle.naga_runs.specs.Soundness.{Fit}
 use Rattle.naga_valid.specs.Context.{Context}
 use Rattle.naga_valid.specs.Points.{Points, use_point, put_point}
 use Rattle.naga_valid.specs.Subgroups.{subgroup_point, target_points, predicate_points, ballot_points, is_operand_of, is_done_over, combined_type_at, combined_points, combination_points, collective_points, u32_scalar, index_of, is_broadcast, is_const_at, index_points, is_gathered, gathered_points, indexed_points, gather_points}
-use Rattle.naga_valid.specs.Types.{type_at, is_scalar, are_same_inners}
+use Rattle.naga_below.specs.TypeTests.{is_scalar, both_are, is_same_inner}
+use Rattle.naga_valid.specs.Types.{type_at}
 
 module _ (context : Context) (s : Handles) where
   used : (h : ℕ) (ps : Points) → first_fault (use_point s h ∷ ps) ≡ None → (s h ≡ true) × (first_fault ps ≡ None)
@@ -30,9 +32,9 @@ module _ (context : Context) (s : Handles) where
   -- a ballot without a predicate puts its result; with one it uses that before
   pub ballot_fits : (r : ℕ) (predicate : Option ℕ) → first_fault (ballot_points context s r predicate) ≡ None → Fit s s (used_if predicate ++ Put r ∷ [])
   ballot_fits r None e =
-      (put r [] (both_hold (target_points context.settings ballot) (put_point s r ∷ []) e).1, tt)
+      (put r [] (both_hold (target_points context.settings bit.BALLOT) (put_point s r ∷ []) e).1, tt)
   ballot_fits r (Some h) e =
-      let rest = both_hold (target_points context.settings ballot) (predicate_points context s (Some h) ++ put_point s r ∷ []) e in
+      let rest = both_hold (target_points context.settings bit.BALLOT) (predicate_points context s (Some h) ++ put_point s r ∷ []) e in
       let parts = both_hold (predicate_points context s (Some h)) (put_point s r ∷ []) rest.1 in
       let bool = subgroup_point (is_scalar bool_scalar (type_at context h)) (wrong.InvalidOperand h) in
       ((used h (bool ∷ []) parts.0).0, (put r [] parts.1, tt))
@@ -44,7 +46,7 @@ module _ (context : Context) (s : Handles) where
   -- the result of a collective operation or a gather is new
   combined_is_new : (argument r : ℕ) → first_fault (combined_points context s argument r) ≡ None → s r ≡ false
   combined_is_new argument r e =
-      put r (subgroup_point (are_same_inners (combined_type_at context r) (type_at context argument)) (wrong.ResultTypeMismatch r) ∷ []) e
+      put r (subgroup_point (both_are is_same_inner (combined_type_at context r) (type_at context argument)) (wrong.ResultTypeMismatch r) ∷ []) e
 
   pub collective_fits : (o : SubgroupOperation) (part : CollectiveOperation) (argument r : ℕ) → first_fault (collective_points context s o part argument r) ≡ None → Fit s s (Use argument ∷ Put r ∷ [])
   collective_fits o part argument r e =

@@ -1,5 +1,5 @@
 -- The judgement by the tree over the scope's list: one equation for each form of statement.
-use Rattle.std.proofs.Common.{Vec, Global, ◌≡◌, ℕ, ◌+◌, ◌<◌, ◌≤◌, Bool, true, false, Option, Some, None, Result, Ok, List, [], ◌∷◌, ◌++◌, drop, get_or, length, refl, sym, ap, ◌∙◌, append-nil, append_assoc}
+use Rattle.std.proofs.Common.{◌≡◌, ℕ, ◌+◌, ◌<◌, ◌≤◌, Bool, true, false, Option, Some, None, Result, Ok, List, [], ◌∷◌, ◌++◌, drop, get_or, length, refl, sym, ap, ◌∙◌, append-nil, append_assoc}
 use Rattle.std.proofs.lemmas.List.{at_drop_more, at_drop_all}
 use Rattle.std.proofs.lemmas.List.Folds.{list_any-append}
 use Rattle.std.specs.Prelude.{◌||◌, ◌==◌, if◌then◌else◌}
@@ -190,7 +190,7 @@ break_if_refuses context k a s q refusal.Memory i = tt
 
 -- a statement that is none of the kinds with parts
 pub no_parts : (context : Context) (k : State) (a : Abilities) (s : List ℕ) (st : Statement) (span : Span) →
-    ((b : Block_of) → st ≡ ir.Block b → ⊥) → ((h : ℕ) (p q : Block_of) → st ≡ ir.If h p q → ⊥) → ((h : ℕ) (cases : Vec SwitchCase Global) → st ≡ ir.Switch h cases → ⊥) → ((p q : Block_of) (last : Option ℕ) → st ≡ ir.Loop p q last → ⊥) →
+    ((b : Block_of) → st ≡ ir.Block b → ⊥) → ((h : ℕ) (p q : Block_of) → st ≡ ir.If h p q → ⊥) → ((h : ℕ) (cases : List SwitchCase) → st ≡ ir.Switch h cases → ⊥) → ((p q : Block_of) (last : Option ℕ) → st ≡ ir.Loop p q last → ⊥) →
     parts_answer context k a s (view.tree_of no_operands st span) ≡ Ok k
 unfolding parts_answer judge_parts judge_visits
 no_parts context k a s (ir.Block b) span nb ni ns nl = absurd (nb b refl)

@@ -1,6 +1,7 @@
 -- The check list of Atomic.
 use Rattle.std.specs.Prelude.{ℕ, Bool, true, false, not, ◌&&◌, ◌||◌, ◌==◌, List, [], ◌∷◌, ◌++◌, Option, None, Some, is_some, if◌then◌else◌}
-use Rattle.std.specs.Int.RustNames.{bit_and}
+use Rattle.naga_below.specs.Bits as bit
+use Rattle.naga_below.specs.Bits.{has_capability}
 use Rattle.naga_below.specs.Types.{inner_at}
 use Rattle.naga_below.specs.declared.ir.expressions.Expression.{Expression}
 use Rattle.naga_below.specs.declared.ir.expressions.Expression.TheVariants as e
@@ -25,7 +26,8 @@ use Rattle.naga_valid.specs.Context.{Context}
 use Rattle.naga_valid.specs.Control.{is_integer}
 use Rattle.naga_valid.specs.Points.{Points, use_point, put_point}
 use Rattle.naga_valid.specs.Results.{is_fresh}
-use Rattle.naga_valid.specs.Types.{expression_at, type_at, is_scalar, is_equivalent, is_exchange_struct}
+use Rattle.naga_below.specs.TypeTests.{is_scalar, both_are, is_equivalent, it_is, is_exchange_struct}
+use Rattle.naga_valid.specs.Types.{expression_at, type_at}
 use Rattle.naga_valid.specs.declared.checks.atomic.AtomicPlace.{AtomicPlace}
 
 -- a point whose fault stands inside InvalidAtomic
@@ -76,32 +78,20 @@ abbrev pub is_storage : AddressSpace → Bool
 is_storage (space.Storage access) = true
 is_storage _ = false
 
-abbrev pub has_capability : Capabilities → Capabilities → Bool
-has_capability capabilities one = bit_and capabilities.0 one.0 == one.0
-
-abbrev pub float32_atomic : Capabilities
-float32_atomic = record { 0 = 131072 }
-
-abbrev pub int64_atomic_all_ops : Capabilities
-int64_atomic_all_ops = record { 0 = 262144 }
-
-abbrev pub int64_atomic_min_max : Capabilities
-int64_atomic_min_max = record { 0 = 524288 }
-
 -- the weakest capability that lets an operation be done on an integer of 64 bits: Min and Max in storage, where their
 -- result is not asked for, need less than the others
 abbrev pub int64_capability : AtomicFunction → AddressSpace → Bool → Capabilities
 int64_capability fun p has_result =
-    if is_min_or_max fun && (is_storage p && not has_result) then int64_atomic_min_max else int64_atomic_all_ops
+    if is_min_or_max fun && (is_storage p && not has_result) then bit.SHADER_INT64_ATOMIC_MIN_MAX else bit.SHADER_INT64_ATOMIC_ALL_OPS
 
 abbrev pub int64_points : Capabilities → AtomicFunction → AddressSpace → Bool → Points
 int64_points capabilities fun p has_result =
-    atomic_point (has_capability capabilities int64_atomic_all_ops || has_capability capabilities (int64_capability fun p has_result)) (wrong.MissingCapability (int64_capability fun p has_result))
+    atomic_point (has_capability capabilities bit.SHADER_INT64_ATOMIC_ALL_OPS || has_capability capabilities (int64_capability fun p has_result)) (wrong.MissingCapability (int64_capability fun p has_result))
     ∷ []
 
 abbrev pub float32_points : Capabilities → AtomicFunction → AddressSpace → Points
 float32_points capabilities fun p =
-    atomic_point (has_capability capabilities float32_atomic) (wrong.MissingCapability float32_atomic)
+    atomic_point (has_capability capabilities bit.SHADER_FLOAT32_ATOMIC) (wrong.MissingCapability bit.SHADER_FLOAT32_ATOMIC)
     ∷ atomic_point (is_done_on_floats fun) (wrong.InvalidOperator fun)
     ∷ atomic_point (is_storage p) (wrong.InvalidAddressSpace p)
     ∷ []
@@ -140,15 +130,15 @@ result_type_at context r = result_type_of context.program.types (expression_at c
 abbrev pub compared_points : Context → Handles → Scalar → ℕ → ℕ → ℕ → Points
 compared_points context scope s compare value r =
     use_point scope compare
-    ∷ atomic_point (is_equivalent context.program.types (type_at context compare) (type_at context value)) (wrong.InvalidOperand compare)
-    ∷ atomic_point (is_exchange_struct context.program.types s (result_type_at context r)) (wrong.ResultTypeMismatch r)
+    ∷ atomic_point (both_are (is_equivalent context.program.types) (type_at context compare) (type_at context value)) (wrong.InvalidOperand compare)
+    ∷ atomic_point (it_is (is_exchange_struct context.program.types s) (result_type_at context r)) (wrong.ResultTypeMismatch r)
     ∷ atomic_point (is_comparison (expression_at context r)) (wrong.ResultExpressionNotExchange r)
     ∷ []
 
 -- of any other operation: the result is of the value's type
 abbrev pub uncompared_points : Context → ℕ → ℕ → Points
 uncompared_points context value r =
-    atomic_point (is_equivalent context.program.types (result_type_at context r) (type_at context value)) (wrong.ResultTypeMismatch r)
+    atomic_point (both_are (is_equivalent context.program.types) (result_type_at context r) (type_at context value)) (wrong.ResultTypeMismatch r)
     ∷ atomic_point (not (is_comparison (expression_at context r))) (wrong.ResultExpressionExchange r)
     ∷ []
 

@@ -15,7 +15,8 @@ use Rattle.naga_below.specs.Points.{Point, within}
 use Rattle.naga_valid.specs.Context.{Context}
 use Rattle.naga_valid.specs.Points.{Points}
 use Rattle.naga_valid.specs.Results.{is_fresh}
-use Rattle.naga_valid.specs.Types.{expression_at, resolution_at, is_same_type}
+use Rattle.naga_below.specs.TypeTests.{is_same_type}
+use Rattle.naga_valid.specs.Types.{expression_at, resolution_at}
 
 abbrev pub CallPoints : Type 0
 CallPoints = List (Point CallError)

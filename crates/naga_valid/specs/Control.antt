@@ -21,7 +21,8 @@ use Rattle.naga_runs.specs.Handles.{Handles}
 use Rattle.naga_runs.specs.declared.Abilities.{Abilities}
 use Rattle.naga_valid.specs.Context.{Context}
 use Rattle.naga_valid.specs.Points.{Points, use_point, put_point}
-use Rattle.naga_valid.specs.Types.{expression_at, resolution_at, type_at, scalar_kind_at, is_same_type}
+use Rattle.naga_below.specs.TypeTests.{is_same_type}
+use Rattle.naga_valid.specs.Types.{expression_at, resolution_at, type_at, scalar_kind_at}
 
 -- the kinds of expression that another statement than Emit puts
 abbrev pub is_result : Option Expression → Bool

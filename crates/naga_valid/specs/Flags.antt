@@ -1,12 +1,12 @@
 -- What the flags of a validation ask for.
-use Rattle.std.specs.Prelude.{Bool, ◌==◌}
-use Rattle.std.specs.Int.RustNames.{bit_and}
+use Rattle.std.specs.Prelude.{Bool}
+use Rattle.naga_below.specs.Bits.{BLOCKS, EXPRESSIONS, contains}
 use Rattle.naga_below.specs.declared.valid.flags.ValidationFlags.{ValidationFlags}
 
 -- whether bodies are looked at
 abbrev pub checks_blocks : ValidationFlags → Bool
-checks_blocks flags = bit_and flags.0 2 == 2
+checks_blocks flags = contains flags.0 BLOCKS.0
 
 -- whether expressions are, and with them which results a body fills
 abbrev pub checks_expressions : ValidationFlags → Bool
-checks_expressions flags = bit_and flags.0 1 == 1
+checks_expressions flags = contains flags.0 EXPRESSIONS.0

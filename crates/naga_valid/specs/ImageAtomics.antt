@@ -1,6 +1,7 @@
 -- The check list of ImageAtomic.
-use Rattle.std.specs.Prelude.{ℕ, Bool, true, false, ◌==◌, List, [], ◌∷◌, ◌++◌, Option, None, Some, is_some}
-use Rattle.std.specs.Int.RustNames.{bit_and}
+use Rattle.std.specs.Prelude.{ℕ, Bool, true, false, List, [], ◌∷◌, ◌++◌, Option, None, Some, is_some}
+use Rattle.naga_below.specs.Bits as bit
+use Rattle.naga_below.specs.Bits.{contains, has_capability}
 use Rattle.naga_below.specs.Formats.{format_scalar}
 use Rattle.naga_below.specs.Types.{inner_at}
 use Rattle.naga_below.specs.declared.ir.flags.StorageAccess.{StorageAccess}
@@ -15,11 +16,12 @@ use Rattle.naga_below.specs.declared.valid.capabilities.Capabilities.{Capabiliti
 use Rattle.naga_below.specs.declared.valid.expression_error.ExpressionError.TheVariants as wrong
 use Rattle.naga_rules.specs.declared.function.FunctionError.TheVariants.{InvalidImageAtomicFunction, InvalidImageAtomicValue, MissingCapability}
 use Rattle.naga_runs.specs.Handles.{Handles}
-use Rattle.naga_valid.specs.Atomics.{has_capability, is_min_or_max}
+use Rattle.naga_valid.specs.Atomics.{is_min_or_max}
 use Rattle.naga_valid.specs.Context.{Context}
 use Rattle.naga_valid.specs.Images.{image_point, image_global_at, image_of, storage_of, texel_points}
 use Rattle.naga_valid.specs.Points.{Points, use_point}
-use Rattle.naga_valid.specs.Types.{type_at, is_scalar}
+use Rattle.naga_below.specs.TypeTests.{is_scalar}
+use Rattle.naga_valid.specs.Types.{type_at}
 use Rattle.naga_valid.specs.declared.checks.image.ImageShape.{ImageShape}
 use Rattle.naga_valid.specs.declared.checks.image.ImageStatement.TheVariants as by
 use Rattle.naga_valid.specs.declared.checks.image.ImageStorage.{ImageStorage}
@@ -35,13 +37,7 @@ abbrev pub changed_image : List IrType → ℕ → Option ImageShape
 changed_image types ty = image_of (element_or_itself types (inner_at types ty))
 
 abbrev pub takes_atomics : StorageAccess → Bool
-takes_atomics access = bit_and access.0 4 == 4
-
-abbrev pub texture_atomic : Capabilities
-texture_atomic = record { 0 = 67108864 }
-
-abbrev pub texture_int64_atomic : Capabilities
-texture_int64_atomic = record { 0 = 134217728 }
+takes_atomics access = contains access.0 bit.ATOMIC.0
 
 -- what can be done on texels of 32 bits
 abbrev pub is_done_on_texels : AtomicFunction → Bool
@@ -59,9 +55,9 @@ operation_points capabilities needed is_done fun =
 
 -- what the format asks for
 abbrev pub format_points : Capabilities → StorageFormat → AtomicFunction → Points
-format_points capabilities format.R64Uint fun = operation_points capabilities texture_int64_atomic (is_min_or_max fun) fun
-format_points capabilities format.R32Sint fun = operation_points capabilities texture_atomic (is_done_on_texels fun) fun
-format_points capabilities format.R32Uint fun = operation_points capabilities texture_atomic (is_done_on_texels fun) fun
+format_points capabilities format.R64Uint fun = operation_points capabilities bit.TEXTURE_INT64_ATOMIC (is_min_or_max fun) fun
+format_points capabilities format.R32Sint fun = operation_points capabilities bit.TEXTURE_ATOMIC (is_done_on_texels fun) fun
+format_points capabilities format.R32Uint fun = operation_points capabilities bit.TEXTURE_ATOMIC (is_done_on_texels fun) fun
 format_points capabilities other fun = image_point by.Atomic false (wrong.InvalidImageFormat other) ∷ []
 
 -- the value: in scope, and the format's scalar

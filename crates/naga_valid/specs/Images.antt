@@ -24,7 +24,8 @@ use Rattle.naga_valid.specs.Context.{Context}
 use Rattle.naga_valid.specs.Control.{is_integer}
 use Rattle.naga_valid.specs.Points.{Points, use_point}
 use Rattle.naga_valid.specs.Stores.{access_base}
-use Rattle.naga_valid.specs.Types.{expression_at, type_at, is_same_inner}
+use Rattle.naga_below.specs.TypeTests.{is_same_inner}
+use Rattle.naga_valid.specs.Types.{expression_at, type_at}
 use Rattle.naga_valid.specs.declared.checks.image.ImageShape.{ImageShape}
 use Rattle.naga_valid.specs.declared.checks.image.ImageStatement.{ImageStatement}
 use Rattle.naga_valid.specs.declared.checks.image.ImageStatement.TheVariants as by

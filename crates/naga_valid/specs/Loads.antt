@@ -13,7 +13,8 @@ use Rattle.naga_valid.specs.Atomics.{atomic_at}
 use Rattle.naga_valid.specs.Context.{Context}
 use Rattle.naga_valid.specs.Points.{Points, use_point, put_point}
 use Rattle.naga_valid.specs.Stores.{space_at}
-use Rattle.naga_valid.specs.Types.{expression_at, type_at, is_scalar, is_equivalent}
+use Rattle.naga_below.specs.TypeTests.{is_scalar, both_are, is_equivalent}
+use Rattle.naga_valid.specs.Types.{expression_at, type_at}
 use Rattle.naga_valid.specs.declared.checks.atomic.AtomicPlace.{AtomicPlace}
 
 abbrev pub is_work_group : Option AddressSpace → Bool
@@ -35,7 +36,7 @@ has_scalar ty (Some place) = is_scalar place.scalar ty
 -- a pointer in the work group to this type, or to an atomic of this scalar
 abbrev pub points_to : Context → ℕ → ℕ → Bool
 points_to context pointer ty =
-    is_equivalent context.program.types (type_at context pointer) (Some (inner.Pointer ty space.WorkGroup))
+    both_are (is_equivalent context.program.types) (type_at context pointer) (Some (inner.Pointer ty space.WorkGroup))
     || has_scalar (inner_at context.program.types ty) (atomic_at context pointer)
 
 abbrev pub is_loaded_as : Context → ℕ → Option ℕ → Bool

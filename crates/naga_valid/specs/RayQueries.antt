@@ -13,7 +13,8 @@ use Rattle.naga_runs.specs.Handles.{Handles}
 use Rattle.naga_valid.specs.Atomics.{is_float_kind}
 use Rattle.naga_valid.specs.Context.{Context}
 use Rattle.naga_valid.specs.Points.{Points, use_point, put_point}
-use Rattle.naga_valid.specs.Types.{expression_at, type_at, are_same_inners}
+use Rattle.naga_below.specs.TypeTests.{both_are, is_same_inner}
+use Rattle.naga_valid.specs.Types.{expression_at, type_at}
 
 -- the type that the local is declared with which an expression is
 abbrev pub local_type_of : Context → Option Expression → Option ℕ
@@ -54,7 +55,7 @@ descriptor_type context = option_and_then (inner_at context.program.types) conte
 abbrev pub descriptor_points : Context → Handles → ℕ → Points
 descriptor_points context scope descriptor =
     use_point scope descriptor
-    ∷ (are_same_inners (type_at context descriptor) (descriptor_type context), InvalidRayDescriptor descriptor)
+    ∷ (both_are is_same_inner (type_at context descriptor) (descriptor_type context), InvalidRayDescriptor descriptor)
     ∷ []
 
 -- a structure that a query is asked over has the flag where the query has it

@@ -1,5 +1,6 @@
 -- The rules of a body: the check list of each visit, asked with the visits before it, and the stages that are left.
 use Rattle.std.specs.Prelude.{ℕ, List, [], ◌∷◌, Option, None, Some, slice_get}
+use Rattle.naga_below.specs.Bits as bit
 use Rattle.naga_below.specs.Tree.{Stmt, Leaf, Branch, Switch, Break, Continue, Return, Kill}
 use Rattle.naga_below.specs.declared.ir.statements.RayPipelineFunction.TheVariants.{TraceRay}
 use Rattle.naga_below.specs.declared.ir.statements.Statement.{Statement}
@@ -25,7 +26,7 @@ use Rattle.naga_valid.specs.Loads.{load_points}
 use Rattle.naga_valid.specs.Points.{Points}
 use Rattle.naga_valid.specs.RayQueries.{ray_query_points}
 use Rattle.naga_valid.specs.RayTraces.{trace_ray_points}
-use Rattle.naga_valid.specs.Stages.{meet, all_stages, compute_like_stages, compute_stage, fragment_stage}
+use Rattle.naga_valid.specs.Stages.{meet}
 use Rattle.naga_valid.specs.Stores.{store_points}
 use Rattle.naga_valid.specs.Subgroups.{ballot_points, collective_points, gather_points}
 
@@ -77,7 +78,7 @@ body_rules context =
 
 -- the stages that an info records; the conditions of a validation say that there is one
 abbrev pub recorded_stages : Option FunctionInfo → ShaderStages
-recorded_stages None = all_stages
+recorded_stages None = bit.ALL_STAGES
 recorded_stages (Some info) = info.available_stages
 
 -- the stages that an earlier function may run in
@@ -86,22 +87,22 @@ callee_stages earlier f = recorded_stages (slice_get earlier.functions f)
 
 -- the stages that a statement may run in that is neither a jump nor holds others, where subgroups are in these stages
 abbrev pub leaf_stages : ShaderStages → ModuleInfo → Statement → ShaderStages
-leaf_stages subgroups earlier (ir.ControlBarrier barrier) = compute_like_stages
-leaf_stages subgroups earlier (ir.MemoryBarrier barrier) = compute_like_stages
-leaf_stages subgroups earlier (ir.WorkGroupUniformLoad pointer result) = compute_like_stages
-leaf_stages subgroups earlier (ir.CooperativeStore target source) = compute_stage
+leaf_stages subgroups earlier (ir.ControlBarrier barrier) = bit.COMPUTE_LIKE
+leaf_stages subgroups earlier (ir.MemoryBarrier barrier) = bit.COMPUTE_LIKE
+leaf_stages subgroups earlier (ir.WorkGroupUniformLoad pointer result) = bit.COMPUTE_LIKE
+leaf_stages subgroups earlier (ir.CooperativeStore target source) = bit.COMPUTE
 leaf_stages subgroups earlier (ir.Call f arguments result) = callee_stages earlier f
 leaf_stages subgroups earlier (ir.SubgroupBallot result predicate) = subgroups
 leaf_stages subgroups earlier (ir.SubgroupGather mode argument result) = subgroups
 leaf_stages subgroups earlier (ir.SubgroupCollectiveOperation op collective_op argument result) = subgroups
-leaf_stages subgroups earlier _ = all_stages
+leaf_stages subgroups earlier _ = bit.ALL_STAGES
 
 -- the stages that a statement may run in: a Kill the fragment stage, a Call those of its callee, barriers and work group
 -- loads those that are like compute, a cooperative store compute alone, a subgroup statement those of the settings
 abbrev pub stages_of : ShaderStages → ModuleInfo → Stmt → ShaderStages
 stages_of subgroups earlier (Leaf acts statement span) = leaf_stages subgroups earlier statement
-stages_of subgroups earlier Kill = fragment_stage
-stages_of subgroups earlier _ = all_stages
+stages_of subgroups earlier Kill = bit.FRAGMENT
+stages_of subgroups earlier _ = bit.ALL_STAGES
 
 -- the stages that are left behind a statement. A break condition takes none
 abbrev pub stages_behind : Context → ShaderStages → Node → ShaderStages

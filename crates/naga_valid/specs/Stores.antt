@@ -1,7 +1,7 @@
 -- The check list of Store.
-use Rattle.std.specs.Prelude.{ℕ, zero, suc, Bool, true, false, ◌==◌, List, [], ◌∷◌, ◌++◌, Option, None, Some, slice_get, option_and_then, unwrap_or}
-use Rattle.std.specs.Int.RustNames.{bit_and}
+use Rattle.std.specs.Prelude.{ℕ, zero, suc, Bool, true, false, List, [], ◌∷◌, ◌++◌, Option, None, Some, slice_get, option_and_then, unwrap_or}
 use Rattle.std.specs.Option.{option_map}
+use Rattle.naga_below.specs.Bits.{STORE, contains}
 use Rattle.naga_below.specs.Types.{access_of, pointer_base_of, pointer_space_of, resolved}
 use Rattle.naga_below.specs.declared.ir.expressions.Expression.{Expression}
 use Rattle.naga_below.specs.declared.ir.expressions.Expression.TheVariants as e
@@ -14,7 +14,8 @@ use Rattle.naga_rules.specs.declared.function.FunctionError.TheVariants.{Invalid
 use Rattle.naga_runs.specs.Handles.{Handles}
 use Rattle.naga_valid.specs.Context.{Context}
 use Rattle.naga_valid.specs.Points.{Points, use_point}
-use Rattle.naga_valid.specs.Types.{expression_at, resolution_at, type_at, is_scalar, is_same_type}
+use Rattle.naga_below.specs.TypeTests.{is_scalar, is_same_type}
+use Rattle.naga_valid.specs.Types.{expression_at, resolution_at, type_at}
 
 -- the expression of which an access takes a part
 abbrev pub access_base : Option Expression → Option ℕ
@@ -48,7 +49,7 @@ space_at context pointer = option_and_then pointer_space_of (type_at context poi
 
 abbrev pub takes_stores : Option AddressSpace → Bool
 takes_stores None = false
-takes_stores (Some p) = bit_and (access_of p).0 2 == 2
+takes_stores (Some p) = contains (access_of p).0 STORE.0
 
 -- whether the space that a pointer points into takes stores
 abbrev pub is_writable : Context → ℕ → Bool

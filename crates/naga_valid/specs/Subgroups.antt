@@ -1,7 +1,8 @@
 -- The check lists of SubgroupBallot, SubgroupCollectiveOperation and SubgroupGather.
 use Rattle.std.specs.Prelude.{ℕ, Bool, true, false, not, ◌&&◌, ◌||◌, ◌==◌, nat_le, List, [], ◌∷◌, ◌++◌, Option, None, Some, slice_get}
-use Rattle.std.specs.Int.RustNames.{bit_and}
-use Rattle.naga_below.specs.Subgroups.{ballot, operation_group, gather_group}
+use Rattle.naga_below.specs.Bits as bit
+use Rattle.naga_below.specs.Bits.{contains, has_capability}
+use Rattle.naga_below.specs.Subgroups.{operation_group, gather_group}
 use Rattle.naga_below.specs.Types.{inner_at, bool_scalar}
 use Rattle.naga_below.specs.declared.ir.expressions.Expression.{Expression}
 use Rattle.naga_below.specs.declared.ir.expressions.Expression.TheVariants as e
@@ -28,11 +29,11 @@ use Rattle.naga_rules.specs.declared.function.SubgroupError.{SubgroupError}
 use Rattle.naga_rules.specs.declared.function.SubgroupError.TheVariants as wrong
 use Rattle.naga_runs.specs.Handles.{Handles}
 use Rattle.naga_below.specs.Points.{Point}
-use Rattle.naga_valid.specs.Atomics.{has_capability}
 use Rattle.naga_valid.specs.Context.{Context}
 use Rattle.naga_valid.specs.Control.{is_bool_kind, is_integer}
 use Rattle.naga_valid.specs.Points.{Points, use_point, put_point}
-use Rattle.naga_valid.specs.Types.{expression_at, type_at, is_scalar, are_same_inners}
+use Rattle.naga_below.specs.TypeTests.{is_scalar, both_are, is_same_inner}
+use Rattle.naga_valid.specs.Types.{expression_at, type_at}
 
 -- a point whose fault stands inside InvalidSubgroup
 abbrev pub subgroup_point : Bool → SubgroupError → Point FunctionError
@@ -40,20 +41,17 @@ subgroup_point holds error = (holds, InvalidSubgroup error)
 
 -- whether the target has these groups of operations
 abbrev pub has_operations : SubgroupOperationSet → SubgroupOperationSet → Bool
-has_operations operations these = bit_and operations.0 these.0 == these.0
+has_operations operations these = contains operations.0 these.0
 
 -- these groups of operations, which the target has
 abbrev pub operations_point : Settings → SubgroupOperationSet → Point FunctionError
 operations_point settings these =
     subgroup_point (has_operations settings.subgroup_operations these) (wrong.UnsupportedOperation these)
 
-abbrev pub subgroup_capability : Capabilities
-subgroup_capability = record { 0 = 8388608 }
-
 -- what each statement of a subgroup needs of the target first: subgroups at all, and then these operations
 abbrev pub target_points : Settings → SubgroupOperationSet → Points
 target_points settings these =
-    (has_capability settings.capabilities subgroup_capability, MissingCapability subgroup_capability)
+    (has_capability settings.capabilities bit.SUBGROUP, MissingCapability bit.SUBGROUP)
     ∷ operations_point settings these
     ∷ []
 
@@ -66,7 +64,7 @@ predicate_points context scope (Some h) =
 -- SubgroupBallot: its predicate; its result is put, of whatever kind
 abbrev pub ballot_points : Context → Handles → ℕ → Option ℕ → Points
 ballot_points context scope r predicate =
-    target_points context.settings ballot ++ (predicate_points context scope predicate ++ put_point scope r ∷ [])
+    target_points context.settings bit.BALLOT ++ (predicate_points context scope predicate ++ put_point scope r ∷ [])
 
 -- integers of either sign, and floats
 abbrev pub is_number_kind : ScalarKind → Bool
@@ -127,7 +125,7 @@ combined_type_at context r = combined_type_of context.program.types (expression_
 abbrev pub combined_points : Context → Handles → ℕ → ℕ → Points
 combined_points context scope argument r =
     put_point scope r
-    ∷ subgroup_point (are_same_inners (combined_type_at context r) (type_at context argument)) (wrong.ResultTypeMismatch r)
+    ∷ subgroup_point (both_are is_same_inner (combined_type_at context r) (type_at context argument)) (wrong.ResultTypeMismatch r)
     ∷ []
 
 -- the argument and the operation, then the result

@@ -147,7 +147,7 @@ fn validate_statements(
     ensures fault { AnswersLeaving (body_answer (context_of context.now) state.old abilities scope.old (body_of block.now)) state.new result }
     ensures scope { OnOk result (scope.new ≡ scope.old ++ body_puts (body_of block.now)) }
 {
-    for located in &block.list {
+    for located in block.list.as_slice() {
         validate_statement(scope, state, context, abilities, located)?;
     }
     Ok(())

@@ -4,22 +4,12 @@ ghost use Rattle.std.specs.Prelude.{◌≡◌};
 ghost use Rattle.naga_valid.specs.Blocks.{tree_of};
 ghost use Rattle.naga_valid.specs.Rules.{callee_stages, stages_of};
 ghost use Rattle.naga_valid.specs.Seen.{context_of};
-ghost use Rattle.naga_valid.specs.Stages.{all_stages};
 
 use crate::context::BlockContext;
-use bitflags::Flags;
 use naga_below::arena::handle::Handle;
 use naga_below::arena::tag;
 use naga_below::ir::statements::{Located, Statement};
 use naga_below::valid::flags::ShaderStages;
-
-/// Every stage.
-#[tactic(auto, unfolding(bitflags::proofs::OnLiterals::bitflags_on_literals))]
-fn all_stages() -> ShaderStages
-    ensures { result ≡ all_stages }
-{
-    ShaderStages::all()
-}
 
 /// The stages that a statement may run in.
 pub fn stages_of(context: &BlockContext, located: &Located) -> ShaderStages
@@ -35,7 +25,7 @@ pub fn stages_of(context: &BlockContext, located: &Located) -> ShaderStages
         Statement::SubgroupBallot { .. }
         | Statement::SubgroupGather { .. }
         | Statement::SubgroupCollectiveOperation { .. } => context.settings.subgroup_stages,
-        _ => all_stages(),
+        _ => ShaderStages::ALL,
     }
 }
 
@@ -45,6 +35,6 @@ fn callee_stages(context: &BlockContext, function: Handle<tag::Function>) -> Sha
 {
     match context.earlier.functions.as_slice().get(function.index()) {
         Some(info) => info.available_stages,
-        None => all_stages(),
+        None => ShaderStages::ALL,
     }
 }

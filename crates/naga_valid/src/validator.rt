@@ -6,6 +6,7 @@ ghost use Rattle.naga_valid.specs.Parts.{Parts, infos_given, first_settings, no_
 mod body;
 
 use crate::trace::{TraceRayVertexReturnState, TraceState};
+use bitflags::Flags;
 use naga_below::ir::module::Module;
 use naga_below::sequence::Sequence;
 use naga_below::valid::capabilities::Capabilities;
@@ -42,8 +43,8 @@ impl<B: Below> Validator<B> {
             settings: Settings {
                 flags,
                 capabilities,
-                subgroup_stages: ShaderStages(0),
-                subgroup_operations: SubgroupOperationSet(0),
+                subgroup_stages: ShaderStages::empty(),
+                subgroup_operations: SubgroupOperationSet::empty(),
             },
             types: None,
             trace: TraceState {

@@ -18,7 +18,6 @@ use crate::checks::results::is_fresh;
 use crate::checks::types::{is_equivalent, is_exchange_struct, is_scalar};
 use crate::context::BlockContext;
 use crate::handle_set::HandleSet;
-use bitflags::Flags;
 use naga_below::arena::handle::Handle;
 use naga_below::arena::tag;
 use naga_below::ir::expressions::Expression;

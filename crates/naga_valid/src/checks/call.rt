@@ -16,13 +16,13 @@ ghost use Rattle.naga_valid.specs.Walk.{puts_of};
 
 use crate::checks::refuse::answer;
 use crate::checks::results::is_fresh;
-use crate::checks::types::is_same_type;
 use crate::context::BlockContext;
 use crate::handle_set::HandleSet;
 use naga_below::arena::handle::Handle;
 use naga_below::arena::tag;
 use naga_below::ir::expressions::Expression;
 use naga_below::ir::functions::FunctionArgument;
+use naga_below::proc::type_methods::compare_types;
 use naga_below::proc::typifier::TypeResolution;
 use naga_below::span::{Refusal, Span};
 use naga_below::valid::expression_error::ExpressionError;
@@ -150,7 +150,7 @@ fn is_passed_as(
 {
     match context.resolution(given) {
         None => false,
-        Some(given) => is_same_type(context.program, &TypeResolution::Handle(declared), given),
+        Some(given) => compare_types(&TypeResolution::Handle(declared), given, &context.program.types),
     }
 }
 

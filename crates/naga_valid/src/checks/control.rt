@@ -15,7 +15,6 @@ ghost use Rattle.naga_valid.specs.Blocks.{case_list};
 ghost use Rattle.naga_below.specs.declared.ir.statements.SwitchCase.{out-SwitchCase};
 
 use crate::checks::refuse::{answer, check_use, refusal};
-use crate::checks::types::is_same_type;
 use crate::context::BlockContext;
 use crate::handle_set::HandleSet;
 use naga_below::arena::handle::Handle;
@@ -24,6 +23,7 @@ use naga_below::arena::tag;
 use naga_below::ir::expressions::Expression;
 use naga_below::ir::statements::{SwitchCase, SwitchValue};
 use naga_below::ir::types::{Scalar, ScalarKind, TypeInner};
+use naga_below::proc::type_methods::compare_types;
 use naga_below::proc::typifier::TypeResolution;
 use naga_below::span::{Refusal, Span};
 use naga_rules::function::FunctionError;
@@ -158,7 +158,7 @@ fn is_returned_as(
         None => false,
         Some(declared) => match context.resolution(value) {
             None => false,
-            Some(given) => is_same_type(context.program, given, &TypeResolution::Handle(declared)),
+            Some(given) => compare_types(given, &TypeResolution::Handle(declared), &context.program.types),
         },
     }
 }

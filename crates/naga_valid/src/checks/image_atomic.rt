@@ -16,7 +16,6 @@ use crate::checks::refuse::check_use;
 use crate::checks::types::is_scalar;
 use crate::context::BlockContext;
 use crate::handle_set::HandleSet;
-use bitflags::Flags;
 use naga_below::arena::handle::Handle;
 use naga_below::arena::tag;
 use naga_below::ir::flags::StorageAccess;

@@ -9,7 +9,8 @@ ghost use Rattle.naga_valid.specs.Answers.{AnswersPoints};
 ghost use Rattle.naga_valid.specs.RayQueries.{local_type_at, query_flag_of, structure_flag_at, structure_points, descriptor_type, descriptor_points, returned_points, initialize_points, is_float_scalar, distance_points, query_function_points, queried_points, ray_query_points};
 ghost use Rattle.naga_valid.specs.Scope.{known};
 ghost use Rattle.naga_valid.specs.Seen.{context_of};
-ghost use Rattle.naga_valid.specs.Types.{type_at, are_same_inners};
+ghost use Rattle.naga_below.specs.TypeTests.{both_are, is_same_inner};
+ghost use Rattle.naga_valid.specs.Types.{type_at};
 ghost use Rattle.naga_valid.specs.Walk.{puts_of};
 
 use crate::checks::image::inner_at;
@@ -209,7 +210,7 @@ pub fn check_descriptor(
 
 /// Whether an expression is of the module's type of ray descriptors.
 fn is_descriptor(context: &BlockContext, descriptor: Handle<tag::Expression>) -> bool
-    ensures { result ≡ are_same_inners (type_at (context_of context.now) descriptor) (descriptor_type (context_of context.now)) }
+    ensures { result ≡ both_are is_same_inner (type_at (context_of context.now) descriptor) (descriptor_type (context_of context.now)) }
 {
     are_same_inners(context.type_inner(descriptor), descriptor_type(context))
 }

@@ -10,7 +10,6 @@ ghost use Rattle.naga_valid.specs.Seen.{context_of};
 
 use crate::context::BlockContext;
 use crate::handle_set::HandleSet;
-use bitflags::Flags;
 use naga_below::arena::handle::Handle;
 use naga_below::arena::tag;
 use naga_below::ir::expressions::Expression;

@@ -11,15 +11,15 @@ ghost use Rattle.naga_valid.specs.Seen.{context_of};
 ghost use Rattle.naga_valid.specs.Stores.{access_base, root_at, is_variable, base_type_at, space_at, is_writable, texture_points, is_stored_as, place_points, stored_points, store_points};
 
 use crate::checks::refuse::check_use;
-use crate::checks::types::{is_same_type, is_scalar};
+use crate::checks::types::is_scalar;
 use crate::context::BlockContext;
 use crate::handle_set::HandleSet;
-use bitflags::Flags;
 use naga_below::arena::handle::Handle;
 use naga_below::arena::tag;
 use naga_below::ir::expressions::Expression;
 use naga_below::ir::flags::StorageAccess;
 use naga_below::ir::types::{AddressSpace, TypeInner};
+use naga_below::proc::type_methods::compare_types;
 use naga_below::proc::typifier::TypeResolution;
 use naga_rules::function::FunctionError;
 
@@ -188,7 +188,7 @@ fn is_stored_as(
     match base.inner_with(&context.program.types) {
         TypeInner::Atomic(scalar) => is_scalar(*scalar, context.type_inner(value)),
         _ => match context.resolution(value) {
-            Some(given) => is_same_type(context.program, given, base),
+            Some(given) => compare_types(given, base, &context.program.types),
             None => false,
         },
     }

@@ -13,7 +13,6 @@ use crate::checks::refuse::{answer, check_put, check_use};
 use crate::checks::types::{are_same_inners, is_scalar};
 use crate::context::BlockContext;
 use crate::handle_set::HandleSet;
-use bitflags::Flags;
 use naga_below::arena::handle::Handle;
 use naga_below::arena::tag;
 use naga_below::ir::expressions::Expression;

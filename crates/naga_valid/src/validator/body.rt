@@ -12,7 +12,6 @@ ghost use Rattle.naga_valid.specs.Judged.{function_judgement, AnswersTracing};
 use crate::context::BlockContext;
 use crate::function::validate_function_body;
 use crate::validator::Validator;
-use bitflags::Flags;
 use naga_below::ir::functions::Function;
 use naga_below::ir::module::Module;
 use naga_below::span::Refusal;

@@ -31,7 +31,7 @@ pub validate_parts-validate_cases-requires : goal.validate_parts-validate_cases-
 validate_parts-validate_cases-requires t c =
     let span = c.args.located.now.span in
     let tree = ap (λ st. view.tree_of no_operands st span) c.in-Switch.is ∙ tree_of-switch no_operands c.in-Switch.selector c.in-Switch.cases span in
-    (search (rules, the_lemmas), (c.requires.context, rw c.as_slice.ensures.value (in_switch (context_of c.args.context.now) c.in-Switch.selector (case_list c.in-Switch.cases.items) (subst (IsStatementReady (context_of c.args.context.now)) tree c.requires.ready))))
+    (search (rules, the_lemmas), (c.requires.context, rw c.as_slice.ensures (in_switch (context_of c.args.context.now) c.in-Switch.selector (case_list c.in-Switch.cases) (subst (IsStatementReady (context_of c.args.context.now)) tree c.requires.ready))))
 
 pub validate_parts-validate_statements-requires : goal.validate_parts-validate_statements-requires
 validate_parts-validate_statements-requires t c =
@@ -47,7 +47,7 @@ pub validate_parts-returns-in-Switch-clause-fault :
 validate_parts-returns-in-Switch-clause-fault t c =
     let span = c.args.located.now.span in
     let tree = ap (λ st. view.tree_of no_operands st span) c.in-Switch.is ∙ tree_of-switch no_operands c.in-Switch.selector c.in-Switch.cases span in
-    rw (tree, parts_switch (context_of c.args.context.now) c.args.state.now c.args.abilities c.args.scope.now c.in-Switch.selector (case_list c.in-Switch.cases.items), ← c.in_case-abilities.ensures, ← c.as_slice.ensures.value) c.validate_cases.ensures.fault
+    rw (tree, parts_switch (context_of c.args.context.now) c.args.state.now c.args.abilities c.args.scope.now c.in-Switch.selector (case_list c.in-Switch.cases), ← c.in_case-abilities.ensures, ← c.as_slice.ensures) c.validate_cases.ensures.fault
 
 pub validate_parts-returns-in_default : goal.validate_parts-returns-in_default
 validate_parts-returns-in_default t c = record {
@@ -73,7 +73,7 @@ validate_statement-returns-clause-fault t c =
 
 pub validate_statements-loop-located-init : goal.validate_statements-loop-located-init
 validate_statements-loop-located-init t c =
-    let same = body_of-list no_operands c.args.block.now ∙ ap statement_list (sym c.deref-located-items.ensures.value) in
+    let same = body_of-list no_operands c.args.block.now ∙ ap statement_list (sym c.as_slice-located-items.ensures) in
     record {
       ready = subst (IsBodyReady (context_of c.args.context.now)) same c.requires.ready;
       faults = ap (body_answer (context_of c.args.context.now) c.args.state.now c.args.abilities c.args.scope.now) (sym same);
@@ -83,12 +83,12 @@ validate_statements-loop-located-init t c =
 pub validate_statements-validate_statement-requires :
     goal.validate_statements-validate_statement-requires
 validate_statements-validate_statement-requires t c =
-    let ready = in_list (context_of c.args.context.now) c.deref-located-items.result.now c.loop-located.located-index c.located-item.result c.loop-located-test.true c.located-item.is c.loop-located.invariant.ready in
+    let ready = in_list (context_of c.args.context.now) c.as_slice-located-items.result.now c.loop-located.located-index c.located-item.result c.loop-located-test.true c.located-item.is c.loop-located.invariant.ready in
     (search (rules, the_lemmas), (c.requires.context, ready.0))
 
 pub validate_statements-loop-located-preserved : goal.validate_statements-loop-located-preserved
 validate_statements-loop-located-preserved t c =
-    let xs = c.deref-located-items.result.now in
+    let xs = c.as_slice-located-items.result.now in
     let i = c.loop-located.located-index in
     let x = c.located-item.result in
     let lt = c.loop-located-test.true in
@@ -104,16 +104,16 @@ validate_statements-loop-located-preserved t c =
 pub validate_statements-returns-in_err-validate_statement-clause-fault :
     goal.validate_statements-returns-in_err-validate_statement-clause-fault
 validate_statements-returns-in_err-validate_statement-clause-fault t c =
-    rw (← c.loop-located.invariant.faults) (rw (body_turn c.deref-located-items.result.now c.loop-located.located-index (context_of c.args.context.now) c.loop-located.state c.args.abilities c.loop-located.scope c.located-item.result c.loop-located-test.true c.located-item.is) (search (rules, stops_first)))
+    rw (← c.loop-located.invariant.faults) (rw (body_turn c.as_slice-located-items.result.now c.loop-located.located-index (context_of c.args.context.now) c.loop-located.state c.args.abilities c.loop-located.scope c.located-item.result c.loop-located-test.true c.located-item.is) (search (rules, stops_first)))
 
 pub validate_statements-returns-clause-fault : goal.validate_statements-returns-clause-fault
 validate_statements-returns-clause-fault t c =
-    sym c.loop-located.invariant.faults ∙ body_end c.deref-located-items.result.now c.loop-located.located-index (context_of c.args.context.now) c.loop-located.state c.args.abilities c.loop-located.scope c.loop-located-test.false
+    sym c.loop-located.invariant.faults ∙ body_end c.as_slice-located-items.result.now c.loop-located.located-index (context_of c.args.context.now) c.loop-located.state c.args.abilities c.loop-located.scope c.loop-located-test.false
 
 pub validate_statements-returns-clause-scope : goal.validate_statements-returns-clause-scope
 validate_statements-returns-clause-scope t c =
     sym (append-nil c.loop-located.scope)
-    ∙ ap (λ l. c.loop-located.scope ++ l) (sym (puts_end c.deref-located-items.result.now c.loop-located.located-index c.loop-located-test.false))
+    ∙ ap (λ l. c.loop-located.scope ++ l) (sym (puts_end c.as_slice-located-items.result.now c.loop-located.located-index c.loop-located-test.false))
     ∙ c.loop-located.invariant.scope
 
 pub validate_cases-validate_block-requires : goal.validate_cases-validate_block-requires

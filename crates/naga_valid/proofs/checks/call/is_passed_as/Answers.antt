@@ -4,9 +4,9 @@ use Rattle.naga_valid.specs.Seen.{context_of}
 use Rattle.naga_valid.proofs.InRange.{types_fit, resolution_fits}
 use Rattle.naga_valid.proofs.checks.call.is_passed_as.Goals as goal
 
-pub is_same_type-requires-clause-types : goal.is_same_type-requires-clause-types
-is_same_type-requires-clause-types c = types_fit (context_of c.args.context.now) c.requires.context
+pub compare_types-requires-clause-types : goal.compare_types-requires-clause-types
+compare_types-requires-clause-types c = types_fit (context_of c.args.context.now) c.requires.context
 
-pub is_same_type-requires-clause-second : goal.is_same_type-requires-clause-second
-is_same_type-requires-clause-second c =
+pub compare_types-requires-clause-second : goal.compare_types-requires-clause-second
+compare_types-requires-clause-second c =
     resolution_fits (context_of c.args.context.now) c.requires.context c.args.given c.in-Some.given.now (sym c.resolution.ensures ∙ ap option_copied c.in-Some.is)

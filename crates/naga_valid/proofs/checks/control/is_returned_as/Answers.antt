@@ -4,9 +4,9 @@ use Rattle.naga_valid.specs.Seen.{context_of}
 use Rattle.naga_valid.proofs.InRange.{types_fit, resolution_fits}
 use Rattle.naga_valid.proofs.checks.control.is_returned_as.Goals as goal
 
-pub is_same_type-requires-clause-types : goal.is_same_type-requires-clause-types
-is_same_type-requires-clause-types c = types_fit (context_of c.args.context.now) c.requires.fits
+pub compare_types-requires-clause-types : goal.compare_types-requires-clause-types
+compare_types-requires-clause-types c = types_fit (context_of c.args.context.now) c.requires.fits
 
-pub is_same_type-requires-clause-first : goal.is_same_type-requires-clause-first
-is_same_type-requires-clause-first c =
+pub compare_types-requires-clause-first : goal.compare_types-requires-clause-first
+compare_types-requires-clause-first c =
     resolution_fits (context_of c.args.context.now) c.requires.fits c.args.value c.in-Some-resolution.given.now (sym c.resolution.ensures ∙ ap option_copied c.in-Some-resolution.is)

@@ -12,7 +12,7 @@ pub returns-in-Switch-clause-fault : goal.returns-in-Switch-clause-fault
 returns-in-Switch-clause-fault c =
     let span = c.args.located.now.span in
     let tree = ap (λ st. view.tree_of no_operands st span) c.in-Switch.is ∙ tree_of-switch no_operands c.in-Switch.selector c.in-Switch.cases span in
-    rw (tree, ← c.as_slice.ensures.value) c.check_switch.ensures
+    rw (tree, ← c.as_slice.ensures) c.check_switch.ensures
 
 pub returns-in_default-clause-fault : goal.returns-in_default-clause-fault
 returns-in_default-clause-fault c =
