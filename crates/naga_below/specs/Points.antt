@@ -1,5 +1,6 @@
--- Check points: conditions that compute, each with the fault where it is false, and the fault of the first that fails.
-use Rattle.std.specs.Prelude.{Bool, List, [], ◌∷◌, Option, None, Some, map, if◌then◌else◌}
+-- Check points: conditions that compute, each with the fault where it is false; the fault of the first that fails; and
+-- chains of steps of which the first that faults gives the answer.
+use Rattle.std.specs.Prelude.{Bool, List, [], ◌∷◌, Option, None, Some, Result, Ok, Err, map, if◌then◌else◌}
 
 -- a condition, and the fault where it is false
 abbrev pub Point : Type 0 → Type 0
@@ -13,3 +14,13 @@ first_fault (p ∷ ps) = if p.0 then first_fault ps else Some p.1
 -- points whose faults stand inside others
 abbrev pub within : {Inner Outer : Type 0} → (Inner → Outer) → List (Point Inner) → List (Point Outer)
 within outer points = map (λ p. (p.0, outer p.1)) points
+
+-- the fault if there is one, else this
+abbrev pub answer : {A Fault : Type 0} → Option Fault → A → Result A Fault
+answer None x = Ok x
+answer (Some f) x = Err f
+
+-- a step behind another: the fault of the first if there is one, else what the second answers
+abbrev pub and_then : {A B Fault : Type 0} → Result A Fault → (A → Result B Fault) → Result B Fault
+and_then (Ok x) next = next x
+and_then (Err f) next = Err f

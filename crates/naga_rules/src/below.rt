@@ -1,23 +1,9 @@
 //! The lower layer that a validator stands on: types and uses, checks of expressions, analysis of meshes, kinds
 //! and sizes.
 
-ghost use Rattle.std.specs.Prelude.{◌≡◌, ℕ, List, Option, Result, Ok, All, IfOk, length};
-ghost use Rattle.naga_below.specs.declared.ir.expressions.Expression.{Expression};
-ghost use Rattle.naga_below.specs.declared.ir.functions.Function.{Function};
-ghost use Rattle.naga_below.specs.declared.ir.module.Module.{Module};
-ghost use Rattle.naga_below.specs.declared.valid.info.FunctionInfo.{FunctionInfo};
-ghost use Rattle.naga_below.specs.declared.valid.info.ModuleInfo.{ModuleInfo};
-ghost use Rattle.naga_below.specs.declared.valid.flags.ValidationFlags.{ValidationFlags};
-ghost use Rattle.naga_below.specs.declared.valid.flags.ShaderStages.{ShaderStages};
-ghost use Rattle.naga_below.specs.declared.valid.capabilities.Capabilities.{Capabilities};
-ghost use Rattle.naga_below.specs.declared.valid.settings.Settings.{Settings};
-ghost use Rattle.naga_below.specs.declared.valid.expression_error.ExpressionError.{ExpressionError};
-ghost use Rattle.naga_below.specs.declared.proc.expression_kinds.ExpressionKind.{ExpressionKind};
-ghost use Rattle.naga_below.specs.Types.{ResolutionFits};
-ghost use Rattle.naga_rules.specs.declared.function.FunctionError.{FunctionError};
-ghost use Rattle.naga_rules.specs.declared.mesh.MeshAnalysis.{MeshAnalysis};
+ghost use Rattle.std.specs.Prelude.{◌≡◌, IfOk};
 ghost use Rattle.naga_rules.specs.Answers.{Answers};
-ghost use Rattle.naga_rules.specs.Lawful.{IsNoStruct};
+ghost use Rattle.naga_rules.specs.Meaning.{Meaning, HasOneTypeEach, HasOneUseEach, HasTypesInRange, HasNoStructValues, HasOneKindEach};
 
 use crate::function::FunctionError;
 use crate::mesh::MeshAnalysis;
@@ -40,20 +26,8 @@ use std::alloc::{AllocError, Global};
 /// want of memory. No call has a condition: an implementation answers for every module, and refuses what it
 /// can't read.
 pub trait Below {
-    /// What is known of a function, or what is wrong with it.
-    ghost function_info: { Self → Function → Module → ModuleInfo → ValidationFlags → Capabilities → Result FunctionInfo FunctionError };
-
-    /// The stages that an expression of a function may run in, or what is wrong with it.
-    ghost expression_stages: { Self → Settings → ℕ → Function → Module → FunctionInfo → ModuleInfo → List ExpressionKind → Result ShaderStages ExpressionError };
-
-    /// What the global with this handle implies as the output variable of a mesh shader.
-    ghost mesh_analysis: { Self → Module → ℕ → MeshAnalysis };
-
-    /// The kind of each expression.
-    ghost kinds_of: { Self → List Expression → List ExpressionKind };
-
-    /// The size of the type with this handle, in bytes.
-    ghost size_of: { Self → Module → ℕ → Option ℕ };
+    /// The right answers of the five calls.
+    ghost meaning: { Self → Meaning };
 
     /// Types the expressions of a function, and finds which globals it uses and how and the stages that this
     /// leaves it (naga's `ModuleInfo::process_function`). `mod_info` has the infos of the functions before it.
@@ -66,7 +40,7 @@ pub trait Below {
         flags: ValidationFlags,
         capabilities: Capabilities,
     ) -> Result<FunctionInfo, Refusal<FunctionError>>
-        ensures { Answers (function_info self.now fun.now «module».now mod_info.now flags capabilities) result };
+        ensures { Answers ((meaning self.now).function_info fun.now «module».now mod_info.now flags capabilities) result };
 
     /// Checks an expression of a function by itself, and answers the stages that it may run in (naga's
     /// `Validator::validate_expression`). The stages of `info` are those that the expressions before it leave.
@@ -81,7 +55,7 @@ pub trait Below {
         mod_info: &ModuleInfo,
         kinds: &ExpressionKindTracker,
     ) -> Result<ShaderStages, Refusal<ExpressionError>>
-        ensures { Answers (expression_stages self.now settings handle fun.now «module».now info.now mod_info.now kinds.now) result };
+        ensures { Answers ((meaning self.now).expression_stages settings handle fun.now «module».now info.now mod_info.now kinds.now) result };
 
     /// Reads off the type of a mesh shader's output variable what the shader puts out (naga's
     /// `Module::analyze_mesh_shader_info`).
@@ -91,7 +65,7 @@ pub trait Below {
         module: &Module,
         output: Handle<tag::GlobalVariable>,
     ) -> Result<MeshAnalysis, AllocError>
-        ensures { IfOk result (λ analysis. analysis ≡ mesh_analysis self.now «module».now output) };
+        ensures { IfOk result (λ analysis. analysis ≡ (meaning self.now).mesh_analysis «module».now output) };
 
     /// Finds when the value of each expression is known (naga's `ExpressionKindTracker::from_arena`). The
     /// expressions are those of a function, or of the module.
@@ -100,24 +74,24 @@ pub trait Below {
         alloc: Global,
         expressions: &Arena<Expression>,
     ) -> Result<ExpressionKindTracker, AllocError>
-        ensures { IfOk result (λ kinds. kinds ≡ kinds_of self.now expressions.now) };
+        ensures { IfOk result (λ kinds. kinds ≡ (meaning self.now).kinds_of expressions.now) };
 
     /// The size of a type in bytes, where it is known and fits 32 bits (naga's `TypeInner::size`).
     fn type_size(&self, module: &Module, ty: Handle<tag::Type>) -> Option<u32>
-        ensures { result ≡ size_of self.now «module».now ty };
+        ensures { result ≡ (meaning self.now).size_of «module».now ty };
 
     /// An info has one type for each expression of its function.
-    ghost one_type_each: { (b : Self) (f : Function) (m : Module) (i : ModuleInfo) (flags : ValidationFlags) (c : Capabilities) (info : FunctionInfo) → function_info b f m i flags c ≡ Ok info → length info.expression_types ≡ length f.expressions };
+    ghost one_type_each: { (below : Self) → HasOneTypeEach (meaning below) };
 
     /// An info has one use for each global of the module.
-    ghost one_use_each: { (b : Self) (f : Function) (m : Module) (i : ModuleInfo) (flags : ValidationFlags) (c : Capabilities) (info : FunctionInfo) → function_info b f m i flags c ≡ Ok info → length info.global_uses ≡ length m.global_variables };
+    ghost one_use_each: { (below : Self) → HasOneUseEach (meaning below) };
 
     /// The types of an info name types of the module alone.
-    ghost types_in_range: { (b : Self) (f : Function) (m : Module) (i : ModuleInfo) (flags : ValidationFlags) (c : Capabilities) (info : FunctionInfo) → function_info b f m i flags c ≡ Ok info → All (ResolutionFits (length m.types)) info.expression_types };
+    ghost types_in_range: { (below : Self) → HasTypesInRange (meaning below) };
 
     /// A type that an info gives as a value is no struct.
-    ghost no_struct_values: { (b : Self) (f : Function) (m : Module) (i : ModuleInfo) (flags : ValidationFlags) (c : Capabilities) (info : FunctionInfo) → function_info b f m i flags c ≡ Ok info → All IsNoStruct info.expression_types };
+    ghost no_struct_values: { (below : Self) → HasNoStructValues (meaning below) };
 
     /// There is one kind for each expression.
-    ghost one_kind_each: { (b : Self) (es : List Expression) → length (kinds_of b es) ≡ length es };
+    ghost one_kind_each: { (below : Self) → HasOneKindEach (meaning below) };
 }

@@ -7,11 +7,11 @@ use Rattle.naga_below.specs.View.{body_of}
 use Rattle.naga_below.specs.declared.ir.statements.Statement.{Statement}
 use Rattle.naga_below.specs.declared.ir.statements.SwitchValue.{SwitchValue}
 use Rattle.naga_below.specs.declared.span.Span.{Span}
-use Rattle.naga_runs.specs.ByTree.{past, in_case, in_loop, in_continuing, at_break_if, break_if_visits, body_visits, part_visits, case_visits, then_on, judge, judge_visits, judge_body, judge_stmt, judge_parts, judge_cases, judge_break_if, JudgementIsByTree, Compositional}
+use Rattle.naga_below.specs.Points.{and_then, Point, first_fault, answer}
+use Rattle.naga_runs.specs.ByTree.{past, in_case, in_loop, in_continuing, at_break_if, break_if_visits, body_visits, part_visits, case_visits, judge, judge_visits, judge_body, judge_stmt, judge_parts, judge_cases, judge_break_if, JudgementIsByTree, Compositional}
 use Rattle.naga_runs.specs.Guards.{FitsIn, AcceptedIsSound, AcceptedIsSure, IsRead, AcceptedBlockIsSound, AcceptedBlockIsSure}
 use Rattle.naga_runs.specs.Handles.{Handles}
-use Rattle.naga_below.specs.Points.{Point, first_fault}
-use Rattle.naga_runs.specs.Judgement.{Rules, answer, state_after, points_after, judgement, by_earlier, Follows, viewed, FollowedAgrees, EarlierAgrees}
+use Rattle.naga_runs.specs.Judgement.{Rules, state_after, points_after, judgement, by_earlier, Follows, viewed, FollowedAgrees, EarlierAgrees}
 use Rattle.naga_runs.specs.Positions.{Position, StatementNode, BreakIfNode}
 use Rattle.naga_runs.specs.Soundness.{IsFit, IsSurelyFit}
 use Rattle.naga_runs.specs.VisitOrder.{positions}
@@ -26,39 +26,39 @@ append_one (z ∷ xs) ys x = ap (λ l. z ∷ l) (append_one xs ys x)
 
 module _ {State Fault : Type 0} where
   pub then_assoc : (r : Result State Fault) (f g : State → Result State Fault) →
-      then_on (then_on r f) g ≡ then_on r (λ s. then_on (f s) g)
+      and_then (and_then r f) g ≡ and_then r (λ s. and_then (f s) g)
   then_assoc (Ok st) f g = refl
   then_assoc (Err e) f g = refl
 
   -- what a caller of the next one knows of the first
   pub then_ok : (r : Result State Fault) (st : State) (f : State → Result State Fault) → r ≡ Ok st →
-      then_on r f ≡ f st
-  then_ok r st f e = ap (λ z. then_on z f) e
+      and_then r f ≡ f st
+  then_ok r st f e = ap (λ z. and_then z f) e
 
   pub then_err : (r : Result State Fault) (fault : Fault) (f : State → Result State Fault) → r ≡ Err fault →
-      then_on r f ≡ Err fault
-  then_err r fault f e = ap (λ z. then_on z f) e
+      and_then r f ≡ Err fault
+  then_err r fault f e = ap (λ z. and_then z f) e
 
   -- points in a row
   answer-append : (ps qs : List (Point Fault)) (st next : State) →
-      then_on (answer (first_fault ps) st) (λ s. answer (first_fault qs) next) ≡ answer
+      and_then (answer (first_fault ps) st) (λ s. answer (first_fault qs) next) ≡ answer
       (first_fault (ps ++ qs)) next
   answer-append [] qs st next = refl
   answer-append ((true, f) ∷ ps) qs st next = answer-append ps qs st next
   answer-append ((false, f) ∷ ps) qs st next = refl
 
   none_answer : (o : Option Fault) (st : State) (f : State → Result State Fault) (end : State) →
-      then_on (answer o st) f ≡ Ok end → (o ≡ None) × (f st ≡ Ok end)
+      and_then (answer o st) f ≡ Ok end → (o ≡ None) × (f st ≡ Ok end)
   none_answer None st f end e = (refl, e)
   none_answer (Some x) st f end e = cc
 
 module _ {State Fault : Type 0} (R : Rules State Fault) where
   pub judge_visits-append : (st : State) (vs ws : List Visit) →
-      judge_visits R st (vs ++ ws) ≡ then_on (judge_visits R st vs) (λ s. judge_visits R s ws)
+      judge_visits R st (vs ++ ws) ≡ and_then (judge_visits R st vs) (λ s. judge_visits R s ws)
   unfolding judge_visits
   judge_visits-append st [] ws = refl
   judge_visits-append st (v ∷ vs) ws =
-      ap (λ (f : State → Result State Fault). then_on (judge R st v) f) (λ i s. judge_visits-append s vs ws i)
+      ap (λ (f : State → Result State Fault). and_then (judge R st v) f) (λ i s. judge_visits-append s vs ws i)
       ∙ sym (then_assoc (judge R st v) (λ s. judge_visits R s vs) (λ s. judge_visits R s ws))
 
   state-append : (st : State) (vs ws : List Visit) →
@@ -86,7 +86,7 @@ module _ {State Fault : Type 0} (R : Rules State Fault) where
       (state_after R (R.advance s v) vs)
     where
       go : (o : Option Fault) (t : State) (qs : List (Point Fault)) (end : State) (f : State → Result State Fault) →
-          f t ≡ answer (first_fault qs) end → then_on (answer o t) f ≡ then_on (answer o t)
+          f t ≡ answer (first_fault qs) end → and_then (answer o t) f ≡ and_then (answer o t)
           (λ s. answer (first_fault qs) end)
       go None t qs end f e = e
       go (Some x) t qs end f e = refl
@@ -117,13 +117,13 @@ module _ {State Fault : Type 0} (R : Rules State Fault) where
   judge_done st c = refl
 
   pub judge_more : (st : State) (c : Place) (x : Stmt) (b : Body) →
-      judge_body R st c (Then x b) ≡ then_on (judge_stmt R st c x) (λ s. judge_body R s (past x c) b)
+      judge_body R st c (Then x b) ≡ and_then (judge_stmt R st c x) (λ s. judge_body R s (past x c) b)
   unfolding judge_body judge_stmt
   judge_more st c x b = judge_visits-append st (record { place = c; node = StatementNode x } ∷ part_visits c x)
       (body_visits (past x c) b)
 
   pub judge_own : (st : State) (c : Place) (x : Stmt) →
-      judge_stmt R st c x ≡ then_on (judge R st (record { place = c; node = StatementNode x }))
+      judge_stmt R st c x ≡ and_then (judge R st (record { place = c; node = StatementNode x }))
       (λ s. judge_parts R s c x)
   unfolding judge_stmt judge_parts judge_visits
   judge_own st c x = refl
@@ -154,7 +154,7 @@ module _ {State Fault : Type 0} (R : Rules State Fault) where
   judge_block st c b = refl
 
   pub judge_branch : (st : State) (c : Place) (h : ℕ) (a r : Body) →
-      judge_parts R st c (Branch h a r) ≡ then_on (judge_body R st c a) (λ s. judge_body R s c r)
+      judge_parts R st c (Branch h a r) ≡ and_then (judge_body R st c a) (λ s. judge_body R s c r)
   unfolding judge_parts judge_body
   judge_branch st c h a r = judge_visits-append st (body_visits c a) (body_visits c r)
 
@@ -164,13 +164,13 @@ module _ {State Fault : Type 0} (R : Rules State Fault) where
   judge_switch st c h cs = refl
 
   pub judge_loop : (st : State) (c : Place) (b d : Body) (q : Option ℕ) → judge_parts R st c (Loop b d q)
-      ≡ then_on (judge_body R st (in_loop c) b)
-      (λ s. then_on (judge_body R s (in_continuing b c) d) (λ t. judge_break_if R t (at_break_if b d c) q))
+      ≡ and_then (judge_body R st (in_loop c) b)
+      (λ s. and_then (judge_body R s (in_continuing b c) d) (λ t. judge_break_if R t (at_break_if b d c) q))
   unfolding judge_parts judge_body judge_break_if
   judge_loop st c b d q =
       judge_visits-append st (body_visits (in_loop c) b)
       (body_visits (in_continuing b c) d ++ break_if_visits (at_break_if b d c) q)
-      ∙ ap (λ (f : State → Result State Fault). then_on (judge_visits R st (body_visits (in_loop c) b)) f)
+      ∙ ap (λ (f : State → Result State Fault). and_then (judge_visits R st (body_visits (in_loop c) b)) f)
       (λ i s. judge_visits-append s (body_visits (in_continuing b c) d)
       (break_if_visits (at_break_if b d c) q) i)
 
@@ -179,7 +179,7 @@ module _ {State Fault : Type 0} (R : Rules State Fault) where
   judge_no_case st c = refl
 
   pub judge_one_case : (st : State) (c : Place) (v : SwitchValue) (falls : Bool) (b : Body) (cs : Cases) →
-      judge_cases R st c (OneCase v falls b cs) ≡ then_on (judge_body R st c b) (λ s. judge_cases R s c cs)
+      judge_cases R st c (OneCase v falls b cs) ≡ and_then (judge_body R st c b) (λ s. judge_cases R s c cs)
   unfolding judge_cases judge_body
   judge_one_case st c v falls b cs = judge_visits-append st (body_visits c b) (case_visits c cs)
 
@@ -192,7 +192,7 @@ module _ {State Fault : Type 0} (R : Rules State Fault) where
   unfolding judge_break_if judge_visits
   judge_at_break_if st c h = go (judge R st (record { place = c; node = BreakIfNode h }))
     where
-      go : (r : Result State Fault) → then_on r (λ s. Ok s) ≡ r
+      go : (r : Result State Fault) → and_then r (λ s. Ok s) ≡ r
       go (Ok s) = refl
       go (Err f) = refl
 
@@ -277,15 +277,15 @@ module _ {State Seen Fault : Type 0} (R : Rules State Fault) (S : Rules Seen Fau
   unfolding judge_visits judge
   visits_follow st [] = refl
   visits_follow st (v ∷ vs) =
-      ap (λ ps. then_on (answer (first_fault ps) (S.advance (view st) v)) (λ s. judge_visits S s vs))
+      ap (λ ps. and_then (answer (first_fault ps) (S.advance (view st) v)) (λ s. judge_visits S s vs))
       (sym (f.points st v))
       ∙ go (first_fault (R.points st v)) (ap (λ s. judge_visits S s vs) (sym (f.advance st v)) ∙ visits_follow
       (R.advance st v) vs)
     where
       go : (o : Option Fault) →
-          judge_visits S (S.advance (view st) v) vs ≡ viewed view (judge_visits R (R.advance st v) vs) → then_on
+          judge_visits S (S.advance (view st) v) vs ≡ viewed view (judge_visits R (R.advance st v) vs) → and_then
           (answer o (S.advance (view st) v)) (λ s. judge_visits S s vs) ≡ viewed view
-          (then_on (answer o (R.advance st v)) (λ s. judge_visits R s vs))
+          (and_then (answer o (R.advance st v)) (λ s. judge_visits R s vs))
       go None e = e
       go (Some x) e = refl
 

@@ -2,10 +2,10 @@
 use Rattle.std.specs.Prelude.{ℕ, List, Option, Some, None, map, ◌≡◌, ◌∷◌, ◌++◌, []}
 use Rattle.std.proofs.Common.{refl, sym, ap, ◌∙◌}
 use Rattle.naga_below.specs.Tree.{Stmt, Body, Cases, Leaf, Block, Branch, Switch, Loop, Break, Continue, Return, Kill, Done, Then, NoCase, OneCase}
-use Rattle.naga_runs.specs.ByTree.{past, in_case, in_loop, in_continuing, at_break_if, break_if_visits, body_visits, part_visits, case_visits, then_on, judge, judge_visits, judge_body, judge_stmt, judge_parts, judge_cases, judge_break_if, place_with, IgnoresMust, MustIsFree}
+use Rattle.naga_below.specs.Points.{and_then, first_fault, answer}
+use Rattle.naga_runs.specs.ByTree.{past, in_case, in_loop, in_continuing, at_break_if, break_if_visits, body_visits, part_visits, case_visits, judge, judge_visits, judge_body, judge_stmt, judge_parts, judge_cases, judge_break_if, place_with, IgnoresMust, MustIsFree}
 use Rattle.naga_runs.specs.Handles.{Handles, no_handles}
-use Rattle.naga_below.specs.Points.{first_fault}
-use Rattle.naga_runs.specs.Judgement.{Rules, answer}
+use Rattle.naga_runs.specs.Judgement.{Rules}
 use Rattle.naga_runs.specs.Positions.{StatementNode, BreakIfNode}
 use Rattle.naga_runs.specs.Visits.{Place, Visit}
 use Rattle.naga_runs.specs.declared.Abilities.{Abilities}
@@ -68,8 +68,8 @@ visits_seen R f st (v ∷ vs) =
     f.points st v.place.abilities v.place.scope no_handles v.place.must v.node in
     let advance : R.advance st (seen v) ≡ R.advance st v =
     f.advance st v.place.abilities v.place.scope no_handles v.place.must v.node in
-    (λ i. then_on (answer (first_fault (points i)) (advance i)) (λ s. judge_visits R s (map seen vs)))
-    ∙ ap (λ g. then_on (answer (first_fault (R.points st v)) (R.advance st v)) g) (λ i s. visits_seen R f s vs i)
+    (λ i. and_then (answer (first_fault (points i)) (advance i)) (λ s. judge_visits R s (map seen vs)))
+    ∙ ap (λ g. and_then (answer (first_fault (R.points st v)) (R.advance st v)) g) (λ i s. visits_seen R f s vs i)
 
 -- visits that differ in it alone are judged alike
 judge_same : {State Fault : Type 0} (R : Rules State Fault) → IgnoresMust R → (st : State) (vs ws : List Visit) →

@@ -6,8 +6,8 @@ use Rattle.naga_below.specs.declared.ir.statements.Statement.{Statement}
 use Rattle.naga_below.specs.declared.ir.statements.SwitchValue.{SwitchValue}
 use Rattle.naga_below.specs.declared.span.Span.{Span}
 use Rattle.naga_runs.specs.Handles.{Handles}
-use Rattle.naga_below.specs.Points.{first_fault}
-use Rattle.naga_runs.specs.Judgement.{Rules, answer, judgement}
+use Rattle.naga_below.specs.Points.{first_fault, answer, and_then}
+use Rattle.naga_runs.specs.Judgement.{Rules, judgement}
 use Rattle.naga_runs.specs.Must.{with_sure}
 use Rattle.naga_runs.specs.Positions.{Node, StatementNode, BreakIfNode}
 use Rattle.naga_runs.specs.PutsAndUses.{acts_of, with_acts, with_body}
@@ -76,11 +76,6 @@ abbrev mutual
 abbrev pub VisitsAreByTree : Type 0
 VisitsAreByTree = (pre : Handles) (b : Body) → visits_of pre b ≡ body_visits (at_begin pre) b
 
--- the next from the state that the first leaves, unless that is a fault
-abbrev pub then_on : {State Fault : Type 0} → Result State Fault → (State → Result State Fault) → Result State Fault
-then_on (Ok st) next = next st
-then_on (Err f) next = Err f
-
 -- one visit
 unfoldable pub judge : {State Fault : Type 0} → Rules State Fault → State → Visit → Result State Fault
 judge R st v = answer (first_fault (R.points st v)) (R.advance st v)
@@ -88,7 +83,7 @@ judge R st v = answer (first_fault (R.points st v)) (R.advance st v)
 -- visits one by one
 unfoldable pub judge_visits : {State Fault : Type 0} → Rules State Fault → State → List Visit → Result State Fault
 judge_visits R st [] = Ok st
-judge_visits R st (v ∷ vs) = then_on (judge R st v) (λ s. judge_visits R s vs)
+judge_visits R st (v ∷ vs) = and_then (judge R st v) (λ s. judge_visits R s vs)
 
 -- a list of statements
 unfoldable pub judge_body : {State Fault : Type 0} → Rules State Fault → State → Place → Body → Result State Fault
@@ -120,21 +115,21 @@ JudgementIsByTree {State} {Fault} R =
 pub record Compositional {State Fault : Type 0} (R : Rules State Fault) : Type 0 where
   pub done : (st : State) (c : Place) → judge_body R st c Done ≡ Ok st
   pub more : (st : State) (c : Place) (x : Stmt) (b : Body) →
-      judge_body R st c (Then x b) ≡ then_on (judge_stmt R st c x) (λ s. judge_body R s (past x c) b)
+      judge_body R st c (Then x b) ≡ and_then (judge_stmt R st c x) (λ s. judge_body R s (past x c) b)
   pub stmt : (st : State) (c : Place) (x : Stmt) →
       judge_stmt R st c x
-      ≡ then_on (judge R st (record { place = c; node = StatementNode x })) (λ s. judge_parts R s c x)
+      ≡ and_then (judge R st (record { place = c; node = StatementNode x })) (λ s. judge_parts R s c x)
   pub leaf : (st : State) (c : Place) (acts : List Act) (x : Statement) (span : Span) →
       judge_parts R st c (Leaf acts x span) ≡ Ok st
   pub block : (st : State) (c : Place) (b : Body) → judge_parts R st c (Block b) ≡ judge_body R st c b
   pub branch : (st : State) (c : Place) (h : ℕ) (a r : Body) →
-      judge_parts R st c (Branch h a r) ≡ then_on (judge_body R st c a) (λ s. judge_body R s c r)
+      judge_parts R st c (Branch h a r) ≡ and_then (judge_body R st c a) (λ s. judge_body R s c r)
   pub switch : (st : State) (c : Place) (h : ℕ) (cs : Cases) →
       judge_parts R st c (Switch h cs) ≡ judge_cases R st (in_case c) cs
   pub loop : (st : State) (c : Place) (b d : Body) (q : Option ℕ) →
       judge_parts R st c (Loop b d q)
-      ≡ then_on (judge_body R st (in_loop c) b)
-      (λ s. then_on (judge_body R s (in_continuing b c) d)
+      ≡ and_then (judge_body R st (in_loop c) b)
+      (λ s. and_then (judge_body R s (in_continuing b c) d)
       (λ t. judge_break_if R t (at_break_if b d c) q))
   pub break : (st : State) (c : Place) → judge_parts R st c Break ≡ Ok st
   pub continue : (st : State) (c : Place) → judge_parts R st c Continue ≡ Ok st
@@ -142,7 +137,7 @@ pub record Compositional {State Fault : Type 0} (R : Rules State Fault) : Type 0
   pub kill : (st : State) (c : Place) → judge_parts R st c Kill ≡ Ok st
   pub no_case : (st : State) (c : Place) → judge_cases R st c NoCase ≡ Ok st
   pub one_case : (st : State) (c : Place) (v : SwitchValue) (falls : Bool) (b : Body) (cs : Cases) →
-      judge_cases R st c (OneCase v falls b cs) ≡ then_on (judge_body R st c b) (λ s. judge_cases R s c cs)
+      judge_cases R st c (OneCase v falls b cs) ≡ and_then (judge_body R st c b) (λ s. judge_cases R s c cs)
   pub no_break_if : (st : State) (c : Place) → judge_break_if R st c None ≡ Ok st
   pub break_if : (st : State) (c : Place) (h : ℕ) →
       judge_break_if R st c (Some h) ≡ judge R st (record { place = c; node = BreakIfNode h })

@@ -1,7 +1,7 @@
 -- The judgement of a body: the fault of the first point that fails, over all its visits in visit order; where none
 -- fails, the state that the visits leave.
-use Rattle.std.specs.Prelude.{List, Option, Some, None, Result, Ok, Err, ◌≡◌, ◌∷◌, ◌++◌, []}
-use Rattle.naga_below.specs.Points.{Point, first_fault}
+use Rattle.std.specs.Prelude.{List, Result, Ok, Err, ◌≡◌, ◌∷◌, ◌++◌, []}
+use Rattle.naga_below.specs.Points.{Point, first_fault, answer}
 use Rattle.naga_below.specs.Tree.{Body}
 use Rattle.naga_runs.specs.Handles.{Handles}
 use Rattle.naga_runs.specs.Visits.{Visit, visits_of}
@@ -10,11 +10,6 @@ use Rattle.naga_runs.specs.Visits.{Visit, visits_of}
 pub record Rules (State Fault : Type 0) : Type 0 where
   pub points : State → Visit → List (Point Fault)
   pub advance : State → Visit → State
-
--- the fault if there is one, else the state
-abbrev pub answer : {State Fault : Type 0} → Option Fault → State → Result State Fault
-answer None st = Ok st
-answer (Some f) st = Err f
 
 -- the state that visits leave
 unfoldable pub state_after : {State Fault : Type 0} → Rules State Fault → State → List Visit → State

@@ -1,5 +1,5 @@
 -- An accepted body fills each result once, and leaves stages of all its statements.
-use Rattle.std.proofs.Common.{◌≡◌, ℕ, zero, suc, ◌+◌, ◌<◌, ◌==◌, Bool, true, false, not, ◌&&◌, ◌||◌, List, [], ◌∷◌, ◌++◌, Option, None, Some, Result, Ok, Err, length, slice_get, subst, refl, sym, ap, ◌∙◌, arith}
+use Rattle.std.proofs.Common.{◌≡◌, ◌↔◌, ℕ, zero, suc, ◌+◌, ◌<◌, ◌==◌, Bool, true, false, not, ◌&&◌, ◌||◌, List, [], ◌∷◌, ◌++◌, Option, None, Some, Result, Ok, Err, length, slice_get, subst, refl, sym, ap, ◌∙◌, arith}
 use Rattle.std.proofs.lemmas.Bool.Decides.{nat_tests}
 use Rattle.std.proofs.lemmas.Nat.{and_assoc, and_comm}
 use Rattle.std.proofs.lemmas.Option.{slice_get_within}
@@ -15,20 +15,20 @@ use Rattle.naga_rules.specs.declared.function.FunctionError.{FunctionError}
 use Rattle.naga_rules.specs.declared.function.FunctionError.TheVariants.{UnvisitedExpression}
 use Rattle.naga_runs.proofs.Judgements.{judgement_is_visits, earlier_is_all}
 use Rattle.naga_below.proofs.Points.{first_holds, not_holds}
-use Rattle.naga_runs.specs.ByTree.{then_on, judge_visits}
+use Rattle.naga_below.specs.Points.{and_then, first_fault, answer}
+use Rattle.naga_runs.specs.ByTree.{judge_visits}
 use Rattle.naga_runs.specs.Handles.{Handles}
-use Rattle.naga_below.specs.Points.{first_fault}
-use Rattle.naga_runs.specs.Judgement.{answer, viewed}
+use Rattle.naga_runs.specs.Judgement.{viewed}
 use Rattle.naga_runs.specs.Positions.{Node, NoNode, StatementNode, BreakIfNode, Position, node_at}
 use Rattle.naga_runs.specs.VisitOrder.{positions}
 use Rattle.naga_runs.specs.Visits.{Visit, Place, visit_at, visits_of}
-use Rattle.naga_valid.specs.Accepted.{nodes_of, callee_filling, callees_filling, atomic_filling, atomics_filling, ResultsAreFilledOnce, AreAmong, AreOfStatement, AreOfCallee, StagesAreOfAll}
+use Rattle.naga_valid.specs.Accepted.{nodes_of, callee_filling, callees_filling, atomic_filling, atomics_filling, ResultsAreFilledOnce, AreAmong, AreOfStatement, AreOfCallee, StagesAreOfAll, AreOfStartAndAll}
 use Rattle.naga_valid.specs.Atomics.{is_atomic_result}
 use Rattle.naga_valid.specs.Blocks.{body_of}
 use Rattle.naga_valid.specs.Calls.{is_call_result_of, has_result}
 use Rattle.naga_valid.specs.Context.{Context, pre_emitted}
-use Rattle.naga_valid.specs.Flags.{checks_expressions}
-use Rattle.naga_valid.specs.Judged.{body_judgement, outcome_after}
+use Rattle.naga_valid.specs.Flags.{checks_blocks, checks_expressions}
+use Rattle.naga_valid.specs.Judged.{FunctionOutcome, body_judgement, judged_with, outcome_of}
 use Rattle.naga_valid.specs.Past.{Past, past_of}
 use Rattle.naga_valid.specs.Results.{is_to_fill, result_of, fills, filled_before, is_unfilled, filled_points_from, filled_points}
 use Rattle.naga_valid.specs.Rules.{points_at, stages_of, stages_behind, stages_left}
@@ -36,7 +36,6 @@ use Rattle.naga_valid.specs.Scope.{in_scope, known}
 use Rattle.naga_valid.specs.Stages.{meet}
 use Rattle.naga_valid.specs.State.{State, seen, kept_rules, begin_state, state_behind, state_left}
 use Rattle.naga_valid.specs.Types.{expression_at}
-use Rattle.naga_valid.specs.declared.state.BodyOutcome.{BodyOutcome}
 use Rattle.naga_valid.proofs.Atomics.{NamedHolds, atomic_named}
 use Rattle.naga_valid.proofs.Calls.{call_holds}
 use Rattle.naga_valid.proofs.Fillings.{or_false, with_is, unfilled, known_filled}
@@ -93,6 +92,26 @@ module _ (context : Context) where
   callees_of_all : (t : ShaderStages) (nodes : List Node) → AllByRecursion (AreOfStatement context.settings.subgroup_stages context.earlier t) nodes → AllByRecursion (AreOfCallee context.earlier t) nodes
   callees_of_all t [] a = tt
   callees_of_all t (node ∷ nodes) a = (of_callee t node a.0, callees_of_all t nodes a.1)
+
+-- the stages that are left are the greatest that are among those at the start and among the mask of every statement
+among_meet : (some a b : ShaderStages) → AreAmong some a → AreAmong some b → AreAmong some (meet a b)
+among_meet some a b p q = sym (meet_assoc some a b) ∙ ap (λ z. meet z b) p ∙ q
+
+module _ (context : Context) (some : ShaderStages) where
+  among_behind : (s : ShaderStages) (node : Node) → AreAmong some s → AreOfStatement context.settings.subgroup_stages context.earlier some node → AreAmong some (stages_behind context s node)
+  among_behind s NoNode p q = p
+  among_behind s (StatementNode x) p q = among_meet some s (stages_of context.settings.subgroup_stages context.earlier x) p q
+  among_behind s (BreakIfNode h) p q = p
+
+  left_is_met : (s : ShaderStages) (visits : List Visit) →
+      AreAmong some (stages_left context s visits) ↔ (AreAmong some s × AllByRecursion (AreOfStatement context.settings.subgroup_stages context.earlier some) (map (λ v. v.node) visits))
+  left_is_met s [] = (λ p. (p, tt), λ p. p.0)
+  left_is_met s (v ∷ visits) =
+      let next = stages_behind context s v.node in
+      let rest = left_is_met next visits in (
+        λ p. let q = rest.0 p in (among_all some next s q.0 (behind_among context s v.node), (of_statement context s some v.node q.0, q.1)),
+        λ p. rest.1 (among_behind s v.node p.0 p.1.0, p.1.1),
+      )
 
 -- the nodes of the visits are what stands at the positions
 nodes_are : (pre : Handles) (b : Body) (ps : List Position) → map (λ v. v.node) (map (visit_at pre b) ps) ≡ map (node_at b) ps
@@ -195,7 +214,7 @@ module _ (context : Context) (r : ℕ) where
   behind_is st (StatementNode x) = with_is (result_of (StatementNode x)) st.filled r
   behind_is st (BreakIfNode h) = sym (or_false (in_scope st.filled r))
 
-  passes : (o : Option FunctionError) (st : State) (f : State → Result State FunctionError) (end : State) → then_on (answer o st) f ≡ Ok end → (o ≡ None) × (f st ≡ Ok end)
+  passes : (o : Option FunctionError) (st : State) (f : State → Result State FunctionError) (end : State) → and_then (answer o st) f ≡ Ok end → (o ≡ None) × (f st ≡ Ok end)
   passes None st f end h = (refl, h)
   passes (Some x) st f end h = cc
 
@@ -249,32 +268,32 @@ must_be true false p q = cc
 must_be false b p q = cc
 
 module _ (context : Context) (visits : List Visit) (is : body_judgement context ≡ Ok visits) where
-  all_visits : visits ≡ visits_of (pre_emitted context) (body_of context.fun.body)
+  all_visits : visits ≡ visits_of (pre_emitted context) (body_of context.fun)
   unfolding body_judgement
   all_visits =
-      earlier_is_all (λ earlier v. points_at context (past_of context earlier) v.place v.node) visits (pre_emitted context) (body_of context.fun.body) is
+      earlier_is_all (λ earlier v. points_at context (past_of context earlier) v.place v.node) visits (pre_emitted context) (body_of context.fun) is
 
-  nodes_of_visits : map (λ v. v.node) visits ≡ nodes_of (body_of context.fun.body)
+  nodes_of_visits : map (λ v. v.node) visits ≡ nodes_of (body_of context.fun)
   nodes_of_visits =
-      ap (map (λ v. v.node)) all_visits ∙ nodes_are (pre_emitted context) (body_of context.fun.body) (positions (body_of context.fun.body))
+      ap (map (λ v. v.node)) all_visits ∙ nodes_are (pre_emitted context) (body_of context.fun) (positions (body_of context.fun))
 
-  of_body : StagesAreOfAll context.settings.subgroup_stages context.earlier (body_of context.fun.body) (stages_left context context.info.available_stages visits)
+  of_body : StagesAreOfAll context.settings.subgroup_stages context.earlier (body_of context.fun) (stages_left context context.info.available_stages visits)
   of_body =
       let stages = stages_left context context.info.available_stages visits in
       let statements = subst (AllByRecursion (AreOfStatement context.settings.subgroup_stages context.earlier stages)) nodes_of_visits (of_all context context.info.available_stages visits) in
       record {
         statements = statements;
-        callees = callees_of_all context stages (nodes_of (body_of context.fun.body)) statements;
+        callees = callees_of_all context stages (nodes_of (body_of context.fun)) statements;
       }
 
   walked : judge_visits (kept_rules context) (begin_state context) visits ≡ Ok (state_left context visits)
   walked =
       ap (judge_visits (kept_rules context) (begin_state context)) all_visits
-      ∙ sym (judgement_is_visits (kept_rules context) (begin_state context) (pre_emitted context) (body_of context.fun.body))
+      ∙ sym (judgement_is_visits (kept_rules context) (begin_state context) (pre_emitted context) (body_of context.fun))
       ∙ kept context
       ∙ ap (viewed (state_left context)) is
 
-  filled_of : (r : ℕ) → Filled context r (nodes_of (body_of context.fun.body)) false (filled_before visits r)
+  filled_of : (r : ℕ) → Filled context r (nodes_of (body_of context.fun)) false (filled_before visits r)
   filled_of r =
       subst (λ nodes. Filled context r nodes false (filled_before visits r)) nodes_of_visits (subst (λ a. Filled context r (map (λ v. v.node) visits) false a) (λ i. known_filled visits i r) (along context r (begin_state context) (state_left context visits) visits walked))
 
@@ -291,30 +310,48 @@ module _ (context : Context) (visits : List Visit) (is : body_judgement context 
 
     once : ResultsAreFilledOnce context.fun
     once = record {
-      calls = λ r f at. called_once context r f (nodes_of (body_of context.fun.body)) false (filled_before visits r) refl (is_filled r (e.CallResult f) at refl) at (filled_of r);
-      atomics = λ r ty comparison at. done_once context r ty comparison (nodes_of (body_of context.fun.body)) false (filled_before visits r) refl (is_filled r (e.AtomicResult ty comparison) at refl) at (filled_of r);
+      calls = λ r f at. called_once context r f (nodes_of (body_of context.fun)) false (filled_before visits r) refl (is_filled r (e.CallResult f) at refl) at (filled_of r);
+      atomics = λ r ty comparison at. done_once context r ty comparison (nodes_of (body_of context.fun)) false (filled_before visits r) refl (is_filled r (e.AtomicResult ty comparison) at refl) at (filled_of r);
     }
 
--- what an answer says of its visits
-module _ (context : Context) (left : BodyOutcome) where
-  answered : (o : Option FunctionError) (l : BodyOutcome) → answer o l ≡ Ok left → (o ≡ None) × (l ≡ left)
-  answered None l h = let same : l ≡ left = cc in (refl, same)
+-- what a judgement that accepts says of its visits
+pub record IsAccepted (context : Context) (outcome : FunctionOutcome) : Type 0 where
+  pub visits : List Visit
+  pub judged : body_judgement context ≡ Ok visits
+  pub filled : first_fault (filled_points context (filled_before visits)) ≡ None
+  pub left : outcome_of context visits ≡ outcome
+
+module _ (context : Context) (outcome : FunctionOutcome) where
+  answered : (o : Option FunctionError) (l : FunctionOutcome) → answer o l ≡ Ok outcome → (o ≡ None) × (l ≡ outcome)
+  answered None l h = let same : l ≡ outcome = cc in (refl, same)
   answered (Some f) l h = cc
 
-  filled_by : (judged : Result (List Visit) FunctionError) → body_judgement context ≡ judged → outcome_after context judged ≡ Ok left → checks_expressions context.settings.flags ≡ true → ResultsAreFilledOnce context.fun
-  filled_by (Ok visits) is h on = once context visits is on (answered _ _ h).0
-  filled_by (Err f) is h on = cc
+  by_visits : (judged : Result (List Visit) FunctionError) → body_judgement context ≡ judged →
+      and_then judged (λ visits. answer (first_fault (filled_points context (filled_before visits))) (outcome_of context visits)) ≡ Ok outcome → IsAccepted context outcome
+  by_visits (Ok visits) is h =
+      let both = answered _ _ h in
+      record { visits = visits; judged = is; filled = both.0; left = both.1 }
+  by_visits (Err f) is h = cc
 
-  abbrev IsOfAll : BodyOutcome → Type 0
-  IsOfAll l =
-      StagesAreOfAll context.settings.subgroup_stages context.earlier (body_of context.fun.body) l.stages
+-- where bodies are looked at
+pub with_blocks : (context : Context) → checks_blocks context.settings.flags ≡ true →
+    judged_with context ≡ and_then (body_judgement context) (λ visits. answer (first_fault (filled_points context (filled_before visits))) (outcome_of context visits))
+with_blocks context on =
+    ap (λ b. and_then (if b then body_judgement context else Ok []) (λ visits. answer (first_fault (if b then filled_points context (filled_before visits) else [])) (outcome_of context visits))) on
 
-  of_all_by : (judged : Result (List Visit) FunctionError) → body_judgement context ≡ judged → outcome_after context judged ≡ Ok left → IsOfAll left
-  of_all_by (Ok visits) is h = subst IsOfAll (answered _ _ h).1 (of_body context visits is)
-  of_all_by (Err f) is h = cc
+pub accepted : (context : Context) (outcome : FunctionOutcome) → checks_blocks context.settings.flags ≡ true → judged_with context ≡ Ok outcome → IsAccepted context outcome
+accepted context outcome on e = by_visits context outcome (body_judgement context) refl (sym (with_blocks context on) ∙ e)
 
-  pub results_are_filled_once : outcome_after context (body_judgement context) ≡ Ok left → checks_expressions context.settings.flags ≡ true → ResultsAreFilledOnce context.fun
-  results_are_filled_once = filled_by (body_judgement context) refl
+module _ (context : Context) (outcome : FunctionOutcome) (of : IsAccepted context outcome) where
+  pub accepted_fills_once : checks_expressions context.settings.flags ≡ true → ResultsAreFilledOnce context.fun
+  accepted_fills_once on = once context of.visits of.judged on of.filled
 
-  pub stages_are_of_all : outcome_after context (body_judgement context) ≡ Ok left → IsOfAll left
-  stages_are_of_all = of_all_by (body_judgement context) refl
+  pub accepted_stages_of_all : StagesAreOfAll context.settings.subgroup_stages context.earlier (body_of context.fun) outcome.info.available_stages
+  accepted_stages_of_all =
+      subst (λ (l : FunctionOutcome). StagesAreOfAll context.settings.subgroup_stages context.earlier (body_of context.fun) l.info.available_stages) of.left (of_body context of.visits of.judged)
+
+  pub accepted_stages_are_met : (some : ShaderStages) → AreAmong some outcome.info.available_stages ↔ AreOfStartAndAll context.settings.subgroup_stages context.earlier context.info.available_stages (body_of context.fun) some
+  accepted_stages_are_met some =
+      subst (λ (l : FunctionOutcome). AreAmong some l.info.available_stages ↔ AreOfStartAndAll context.settings.subgroup_stages context.earlier context.info.available_stages (body_of context.fun) some) of.left (
+      subst (λ nodes. AreAmong some (stages_left context context.info.available_stages of.visits) ↔ (AreAmong some context.info.available_stages × AllByRecursion (AreOfStatement context.settings.subgroup_stages context.earlier some) nodes)) (nodes_of_visits context of.visits of.judged) (left_is_met context some context.info.available_stages of.visits)
+      )

@@ -118,6 +118,6 @@ names_unfilled context past place _ e = tt
 pub guards : (context : Context) → ReadGuards (kept_rules context) no_operands
 guards context st v made e = node_fits context (seen st) v.place v.node made e
 
-pub accepted_is_sound : (context : Context) (state : State) → viewed (state_left context) (body_judgement context) ≡ Ok state → RunsAreSound (pre_emitted context) (body_of context.fun.body)
+pub accepted_is_sound : (context : Context) (state : State) → viewed (state_left context) (body_judgement context) ≡ Ok state → RunsAreSound (pre_emitted context) (body_of context.fun)
 accepted_is_sound context state e =
     (accepted_block_is_sound (kept_rules context) no_operands (guards context) (begin_state context) state (pre_emitted context) context.fun.body (kept context ∙ e)).1

@@ -7,18 +7,18 @@ use Rattle.naga_below.specs.declared.span.Refusal.TheVariants as refusal
 use Rattle.naga_rules.specs.Answers.{Answers, Refuses}
 use Rattle.naga_rules.specs.declared.function.FunctionError.{FunctionError}
 use Rattle.naga_runs.proofs.Judgements.{by_tree, earlier_agrees}
-use Rattle.naga_below.specs.Points.{first_fault}
-use Rattle.naga_runs.specs.Judgement.{Follows, answer, judgement, viewed}
+use Rattle.naga_below.specs.Points.{first_fault, answer}
+use Rattle.naga_runs.specs.Judgement.{Follows, judgement, viewed}
 use Rattle.naga_runs.specs.Visits.{Visit}
 use Rattle.naga_valid.specs.Answers.{AnswersPoints}
 use Rattle.naga_valid.specs.Blocks.{body_of}
 use Rattle.naga_valid.specs.Context.{Context, pre_emitted}
-use Rattle.naga_valid.specs.Judged.{body_judgement, outcome_of, outcome_after}
+use Rattle.naga_valid.specs.Judged.{body_judgement}
 use Rattle.naga_valid.specs.Past.{past_of}
 use Rattle.naga_valid.specs.Results.{filled_points}
 use Rattle.naga_valid.specs.Rules.{points_at, body_rules}
 use Rattle.naga_valid.specs.Scope.{known}
-use Rattle.naga_valid.specs.State.{State, kept_rules, begin_state, state_left}
+use Rattle.naga_valid.specs.State.{State, kept_rules, begin_state, state_left, body_outcome, body_left}
 use Rattle.naga_valid.specs.declared.state.BodyOutcome.{BodyOutcome}
 use Rattle.naga_valid.specs.Walk.{body_answer, pre_emitted_from, body_abilities}
 use Rattle.naga_valid.proofs.Fillings.{known_filled}
@@ -30,17 +30,17 @@ follows : (context : Context) → Follows (body_rules context) (kept_rules conte
 follows context = record { points = λ visits v. ap (λ past. points_at context past v.place v.node) (sym (seen_is context visits)); advance = λ visits v. state_more context visits v }
 
 pub kept : (context : Context) →
-    judgement (kept_rules context) (begin_state context) (pre_emitted context) (body_of context.fun.body) ≡ viewed (state_left context) (body_judgement context)
+    judgement (kept_rules context) (begin_state context) (pre_emitted context) (body_of context.fun) ≡ viewed (state_left context) (body_judgement context)
 unfolding body_judgement
 kept context =
-    ap (λ state. judgement (kept_rules context) state (pre_emitted context) (body_of context.fun.body)) (left_by_none context)
-    ∙ earlier_agrees (λ earlier v. points_at context (past_of context earlier) v.place v.node) (kept_rules context) (state_left context) (follows context) (pre_emitted context) (body_of context.fun.body)
+    ap (λ state. judgement (kept_rules context) state (pre_emitted context) (body_of context.fun)) (left_by_none context)
+    ∙ earlier_agrees (λ earlier v. points_at context (past_of context earlier) v.place v.node) (kept_rules context) (state_left context) (follows context) (pre_emitted context) (body_of context.fun)
 
-pub judged : (context : Context) → viewed (state_left context) (body_judgement context) ≡ body_answer context (begin_state context) body_abilities (pre_emitted_from 0 context.fun.expressions) (body_of context.fun.body)
+pub judged : (context : Context) → viewed (state_left context) (body_judgement context) ≡ body_answer context (begin_state context) body_abilities (pre_emitted_from 0 context.fun.expressions) (body_of context.fun)
 judged context =
     sym (kept context)
-    ∙ by_tree (kept_rules context) (begin_state context) (pre_emitted context) (body_of context.fun.body)
-    ∙ moved context (begin_state context) body_abilities (pre_emitted_from 0 context.fun.expressions) (pre_emitted context) (pre_emitted context) (body_of context.fun.body) (known_pre_emitted context)
+    ∙ by_tree (kept_rules context) (begin_state context) (pre_emitted context) (body_of context.fun)
+    ∙ moved context (begin_state context) body_abilities (pre_emitted_from 0 context.fun.expressions) (pre_emitted context) (pre_emitted context) (body_of context.fun) (known_pre_emitted context)
 
 -- what the state says of what is left
 abbrev pub outcome_in : State → BodyOutcome
@@ -48,25 +48,25 @@ outcome_in state = record { stages = state.stages; trace = state.trace }
 
 -- what is left behind a body, from what the code keeps
 outcome_is : (context : Context) (judgement : Result (List Visit) FunctionError) (state : State) → viewed (state_left context) judgement ≡ Ok state →
-    outcome_after context judgement ≡ answer (first_fault (filled_points context (known state.filled))) (outcome_in state)
+    body_left context judgement ≡ answer (first_fault (filled_points context (known state.filled))) (outcome_in state)
 outcome_is context (Ok visits) state e =
     let same : state_left context visits ≡ state = cc in
-    ap (λ filled. answer (first_fault (filled_points context filled)) (outcome_of context visits)) (sym (known_filled visits))
+    ap (λ filled. answer (first_fault (filled_points context filled)) (body_outcome context visits)) (sym (known_filled visits))
     ∙ ap (λ (z : State). answer (first_fault (filled_points context (known z.filled))) (outcome_in z)) same
 outcome_is context (Err fault) state e = cc
 
-pub outcome_refuses : (context : Context) (judgement : Result (List Visit) FunctionError) (e : Refusal FunctionError) → Refuses (viewed (state_left context) judgement) e → Refuses (outcome_after context judgement) e
+pub outcome_refuses : (context : Context) (judgement : Result (List Visit) FunctionError) (e : Refusal FunctionError) → Refuses (viewed (state_left context) judgement) e → Refuses (body_left context judgement) e
 outcome_refuses context (Ok visits) (refusal.Fault f) h = cc
 outcome_refuses context (Err fault) (refusal.Fault f) h = let same : fault ≡ f = cc in ap Err same
 outcome_refuses context judgement refusal.Memory h = tt
 
 -- a result that is not filled
-pub unfilled_refuses : (context : Context) (judgement : Result (List Visit) FunctionError) (state : State) (r : Result BodyOutcome (Refusal FunctionError)) → viewed (state_left context) judgement ≡ Ok state → IsErr r → AnswersPoints (filled_points context (known state.filled)) r → Answers (outcome_after context judgement) r
+pub unfilled_refuses : (context : Context) (judgement : Result (List Visit) FunctionError) (state : State) (r : Result BodyOutcome (Refusal FunctionError)) → viewed (state_left context) judgement ≡ Ok state → IsErr r → AnswersPoints (filled_points context (known state.filled)) r → Answers (body_left context judgement) r
 unfilled_refuses context judgement state (Err (refusal.Fault f)) is err h =
     outcome_is context judgement state is ∙ ap (λ o. answer o (outcome_in state)) h
 unfilled_refuses context judgement state (Err refusal.Memory) is err h = tt
 unfilled_refuses context judgement state (Ok t) is err h = cc
 
-pub all_filled : (context : Context) (judgement : Result (List Visit) FunctionError) (state : State) → viewed (state_left context) judgement ≡ Ok state → first_fault (filled_points context (known state.filled)) ≡ None → outcome_after context judgement ≡ Ok (outcome_in state)
+pub all_filled : (context : Context) (judgement : Result (List Visit) FunctionError) (state : State) → viewed (state_left context) judgement ≡ Ok state → first_fault (filled_points context (known state.filled)) ≡ None → body_left context judgement ≡ Ok (outcome_in state)
 all_filled context judgement state is h =
     outcome_is context judgement state is ∙ ap (λ o. answer o (outcome_in state)) h

@@ -23,3 +23,5 @@ pub mod PreEmitted
 pub mod Judged
 pub mod Accepted
 pub mod Guarded
+pub mod FunctionLaw
+pub mod FunctionSteps

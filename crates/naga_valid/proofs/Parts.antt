@@ -9,7 +9,7 @@ use Rattle.naga_below.specs.declared.ir.statements.Statement as ir
 use Rattle.naga_below.specs.declared.span.Span.{Span}
 use Rattle.naga_below.specs.declared.ir.statements.SwitchCase.{SwitchCase, out-SwitchCase}
 use Rattle.naga_below.specs.declared.ir.statements.SwitchValue.{SwitchValue}
-use Rattle.naga_valid.specs.Blocks.{tree_of, body_of, statement_list, case_list}
+use Rattle.naga_valid.specs.Blocks.{tree_of, body_of, block_of, list_of, cases_of}
 use Rattle.naga_valid.specs.Context.{Context}
 use Rattle.naga_valid.specs.Ready.{IsStatementReady, IsBodyReady, AreCasesReady}
 
@@ -42,19 +42,19 @@ module _ (context : Context) where
   unfolding IsBodyReady AreCasesReady
   first_case_and_rest v f b cs r = (r.0, r.1)
 
-  pub in_list : (xs : List Located) (i : ℕ) (x : Located) → i < length xs → x ≡ get_or xs i x → IsBodyReady context (statement_list (drop i xs)) →
-      IsStatementReady context (tree_of x) × IsBodyReady context (statement_list (drop (i + 1) xs))
+  pub in_list : (xs : List Located) (i : ℕ) (x : Located) → i < length xs → x ≡ get_or xs i x → IsBodyReady context (list_of context (drop i xs)) →
+      IsStatementReady context (tree_of context x) × IsBodyReady context (list_of context (drop (i + 1) xs))
   in_list xs i x lt is r =
-      let same = at_drop_more statement_list xs i x lt ∙ ap (λ z. statement_list (z ∷ drop (i + 1) xs)) (sym is) in
-      first_and_rest (tree_of x) (statement_list (drop (i + 1) xs)) (subst (IsBodyReady context) same r)
+      let same = at_drop_more (list_of context) xs i x lt ∙ ap (λ z. list_of context (z ∷ drop (i + 1) xs)) (sym is) in
+      first_and_rest (tree_of context x) (list_of context (drop (i + 1) xs)) (subst (IsBodyReady context) same r)
 
-  pub in_cases : (cs : List SwitchCase) (i : ℕ) (c : SwitchCase) → i < length cs → c ≡ get_or cs i c → AreCasesReady context (case_list (drop i cs)) →
-      IsBodyReady context (body_of (out-SwitchCase c).body) × AreCasesReady context (case_list (drop (i + 1) cs))
+  pub in_cases : (cs : List SwitchCase) (i : ℕ) (c : SwitchCase) → i < length cs → c ≡ get_or cs i c → AreCasesReady context (cases_of context (drop i cs)) →
+      IsBodyReady context (block_of context (out-SwitchCase c).body) × AreCasesReady context (cases_of context (drop (i + 1) cs))
   in_cases cs i c lt is r =
-      let same = at_drop_more case_list cs i c lt ∙ ap (λ z. case_list (z ∷ drop (i + 1) cs)) (sym is) in
+      let same = at_drop_more (cases_of context) cs i c lt ∙ ap (λ z. cases_of context (z ∷ drop (i + 1) cs)) (sym is) in
       first_case_and_rest _ _ _ _ (subst (AreCasesReady context) same r)
 
 -- the body of a function that fits
-pub ready : (context : Context) → FitsFunction context.fun context.program (length context.earlier.functions) → IsBodyReady context (body_of context.fun.body)
+pub ready : (context : Context) → FitsFunction context.fun context.program (length context.earlier.functions) → IsBodyReady context (body_of context.fun)
 unfolding IsBodyReady
 ready context fits = fits.body

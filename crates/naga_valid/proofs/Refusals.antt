@@ -7,8 +7,7 @@ use Rattle.naga_below.specs.declared.span.Refusal.{Refusal}
 use Rattle.naga_below.specs.declared.span.Refusal.TheVariants as refusal
 use Rattle.naga_rules.specs.Answers.{Refuses}
 use Rattle.naga_rules.specs.declared.function.FunctionError.{FunctionError}
-use Rattle.naga_runs.specs.ByTree.{then_on}
-use Rattle.naga_below.specs.Points.{Point, first_fault}
+use Rattle.naga_below.specs.Points.{and_then, Point, first_fault}
 use Rattle.naga_valid.specs.Answers.{AnswersPoints, AnswersLeaving, IsFirstFault, IsRefusalFor}
 use Rattle.naga_valid.specs.Points.{Points}
 use Rattle.naga_valid.proofs.Lists.{first_fault-append}
@@ -30,24 +29,24 @@ refuses_second (Ok t) first second e h = first_fault-append first second ∙ ap 
 refuses_second (Err (refusal.Fault f)) first second e h = first_fault-append first second ∙ ap (λ o. option_or o (first_fault second)) e ∙ h
 refuses_second (Err refusal.Memory) first second e h = tt
 
-pub passes : {S : Type 0} (o : Result S FunctionError) (f : S → Result S FunctionError) (st end : S) → o ≡ Ok st → f st ≡ Ok end → then_on o f ≡ Ok end
-passes o f st end e g = ap (λ z. then_on z f) e ∙ g
+pub passes : {S : Type 0} (o : Result S FunctionError) (f : S → Result S FunctionError) (st end : S) → o ≡ Ok st → f st ≡ Ok end → and_then o f ≡ Ok end
+passes o f st end e g = ap (λ z. and_then z f) e ∙ g
 
-pub stops_first : {S : Type 0} (e : Refusal FunctionError) (o : Result S FunctionError) (f : S → Result S FunctionError) → Refuses o e → Refuses (then_on o f) e
-stops_first (refusal.Fault x) o f h = ap (λ z. then_on z f) h
+pub stops_first : {S : Type 0} (e : Refusal FunctionError) (o : Result S FunctionError) (f : S → Result S FunctionError) → Refuses o e → Refuses (and_then o f) e
+stops_first (refusal.Fault x) o f h = ap (λ z. and_then z f) h
 stops_first refusal.Memory o f h = tt
 
-pub stops_next : {S : Type 0} (e : Refusal FunctionError) (o : Result S FunctionError) (f : S → Result S FunctionError) (st : S) → o ≡ Ok st → Refuses (f st) e → Refuses (then_on o f) e
-stops_next (refusal.Fault x) o f st e h = ap (λ z. then_on z f) e ∙ h
+pub stops_next : {S : Type 0} (e : Refusal FunctionError) (o : Result S FunctionError) (f : S → Result S FunctionError) (st : S) → o ≡ Ok st → Refuses (f st) e → Refuses (and_then o f) e
+stops_next (refusal.Fault x) o f st e h = ap (λ z. and_then z f) e ∙ h
 stops_next refusal.Memory o f st e h = tt
 
-pub answers_next : {S T : Type 0} (r : Result T (Refusal FunctionError)) (o : Result S FunctionError) (f : S → Result S FunctionError) (st end : S) → o ≡ Ok st → AnswersLeaving (f st) end r → AnswersLeaving (then_on o f) end r
-answers_next (Ok n) o f st end e h = ap (λ z. then_on z f) e ∙ h
+pub answers_next : {S T : Type 0} (r : Result T (Refusal FunctionError)) (o : Result S FunctionError) (f : S → Result S FunctionError) (st end : S) → o ≡ Ok st → AnswersLeaving (f st) end r → AnswersLeaving (and_then o f) end r
+answers_next (Ok n) o f st end e h = ap (λ z. and_then z f) e ∙ h
 answers_next (Err x) o f st end e h = stops_next x o f st e h
 
 -- where the first leaves a state, the next from there is the whole
-pub next_is : {S : Type 0} (whole o : Result S FunctionError) (f : S → Result S FunctionError) (st : S) → whole ≡ then_on o f → o ≡ Ok st → f st ≡ whole
-next_is whole o f st e n = sym (e ∙ ap (λ z. then_on z f) n)
+pub next_is : {S : Type 0} (whole o : Result S FunctionError) (f : S → Result S FunctionError) (st : S) → whole ≡ and_then o f → o ≡ Ok st → f st ≡ whole
+next_is whole o f st e n = sym (e ∙ ap (λ z. and_then z f) n)
 
 -- a fault of the first points, and one behind them
 pub fault_first : {T Fault : Type 0} (r : Result T Fault) (ps qs : List (Point Fault)) → IsErr r → result_err r ≡ first_fault ps → result_err r ≡ first_fault (ps ++ qs)

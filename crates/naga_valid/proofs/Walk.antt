@@ -21,14 +21,13 @@ use Rattle.naga_runs.specs.declared.Abilities.{Abilities}
 use Rattle.naga_runs.specs.Handles.{Handles, no_handles, with_handle}
 use Rattle.naga_runs.specs.Must.{with_sure}
 use Rattle.naga_runs.specs.PutsAndUses.{with_acts, with_body, acts_of}
-use Rattle.naga_below.specs.Points.{first_fault}
-use Rattle.naga_runs.specs.Judgement.{answer}
-use Rattle.naga_runs.specs.ByTree.{then_on, judge_visits, judge_body, judge_stmt, judge_parts, judge_cases, judge_break_if, IgnoresMust, case_abilities, loop_abilities, continuing_abilities}
+use Rattle.naga_below.specs.Points.{first_fault, answer, and_then}
+use Rattle.naga_runs.specs.ByTree.{judge_visits, judge_body, judge_stmt, judge_parts, judge_cases, judge_break_if, IgnoresMust, case_abilities, loop_abilities, continuing_abilities}
 use Rattle.naga_runs.proofs.Judgements.{judge_done, judge_more, judge_own, judge_block, judge_branch, judge_switch, judge_loop, judge_no_case, judge_one_case}
 use Rattle.naga_runs.proofs.WithoutMust.{must_is_free}
 use Rattle.naga_rules.specs.Answers.{Refuses}
 use Rattle.naga_valid.specs.Answers.{IsFirstFault}
-use Rattle.naga_valid.specs.Blocks.{tree_of, body_of, statement_list, case_list}
+use Rattle.naga_valid.specs.Blocks.{emitted_operands, tree_of, block_of, list_of, cases_of}
 use Rattle.naga_valid.specs.Context.{Context}
 use Rattle.naga_valid.specs.Control.{break_if_points}
 use Rattle.naga_valid.specs.Rules.{statement_points}
@@ -82,13 +81,13 @@ module _ (context : Context) (k : State) (a : Abilities) (s : List ℕ) where
   unfolding body_answer
   body_done = judge_done (kept_rules context) k (place a s)
 
-  pub body_more : (x : Stmt) (b : Body) → body_answer context k a s (Then x b) ≡ then_on (stmt_answer context k a s x) (λ l. body_answer context l a (s ++ puts x) b)
+  pub body_more : (x : Stmt) (b : Body) → body_answer context k a s (Then x b) ≡ and_then (stmt_answer context k a s x) (λ l. body_answer context l a (s ++ puts x) b)
   unfolding body_answer stmt_answer
   body_more x b =
       judge_more (kept_rules context) k (place a s) x b
-      ∙ ap (λ (f : State → Result State FunctionError). then_on (judge_stmt (kept_rules context) k (place a s) x) f) (λ i l. moved context l a (s ++ puts x) (with_acts (known s) (acts_of x)) (with_acts no_handles (acts_of x)) b (known_acts (acts_of x) s) i)
+      ∙ ap (λ (f : State → Result State FunctionError). and_then (judge_stmt (kept_rules context) k (place a s) x) f) (λ i l. moved context l a (s ++ puts x) (with_acts (known s) (acts_of x)) (with_acts no_handles (acts_of x)) b (known_acts (acts_of x) s) i)
 
-  pub stmt_more : (x : Stmt) → stmt_answer context k a s x ≡ then_on (own_answer context k a s x) (λ l. parts_answer context l a s x)
+  pub stmt_more : (x : Stmt) → stmt_answer context k a s x ≡ and_then (own_answer context k a s x) (λ l. parts_answer context l a s x)
   unfolding own_answer parts_answer stmt_answer
   stmt_more x = judge_own (kept_rules context) k (place a s) x
 
@@ -96,7 +95,7 @@ module _ (context : Context) (k : State) (a : Abilities) (s : List ℕ) where
   unfolding parts_answer body_answer
   parts_block b = judge_block (kept_rules context) k (place a s) b
 
-  pub parts_branch : (h : ℕ) (p q : Body) → parts_answer context k a s (Branch h p q) ≡ then_on (body_answer context k a s p) (λ l. body_answer context l a s q)
+  pub parts_branch : (h : ℕ) (p q : Body) → parts_answer context k a s (Branch h p q) ≡ and_then (body_answer context k a s p) (λ l. body_answer context l a s q)
   unfolding parts_answer body_answer
   parts_branch h p q = judge_branch (kept_rules context) k (place a s) h p q
 
@@ -105,17 +104,17 @@ module _ (context : Context) (k : State) (a : Abilities) (s : List ℕ) where
   parts_switch h cs = judge_switch (kept_rules context) k (place a s) h cs
 
   pub parts_loop : (b d : Body) (q : Option ℕ) → parts_answer context k a s (Loop b d q)
-      ≡ then_on (body_answer context k (loop_abilities a) s b) (λ l. then_on (body_answer context l continuing_abilities (s ++ body_puts b) d) (λ m. break_if_answer context m a ((s ++ body_puts b) ++ body_puts d) q))
+      ≡ and_then (body_answer context k (loop_abilities a) s b) (λ l. and_then (body_answer context l continuing_abilities (s ++ body_puts b) d) (λ m. break_if_answer context m a ((s ++ body_puts b) ++ body_puts d) q))
   unfolding parts_answer body_answer
   parts_loop b d q =
       judge_loop (kept_rules context) k (place a s) b d q
-      ∙ ap (λ (f : State → Result State FunctionError). then_on (body_answer context k (loop_abilities a) s b) f) (λ i l. then_on (moved context l continuing_abilities (s ++ body_puts b) (with_body (known s) b) (with_sure no_handles b) d (known_body b s) i) (λ m. moved_break_if context m a ((s ++ body_puts b) ++ body_puts d) (with_body (with_body (known s) b) d) (with_body (with_sure no_handles b) d) q (known_body d (s ++ body_puts b) ∙ ap (λ t. with_body t d) (known_body b s)) i))
+      ∙ ap (λ (f : State → Result State FunctionError). and_then (body_answer context k (loop_abilities a) s b) f) (λ i l. and_then (moved context l continuing_abilities (s ++ body_puts b) (with_body (known s) b) (with_sure no_handles b) d (known_body b s) i) (λ m. moved_break_if context m a ((s ++ body_puts b) ++ body_puts d) (with_body (with_body (known s) b) d) (with_body (with_sure no_handles b) d) q (known_body d (s ++ body_puts b) ∙ ap (λ t. with_body t d) (known_body b s)) i))
 
   pub cases_done : cases_answer context k a s NoCase ≡ Ok k
   unfolding cases_answer
   cases_done = judge_no_case (kept_rules context) k (place a s)
 
-  pub cases_more : (v : SwitchValue) (f : Bool) (b : Body) (cs : Cases) → cases_answer context k a s (OneCase v f b cs) ≡ then_on (body_answer context k a s b) (λ l. cases_answer context l a s cs)
+  pub cases_more : (v : SwitchValue) (f : Bool) (b : Body) (cs : Cases) → cases_answer context k a s (OneCase v f b cs) ≡ and_then (body_answer context k a s b) (λ l. cases_answer context l a s cs)
   unfolding cases_answer body_answer
   cases_more v f b cs = judge_one_case (kept_rules context) k (place a s) v f b cs
 
@@ -133,37 +132,37 @@ module _ (context : Context) (k : State) (a : Abilities) (s : List ℕ) where
   parts_later Kill = refl
 
 -- what is left of a list, one step on and at the end
-module _ (xs : List Located) (i : ℕ) where
-  pub body_turn : (context : Context) (k : State) (a : Abilities) (s : List ℕ) (x : Located) → i < length xs → x ≡ get_or xs i x →
-      body_answer context k a s (statement_list (drop i xs)) ≡ then_on (stmt_answer context k a s (tree_of x)) (λ l. body_answer context l a (s ++ puts (tree_of x)) (statement_list (drop (i + 1) xs)))
-  body_turn context k a s x lt e =
-      at_drop_more (λ l. body_answer context k a s (statement_list l)) xs i x lt
-      ∙ ap (λ z. body_answer context k a s (statement_list (z ∷ drop (i + 1) xs))) (sym e)
-      ∙ body_more context k a s (tree_of x) (statement_list (drop (i + 1) xs))
+module _ (context : Context) (xs : List Located) (i : ℕ) where
+  pub body_turn : (k : State) (a : Abilities) (s : List ℕ) (x : Located) → i < length xs → x ≡ get_or xs i x →
+      body_answer context k a s (list_of context (drop i xs)) ≡ and_then (stmt_answer context k a s (tree_of context x)) (λ l. body_answer context l a (s ++ puts (tree_of context x)) (list_of context (drop (i + 1) xs)))
+  body_turn k a s x lt e =
+      at_drop_more (λ l. body_answer context k a s (list_of context l)) xs i x lt
+      ∙ ap (λ z. body_answer context k a s (list_of context (z ∷ drop (i + 1) xs))) (sym e)
+      ∙ body_more context k a s (tree_of context x) (list_of context (drop (i + 1) xs))
 
   pub puts_turn : (x : Located) → i < length xs → x ≡ get_or xs i x →
-      body_puts (statement_list (drop i xs)) ≡ puts (tree_of x) ++ body_puts (statement_list (drop (i + 1) xs))
+      body_puts (list_of context (drop i xs)) ≡ puts (tree_of context x) ++ body_puts (list_of context (drop (i + 1) xs))
   unfolding body_puts
   puts_turn x lt e =
-      at_drop_more (λ l. body_puts (statement_list l)) xs i x lt ∙ ap (λ z. body_puts (statement_list (z ∷ drop (i + 1) xs))) (sym e)
+      at_drop_more (λ l. body_puts (list_of context l)) xs i x lt ∙ ap (λ z. body_puts (list_of context (z ∷ drop (i + 1) xs))) (sym e)
 
-  pub puts_end : length xs ≤ i → body_puts (statement_list (drop i xs)) ≡ []
+  pub puts_end : length xs ≤ i → body_puts (list_of context (drop i xs)) ≡ []
   unfolding body_puts
-  puts_end le = at_drop_all (λ l. body_puts (statement_list l)) xs i le
+  puts_end le = at_drop_all (λ l. body_puts (list_of context l)) xs i le
 
-  pub body_end : (context : Context) (k : State) (a : Abilities) (s : List ℕ) → length xs ≤ i → body_answer context k a s (statement_list (drop i xs)) ≡ Ok k
-  body_end context k a s le = at_drop_all (λ l. body_answer context k a s (statement_list l)) xs i le ∙ body_done context k a s
+  pub body_end : (k : State) (a : Abilities) (s : List ℕ) → length xs ≤ i → body_answer context k a s (list_of context (drop i xs)) ≡ Ok k
+  body_end k a s le = at_drop_all (λ l. body_answer context k a s (list_of context l)) xs i le ∙ body_done context k a s
 
-module _ (cs : List SwitchCase) (i : ℕ) where
-  pub cases_turn : (context : Context) (k : State) (a : Abilities) (s : List ℕ) (c : SwitchCase) → i < length cs → c ≡ get_or cs i c →
-      cases_answer context k a s (case_list (drop i cs)) ≡ then_on (body_answer context k a s (body_of (out-SwitchCase c).body)) (λ l. cases_answer context l a s (case_list (drop (i + 1) cs)))
-  cases_turn context k a s c lt e =
-      at_drop_more (λ l. cases_answer context k a s (case_list l)) cs i c lt
-      ∙ ap (λ z. cases_answer context k a s (case_list (z ∷ drop (i + 1) cs))) (sym e)
-      ∙ cases_more context k a s (out-SwitchCase c).value (out-SwitchCase c).fall_through (body_of (out-SwitchCase c).body) (case_list (drop (i + 1) cs))
+module _ (context : Context) (cs : List SwitchCase) (i : ℕ) where
+  pub cases_turn : (k : State) (a : Abilities) (s : List ℕ) (c : SwitchCase) → i < length cs → c ≡ get_or cs i c →
+      cases_answer context k a s (cases_of context (drop i cs)) ≡ and_then (body_answer context k a s (block_of context (out-SwitchCase c).body)) (λ l. cases_answer context l a s (cases_of context (drop (i + 1) cs)))
+  cases_turn k a s c lt e =
+      at_drop_more (λ l. cases_answer context k a s (cases_of context l)) cs i c lt
+      ∙ ap (λ z. cases_answer context k a s (cases_of context (z ∷ drop (i + 1) cs))) (sym e)
+      ∙ cases_more context k a s (out-SwitchCase c).value (out-SwitchCase c).fall_through (block_of context (out-SwitchCase c).body) (cases_of context (drop (i + 1) cs))
 
-  pub cases_end : (context : Context) (k : State) (a : Abilities) (s : List ℕ) → length cs ≤ i → cases_answer context k a s (case_list (drop i cs)) ≡ Ok k
-  cases_end context k a s le = at_drop_all (λ l. cases_answer context k a s (case_list l)) cs i le ∙ cases_done context k a s
+  pub cases_end : (k : State) (a : Abilities) (s : List ℕ) → length cs ≤ i → cases_answer context k a s (cases_of context (drop i cs)) ≡ Ok k
+  cases_end k a s le = at_drop_all (λ l. cases_answer context k a s (cases_of context l)) cs i le ∙ cases_done context k a s
 
 -- a statement's own check list, and what it leaves
 module _ (context : Context) (k : State) (a : Abilities) (s : List ℕ) (x : Stmt) where
@@ -180,18 +179,18 @@ module _ (context : Context) (k : State) (a : Abilities) (s : List ℕ) (x : Stm
 pub break_if_passes : (context : Context) (k : State) (a : Abilities) (s : List ℕ) (q : Option ℕ) → first_fault (break_if_points context (known s) q) ≡ None → break_if_answer context k a s q ≡ Ok k
 unfolding break_if_answer judge_break_if judge_visits Rattle.naga_runs.specs.ByTree.judge
 break_if_passes context k a s None e = refl
-break_if_passes context k a s (Some h) e = ap (λ o. then_on (answer o k) (λ st. Ok st)) e
+break_if_passes context k a s (Some h) e = ap (λ o. and_then (answer o k) (λ st. Ok st)) e
 
 pub break_if_refuses : (context : Context) (k : State) (a : Abilities) (s : List ℕ) (q : Option ℕ) (e : Refusal FunctionError) → IsFirstFault (break_if_points context (known s) q) e → Refuses (break_if_answer context k a s q) e
 unfolding break_if_answer judge_break_if judge_visits Rattle.naga_runs.specs.ByTree.judge
 break_if_refuses context k a s None (refusal.Fault f) i = ap (λ o. answer o k) i
-break_if_refuses context k a s (Some h) (refusal.Fault f) i = ap (λ o. then_on (answer o k) (λ st. Ok st)) i
+break_if_refuses context k a s (Some h) (refusal.Fault f) i = ap (λ o. and_then (answer o k) (λ st. Ok st)) i
 break_if_refuses context k a s q refusal.Memory i = tt
 
 -- a statement that is none of the kinds with parts
 pub no_parts : (context : Context) (k : State) (a : Abilities) (s : List ℕ) (st : Statement) (span : Span) →
     ((b : Block_of) → st ≡ ir.Block b → ⊥) → ((h : ℕ) (p q : Block_of) → st ≡ ir.If h p q → ⊥) → ((h : ℕ) (cases : List SwitchCase) → st ≡ ir.Switch h cases → ⊥) → ((p q : Block_of) (last : Option ℕ) → st ≡ ir.Loop p q last → ⊥) →
-    parts_answer context k a s (view.tree_of no_operands st span) ≡ Ok k
+    parts_answer context k a s (view.tree_of (emitted_operands context.fun) st span) ≡ Ok k
 unfolding parts_answer judge_parts judge_visits
 no_parts context k a s (ir.Block b) span nb ni ns nl = absurd (nb b refl)
 no_parts context k a s (ir.If h p q) span nb ni ns nl = absurd (ni h p q refl)

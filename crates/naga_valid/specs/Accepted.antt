@@ -46,7 +46,7 @@ pub record AreFilledOnce (fun : Function) (nodes : List Node) : Type 0 where
 
 -- so it is of a function and the statements of its body, at any depth
 abbrev pub ResultsAreFilledOnce : Function → Type 0
-ResultsAreFilledOnce fun = AreFilledOnce fun (nodes_of (body_of fun.body))
+ResultsAreFilledOnce fun = AreFilledOnce fun (nodes_of (body_of fun))
 
 -- each stage of the first is one of the second
 abbrev pub AreAmong : ShaderStages → ShaderStages → Type 0
@@ -67,3 +67,8 @@ AreOfCallee earlier stages _ = ⊤
 pub record StagesAreOfAll (subgroups : ShaderStages) (earlier : ModuleInfo) (b : Body) (stages : ShaderStages) : Type 0 where
   pub statements : AllByRecursion (AreOfStatement subgroups earlier stages) (nodes_of b)
   pub callees : AllByRecursion (AreOfCallee earlier stages) (nodes_of b)
+
+-- the stages are among those at the start and among those of each statement of a body, at any depth
+abbrev pub AreOfStartAndAll : (subgroups : ShaderStages) → ModuleInfo → (start : ShaderStages) → Body → ShaderStages → Type 0
+AreOfStartAndAll subgroups earlier start b stages =
+    AreAmong stages start × AllByRecursion (AreOfStatement subgroups earlier stages) (nodes_of b)

@@ -1,70 +1,88 @@
--- The judgement of a function's body, and of a function as far as it goes by now.
+-- The judgement of a function's body, and of a function: a chain of steps, each an answer of the lower layer or the fault
+-- of the first of its points that fails.
 use Rattle.std.specs.Prelude.{◌≡◌, List, [], Result, Ok, Err, if◌then◌else◌}
+use Rattle.naga_below.specs.Points.{first_fault, answer, and_then}
 use Rattle.naga_below.specs.declared.ir.functions.Function.{Function}
 use Rattle.naga_below.specs.declared.ir.module.Module.{Module}
-use Rattle.naga_below.specs.declared.proc.expression_kinds.ExpressionKind.{ExpressionKind}
 use Rattle.naga_below.specs.declared.span.Refusal.{Refusal}
+use Rattle.naga_below.specs.declared.valid.flags.ShaderStages.{ShaderStages}
 use Rattle.naga_below.specs.declared.valid.info.FunctionInfo.{FunctionInfo}
 use Rattle.naga_below.specs.declared.valid.info.ModuleInfo.{ModuleInfo}
 use Rattle.naga_below.specs.declared.valid.settings.Settings.{Settings}
 use Rattle.naga_rules.specs.Answers.{Refuses}
+use Rattle.naga_rules.specs.Meaning.{Meaning}
 use Rattle.naga_rules.specs.declared.function.FunctionError.{FunctionError}
-use Rattle.naga_below.specs.Points.{first_fault}
-use Rattle.naga_runs.specs.Judgement.{answer, judgement}
+use Rattle.naga_runs.specs.Judgement.{judgement}
 use Rattle.naga_runs.specs.Visits.{Visit}
 use Rattle.naga_valid.specs.Blocks.{body_of}
 use Rattle.naga_valid.specs.Context.{Context, pre_emitted}
 use Rattle.naga_valid.specs.Flags.{checks_blocks}
+use Rattle.naga_valid.specs.Points.{Points}
 use Rattle.naga_valid.specs.Results.{filled_before, filled_points}
 use Rattle.naga_valid.specs.Rules.{body_rules, stages_left}
 use Rattle.naga_valid.specs.Traces.{trace_after}
-use Rattle.naga_valid.specs.declared.state.BodyOutcome.{BodyOutcome}
 use Rattle.naga_valid.specs.declared.trace.TraceState.{TraceState}
 
 -- the judgement of a body: the fault of the first check point that fails, in visit order; else its visits
 unfoldable pub body_judgement : Context → Result (List Visit) FunctionError
-body_judgement context = judgement (body_rules context) [] (pre_emitted context) (body_of context.fun.body)
+body_judgement context = judgement (body_rules context) [] (pre_emitted context) (body_of context.fun)
 
--- what visits leave of a function
-abbrev pub outcome_of : Context → List Visit → BodyOutcome
-outcome_of context visits =
-    record {
-      stages = stages_left context context.info.available_stages visits;
-      trace = trace_after context.trace context visits;
-    }
+-- the step of the body: where bodies are looked at its judgement; elsewhere nothing is visited
+abbrev pub body_step : Context → Result (List Visit) FunctionError
+body_step context = if checks_blocks context.settings.flags then body_judgement context else Ok []
 
--- behind the body each result must be filled; then this is left
-abbrev pub outcome_after : Context → Result (List Visit) FunctionError → Result BodyOutcome FunctionError
-outcome_after context (Ok visits) =
-    answer (first_fault (filled_points context (filled_before visits))) (outcome_of context visits)
-outcome_after context (Err fault) = Err fault
+-- where bodies and expressions are looked at, each result is filled behind the body
+abbrev pub result_points : Context → List Visit → Points
+result_points context visits = if checks_blocks context.settings.flags then filled_points context (filled_before visits) else []
+
+-- an info with these stages
+abbrev pub with_stages : FunctionInfo → ShaderStages → FunctionInfo
+with_stages info stages = record info { available_stages = stages }
 
 -- what is known of an accepted function: its info, and what ray traces leave to later functions
 pub record FunctionOutcome : Type 0 where
   pub info : FunctionInfo
   pub trace : TraceState
 
--- the info of a function whose body leaves this
-abbrev pub info_with : FunctionInfo → Result BodyOutcome FunctionError → Result FunctionOutcome FunctionError
-info_with info (Ok left) = Ok (record { info = record info { available_stages = left.stages }; trace = left.trace })
-info_with info (Err fault) = Err fault
+-- what visits leave of a function: its info with the stages of all statements, and what ray traces leave
+abbrev pub outcome_of : Context → List Visit → FunctionOutcome
+outcome_of context visits =
+    record {
+      info = with_stages context.info (stages_left context context.info.available_stages visits);
+      trace = trace_after context.trace context visits;
+    }
 
+-- the steps behind the lower layer's answer: the body, and then its results
 abbrev pub judged_with : Context → Result FunctionOutcome FunctionError
 judged_with context =
-    if checks_blocks context.settings.flags
-    then info_with context.info (outcome_after context (body_judgement context))
-    else Ok (record { info = context.info; trace = context.trace })
+    and_then (body_step context) (λ visits. answer (first_fault (result_points context visits)) (outcome_of context visits))
 
--- the judgement of a function, of which the lower layer answers this, with these kinds of its expressions, where ray
--- traces left this before: the fault of the lower layer; else, where bodies are looked at, that of its body; else that
--- of the lowest result that is not filled; else its info, with the stages that its statements leave, and what ray
--- traces leave
-abbrev pub function_judgement : Settings → TraceState → Module → ModuleInfo → Function → List ExpressionKind → Result FunctionInfo FunctionError → Result FunctionOutcome FunctionError
-function_judgement settings trace program earlier fun kinds (Err fault) = Err fault
-function_judgement settings trace program earlier fun kinds (Ok info) =
-    judged_with (record { program = program; earlier = earlier; fun = fun; info = info; kinds = kinds; settings = settings; trace = trace })
+-- of a lower layer that means this, where ray traces left this before the function
+module _ (below : Meaning) (settings : Settings) (trace : TraceState) (program : Module) (earlier : ModuleInfo) (fun : Function) where
+  -- what the check lists read, where this is known of the function
+  abbrev pub context_with : FunctionInfo → Context
+  context_with info =
+      record {
+        program = program;
+        earlier = earlier;
+        fun = fun;
+        info = info;
+        kinds = below.kinds_of fun.expressions;
+        settings = settings;
+        trace = trace;
+      }
+
+  -- what the lower layer answers of the function
+  abbrev pub lower_step : Result FunctionInfo FunctionError
+  lower_step = below.function_info fun program earlier settings.flags settings.capabilities
+
+  -- the judgement of a function: the fault of the lower layer; else, where bodies are looked at, that of its body; else
+  -- that of the lowest result that is not filled; else its info, with the stages that its statements leave, and what ray
+  -- traces leave
+  unfoldable pub function_judgement : Result FunctionOutcome FunctionError
+  function_judgement = and_then lower_step (λ info. judged_with (context_with info))
 
 -- an answer with what is left of ray traces: the judgement, or there was no memory
-abbrev pub AnswersTracing : Result FunctionOutcome FunctionError → TraceState → Result FunctionInfo (Refusal FunctionError) → Type 0
+abbrev pub AnswersTracing : {Fault : Type 0} → Result FunctionOutcome Fault → TraceState → Result FunctionInfo (Refusal Fault) → Type 0
 AnswersTracing right trace (Ok info) = right ≡ Ok (record { info = info; trace = trace })
 AnswersTracing right trace (Err refused) = Refuses right refused

@@ -29,3 +29,4 @@ pub mod Seen
 pub mod Judged
 pub mod Parts
 pub mod Accepted
+pub mod FunctionLaw

@@ -1,6 +1,7 @@
 -- What the code keeps along the visits of a body: the stages that are left, the results that are filled, and what ray
 -- traces leave. Work of lemmas, which private functions alone cite.
-use Rattle.std.specs.Prelude.{List, [], ◌∷◌, ◌++◌, Option, None, Some, ℕ}
+use Rattle.std.specs.Prelude.{List, [], ◌∷◌, ◌++◌, Option, None, Some, Result, ℕ}
+use Rattle.naga_below.specs.Points.{first_fault, answer, and_then}
 use Rattle.naga_below.specs.Tree.{Stmt}
 use Rattle.naga_rules.specs.declared.function.FunctionError.{FunctionError}
 use Rattle.naga_runs.specs.Judgement.{Rules}
@@ -8,10 +9,11 @@ use Rattle.naga_runs.specs.Positions.{Node, StatementNode}
 use Rattle.naga_runs.specs.Visits.{Visit}
 use Rattle.naga_valid.specs.Past.{Past}
 use Rattle.naga_valid.specs.Context.{Context}
-use Rattle.naga_valid.specs.Results.{result_of}
+use Rattle.naga_valid.specs.Results.{result_of, filled_before, filled_points}
 use Rattle.naga_valid.specs.Rules.{points_at, stages_behind, stages_left}
 use Rattle.naga_valid.specs.Scope.{known}
 use Rattle.naga_valid.specs.Traces.{trace_after, with_trace}
+use Rattle.naga_valid.specs.declared.state.BodyOutcome.{BodyOutcome}
 use Rattle.naga_valid.specs.declared.state.BodyState.{BodyState}
 
 abbrev pub State : Type 0
@@ -64,3 +66,15 @@ state_left context visits =
       filled = filled_from [] visits;
       trace = trace_after context.trace context visits;
     }
+
+-- what the code answers of a body: the stages and what ray traces leave, where each result is filled behind it
+abbrev pub body_outcome : Context → List Visit → BodyOutcome
+body_outcome context visits =
+    record {
+      stages = stages_left context context.info.available_stages visits;
+      trace = trace_after context.trace context visits;
+    }
+
+abbrev pub body_left : Context → Result (List Visit) FunctionError → Result BodyOutcome FunctionError
+body_left context judged =
+    and_then judged (λ visits. answer (first_fault (filled_points context (filled_before visits))) (body_outcome context visits))

@@ -1,18 +1,15 @@
 //! The judgement of a body of statements: naga's `validate_block`.
 
-ghost use Rattle.std.specs.Prelude.{◌≡◌, ◌++◌, [], OnOk, IfOk, true};
+ghost use Rattle.std.specs.Prelude.{◌≡◌, ◌++◌, [], OnOk};
 ghost use Rattle.naga_runs.specs.Judgement.{viewed};
 ghost use Rattle.naga_rules.specs.Answers.{Answers};
-ghost use Rattle.naga_valid.specs.Accepted.{ResultsAreFilledOnce, StagesAreOfAll};
 ghost use Rattle.naga_valid.specs.Answers.{AnswersLeaving};
-ghost use Rattle.naga_valid.specs.Blocks.{tree_of, body_of, case_list};
-ghost use Rattle.naga_runs.specs.Soundness.{RunsAreSound};
-ghost use Rattle.naga_valid.specs.Context.{ContextFits, pre_emitted};
-ghost use Rattle.naga_valid.specs.Flags.{checks_expressions};
-ghost use Rattle.naga_valid.specs.Judged.{body_judgement, outcome_after};
+ghost use Rattle.naga_valid.specs.Blocks.{tree_of, body_of, block_of, cases_of};
+ghost use Rattle.naga_valid.specs.Context.{ContextFits};
+ghost use Rattle.naga_valid.specs.Judged.{body_judgement};
 ghost use Rattle.naga_valid.specs.Ready.{IsStatementReady, IsBodyReady, AreCasesReady};
 ghost use Rattle.naga_valid.specs.Seen.{context_of};
-ghost use Rattle.naga_valid.specs.State.{state_left};
+ghost use Rattle.naga_valid.specs.State.{state_left, body_left};
 ghost use Rattle.naga_valid.specs.Walk.{pre_emitted_from, puts, body_puts, parts_answer, stmt_answer, body_answer, cases_answer};
 
 use crate::abilities::{at_begin, in_case, in_continuing, in_loop};
@@ -36,11 +33,8 @@ pub fn validate_function_body(
     context: &BlockContext,
 ) -> Result<BodyOutcome, Refusal<FunctionError>>
     requires context { ContextFits (context_of context.now) }
-    requires ready { IsBodyReady (context_of context.now) (body_of (context_of context.now).fun.body) }
-    ensures judged { Answers (outcome_after (context_of context.now) (body_judgement (context_of context.now))) result }
-    ensures sound { OnOk result (RunsAreSound (pre_emitted (context_of context.now)) (body_of (context_of context.now).fun.body)) }
-    ensures filled { OnOk result (checks_expressions (context_of context.now).settings.flags ≡ true → ResultsAreFilledOnce (context_of context.now).fun) }
-    ensures stages { IfOk result (λ left. StagesAreOfAll (context_of context.now).settings.subgroup_stages (context_of context.now).earlier (body_of (context_of context.now).fun.body) left.stages) }
+    requires ready { IsBodyReady (context_of context.now) (body_of (context_of context.now).fun) }
+    ensures { Answers (body_left (context_of context.now) (body_judgement (context_of context.now))) result }
 {
     let state = validate_body_statements(alloc, context)?;
     answer_of_function(alloc, check_filled(&state.filled, context))?;
@@ -56,7 +50,7 @@ fn validate_body_statements(
     context: &BlockContext,
 ) -> Result<BodyState, Refusal<FunctionError>>
     requires context { ContextFits (context_of context.now) }
-    requires ready { IsBodyReady (context_of context.now) (body_of (context_of context.now).fun.body) }
+    requires ready { IsBodyReady (context_of context.now) (body_of (context_of context.now).fun) }
     ensures { Answers (viewed (state_left (context_of context.now)) (body_judgement (context_of context.now))) result }
 {
     let mut scope = HandleSet::new(alloc);
@@ -103,8 +97,8 @@ fn validate_parts(
     located: &Located,
 ) -> Result<(), Refusal<FunctionError>>
     requires context { ContextFits (context_of context.now) }
-    requires ready { IsStatementReady (context_of context.now) (tree_of located.now) }
-    ensures fault { AnswersLeaving (parts_answer (context_of context.now) state.old abilities scope.old (tree_of located.now)) state.new result }
+    requires ready { IsStatementReady (context_of context.now) (tree_of (context_of context.now) located.now) }
+    ensures fault { AnswersLeaving (parts_answer (context_of context.now) state.old abilities scope.old (tree_of (context_of context.now) located.now)) state.new result }
     ensures scope { OnOk result (scope.new ≡ scope.old) }
 {
     match &located.statement {
@@ -143,9 +137,9 @@ fn validate_statements(
     block: &Block,
 ) -> Result<(), Refusal<FunctionError>>
     requires context { ContextFits (context_of context.now) }
-    requires ready { IsBodyReady (context_of context.now) (body_of block.now) }
-    ensures fault { AnswersLeaving (body_answer (context_of context.now) state.old abilities scope.old (body_of block.now)) state.new result }
-    ensures scope { OnOk result (scope.new ≡ scope.old ++ body_puts (body_of block.now)) }
+    requires ready { IsBodyReady (context_of context.now) (block_of (context_of context.now) block.now) }
+    ensures fault { AnswersLeaving (body_answer (context_of context.now) state.old abilities scope.old (block_of (context_of context.now) block.now)) state.new result }
+    ensures scope { OnOk result (scope.new ≡ scope.old ++ body_puts (block_of (context_of context.now) block.now)) }
 {
     for located in block.list.as_slice() {
         validate_statement(scope, state, context, abilities, located)?;
@@ -163,9 +157,9 @@ fn validate_statement(
     located: &Located,
 ) -> Result<(), Refusal<FunctionError>>
     requires context { ContextFits (context_of context.now) }
-    requires ready { IsStatementReady (context_of context.now) (tree_of located.now) }
-    ensures fault { AnswersLeaving (stmt_answer (context_of context.now) state.old abilities scope.old (tree_of located.now)) state.new result }
-    ensures scope { OnOk result (scope.new ≡ scope.old ++ puts (tree_of located.now)) }
+    requires ready { IsStatementReady (context_of context.now) (tree_of (context_of context.now) located.now) }
+    ensures fault { AnswersLeaving (stmt_answer (context_of context.now) state.old abilities scope.old (tree_of (context_of context.now) located.now)) state.new result }
+    ensures scope { OnOk result (scope.new ≡ scope.old ++ puts (tree_of (context_of context.now) located.now)) }
 {
     check_points(scope, state, context, abilities, located)?;
     advance(state, context, located)?;
@@ -182,8 +176,8 @@ fn validate_block(
     block: &Block,
 ) -> Result<(), Refusal<FunctionError>>
     requires context { ContextFits (context_of context.now) }
-    requires ready { IsBodyReady (context_of context.now) (body_of block.now) }
-    ensures fault { AnswersLeaving (body_answer (context_of context.now) state.old abilities scope.old (body_of block.now)) state.new result }
+    requires ready { IsBodyReady (context_of context.now) (block_of (context_of context.now) block.now) }
+    ensures fault { AnswersLeaving (body_answer (context_of context.now) state.old abilities scope.old (block_of (context_of context.now) block.now)) state.new result }
     ensures scope { OnOk result (scope.new ≡ scope.old) }
 {
     let mark = scope.len();
@@ -202,8 +196,8 @@ fn validate_cases(
     cases: &[SwitchCase],
 ) -> Result<(), Refusal<FunctionError>>
     requires context { ContextFits (context_of context.now) }
-    requires ready { AreCasesReady (context_of context.now) (case_list cases.now) }
-    ensures fault { AnswersLeaving (cases_answer (context_of context.now) state.old abilities scope.old (case_list cases.now)) state.new result }
+    requires ready { AreCasesReady (context_of context.now) (cases_of (context_of context.now) cases.now) }
+    ensures fault { AnswersLeaving (cases_answer (context_of context.now) state.old abilities scope.old (cases_of (context_of context.now) cases.now)) state.new result }
     ensures scope { OnOk result (scope.new ≡ scope.old) }
 {
     for case in cases {

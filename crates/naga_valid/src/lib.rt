@@ -6,6 +6,8 @@ mod checks;
 mod context;
 mod function;
 mod handle_set;
+pub mod laws;
+mod outcome;
 mod stages;
 mod state;
 pub mod trace;

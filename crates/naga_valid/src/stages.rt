@@ -13,7 +13,7 @@ use naga_below::valid::flags::ShaderStages;
 
 /// The stages that a statement may run in.
 pub fn stages_of(context: &BlockContext, located: &Located) -> ShaderStages
-    ensures { result ≡ stages_of (context_of context.now).settings.subgroup_stages (context_of context.now).earlier (tree_of located.now) }
+    ensures { result ≡ stages_of (context_of context.now).settings.subgroup_stages (context_of context.now).earlier (tree_of (context_of context.now) located.now) }
 {
     match &located.statement {
         Statement::Kill => ShaderStages::FRAGMENT,

@@ -1,8 +1,9 @@
 //! What goes along the statements of a body.
 
-ghost use Rattle.std.specs.Prelude.{◌≡◌, OnOk, IfSome, false};
+ghost use Rattle.std.specs.Prelude.{◌≡◌, ℕ, List, OnOk, IfSome, false};
 ghost use Rattle.naga_runs.specs.Positions.{StatementNode};
-ghost use Rattle.naga_valid.specs.Blocks.{tree_of};
+ghost use Rattle.naga_below.specs.View.{tree_of};
+ghost use Rattle.naga_valid.specs.Blocks as in_context;
 ghost use Rattle.naga_valid.specs.Results.{result_of};
 ghost use Rattle.naga_valid.specs.Scope.{in_scope};
 ghost use Rattle.naga_valid.specs.Seen.{context_of};
@@ -42,7 +43,7 @@ pub struct BodyOutcome {
 
 /// The result that a Call or an Atomic names.
 fn result_of(located: &Located) -> Option<Handle<tag::Expression>>
-    ensures { result ≡ result_of (StatementNode (tree_of located.now)) }
+    ensures { (operands : ℕ → List ℕ) → result ≡ result_of (StatementNode (tree_of operands located.now.statement located.now.span)) }
 {
     match &located.statement {
         Statement::Call { result, .. } | Statement::Atomic { result, .. } => *result,
@@ -56,8 +57,8 @@ pub fn advance(
     context: &BlockContext,
     located: &Located,
 ) -> Result<(), AllocError>
-    requires { IfSome (result_of (StatementNode (tree_of located.now))) (λ r. in_scope state.old.filled r ≡ false) }
-    ensures { OnOk result (state.new ≡ with_statement (context_of context.now) state.old (tree_of located.now)) }
+    requires { IfSome (result_of (StatementNode (in_context.tree_of (context_of context.now) located.now))) (λ r. in_scope state.old.filled r ≡ false) }
+    ensures { OnOk result (state.new ≡ with_statement (context_of context.now) state.old (in_context.tree_of (context_of context.now) located.now)) }
 {
     if let Some(handle) = result_of(located) {
         state.filled.put(handle)?;

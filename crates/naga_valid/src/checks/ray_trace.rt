@@ -109,7 +109,7 @@ fn check_same_payload(
 
 /// What ray traces leave behind a statement.
 pub fn trace_of(context: &BlockContext, trace: TraceState, located: &Located) -> TraceState
-    ensures { result ≡ with_trace (context_of context.now) trace (StatementNode (tree_of located.now)) }
+    ensures { result ≡ with_trace (context_of context.now) trace (StatementNode (tree_of (context_of context.now) located.now)) }
 {
     match &located.statement {
         Statement::RayPipelineFunction(
