@@ -29,6 +29,7 @@ known_at with_list s b (In part i ∷ p) =
 -- The scope at a position, where `pre` are the handles that need no emission: the union of `pre`; of the puts of the
 -- earlier siblings of the position and of each of its ancestors; for each Loop whose continuing part holds the
 -- position, of the puts of all statements of that Loop's body list; and at a break condition, of the puts of all
--- statements of its Loop's body list and continuing list.
+-- statements of its Loop's body list and continuing list. That it is this union is a law: `runs_law`, clause `scope`
+-- (`ScopeIsUnion`).
 abbrev pub scope_at : Handles → Body → Position → Handles
 scope_at pre b p = known_at with_body pre b p

@@ -19,11 +19,11 @@ use Rattle.naga_runs.specs.PutsAndUses.{acts_of}
 use Rattle.naga_runs.specs.Samples.{nowhere}
 
 -- the acts of a statement, where the expressions 5, 6 and 7 have the operands 4; 5 and 0; none
-abbrev pub operands_of : ℕ → List ℕ
-operands_of h = if h == 5 then 4 ∷ [] else if h == 6 then 5 ∷ 0 ∷ [] else []
+abbrev pub sample_operands : ℕ → List ℕ
+sample_operands h = if h == 5 then 4 ∷ [] else if h == 6 then 5 ∷ 0 ∷ [] else []
 
 abbrev pub does : Statement → List Act
-does x = acts_of (tree_of operands_of x nowhere)
+does x = acts_of (tree_of sample_operands x nowhere)
 
 pub record ActsOfStatements : Type 0 where
   -- each handle of the range in order, after its operands

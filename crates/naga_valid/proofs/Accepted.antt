@@ -28,7 +28,7 @@ use Rattle.naga_valid.specs.Blocks.{body_of}
 use Rattle.naga_valid.specs.Calls.{is_call_result_of, has_result}
 use Rattle.naga_valid.specs.Context.{Context, pre_emitted}
 use Rattle.naga_valid.specs.Flags.{checks_blocks, checks_expressions}
-use Rattle.naga_valid.specs.Judged.{FunctionOutcome, body_judgement, judged_with, outcome_of}
+use Rattle.naga_valid.specs.Judged.{FunctionOutcome, body_judgement, judged_with, outcome_left}
 use Rattle.naga_valid.specs.Past.{Past, past_of}
 use Rattle.naga_valid.specs.Results.{is_to_fill, result_of, fills, filled_before, is_unfilled, filled_points_from, filled_points}
 use Rattle.naga_valid.specs.Rules.{points_at, stages_of, stages_behind, stages_left}
@@ -319,7 +319,7 @@ pub record IsAccepted (context : Context) (outcome : FunctionOutcome) : Type 0 w
   pub visits : List Visit
   pub judged : body_judgement context ≡ Ok visits
   pub filled : first_fault (filled_points context (filled_before visits)) ≡ None
-  pub left : outcome_of context visits ≡ outcome
+  pub left : outcome_left context visits ≡ outcome
 
 module _ (context : Context) (outcome : FunctionOutcome) where
   answered : (o : Option FunctionError) (l : FunctionOutcome) → answer o l ≡ Ok outcome → (o ≡ None) × (l ≡ outcome)
@@ -327,7 +327,7 @@ module _ (context : Context) (outcome : FunctionOutcome) where
   answered (Some f) l h = cc
 
   by_visits : (judged : Result (List Visit) FunctionError) → body_judgement context ≡ judged →
-      and_then judged (λ visits. answer (first_fault (filled_points context (filled_before visits))) (outcome_of context visits)) ≡ Ok outcome → IsAccepted context outcome
+      and_then judged (λ visits. answer (first_fault (filled_points context (filled_before visits))) (outcome_left context visits)) ≡ Ok outcome → IsAccepted context outcome
   by_visits (Ok visits) is h =
       let both = answered _ _ h in
       record { visits = visits; judged = is; filled = both.0; left = both.1 }
@@ -335,9 +335,9 @@ module _ (context : Context) (outcome : FunctionOutcome) where
 
 -- where bodies are looked at
 pub with_blocks : (context : Context) → checks_blocks context.settings.flags ≡ true →
-    judged_with context ≡ and_then (body_judgement context) (λ visits. answer (first_fault (filled_points context (filled_before visits))) (outcome_of context visits))
+    judged_with context ≡ and_then (body_judgement context) (λ visits. answer (first_fault (filled_points context (filled_before visits))) (outcome_left context visits))
 with_blocks context on =
-    ap (λ b. and_then (if b then body_judgement context else Ok []) (λ visits. answer (first_fault (if b then filled_points context (filled_before visits) else [])) (outcome_of context visits))) on
+    ap (λ b. and_then (if b then body_judgement context else Ok []) (λ visits. answer (first_fault (if b then filled_points context (filled_before visits) else [])) (outcome_left context visits))) on
 
 pub accepted : (context : Context) (outcome : FunctionOutcome) → checks_blocks context.settings.flags ≡ true → judged_with context ≡ Ok outcome → IsAccepted context outcome
 accepted context outcome on e = by_visits context outcome (body_judgement context) refl (sym (with_blocks context on) ∙ e)

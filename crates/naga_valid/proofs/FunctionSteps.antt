@@ -17,7 +17,7 @@ use Rattle.naga_runs.specs.Judgement.{viewed}
 use Rattle.naga_runs.specs.Visits.{Visit}
 use Rattle.naga_valid.specs.Context.{Context}
 use Rattle.naga_valid.specs.Flags.{checks_blocks}
-use Rattle.naga_valid.specs.Judged.{FunctionOutcome, body_judgement, with_stages, outcome_of, judged_with, context_with, lower_step, function_judgement}
+use Rattle.naga_valid.specs.Judged.{FunctionOutcome, body_judgement, with_stages, outcome_left, judged_with, context_with, lower_step, function_judgement}
 use Rattle.naga_valid.specs.Results.{filled_before, filled_points}
 use Rattle.naga_valid.specs.State.{body_outcome, body_left}
 use Rattle.naga_valid.specs.declared.state.BodyOutcome.{BodyOutcome}
@@ -36,12 +36,12 @@ viewed_refuses view r refusal.Memory h = tt
 
 module _ (context : Context) where
   viewed_answer : (o : Option FunctionError) (visits : List Visit) →
-      answer o (outcome_of context visits) ≡ viewed (outcome_with context.info) (answer o (body_outcome context visits))
+      answer o (outcome_left context visits) ≡ viewed (outcome_with context.info) (answer o (body_outcome context visits))
   viewed_answer None visits = refl
   viewed_answer (Some f) visits = refl
 
   viewed_steps : (judged : Result (List Visit) FunctionError) →
-      and_then judged (λ visits. answer (first_fault (filled_points context (filled_before visits))) (outcome_of context visits)) ≡ viewed (outcome_with context.info) (body_left context judged)
+      and_then judged (λ visits. answer (first_fault (filled_points context (filled_before visits))) (outcome_left context visits)) ≡ viewed (outcome_with context.info) (body_left context judged)
   viewed_steps (Ok visits) = viewed_answer (first_fault (filled_points context (filled_before visits))) visits
   viewed_steps (Err f) = refl
 
@@ -52,7 +52,7 @@ module _ (context : Context) where
   -- where they are not
   body_passed_over : checks_blocks context.settings.flags ≡ false → judged_with context ≡ Ok (record { info = context.info; trace = context.trace })
   body_passed_over off =
-      ap (λ b. and_then (if b then body_judgement context else Ok []) (λ visits. answer (first_fault (if b then filled_points context (filled_before visits) else [])) (outcome_of context visits))) off
+      ap (λ b. and_then (if b then body_judgement context else Ok []) (λ visits. answer (first_fault (if b then filled_points context (filled_before visits) else [])) (outcome_left context visits))) off
       ∙ ap (λ t. Ok (record { info = context.info; trace = t })) (no_trace context.trace)
 
 module _ (below : Meaning) (settings : Settings) (trace : TraceState) (program : Module) (earlier : ModuleInfo) (fun : Function) where

@@ -45,8 +45,8 @@ pub record FunctionOutcome : Type 0 where
   pub trace : TraceState
 
 -- what visits leave of a function: its info with the stages of all statements, and what ray traces leave
-abbrev pub outcome_of : Context → List Visit → FunctionOutcome
-outcome_of context visits =
+abbrev pub outcome_left : Context → List Visit → FunctionOutcome
+outcome_left context visits =
     record {
       info = with_stages context.info (stages_left context context.info.available_stages visits);
       trace = trace_after context.trace context visits;
@@ -55,7 +55,7 @@ outcome_of context visits =
 -- the steps behind the lower layer's answer: the body, and then its results
 abbrev pub judged_with : Context → Result FunctionOutcome FunctionError
 judged_with context =
-    and_then (body_step context) (λ visits. answer (first_fault (result_points context visits)) (outcome_of context visits))
+    and_then (body_step context) (λ visits. answer (first_fault (result_points context visits)) (outcome_left context visits))
 
 -- of a lower layer that means this, where ray traces left this before the function
 module _ (below : Meaning) (settings : Settings) (trace : TraceState) (program : Module) (earlier : ModuleInfo) (fun : Function) where

@@ -30,3 +30,4 @@ pub mod Judged
 pub mod Parts
 pub mod Accepted
 pub mod FunctionLaw
+pub mod InOrder
