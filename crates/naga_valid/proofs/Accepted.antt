@@ -144,7 +144,7 @@ module _ (context : Context) (past : Past) (place : Place) (r : ℕ) where
     where
       holds : (past.filled q ≡ false) × (expression_at context q ≡ Some (e.CallResult f))
       holds =
-          let all = call_holds context past.filled place.scope f xs q h in
+          let all = call_holds context past.filled place f xs q h in
           (unfilled context past.filled q all.2, call_result f (expression_at context q) (both_hold _ (has_result (slice_get context.program.functions f)) all.1).0)
 
       go : (b : Bool) → (q == r) ≡ b → Filling context past.filled r (StatementNode (Leaf acts (ir.Call f xs (Some q)) span))
@@ -155,8 +155,8 @@ module _ (context : Context) (past : Past) (place : Place) (r : ℕ) where
   filling (StatementNode (Leaf acts (ir.Atomic p f v None) span)) h = Other refl refl refl
   filling (StatementNode (Leaf acts (ir.Atomic p f v (Some q)) span)) h = go (q == r) refl
     where
-      holds : NamedHolds context past.filled place.scope q
-      holds = atomic_named context past.filled place.scope p f v (Some q) h
+      holds : NamedHolds context past.filled place q
+      holds = atomic_named context past.filled place p f v (Some q) h
 
       go : (b : Bool) → (q == r) ≡ b → Filling context past.filled r (StatementNode (Leaf acts (ir.Atomic p f v (Some q)) span))
       go true is =

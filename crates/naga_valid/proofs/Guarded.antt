@@ -25,7 +25,7 @@ use Rattle.naga_valid.specs.Blocks.{body_of}
 use Rattle.naga_valid.specs.Context.{Context, pre_emitted}
 use Rattle.naga_valid.specs.Control.{emit_points_from, is_result, is_bool_scalar, is_integer, value_points, values_of, cases_points, declared_type, is_returned_as}
 use Rattle.naga_valid.specs.Judged.{body_judgement}
-use Rattle.naga_valid.specs.Points.{Points, use_point, put_point}
+use Rattle.naga_valid.specs.Points.{Points, use_point, put_point, may_use, is_in_scope}
 use Rattle.naga_valid.specs.Past.{Past}
 use Rattle.naga_valid.specs.Results.{result_of}
 use Rattle.naga_valid.specs.Rules.{statement_points, points_at}
@@ -45,58 +45,58 @@ use Rattle.naga_valid.proofs.Stores.{store_fits}
 use Rattle.naga_valid.proofs.Subgroups.{ballot_fits, collective_fits, gather_fits}
 
 -- the handles of an Emit are new, each also beside those before it
-emit_fits : (context : Context) (n first : ℕ) (s t : Handles) → ((k : ℕ) → first ≤ k → t k ≡ s k) → first_fault (emit_points_from context s first n) ≡ None → Fit t t (emitted no_operands first n)
-emit_fits context zero first s t same e = tt
-emit_fits context (suc n) first s t same e =
-    let rest = emit_points_from context s (suc first) n in
-    let kind = first_holds (not (is_result (expression_at context first))) (EmitResult first) (put_point s first ∷ rest) e in
-    let new = first_holds (not (s first)) (ExpressionAlreadyInScope first) rest kind.1 in (
-      same first (omega arith) ∙ not_holds (s first) new.0,
-      emit_fits context n (suc first) s (with_handle t first) (λ k le. later t s first k le same) new.1,
+emit_fits : (context : Context) (place : Place) (n first : ℕ) (s t : Handles) → ((k : ℕ) → first ≤ k → t k ≡ is_in_scope place k) → first_fault (emit_points_from context place first n) ≡ None → Fit s t (emitted no_operands first n)
+emit_fits context place zero first s t same e = tt
+emit_fits context place (suc n) first s t same e =
+    let rest = emit_points_from context place (suc first) n in
+    let kind = first_holds (not (is_result (expression_at context first))) (EmitResult first) (put_point place first ∷ rest) e in
+    let new = first_holds (not (is_in_scope place first)) (ExpressionAlreadyInScope first) rest kind.1 in (
+      same first (omega arith) ∙ not_holds (is_in_scope place first) new.0,
+      emit_fits context place n (suc first) (with_handle s first) (with_handle t first) (λ k le. later (is_in_scope place) t first k le same) new.1,
     )
   where
-    later : (t s : Handles) (first k : ℕ) → suc first ≤ k → ((j : ℕ) → first ≤ j → t j ≡ s j) → with_handle t first k ≡ s k
-    later t s first k le same =
+    later : (s t : Handles) (first k : ℕ) → suc first ≤ k → ((j : ℕ) → first ≤ j → t j ≡ s j) → with_handle t first k ≡ s k
+    later s t first k le same =
         let other : (first == k) ≡ false = grind (arith, nat_tests) in
         ap (λ b. if b then true else t k) other ∙ same k (omega arith)
 
-use_fits : (scope : Handles) (h : ℕ) (ps : Points) → first_fault (use_point scope h ∷ ps) ≡ None → (scope h ≡ true)
-use_fits scope h ps e = (first_holds (scope h) (Expression h NotInScope) ps e).0
+use_fits : (place : Place) (h : ℕ) (ps : Points) → first_fault (use_point place h ∷ ps) ≡ None → (may_use place h ≡ true)
+use_fits place h ps e = (first_holds (may_use place h) (Expression h NotInScope) ps e).0
 
-node_fits : (context : Context) (past : Past) (place : Place) (node : Node) → IsRead no_operands node → first_fault (points_at context past place node) ≡ None → Fit place.scope place.scope (node_acts node) × Allowed (node_jump node) place.abilities.can_return place.abilities.can_break place.abilities.can_continue
+node_fits : (context : Context) (past : Past) (place : Place) (node : Node) → IsRead no_operands node → first_fault (points_at context past place node) ≡ None → Fit (may_use place) (is_in_scope place) (node_acts node) × Allowed (node_jump node) place.abilities.can_return place.abilities.can_break place.abilities.can_continue
 node_fits context past place NoNode made e = (tt, tt)
-node_fits context past place (BreakIfNode h) made e = ((use_fits place.scope h ((is_bool_scalar (type_at context h), InvalidIfType h) ∷ []) e, tt), tt)
+node_fits context past place (BreakIfNode h) made e = ((use_fits place h ((is_bool_scalar (type_at context h), InvalidIfType h) ∷ []) e, tt), tt)
 node_fits context past place (StatementNode (Leaf acts (ir.Emit r) span)) made e =
-    (subst (Fit place.scope place.scope) (sym made) (emit_fits context (r.end - r.start) r.start place.scope place.scope (λ k le. refl) e), tt)
+    (subst (Fit (may_use place) (is_in_scope place)) (sym made) (emit_fits context place (r.end - r.start) r.start (may_use place) (is_in_scope place) (λ k le. refl) e), tt)
 node_fits context past place (StatementNode (Leaf acts (ir.Call f xs r) span)) made e =
-    (subst (Fit place.scope place.scope) (sym made) (call_fits context past.filled place.scope f xs r e), tt)
+    (subst (Fit (may_use place) (is_in_scope place)) (sym made) (call_fits context past.filled place f xs r e), tt)
 node_fits context past place (StatementNode (Leaf acts (ir.Atomic p f v r) span)) made e =
-    (subst (Fit place.scope place.scope) (sym made) (atomic_fits context past.filled place.scope p f v r e), tt)
+    (subst (Fit (may_use place) (is_in_scope place)) (sym made) (atomic_fits context past.filled place p f v r e), tt)
 node_fits context past place (StatementNode (Leaf acts (ir.Store p v) span)) made e =
-    (subst (Fit place.scope place.scope) (sym made) (store_fits context place.scope p v e), tt)
+    (subst (Fit (may_use place) (is_in_scope place)) (sym made) (store_fits context place p v e), tt)
 node_fits context past place (StatementNode (Leaf acts (ir.WorkGroupUniformLoad p r) span)) made e =
-    (subst (Fit place.scope place.scope) (sym made) (load_fits context place.scope p r e), tt)
+    (subst (Fit (may_use place) (is_in_scope place)) (sym made) (load_fits context place p r e), tt)
 node_fits context past place (StatementNode (Leaf acts (ir.CooperativeStore t d) span)) made e =
-    (subst (Fit place.scope place.scope) (sym made) (cooperative_fits context place.scope t d.pointer e), tt)
+    (subst (Fit (may_use place) (is_in_scope place)) (sym made) (cooperative_fits context place t d.pointer e), tt)
 node_fits context past place (StatementNode (Leaf acts (ir.ImageStore i k a v) span)) made e =
-    (subst (Fit place.scope place.scope) (sym made) (image_store_fits context place.scope i (record { coordinate = k; array_index = a }) v e), tt)
+    (subst (Fit (may_use place) (is_in_scope place)) (sym made) (image_store_fits context place i (record { coordinate = k; array_index = a }) v e), tt)
 node_fits context past place (StatementNode (Leaf acts (ir.ImageAtomic i k a f v) span)) made e =
-    (subst (Fit place.scope place.scope) (sym made) (image_atomic_fits context place.scope f v i (record { coordinate = k; array_index = a }) e), tt)
+    (subst (Fit (may_use place) (is_in_scope place)) (sym made) (image_atomic_fits context place f v i (record { coordinate = k; array_index = a }) e), tt)
 node_fits context past place (StatementNode (Leaf acts (ir.RayQuery q f) span)) made e =
-    (subst (Fit place.scope place.scope) (sym made) (ray_query_fits context place.scope q f e), tt)
+    (subst (Fit (may_use place) (is_in_scope place)) (sym made) (ray_query_fits context place q f e), tt)
 node_fits context past place (StatementNode (Leaf acts (ir.RayPipelineFunction (TraceRay a d p)) span)) made e =
-    (subst (Fit place.scope place.scope) (sym made) (trace_ray_fits context past.payload place.scope a d p e), tt)
+    (subst (Fit (may_use place) (is_in_scope place)) (sym made) (trace_ray_fits context past.payload place a d p e), tt)
 node_fits context past place (StatementNode (Leaf acts (ir.SubgroupBallot r p) span)) made e =
-    (subst (Fit place.scope place.scope) (sym made) (ballot_fits context place.scope r p e), tt)
+    (subst (Fit (may_use place) (is_in_scope place)) (sym made) (ballot_fits context place r p e), tt)
 node_fits context past place (StatementNode (Leaf acts (ir.SubgroupGather m x r) span)) made e =
-    (subst (Fit place.scope place.scope) (sym made) (gather_fits context place.scope m x r e), tt)
+    (subst (Fit (may_use place) (is_in_scope place)) (sym made) (gather_fits context place m x r e), tt)
 node_fits context past place (StatementNode (Leaf acts (ir.SubgroupCollectiveOperation o k x r) span)) made e =
-    (subst (Fit place.scope place.scope) (sym made) (collective_fits context place.scope o k x r e), tt)
-node_fits context past place (StatementNode (Leaf acts _ span)) made e = (subst (Fit place.scope place.scope) (sym made) tt, tt)
+    (subst (Fit (may_use place) (is_in_scope place)) (sym made) (collective_fits context place o k x r e), tt)
+node_fits context past place (StatementNode (Leaf acts _ span)) made e = (subst (Fit (may_use place) (is_in_scope place)) (sym made) tt, tt)
 node_fits context past place (StatementNode (Block b)) made e = (tt, tt)
-node_fits context past place (StatementNode (Branch h x y)) made e = ((use_fits place.scope h ((is_bool_scalar (type_at context h), InvalidIfType h) ∷ []) e, tt), tt)
+node_fits context past place (StatementNode (Branch h x y)) made e = ((use_fits place h ((is_bool_scalar (type_at context h), InvalidIfType h) ∷ []) e, tt), tt)
 node_fits context past place (StatementNode (Switch h cs)) made e =
-    ((use_fits place.scope h ((is_integer (scalar_kind_at context h), InvalidSwitchType h) ∷ (value_points (scalar_kind_at context h) [] (values_of cs) ++ cases_points cs)) e, tt), tt)
+    ((use_fits place h ((is_integer (scalar_kind_at context h), InvalidSwitchType h) ∷ (value_points (scalar_kind_at context h) [] (values_of cs) ++ cases_points cs)) e, tt), tt)
 node_fits context past place (StatementNode (Loop b c q)) made e = (tt, tt)
 node_fits context past place (StatementNode Break) made e = (tt, (first_holds place.abilities.can_break BreakOutsideOfLoopOrSwitch [] e).0)
 node_fits context past place (StatementNode Continue) made e = (tt, (first_holds place.abilities.can_continue ContinueOutsideOfLoop [] e).0)
@@ -104,15 +104,15 @@ node_fits context past place (StatementNode (Return None)) made e =
     (tt, (first_holds place.abilities.can_return InvalidReturnSpot ((is_none (declared_type context), InvalidReturnType None (declared_type context)) ∷ []) e).0)
 node_fits context past place (StatementNode (Return (Some v))) made e =
     let type_point : Point FunctionError = (is_returned_as context v (declared_type context), InvalidReturnType (Some v) (declared_type context)) in
-    let able = first_holds place.abilities.can_return InvalidReturnSpot (use_point place.scope v ∷ type_point ∷ []) e in
-    ((use_fits place.scope v (type_point ∷ []) able.1, tt), able.0)
+    let able = first_holds place.abilities.can_return InvalidReturnSpot (use_point place v ∷ type_point ∷ []) e in
+    ((use_fits place v (type_point ∷ []) able.1, tt), able.0)
 node_fits context past place (StatementNode Kill) made e = (tt, tt)
 
 -- a result that a statement names is not filled yet
 pub names_unfilled : (context : Context) (past : Past) (place : Place) (x : Stmt) → first_fault (statement_points context past place x) ≡ None → IfSome (result_of (StatementNode x)) (λ r. past.filled r ≡ false)
-names_unfilled context past place (Leaf acts (ir.Call f xs (Some r)) span) e = unfilled context past.filled r (call_holds context past.filled place.scope f xs r e).2
+names_unfilled context past place (Leaf acts (ir.Call f xs (Some r)) span) e = unfilled context past.filled r (call_holds context past.filled place f xs r e).2
 names_unfilled context past place (Leaf acts (ir.Atomic p f v (Some r)) span) e =
-    unfilled context past.filled r (atomic_named context past.filled place.scope p f v (Some r) e).fresh
+    unfilled context past.filled r (atomic_named context past.filled place p f v (Some r) e).fresh
 names_unfilled context past place _ e = tt
 
 pub guards : (context : Context) → ReadGuards (kept_rules context) no_operands

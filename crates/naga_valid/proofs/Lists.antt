@@ -9,7 +9,8 @@ use Rattle.naga_below.specs.declared.ir.statements.SwitchValue.{SwitchValue}
 use Rattle.naga_below.specs.View.{emitted, no_operands}
 use Rattle.naga_below.specs.Points.{Point, first_fault, within}
 use Rattle.naga_valid.specs.Blocks.{case_list}
-use Rattle.naga_valid.specs.Scope.{in_scope, known}
+use Rattle.naga_valid.specs.CodePlace.{place_at}
+use Rattle.naga_valid.specs.Scope.{in_scope}
 use Rattle.naga_valid.specs.Walk.{puts_of, handles_from, handles_between}
 use Rattle.naga_valid.specs.Context.{Context}
 use Rattle.naga_valid.specs.Control.{emit_points, emit_points_from, is_result, values_of, last_falls_through}
@@ -71,36 +72,36 @@ between_end start h end le below stays bound =
 
 -- the points of one handle of an Emit, and of those behind it
 module _ (context : Context) (s : List ℕ) (h end : ℕ) (lt : h < end) where
-  emit_here : first_fault (emit_points context (known s) h end)
-      ≡ cond (not (is_result (expression_at context h))) (cond (not (in_scope s h)) (first_fault (emit_points context (known s) (h + 1) end)) (Some (ExpressionAlreadyInScope h))) (Some (EmitResult h))
+  emit_here : first_fault (emit_points context (place_at s) h end)
+      ≡ cond (not (is_result (expression_at context h))) (cond (not (in_scope s h)) (first_fault (emit_points context (place_at s) (h + 1) end)) (Some (ExpressionAlreadyInScope h))) (Some (EmitResult h))
   emit_here =
       let count : end - h ≡ suc (end - (h + 1)) = omega arith in
       let next : suc h ≡ h + 1 = omega arith in
-      ap (λ n. first_fault (emit_points_from context (known s) h n)) count
-      ∙ ap (λ k. cond (not (is_result (expression_at context h))) (cond (not (in_scope s h)) (first_fault (emit_points_from context (known s) k (end - (h + 1)))) (Some (ExpressionAlreadyInScope h))) (Some (EmitResult h))) next
+      ap (λ n. first_fault (emit_points_from context (place_at s) h n)) count
+      ∙ ap (λ k. cond (not (is_result (expression_at context h))) (cond (not (in_scope s h)) (first_fault (emit_points_from context (place_at s) k (end - (h + 1)))) (Some (ExpressionAlreadyInScope h))) (Some (EmitResult h))) next
 
   abbrev later : Option FunctionError
-  later = first_fault (emit_points context (known s) (h + 1) end)
+  later = first_fault (emit_points context (place_at s) (h + 1) end)
 
-  pub emit_result : is_result (expression_at context h) ≡ true → first_fault (emit_points context (known s) h end) ≡ Some (EmitResult h)
+  pub emit_result : is_result (expression_at context h) ≡ true → first_fault (emit_points context (place_at s) h end) ≡ Some (EmitResult h)
   emit_result e =
       emit_here ∙ ap (λ b. cond (not b) (cond (not (in_scope s h)) later (Some (ExpressionAlreadyInScope h))) (Some (EmitResult h))) e
 
-  pub emit_again : is_result (expression_at context h) ≡ false → in_scope s h ≡ true → first_fault (emit_points context (known s) h end) ≡ Some (ExpressionAlreadyInScope h)
+  pub emit_again : is_result (expression_at context h) ≡ false → in_scope s h ≡ true → first_fault (emit_points context (place_at s) h end) ≡ Some (ExpressionAlreadyInScope h)
   emit_again r e =
       emit_here
       ∙ ap (λ b. cond (not b) (cond (not (in_scope s h)) later (Some (ExpressionAlreadyInScope h))) (Some (EmitResult h))) r
       ∙ ap (λ b. cond (not b) later (Some (ExpressionAlreadyInScope h))) e
 
-  pub emit_next : is_result (expression_at context h) ≡ false → in_scope s h ≡ false → first_fault (emit_points context (known s) h end) ≡ first_fault (emit_points context (known s) (h + 1) end)
+  pub emit_next : is_result (expression_at context h) ≡ false → in_scope s h ≡ false → first_fault (emit_points context (place_at s) h end) ≡ first_fault (emit_points context (place_at s) (h + 1) end)
   emit_next r e =
       emit_here
       ∙ ap (λ b. cond (not b) (cond (not (in_scope s h)) later (Some (ExpressionAlreadyInScope h))) (Some (EmitResult h))) r
       ∙ ap (λ b. cond (not b) later (Some (ExpressionAlreadyInScope h))) e
 
-pub emit_none : (context : Context) (s : List ℕ) (h end : ℕ) → end ≤ h → first_fault (emit_points context (known s) h end) ≡ None
+pub emit_none : (context : Context) (s : List ℕ) (h end : ℕ) → end ≤ h → first_fault (emit_points context (place_at s) h end) ≡ None
 emit_none context s h end le =
-    let none : end - h ≡ 0 = omega arith in ap (λ n. first_fault (emit_points_from context (known s) h n)) none
+    let none : end - h ≡ 0 = omega arith in ap (λ n. first_fault (emit_points_from context (place_at s) h n)) none
 
 first_step : {Fault : Type 0} (b : Bool) (f : Fault) (ps qs : List (Point Fault)) → first_fault (ps ++ qs) ≡ option_or (first_fault ps) (first_fault qs) → first_fault ((b, f) ∷ ps ++ qs) ≡ option_or (first_fault ((b, f) ∷ ps)) (first_fault qs)
 first_step true f ps qs rest = rest

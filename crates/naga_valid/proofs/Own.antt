@@ -17,7 +17,7 @@ use Rattle.naga_valid.specs.Rules.{leaf_points, statement_points}
 module _ (context : Context) (past : Past) (place : Place) (span : Span) where
   pub points_of_leaf : (st : Statement) →
       ((h : ℕ) (p q : Block) → st ≡ ir.If h p q → ⊥) → ((h : ℕ) (cases : List SwitchCase) → st ≡ ir.Switch h cases → ⊥) → (st ≡ ir.Break → ⊥) → (st ≡ ir.Continue → ⊥) → ((v : Option ℕ) → st ≡ ir.Return v → ⊥) →
-      leaf_points context past place.scope st ≡ statement_points context past place (view.tree_of (emitted_operands context.fun) st span)
+      leaf_points context past place st ≡ statement_points context past place (view.tree_of (emitted_operands context.fun) st span)
   points_of_leaf (ir.If h p q) ni ns nb nc nr = absurd (ni h p q refl)
   points_of_leaf (Switch' h shape row) ni ns nb nc nr =
       absurd (ns h (shown-the_row-SwitchCase-0 shape row) (sym (backs-Statement (Switch' h shape row))))

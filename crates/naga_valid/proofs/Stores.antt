@@ -9,11 +9,11 @@ use Rattle.naga_below.specs.declared.ir.expressions.Expression.TheVariants as e
 use Rattle.naga_below.specs.declared.valid.expression_error.ExpressionError.TheVariants.{NotInScope}
 use Rattle.naga_rules.specs.declared.function.FunctionError.TheVariants.{Expression, InvalidStorePointer}
 use Rattle.naga_below.proofs.Points.{first_holds}
-use Rattle.naga_runs.specs.Handles.{Handles}
+use Rattle.naga_runs.specs.Visits.{Place}
 use Rattle.naga_below.specs.Points.{first_fault}
 use Rattle.naga_runs.specs.Soundness.{Fit}
 use Rattle.naga_valid.specs.Context.{Context}
-use Rattle.naga_valid.specs.Points.{use_point}
+use Rattle.naga_valid.specs.Points.{use_point, may_use, is_in_scope}
 use Rattle.naga_valid.specs.Stores.{access_base, root_within, root_at, is_variable, stored_points, store_points}
 use Rattle.naga_valid.specs.Types.{expression_at}
 
@@ -66,9 +66,9 @@ module _ (es : List IrExpression) (earlier : NameEarlierExpressions es) where
   root_of_itself (suc k) is = ap (λ o. unwrap_or (option_map (root_within es k) o) (suc k)) is
 
 -- its one use is in scope
-pub store_fits : (context : Context) (s : Handles) (pointer value : ℕ) → first_fault (store_points context s pointer value) ≡ None → Fit s s (Use value ∷ [])
-store_fits context s pointer value e =
+pub store_fits : (context : Context) (place : Place) (pointer value : ℕ) → first_fault (store_points context place pointer value) ≡ None → Fit (may_use place) (is_in_scope place) (Use value ∷ [])
+store_fits context place pointer value e =
     let root = root_at context pointer in
     let stored = stored_points context pointer value in
-    let first = first_holds (is_variable (expression_at context root)) (InvalidStorePointer root) (use_point s value ∷ stored) e in
-    ((first_holds (s value) (Expression value NotInScope) stored first.1).0, tt)
+    let first = first_holds (is_variable (expression_at context root)) (InvalidStorePointer root) (use_point place value ∷ stored) e in
+    ((first_holds (may_use place value) (Expression value NotInScope) stored first.1).0, tt)

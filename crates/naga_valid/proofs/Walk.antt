@@ -31,7 +31,9 @@ use Rattle.naga_valid.specs.Blocks.{emitted_operands, tree_of, block_of, list_of
 use Rattle.naga_valid.specs.Context.{Context}
 use Rattle.naga_valid.specs.Control.{break_if_points}
 use Rattle.naga_valid.specs.Rules.{statement_points}
+use Rattle.naga_valid.specs.CodePlace.{place_at}
 use Rattle.naga_valid.specs.Scope.{in_scope, known}
+use Rattle.naga_valid.proofs.Bare.{points_without_must}
 use Rattle.naga_valid.specs.Walk.{puts_of, puts, body_puts, place, own_answer, parts_answer, stmt_answer, body_answer, cases_answer, break_if_answer}
 use Rattle.naga_valid.proofs.Refusals.{passes, stops_first, stops_next, answers_next}
 use Rattle.naga_rules.specs.declared.function.FunctionError.{FunctionError}
@@ -59,7 +61,7 @@ known_body (Then x b) s =
 
 module _ (context : Context) where
   ignores : IgnoresMust (kept_rules context)
-  ignores = record { points = λ st a s m n x. refl; advance = λ st a s m n x. refl }
+  ignores = record { points = λ st a s m n x. points_without_must context (seen st) a s m n x; advance = λ st a s m n x. refl }
 
   -- at another spelling of the scope, whatever every run has put
   pub moved : (k : State) (a : Abilities) (s : List ℕ) (t m : Handles) (b : Body) → known s ≡ t →
@@ -176,12 +178,12 @@ module _ (context : Context) (k : State) (a : Abilities) (s : List ℕ) (x : Stm
   own_refuses refusal.Memory h = tt
 
 -- a break condition
-pub break_if_passes : (context : Context) (k : State) (a : Abilities) (s : List ℕ) (q : Option ℕ) → first_fault (break_if_points context (known s) q) ≡ None → break_if_answer context k a s q ≡ Ok k
+pub break_if_passes : (context : Context) (k : State) (a : Abilities) (s : List ℕ) (q : Option ℕ) → first_fault (break_if_points context (place_at s) q) ≡ None → break_if_answer context k a s q ≡ Ok k
 unfolding break_if_answer judge_break_if judge_visits Rattle.naga_runs.specs.ByTree.judge
 break_if_passes context k a s None e = refl
 break_if_passes context k a s (Some h) e = ap (λ o. and_then (answer o k) (λ st. Ok st)) e
 
-pub break_if_refuses : (context : Context) (k : State) (a : Abilities) (s : List ℕ) (q : Option ℕ) (e : Refusal FunctionError) → IsFirstFault (break_if_points context (known s) q) e → Refuses (break_if_answer context k a s q) e
+pub break_if_refuses : (context : Context) (k : State) (a : Abilities) (s : List ℕ) (q : Option ℕ) (e : Refusal FunctionError) → IsFirstFault (break_if_points context (place_at s) q) e → Refuses (break_if_answer context k a s q) e
 unfolding break_if_answer judge_break_if judge_visits Rattle.naga_runs.specs.ByTree.judge
 break_if_refuses context k a s None (refusal.Fault f) i = ap (λ o. answer o k) i
 break_if_refuses context k a s (Some h) (refusal.Fault f) i = ap (λ o. and_then (answer o k) (λ st. Ok st)) i

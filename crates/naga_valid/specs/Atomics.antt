@@ -21,6 +21,7 @@ use Rattle.naga_rules.specs.declared.function.AtomicError.TheVariants as wrong
 use Rattle.naga_rules.specs.declared.function.FunctionError.{FunctionError}
 use Rattle.naga_rules.specs.declared.function.FunctionError.TheVariants.{InvalidAtomic}
 use Rattle.naga_runs.specs.Handles.{Handles}
+use Rattle.naga_runs.specs.Visits.{Place}
 use Rattle.naga_below.specs.Points.{Point}
 use Rattle.naga_valid.specs.Context.{Context}
 use Rattle.naga_valid.specs.Control.{is_integer}
@@ -98,15 +99,15 @@ float32_points capabilities fun p =
 
 -- what the atomic's scalar asks for
 abbrev pub scalar_points : Capabilities → AtomicPlace → AtomicFunction → Bool → Points
-scalar_points capabilities place fun has_result =
-    if is_int64 place.scalar
-    then int64_points capabilities fun place.space has_result
-    else if is_float32 place.scalar then float32_points capabilities fun place.space else []
+scalar_points capabilities target fun has_result =
+    if is_int64 target.scalar
+    then int64_points capabilities fun target.space has_result
+    else if is_float32 target.scalar then float32_points capabilities fun target.space else []
 
 -- the value: in scope, and the atomic's scalar
-abbrev pub value_points : Context → Handles → Scalar → ℕ → Points
-value_points context scope s value =
-    use_point scope value ∷ atomic_point (is_scalar s (type_at context value)) (wrong.InvalidOperand value) ∷ []
+abbrev pub value_points : Context → Place → Scalar → ℕ → Points
+value_points context place s value =
+    use_point place value ∷ atomic_point (is_scalar s (type_at context value)) (wrong.InvalidOperand value) ∷ []
 
 abbrev pub is_atomic_result : Option Expression → Bool
 is_atomic_result (Some (e.AtomicResult ty comparison)) = true
@@ -127,9 +128,9 @@ result_type_at context r = result_type_of context.program.types (expression_at c
 
 -- of a compare exchange: what is compared with is in scope and of the value's type; the result is of the struct that a
 -- compare exchange gives
-abbrev pub compared_points : Context → Handles → Scalar → ℕ → ℕ → ℕ → Points
-compared_points context scope s compare value r =
-    use_point scope compare
+abbrev pub compared_points : Context → Place → Scalar → ℕ → ℕ → ℕ → Points
+compared_points context place s compare value r =
+    use_point place compare
     ∷ atomic_point (both_are (is_equivalent context.program.types) (type_at context compare) (type_at context value)) (wrong.InvalidOperand compare)
     ∷ atomic_point (it_is (is_exchange_struct context.program.types s) (result_type_at context r)) (wrong.ResultTypeMismatch r)
     ∷ atomic_point (is_comparison (expression_at context r)) (wrong.ResultExpressionNotExchange r)
@@ -143,37 +144,37 @@ uncompared_points context value r =
     ∷ []
 
 -- the type of the result
-abbrev pub result_type_points : Context → Handles → Scalar → AtomicFunction → ℕ → ℕ → Points
-result_type_points context scope s (Exchange (Some compare)) value r = compared_points context scope s compare value r
-result_type_points context scope s _ value r = uncompared_points context value r
+abbrev pub result_type_points : Context → Place → Scalar → AtomicFunction → ℕ → ℕ → Points
+result_type_points context place s (Exchange (Some compare)) value r = compared_points context place s compare value r
+result_type_points context place s _ value r = uncompared_points context value r
 
 -- the type of the result; then it is put
-abbrev pub typed_points : Context → Handles → Scalar → AtomicFunction → ℕ → ℕ → Points
-typed_points context scope s fun value r = result_type_points context scope s fun value r ++ put_point scope r ∷ []
+abbrev pub typed_points : Context → Place → Scalar → AtomicFunction → ℕ → ℕ → Points
+typed_points context place s fun value r = result_type_points context place s fun value r ++ put_point place r ∷ []
 
 -- the result that is named: an atomic result, fresh, and of the right type
-abbrev pub named_points : Context → Handles → Handles → Scalar → AtomicFunction → ℕ → ℕ → Points
-named_points context filled scope s fun value r =
+abbrev pub named_points : Context → Handles → Place → Scalar → AtomicFunction → ℕ → ℕ → Points
+named_points context filled place s fun value r =
     atomic_point (is_atomic_result (expression_at context r)) (wrong.InvalidResultExpression r)
     ∷ atomic_point (is_fresh context filled r) (wrong.ResultAlreadyPopulated r)
-    ∷ typed_points context scope s fun value r
+    ∷ typed_points context place s fun value r
 
 -- the result. An exchange that compares nothing has one
-abbrev pub atomic_result_points : Context → Handles → Handles → Scalar → AtomicFunction → ℕ → Option ℕ → Points
-atomic_result_points context filled scope s fun value (Some r) = named_points context filled scope s fun value r
-atomic_result_points context filled scope s fun value None =
+abbrev pub atomic_result_points : Context → Handles → Place → Scalar → AtomicFunction → ℕ → Option ℕ → Points
+atomic_result_points context filled place s fun value (Some r) = named_points context filled place s fun value r
+atomic_result_points context filled place s fun value None =
     atomic_point (not (is_plain_exchange fun)) wrong.MissingReturnValue ∷ []
 
 -- what is asked of an operation on an atomic
-abbrev pub operation_points : Context → Handles → Handles → AtomicFunction → ℕ → Option ℕ → Option AtomicPlace → Points
-operation_points context filled scope fun value result None = []
-operation_points context filled scope fun value result (Some place) =
-    value_points context scope place.scalar value
-    ++ (scalar_points context.settings.capabilities place fun (is_some result) ++ atomic_result_points context filled scope place.scalar fun value result)
+abbrev pub operation_points : Context → Handles → Place → AtomicFunction → ℕ → Option ℕ → Option AtomicPlace → Points
+operation_points context filled place fun value result None = []
+operation_points context filled place fun value result (Some target) =
+    value_points context place target.scalar value
+    ++ (scalar_points context.settings.capabilities target fun (is_some result) ++ atomic_result_points context filled place target.scalar fun value result)
 
 -- Atomic: its pointer, and what is asked where it points
-abbrev pub atomic_points : Context → Handles → Handles → ℕ → AtomicFunction → ℕ → Option ℕ → Points
-atomic_points context filled scope pointer fun value result =
-    use_point scope pointer
+abbrev pub atomic_points : Context → Handles → Place → ℕ → AtomicFunction → ℕ → Option ℕ → Points
+atomic_points context filled place pointer fun value result =
+    use_point place pointer
     ∷ atomic_point (is_some (atomic_at context pointer)) (wrong.InvalidPointer pointer)
-    ∷ operation_points context filled scope fun value result (atomic_at context pointer)
+    ∷ operation_points context filled place fun value result (atomic_at context pointer)

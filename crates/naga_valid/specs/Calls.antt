@@ -11,9 +11,10 @@ use Rattle.naga_rules.specs.declared.function.CallError.{CallError}
 use Rattle.naga_rules.specs.declared.function.CallError.TheVariants.{Argument, ArgumentCount, ArgumentType, ExpressionMismatch, ResultAlreadyInScope, ResultAlreadyPopulated}
 use Rattle.naga_rules.specs.declared.function.FunctionError.TheVariants.{InvalidCall}
 use Rattle.naga_runs.specs.Handles.{Handles}
+use Rattle.naga_runs.specs.Visits.{Place}
 use Rattle.naga_below.specs.Points.{Point, within}
 use Rattle.naga_valid.specs.Context.{Context}
-use Rattle.naga_valid.specs.Points.{Points}
+use Rattle.naga_valid.specs.Points.{Points, may_use, is_in_scope}
 use Rattle.naga_valid.specs.Results.{is_fresh}
 use Rattle.naga_below.specs.TypeTests.{is_same_type}
 use Rattle.naga_valid.specs.Types.{expression_at, resolution_at}
@@ -39,44 +40,44 @@ abbrev pub is_passed_as : Context → ℕ → ℕ → Bool
 is_passed_as context given declared = is_passed_for context declared (resolution_at context given)
 
 -- the argument of this index: in scope, and of the declared type
-abbrev pub argument_points : Context → Handles → ℕ → ℕ → ℕ → CallPoints
-argument_points context scope index declared given =
-    (scope given, Argument index NotInScope)
+abbrev pub argument_points : Context → Place → ℕ → ℕ → ℕ → CallPoints
+argument_points context place index declared given =
+    (may_use place given, Argument index NotInScope)
     ∷ (is_passed_as context given declared, ArgumentType index declared given)
     ∷ []
 
 -- the arguments in order, the first of which has this index
-abbrev pub argument_points_from : Context → Handles → ℕ → List FunctionArgument → List ℕ → CallPoints
-argument_points_from context scope index (declared ∷ more) (given ∷ rest) =
-    argument_points context scope index declared.ty given ++ argument_points_from context scope (suc index) more rest
-argument_points_from context scope index _ _ = []
+abbrev pub argument_points_from : Context → Place → ℕ → List FunctionArgument → List ℕ → CallPoints
+argument_points_from context place index (declared ∷ more) (given ∷ rest) =
+    argument_points context place index declared.ty given ++ argument_points_from context place (suc index) more rest
+argument_points_from context place index _ _ = []
 
 -- as many arguments as are declared, and each of them
-abbrev pub arguments_points : Context → Handles → List FunctionArgument → List ℕ → CallPoints
-arguments_points context scope declared given =
+abbrev pub arguments_points : Context → Place → List FunctionArgument → List ℕ → CallPoints
+arguments_points context place declared given =
     (length declared == length given, ArgumentCount (length declared) (length given))
-    ∷ argument_points_from context scope 0 declared given
+    ∷ argument_points_from context place 0 declared given
 
 abbrev pub is_call_result_of : ℕ → Option Expression → Bool
 is_call_result_of f (Some (e.CallResult g)) = g == f
 is_call_result_of f _ = false
 
 -- a result: not in scope yet, of this function, which returns one, and fresh. Without one the function returns none
-abbrev pub call_result_points : Context → Handles → Handles → ℕ → Bool → Option ℕ → CallPoints
-call_result_points context filled scope f returns (Some r) =
-    (not (scope r), ResultAlreadyInScope r)
+abbrev pub call_result_points : Context → Handles → Place → ℕ → Bool → Option ℕ → CallPoints
+call_result_points context filled place f returns (Some r) =
+    (not (is_in_scope place r), ResultAlreadyInScope r)
     ∷ (is_call_result_of f (expression_at context r) && returns, ExpressionMismatch (Some r))
     ∷ (is_fresh context filled r, ResultAlreadyPopulated r)
     ∷ []
-call_result_points context filled scope f returns None = (not returns, ExpressionMismatch None) ∷ []
+call_result_points context filled place f returns None = (not returns, ExpressionMismatch None) ∷ []
 
 -- what is asked of a call of this function
-abbrev pub callee_points : Context → Handles → Handles → ℕ → Option Function → List ℕ → Option ℕ → CallPoints
-callee_points context filled scope f callee given result =
-    arguments_points context scope (arguments_of callee) given
-    ++ call_result_points context filled scope f (has_result callee) result
+abbrev pub callee_points : Context → Handles → Place → ℕ → Option Function → List ℕ → Option ℕ → CallPoints
+callee_points context filled place f callee given result =
+    arguments_points context place (arguments_of callee) given
+    ++ call_result_points context filled place f (has_result callee) result
 
 -- Call: its arguments, then its result
-abbrev pub call_points : Context → Handles → Handles → ℕ → List ℕ → Option ℕ → Points
-call_points context filled scope f given result =
-    within (InvalidCall f) (callee_points context filled scope f (slice_get context.program.functions f) given result)
+abbrev pub call_points : Context → Handles → Place → ℕ → List ℕ → Option ℕ → Points
+call_points context filled place f given result =
+    within (InvalidCall f) (callee_points context filled place f (slice_get context.program.functions f) given result)

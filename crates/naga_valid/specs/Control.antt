@@ -17,8 +17,7 @@ use Rattle.naga_below.specs.declared.proc.typifier.TypeResolution.{TypeResolutio
 use Rattle.naga_below.specs.declared.proc.typifier.TypeResolution.TheVariants.{Handle}
 use Rattle.naga_rules.specs.declared.function.FunctionError.{FunctionError}
 use Rattle.naga_rules.specs.declared.function.FunctionError.TheVariants.{EmitResult, BreakOutsideOfLoopOrSwitch, ContinueOutsideOfLoop, InvalidReturnSpot, InvalidReturnType, InvalidIfType, InvalidSwitchType, ConflictingSwitchCase, ConflictingCaseType, MissingDefaultCase, MultipleDefaultCases, LastCaseFallTrough}
-use Rattle.naga_runs.specs.Handles.{Handles}
-use Rattle.naga_runs.specs.declared.Abilities.{Abilities}
+use Rattle.naga_runs.specs.Visits.{Place}
 use Rattle.naga_valid.specs.Context.{Context}
 use Rattle.naga_valid.specs.Points.{Points, use_point, put_point}
 use Rattle.naga_below.specs.TypeTests.{is_same_type}
@@ -35,16 +34,16 @@ is_result (Some (e.SubgroupOperationResult ty)) = true
 is_result _ = false
 
 -- of n handles from the first on: it is none of those kinds, and it is put
-abbrev pub emit_points_from : Context → Handles → ℕ → ℕ → Points
-emit_points_from context scope first zero = []
-emit_points_from context scope first (suc n) =
+abbrev pub emit_points_from : Context → Place → ℕ → ℕ → Points
+emit_points_from context place first zero = []
+emit_points_from context place first (suc n) =
     (not (is_result (expression_at context first)), EmitResult first)
-    ∷ put_point scope first
-    ∷ emit_points_from context scope (suc first) n
+    ∷ put_point place first
+    ∷ emit_points_from context place (suc first) n
 
 -- Emit: the handles of its range, its end excluded
-abbrev pub emit_points : Context → Handles → ℕ → ℕ → Points
-emit_points context scope start end = emit_points_from context scope start (end - start)
+abbrev pub emit_points : Context → Place → ℕ → ℕ → Points
+emit_points context place start end = emit_points_from context place start (end - start)
 
 abbrev pub is_bool_kind : ScalarKind → Bool
 is_bool_kind kind.Bool = true
@@ -56,14 +55,14 @@ is_bool_scalar (Some (inner.Scalar s)) = is_bool_kind s.kind
 is_bool_scalar _ = false
 
 -- If, and the break condition of a Loop: a boolean in scope
-abbrev pub condition_points : Context → Handles → ℕ → Points
-condition_points context scope h =
-    use_point scope h ∷ (is_bool_scalar (type_at context h), InvalidIfType h) ∷ []
+abbrev pub condition_points : Context → Place → ℕ → Points
+condition_points context place h =
+    use_point place h ∷ (is_bool_scalar (type_at context h), InvalidIfType h) ∷ []
 
 -- the break condition of a Loop, if it has one
-abbrev pub break_if_points : Context → Handles → Option ℕ → Points
-break_if_points context scope None = []
-break_if_points context scope (Some h) = condition_points context scope h
+abbrev pub break_if_points : Context → Place → Option ℕ → Points
+break_if_points context place None = []
+break_if_points context place (Some h) = condition_points context place h
 
 abbrev pub is_integer : Option ScalarKind → Bool
 is_integer (Some kind.Uint) = true
@@ -71,9 +70,9 @@ is_integer (Some kind.Sint) = true
 is_integer _ = false
 
 -- the selector of a Switch: an integer in scope
-abbrev pub selector_points : Context → Handles → ℕ → Points
-selector_points context scope h =
-    use_point scope h ∷ (is_integer (scalar_kind_at context h), InvalidSwitchType h) ∷ []
+abbrev pub selector_points : Context → Place → ℕ → Points
+selector_points context place h =
+    use_point place h ∷ (is_integer (scalar_kind_at context h), InvalidSwitchType h) ∷ []
 
 -- a case value of the selector's signedness
 abbrev pub has_signedness_of : Option ScalarKind → SwitchValue → Bool
@@ -123,9 +122,9 @@ cases_points cases =
     ∷ []
 
 -- Switch: its selector, each case value, and the cases as a whole
-abbrev pub switch_points : Context → Handles → ℕ → Cases → Points
-switch_points context scope h cases =
-    selector_points context scope h
+abbrev pub switch_points : Context → Place → ℕ → Cases → Points
+switch_points context place h cases =
+    selector_points context place h
     ++ (value_points (scalar_kind_at context h) [] (values_of cases) ++ cases_points cases)
 
 -- the type that the function's result is declared with
@@ -143,21 +142,21 @@ is_returned_as context h (Some declared) = is_given_as context.program.types (re
 
 -- Return: allowed here; the value, if there is one, in scope and of the declared type; and none where none is
 -- declared
-abbrev pub return_points : Context → Abilities → Handles → Option ℕ → Points
-return_points context abilities scope None =
-    (abilities.can_return, InvalidReturnSpot)
+abbrev pub return_points : Context → Place → Option ℕ → Points
+return_points context place None =
+    (place.abilities.can_return, InvalidReturnSpot)
     ∷ (is_none (declared_type context), InvalidReturnType None (declared_type context))
     ∷ []
-return_points context abilities scope (Some h) =
-    (abilities.can_return, InvalidReturnSpot)
-    ∷ use_point scope h
+return_points context place (Some h) =
+    (place.abilities.can_return, InvalidReturnSpot)
+    ∷ use_point place h
     ∷ (is_returned_as context h (declared_type context), InvalidReturnType (Some h) (declared_type context))
     ∷ []
 
 -- Break: allowed here
-abbrev pub break_points : Abilities → Points
-break_points abilities = (abilities.can_break, BreakOutsideOfLoopOrSwitch) ∷ []
+abbrev pub break_points : Place → Points
+break_points place = (place.abilities.can_break, BreakOutsideOfLoopOrSwitch) ∷ []
 
 -- Continue: allowed here
-abbrev pub continue_points : Abilities → Points
-continue_points abilities = (abilities.can_continue, ContinueOutsideOfLoop) ∷ []
+abbrev pub continue_points : Place → Points
+continue_points place = (place.abilities.can_continue, ContinueOutsideOfLoop) ∷ []

@@ -6,7 +6,7 @@ use Rattle.naga_below.specs.declared.ir.types.Scalar.{Scalar}
 use Rattle.naga_below.specs.declared.ir.types.TypeInner.{TypeInner}
 use Rattle.naga_below.specs.declared.ir.types.TypeInner.TheVariants as inner
 use Rattle.naga_rules.specs.declared.function.FunctionError.TheVariants.{InvalidCooperativeStoreTarget, InvalidCooperativeDataPointer, InvalidStorePointer}
-use Rattle.naga_runs.specs.Handles.{Handles}
+use Rattle.naga_runs.specs.Visits.{Place}
 use Rattle.naga_valid.specs.Context.{Context}
 use Rattle.naga_valid.specs.Points.{Points, use_point}
 use Rattle.naga_valid.specs.Stores.{base_type_at, is_writable}
@@ -38,8 +38,8 @@ data_points context s pointer =
     ∷ []
 
 -- CooperativeStore: its target, a cooperative matrix, and the place where it goes
-abbrev pub cooperative_points : Context → Handles → ℕ → ℕ → Points
-cooperative_points context scope target pointer =
-    use_point scope target
+abbrev pub cooperative_points : Context → Place → ℕ → ℕ → Points
+cooperative_points context place target pointer =
+    use_point place target
     ∷ (is_some (matrix_scalar_at context target), InvalidCooperativeStoreTarget target)
     ∷ data_points context (matrix_scalar_at context target) pointer

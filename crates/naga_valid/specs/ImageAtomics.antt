@@ -15,7 +15,7 @@ use Rattle.naga_below.specs.declared.ir.types.TypeInner.TheVariants as inner
 use Rattle.naga_below.specs.declared.valid.capabilities.Capabilities.{Capabilities}
 use Rattle.naga_below.specs.declared.valid.expression_error.ExpressionError.TheVariants as wrong
 use Rattle.naga_rules.specs.declared.function.FunctionError.TheVariants.{InvalidImageAtomicFunction, InvalidImageAtomicValue, MissingCapability}
-use Rattle.naga_runs.specs.Handles.{Handles}
+use Rattle.naga_runs.specs.Visits.{Place}
 use Rattle.naga_valid.specs.Atomics.{is_min_or_max}
 use Rattle.naga_valid.specs.Context.{Context}
 use Rattle.naga_valid.specs.Images.{image_point, image_global_at, image_of, storage_of, texel_points}
@@ -61,44 +61,44 @@ format_points capabilities format.R32Uint fun = operation_points capabilities bi
 format_points capabilities other fun = image_point by.Atomic false (wrong.InvalidImageFormat other) ∷ []
 
 -- the value: in scope, and the format's scalar
-abbrev pub changed_value_points : Context → Handles → StorageFormat → ℕ → Points
-changed_value_points context scope format value =
-    use_point scope value
+abbrev pub changed_value_points : Context → Place → StorageFormat → ℕ → Points
+changed_value_points context place format value =
+    use_point place value
     ∷ (is_scalar (format_scalar format) (type_at context value), InvalidImageAtomicValue value)
     ∷ []
 
 -- the format and the value
-abbrev pub changed_texel_points : Context → Handles → AtomicFunction → ℕ → StorageFormat → Points
-changed_texel_points context scope fun value format =
-    format_points context.settings.capabilities format fun ++ changed_value_points context scope format value
+abbrev pub changed_texel_points : Context → Place → AtomicFunction → ℕ → StorageFormat → Points
+changed_texel_points context place fun value format =
+    format_points context.settings.capabilities format fun ++ changed_value_points context place format value
 
 -- the access, the format and the value
-abbrev pub changed_storage_points : Context → Handles → AtomicFunction → ℕ → Option ImageStorage → Points
-changed_storage_points context scope fun value None = []
-changed_storage_points context scope fun value (Some storage) =
+abbrev pub changed_storage_points : Context → Place → AtomicFunction → ℕ → Option ImageStorage → Points
+changed_storage_points context place fun value None = []
+changed_storage_points context place fun value (Some storage) =
     image_point by.Atomic (takes_atomics storage.access) (wrong.InvalidImageStorageAccess storage.access)
-    ∷ changed_texel_points context scope fun value storage.format
+    ∷ changed_texel_points context place fun value storage.format
 
 -- the image: one of storage
-abbrev pub changed_class_points : Context → Handles → AtomicFunction → ℕ → ImageShape → Points
-changed_class_points context scope fun value image =
+abbrev pub changed_class_points : Context → Place → AtomicFunction → ℕ → ImageShape → Points
+changed_class_points context place fun value image =
     image_point by.Atomic (is_some (storage_of image.class)) (wrong.InvalidImageClass image.class)
-    ∷ changed_storage_points context scope fun value (storage_of image.class)
+    ∷ changed_storage_points context place fun value (storage_of image.class)
 
 -- the texel comes before what is asked of the image
-abbrev pub changed_image_points : Context → Handles → Texel → AtomicFunction → ℕ → Option ImageShape → Points
-changed_image_points context scope texel fun value None = []
-changed_image_points context scope texel fun value (Some image) =
-    texel_points by.Atomic context scope image texel ++ changed_class_points context scope fun value image
+abbrev pub changed_image_points : Context → Place → Texel → AtomicFunction → ℕ → Option ImageShape → Points
+changed_image_points context place texel fun value None = []
+changed_image_points context place texel fun value (Some image) =
+    texel_points by.Atomic context place image texel ++ changed_class_points context place fun value image
 
-abbrev pub changed_global_points : Context → Handles → Texel → AtomicFunction → ℕ → Option ℕ → Points
-changed_global_points context scope texel fun value None = []
-changed_global_points context scope texel fun value (Some ty) =
+abbrev pub changed_global_points : Context → Place → Texel → AtomicFunction → ℕ → Option ℕ → Points
+changed_global_points context place texel fun value None = []
+changed_global_points context place texel fun value (Some ty) =
     image_point by.Atomic (is_some (changed_image context.program.types ty)) (wrong.ExpectedImageType ty)
-    ∷ changed_image_points context scope texel fun value (changed_image context.program.types ty)
+    ∷ changed_image_points context place texel fun value (changed_image context.program.types ty)
 
 -- ImageAtomic: its image, the texel, the operation, and the value
-abbrev pub image_atomic_points : Context → Handles → ℕ → Texel → AtomicFunction → ℕ → Points
-image_atomic_points context scope image texel fun value =
+abbrev pub image_atomic_points : Context → Place → ℕ → Texel → AtomicFunction → ℕ → Points
+image_atomic_points context place image texel fun value =
     image_point by.Atomic (is_some (image_global_at context image)) wrong.ExpectedGlobalVariable
-    ∷ changed_global_points context scope texel fun value (image_global_at context image)
+    ∷ changed_global_points context place texel fun value (image_global_at context image)

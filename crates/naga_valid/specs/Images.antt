@@ -18,7 +18,7 @@ use Rattle.naga_below.specs.declared.valid.expression_error.ExpressionError.{Exp
 use Rattle.naga_below.specs.declared.valid.expression_error.ExpressionError.TheVariants as wrong
 use Rattle.naga_rules.specs.declared.function.FunctionError.{FunctionError}
 use Rattle.naga_rules.specs.declared.function.FunctionError.TheVariants.{InvalidImageAtomic, InvalidImageStore, InvalidStoreValue}
-use Rattle.naga_runs.specs.Handles.{Handles}
+use Rattle.naga_runs.specs.Visits.{Place}
 use Rattle.naga_below.specs.Points.{Point}
 use Rattle.naga_valid.specs.Context.{Context}
 use Rattle.naga_valid.specs.Control.{is_integer}
@@ -75,9 +75,9 @@ is_dimension dim None = false
 is_dimension dim (Some given) = (dimension.ghosts).eq given dim
 
 -- the coordinate: in scope, and of the image's dimension
-abbrev pub coordinate_points : ImageStatement → Context → Handles → ImageDimension → ℕ → Points
-coordinate_points statement context scope dim coordinate =
-    use_point scope coordinate
+abbrev pub coordinate_points : ImageStatement → Context → Place → ImageDimension → ℕ → Points
+coordinate_points statement context place dim coordinate =
+    use_point place coordinate
     ∷ image_point statement (is_dimension dim (option_and_then image_coordinates_of (type_at context coordinate))) (wrong.InvalidImageCoordinateType dim coordinate)
     ∷ []
 
@@ -87,19 +87,19 @@ is_integer_scalar (Some (inner.Scalar s)) = is_integer (Some s.kind)
 is_integer_scalar _ = false
 
 -- the array index: there where the image is arrayed, in scope, and an integer
-abbrev pub array_index_points : ImageStatement → Context → Handles → Bool → Option ℕ → Points
-array_index_points statement context scope arrayed None = image_point statement (not arrayed) wrong.InvalidImageArrayIndex ∷ []
-array_index_points statement context scope arrayed (Some h) =
+abbrev pub array_index_points : ImageStatement → Context → Place → Bool → Option ℕ → Points
+array_index_points statement context place arrayed None = image_point statement (not arrayed) wrong.InvalidImageArrayIndex ∷ []
+array_index_points statement context place arrayed (Some h) =
     image_point statement arrayed wrong.InvalidImageArrayIndex
-    ∷ use_point scope h
+    ∷ use_point place h
     ∷ image_point statement (is_integer_scalar (type_at context h)) (wrong.InvalidImageArrayIndexType h)
     ∷ []
 
 -- which texel: its coordinate and its array index
-abbrev pub texel_points : ImageStatement → Context → Handles → ImageShape → Texel → Points
-texel_points statement context scope image texel =
-    coordinate_points statement context scope image.dim texel.coordinate
-    ++ array_index_points statement context scope image.arrayed texel.array_index
+abbrev pub texel_points : ImageStatement → Context → Place → ImageShape → Texel → Points
+texel_points statement context place image texel =
+    coordinate_points statement context place image.dim texel.coordinate
+    ++ array_index_points statement context place image.arrayed texel.array_index
 
 -- what is stored in a texel of a format: four of its scalar
 abbrev pub texel_type : StorageFormat → TypeInner
@@ -111,22 +111,22 @@ is_texel_points value expected None = []
 is_texel_points value expected (Some given) = (is_same_inner given expected, InvalidStoreValue value given expected) ∷ []
 
 -- the value: in scope, and what a texel holds
-abbrev pub texel_value_points : Context → Handles → StorageFormat → ℕ → Points
-texel_value_points context scope format value =
-    use_point scope value ∷ is_texel_points value (texel_type format) (type_at context value)
+abbrev pub texel_value_points : Context → Place → StorageFormat → ℕ → Points
+texel_value_points context place format value =
+    use_point place value ∷ is_texel_points value (texel_type format) (type_at context value)
 
 -- the texel and the value
-abbrev pub stored_texel_points : Context → Handles → ImageShape → Texel → ℕ → Option ImageStorage → Points
-stored_texel_points context scope image texel value None = []
-stored_texel_points context scope image texel value (Some storage) =
-    texel_points by.Store context scope image texel ++ texel_value_points context scope storage.format value
+abbrev pub stored_texel_points : Context → Place → ImageShape → Texel → ℕ → Option ImageStorage → Points
+stored_texel_points context place image texel value None = []
+stored_texel_points context place image texel value (Some storage) =
+    texel_points by.Store context place image texel ++ texel_value_points context place storage.format value
 
 -- the image: one of storage
-abbrev pub stored_image_points : Context → Handles → Texel → ℕ → Option ImageShape → Points
-stored_image_points context scope texel value None = []
-stored_image_points context scope texel value (Some image) =
+abbrev pub stored_image_points : Context → Place → Texel → ℕ → Option ImageShape → Points
+stored_image_points context place texel value None = []
+stored_image_points context place texel value (Some image) =
     image_point by.Store (is_some (storage_of image.class)) (wrong.InvalidImageClass image.class)
-    ∷ stored_texel_points context scope image texel value (storage_of image.class)
+    ∷ stored_texel_points context place image texel value (storage_of image.class)
 
 -- the image of a global of this type, or the element of one
 abbrev pub stored_image : List IrType → Bool → ℕ → Option ImageShape
@@ -134,15 +134,15 @@ stored_image types true ty = image_of (option_and_then (inner_at types) (element
 stored_image types false ty = image_of (inner_at types ty)
 
 -- the type of the global: a binding array, where the image is an element, of images
-abbrev pub stored_global_points : Context → Handles → Bool → Texel → ℕ → Option ℕ → Points
-stored_global_points context scope is_element texel value None = []
-stored_global_points context scope is_element texel value (Some ty) =
+abbrev pub stored_global_points : Context → Place → Bool → Texel → ℕ → Option ℕ → Points
+stored_global_points context place is_element texel value None = []
+stored_global_points context place is_element texel value (Some ty) =
     image_point by.Store (not is_element || is_some (element_of (inner_at context.program.types ty))) (wrong.ExpectedBindingArrayType ty)
     ∷ image_point by.Store (is_some (stored_image context.program.types is_element ty)) (wrong.ExpectedImageType ty)
-    ∷ stored_image_points context scope texel value (stored_image context.program.types is_element ty)
+    ∷ stored_image_points context place texel value (stored_image context.program.types is_element ty)
 
 -- ImageStore: its image, the texel, and the value
-abbrev pub image_store_points : Context → Handles → ℕ → Texel → ℕ → Points
-image_store_points context scope image texel value =
+abbrev pub image_store_points : Context → Place → ℕ → Texel → ℕ → Points
+image_store_points context place image texel value =
     image_point by.Store (is_some (image_global_at context image)) wrong.ExpectedGlobalVariable
-    ∷ stored_global_points context scope (is_some (access_base (expression_at context image))) texel value (image_global_at context image)
+    ∷ stored_global_points context place (is_some (access_base (expression_at context image))) texel value (image_global_at context image)

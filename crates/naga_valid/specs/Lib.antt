@@ -6,6 +6,7 @@ pub mod Scope
 pub mod Points
 pub mod Rules
 pub mod Answers
+pub mod CodePlace
 pub mod Walk
 pub mod Control
 pub mod Flags

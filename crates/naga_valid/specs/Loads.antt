@@ -8,7 +8,7 @@ use Rattle.naga_below.specs.declared.ir.types.AddressSpace.TheVariants as space
 use Rattle.naga_below.specs.declared.ir.types.TypeInner.{TypeInner}
 use Rattle.naga_below.specs.declared.ir.types.TypeInner.TheVariants as inner
 use Rattle.naga_rules.specs.declared.function.FunctionError.TheVariants.{WorkgroupUniformLoadExpressionMismatch, WorkgroupUniformLoadInvalidPointer}
-use Rattle.naga_runs.specs.Handles.{Handles}
+use Rattle.naga_runs.specs.Visits.{Place}
 use Rattle.naga_valid.specs.Atomics.{atomic_at}
 use Rattle.naga_valid.specs.Context.{Context}
 use Rattle.naga_valid.specs.Points.{Points, use_point, put_point}
@@ -31,7 +31,7 @@ loaded_type_at context r = loaded_type_of (expression_at context r)
 
 abbrev pub has_scalar : Option TypeInner → Option AtomicPlace → Bool
 has_scalar ty None = false
-has_scalar ty (Some place) = is_scalar place.scalar ty
+has_scalar ty (Some target) = is_scalar target.scalar ty
 
 -- a pointer in the work group to this type, or to an atomic of this scalar
 abbrev pub points_to : Context → ℕ → ℕ → Bool
@@ -51,9 +51,9 @@ loaded_points context pointer r =
     ∷ []
 
 -- WorkGroupUniformLoad: its pointer, into the work group; its result is put, and then looked at
-abbrev pub load_points : Context → Handles → ℕ → ℕ → Points
-load_points context scope pointer r =
-    use_point scope pointer
+abbrev pub load_points : Context → Place → ℕ → ℕ → Points
+load_points context place pointer r =
+    use_point place pointer
     ∷ (is_work_group (space_at context pointer), WorkgroupUniformLoadInvalidPointer pointer)
-    ∷ put_point scope r
+    ∷ put_point place r
     ∷ loaded_points context pointer r

@@ -4,15 +4,24 @@ use Rattle.naga_below.specs.declared.valid.expression_error.ExpressionError.TheV
 use Rattle.naga_rules.specs.declared.function.FunctionError.{FunctionError}
 use Rattle.naga_rules.specs.declared.function.FunctionError.TheVariants.{Expression, ExpressionAlreadyInScope}
 use Rattle.naga_runs.specs.Handles.{Handles}
+use Rattle.naga_runs.specs.Visits.{Place}
 use Rattle.naga_below.specs.Points.{Point}
 
 abbrev pub Points : Type 0
 Points = List (Point FunctionError)
 
--- a use: the handle is in scope
-abbrev pub use_point : Handles → ℕ → Point FunctionError
-use_point scope h = (scope h, Expression h NotInScope)
+-- what may be used at a place
+abbrev pub may_use : Place → Handles
+may_use place = place.scope
+
+-- what is in scope there, and so cannot be put
+abbrev pub is_in_scope : Place → Handles
+is_in_scope place = place.scope
+
+-- a use: the handle may be used
+abbrev pub use_point : Place → ℕ → Point FunctionError
+use_point place h = (may_use place h, Expression h NotInScope)
 
 -- a put: the handle is not in scope yet
-abbrev pub put_point : Handles → ℕ → Point FunctionError
-put_point scope h = (not (scope h), ExpressionAlreadyInScope h)
+abbrev pub put_point : Place → ℕ → Point FunctionError
+put_point place h = (not (is_in_scope place h), ExpressionAlreadyInScope h)

@@ -9,7 +9,7 @@ use Rattle.naga_below.specs.declared.ir.statements.RayQueryFunction.TheVariants 
 use Rattle.naga_below.specs.declared.ir.types.TypeInner.{TypeInner}
 use Rattle.naga_below.specs.declared.ir.types.TypeInner.TheVariants as inner
 use Rattle.naga_rules.specs.declared.function.FunctionError.TheVariants.{InvalidRayQueryExpression, InvalidRayQueryType, InvalidAccelerationStructure, MissingAccelerationStructureVertexReturn, InvalidRayDescriptor, InvalidHitDistanceType}
-use Rattle.naga_runs.specs.Handles.{Handles}
+use Rattle.naga_runs.specs.Visits.{Place}
 use Rattle.naga_valid.specs.Atomics.{is_float_kind}
 use Rattle.naga_valid.specs.Context.{Context}
 use Rattle.naga_valid.specs.Points.{Points, use_point, put_point}
@@ -41,9 +41,9 @@ is_set (Some flag) = flag
 is_set None = false
 
 -- an acceleration structure: in scope, and one
-abbrev pub structure_points : Context → Handles → ℕ → Points
-structure_points context scope structure =
-    use_point scope structure
+abbrev pub structure_points : Context → Place → ℕ → Points
+structure_points context place structure =
+    use_point place structure
     ∷ (is_some (structure_flag_at context structure), InvalidAccelerationStructure structure)
     ∷ []
 
@@ -52,9 +52,9 @@ abbrev pub descriptor_type : Context → Option TypeInner
 descriptor_type context = option_and_then (inner_at context.program.types) context.program.special_types.ray_desc
 
 -- the descriptor of a ray: in scope, and of the module's type of ray descriptors
-abbrev pub descriptor_points : Context → Handles → ℕ → Points
-descriptor_points context scope descriptor =
-    use_point scope descriptor
+abbrev pub descriptor_points : Context → Place → ℕ → Points
+descriptor_points context place descriptor =
+    use_point place descriptor
     ∷ (both_are is_same_inner (type_at context descriptor) (descriptor_type context), InvalidRayDescriptor descriptor)
     ∷ []
 
@@ -64,10 +64,10 @@ returned_points context query vertex_return structure =
     (not vertex_return || is_set (structure_flag_at context structure), MissingAccelerationStructureVertexReturn structure query)
     ∷ []
 
-abbrev pub initialize_points : Context → Handles → ℕ → Bool → ℕ → ℕ → Points
-initialize_points context scope query vertex_return structure descriptor =
-    structure_points context scope structure
-    ++ (returned_points context query vertex_return structure ++ descriptor_points context scope descriptor)
+abbrev pub initialize_points : Context → Place → ℕ → Bool → ℕ → ℕ → Points
+initialize_points context place query vertex_return structure descriptor =
+    structure_points context place structure
+    ++ (returned_points context query vertex_return structure ++ descriptor_points context place descriptor)
 
 -- a float of any width, and no vector
 abbrev pub is_float_scalar : Option TypeInner → Bool
@@ -75,30 +75,30 @@ is_float_scalar (Some (inner.Scalar s)) = is_float_kind s.kind
 is_float_scalar _ = false
 
 -- how far away a hit is
-abbrev pub distance_points : Context → Handles → ℕ → Points
-distance_points context scope distance =
-    use_point scope distance ∷ (is_float_scalar (type_at context distance), InvalidHitDistanceType distance) ∷ []
+abbrev pub distance_points : Context → Place → ℕ → Points
+distance_points context place distance =
+    use_point place distance ∷ (is_float_scalar (type_at context distance), InvalidHitDistanceType distance) ∷ []
 
 -- what is done with a query: Proceed puts its result, of any kind; to confirm an intersection or to end asks for nothing
-abbrev pub query_function_points : Context → Handles → ℕ → Bool → RayQueryFunction → Points
-query_function_points context scope q vertex_return (query.Initialize structure descriptor) = initialize_points context scope q vertex_return structure descriptor
-query_function_points context scope q vertex_return (query.Proceed result) = put_point scope result ∷ []
-query_function_points context scope q vertex_return (query.GenerateIntersection distance) = distance_points context scope distance
-query_function_points context scope q vertex_return _ = []
+abbrev pub query_function_points : Context → Place → ℕ → Bool → RayQueryFunction → Points
+query_function_points context place q vertex_return (query.Initialize structure descriptor) = initialize_points context place q vertex_return structure descriptor
+query_function_points context place q vertex_return (query.Proceed result) = put_point place result ∷ []
+query_function_points context place q vertex_return (query.GenerateIntersection distance) = distance_points context place distance
+query_function_points context place q vertex_return _ = []
 
-abbrev pub flagged_points : Context → Handles → ℕ → RayQueryFunction → Option Bool → Points
-flagged_points context scope query fun None = []
-flagged_points context scope query fun (Some vertex_return) = query_function_points context scope query vertex_return fun
+abbrev pub flagged_points : Context → Place → ℕ → RayQueryFunction → Option Bool → Points
+flagged_points context place query fun None = []
+flagged_points context place query fun (Some vertex_return) = query_function_points context place query vertex_return fun
 
 -- the variable: a ray query
-abbrev pub queried_points : Context → Handles → ℕ → RayQueryFunction → Option ℕ → Points
-queried_points context scope query fun None = []
-queried_points context scope query fun (Some ty) =
+abbrev pub queried_points : Context → Place → ℕ → RayQueryFunction → Option ℕ → Points
+queried_points context place query fun None = []
+queried_points context place query fun (Some ty) =
     (is_some (query_flag_of (inner_at context.program.types ty)), InvalidRayQueryType ty)
-    ∷ flagged_points context scope query fun (query_flag_of (inner_at context.program.types ty))
+    ∷ flagged_points context place query fun (query_flag_of (inner_at context.program.types ty))
 
 -- RayQuery: its query, a local, and what is done with it
-abbrev pub ray_query_points : Context → Handles → ℕ → RayQueryFunction → Points
-ray_query_points context scope query fun =
+abbrev pub ray_query_points : Context → Place → ℕ → RayQueryFunction → Points
+ray_query_points context place query fun =
     (is_some (local_type_at context query), InvalidRayQueryExpression query)
-    ∷ queried_points context scope query fun (local_type_at context query)
+    ∷ queried_points context place query fun (local_type_at context query)

@@ -7,7 +7,7 @@ use Rattle.naga_below.specs.declared.ir.types.AddressSpace.TheVariants as space
 use Rattle.naga_below.specs.declared.ir.types.TypeInner.{TypeInner}
 use Rattle.naga_below.specs.declared.ir.types.TypeInner.TheVariants as inner
 use Rattle.naga_rules.specs.declared.function.FunctionError.TheVariants.{InvalidPayloadType, InvalidPayloadAddressSpace, PayloadPointerNotGlobal, MismatchedPayloadType}
-use Rattle.naga_runs.specs.Handles.{Handles}
+use Rattle.naga_runs.specs.Visits.{Place}
 use Rattle.naga_valid.specs.Context.{Context}
 use Rattle.naga_valid.specs.Points.{Points, use_point}
 use Rattle.naga_valid.specs.RayQueries.{structure_points, descriptor_points}
@@ -36,12 +36,12 @@ pointed_points context so_far payload (Some (inner.Pointer base p)) =
 pointed_points context so_far payload _ = (false, InvalidPayloadType) ∷ []
 
 -- the payload: in scope, and of such a type
-abbrev pub payload_points : Context → Option ℕ → Handles → ℕ → Points
-payload_points context so_far scope payload =
-    use_point scope payload ∷ pointed_points context so_far payload (type_at context payload)
+abbrev pub payload_points : Context → Option ℕ → Place → ℕ → Points
+payload_points context so_far place payload =
+    use_point place payload ∷ pointed_points context so_far payload (type_at context payload)
 
 -- TraceRay: its acceleration structure, its payload and then its descriptor
-abbrev pub trace_ray_points : Context → Option ℕ → Handles → ℕ → ℕ → ℕ → Points
-trace_ray_points context so_far scope structure descriptor payload =
-    structure_points context scope structure
-    ++ (payload_points context so_far scope payload ++ descriptor_points context scope descriptor)
+abbrev pub trace_ray_points : Context → Option ℕ → Place → ℕ → ℕ → ℕ → Points
+trace_ray_points context so_far place structure descriptor payload =
+    structure_points context place structure
+    ++ (payload_points context so_far place payload ++ descriptor_points context place descriptor)

@@ -9,7 +9,6 @@ use Rattle.naga_below.specs.declared.valid.flags.ShaderStages.{ShaderStages}
 use Rattle.naga_below.specs.declared.valid.info.FunctionInfo.{FunctionInfo}
 use Rattle.naga_below.specs.declared.valid.info.ModuleInfo.{ModuleInfo}
 use Rattle.naga_rules.specs.declared.function.FunctionError.{FunctionError}
-use Rattle.naga_runs.specs.Handles.{Handles}
 use Rattle.naga_runs.specs.Judgement.{Rules, by_earlier}
 use Rattle.naga_runs.specs.Positions.{Node, NoNode, StatementNode, BreakIfNode}
 use Rattle.naga_runs.specs.Visits.{Place, Visit}
@@ -31,45 +30,45 @@ use Rattle.naga_valid.specs.Stores.{store_points}
 use Rattle.naga_valid.specs.Subgroups.{ballot_points, collective_points, gather_points}
 
 -- the check list of a statement that is neither a jump nor holds others, behind what the visits before it did
-abbrev pub leaf_points : Context → Past → Handles → Statement → Points
-leaf_points context past scope (ir.Emit range) = emit_points context scope range.start range.end
-leaf_points context past scope (ir.Call f arguments result) =
-    call_points context past.filled scope f arguments result
-leaf_points context past scope (ir.Atomic pointer fun value result) =
-    atomic_points context past.filled scope pointer fun value result
-leaf_points context past scope (ir.Store pointer value) = store_points context scope pointer value
-leaf_points context past scope (ir.WorkGroupUniformLoad pointer result) = load_points context scope pointer result
-leaf_points context past scope (ir.CooperativeStore target source) = cooperative_points context scope target source.pointer
-leaf_points context past scope (ir.ImageStore image coordinate array_index value) =
-    image_store_points context scope image (record { coordinate = coordinate; array_index = array_index }) value
-leaf_points context past scope (ir.ImageAtomic image coordinate array_index fun value) =
-    image_atomic_points context scope image (record { coordinate = coordinate; array_index = array_index }) fun value
-leaf_points context past scope (ir.ControlBarrier barrier) = barrier_points context.settings barrier
-leaf_points context past scope (ir.MemoryBarrier barrier) = barrier_points context.settings barrier
-leaf_points context past scope (ir.RayQuery query fun) = ray_query_points context scope query fun
-leaf_points context past scope (ir.RayPipelineFunction (TraceRay structure descriptor payload)) =
-    trace_ray_points context past.payload scope structure descriptor payload
-leaf_points context past scope (ir.SubgroupBallot result predicate) = ballot_points context scope result predicate
-leaf_points context past scope (ir.SubgroupGather mode argument result) = gather_points context scope mode argument result
-leaf_points context past scope (ir.SubgroupCollectiveOperation op collective_op argument result) =
-    collective_points context scope op collective_op argument result
-leaf_points context past scope _ = []
+abbrev pub leaf_points : Context → Past → Place → Statement → Points
+leaf_points context past place (ir.Emit range) = emit_points context place range.start range.end
+leaf_points context past place (ir.Call f arguments result) =
+    call_points context past.filled place f arguments result
+leaf_points context past place (ir.Atomic pointer fun value result) =
+    atomic_points context past.filled place pointer fun value result
+leaf_points context past place (ir.Store pointer value) = store_points context place pointer value
+leaf_points context past place (ir.WorkGroupUniformLoad pointer result) = load_points context place pointer result
+leaf_points context past place (ir.CooperativeStore target source) = cooperative_points context place target source.pointer
+leaf_points context past place (ir.ImageStore image coordinate array_index value) =
+    image_store_points context place image (record { coordinate = coordinate; array_index = array_index }) value
+leaf_points context past place (ir.ImageAtomic image coordinate array_index fun value) =
+    image_atomic_points context place image (record { coordinate = coordinate; array_index = array_index }) fun value
+leaf_points context past place (ir.ControlBarrier barrier) = barrier_points context.settings barrier
+leaf_points context past place (ir.MemoryBarrier barrier) = barrier_points context.settings barrier
+leaf_points context past place (ir.RayQuery query fun) = ray_query_points context place query fun
+leaf_points context past place (ir.RayPipelineFunction (TraceRay structure descriptor payload)) =
+    trace_ray_points context past.payload place structure descriptor payload
+leaf_points context past place (ir.SubgroupBallot result predicate) = ballot_points context place result predicate
+leaf_points context past place (ir.SubgroupGather mode argument result) = gather_points context place mode argument result
+leaf_points context past place (ir.SubgroupCollectiveOperation op collective_op argument result) =
+    collective_points context place op collective_op argument result
+leaf_points context past place _ = []
 
 -- the check list of a statement
 abbrev pub statement_points : Context → Past → Place → Stmt → Points
-statement_points context past place (Leaf acts statement span) = leaf_points context past place.scope statement
-statement_points context past place (Branch h accept reject) = condition_points context place.scope h
-statement_points context past place (Switch h cases) = switch_points context place.scope h cases
-statement_points context past place (Return value) = return_points context place.abilities place.scope value
-statement_points context past place Break = break_points place.abilities
-statement_points context past place Continue = continue_points place.abilities
+statement_points context past place (Leaf acts statement span) = leaf_points context past place statement
+statement_points context past place (Branch h accept reject) = condition_points context place h
+statement_points context past place (Switch h cases) = switch_points context place h cases
+statement_points context past place (Return value) = return_points context place value
+statement_points context past place Break = break_points place
+statement_points context past place Continue = continue_points place
 statement_points context past place _ = []
 
 -- the check list of what stands at a place
 abbrev pub points_at : Context → Past → Place → Node → Points
 points_at context past place NoNode = []
 points_at context past place (StatementNode x) = statement_points context past place x
-points_at context past place (BreakIfNode h) = condition_points context place.scope h
+points_at context past place (BreakIfNode h) = condition_points context place h
 
 -- each visit has its check list, asked with what the visits before it did
 abbrev pub body_rules : Context → Rules (List Visit) FunctionError

@@ -11,7 +11,7 @@ use Rattle.naga_below.specs.declared.ir.types.TypeInner.{TypeInner}
 use Rattle.naga_below.specs.declared.ir.types.TypeInner.TheVariants as inner
 use Rattle.naga_below.specs.declared.proc.typifier.TypeResolution.{TypeResolution}
 use Rattle.naga_rules.specs.declared.function.FunctionError.TheVariants.{InvalidStorePointer, InvalidStoreTexture, InvalidStoreTypes}
-use Rattle.naga_runs.specs.Handles.{Handles}
+use Rattle.naga_runs.specs.Visits.{Place}
 use Rattle.naga_valid.specs.Context.{Context}
 use Rattle.naga_valid.specs.Points.{Points, use_point}
 use Rattle.naga_below.specs.TypeTests.{is_scalar, is_same_type}
@@ -88,8 +88,8 @@ stored_points context pointer value =
     texture_points value (type_at context value) ++ place_points context pointer value
 
 -- Store: its pointer leads back to a variable or an argument; its value, and the place where it goes
-abbrev pub store_points : Context → Handles → ℕ → ℕ → Points
-store_points context scope pointer value =
+abbrev pub store_points : Context → Place → ℕ → ℕ → Points
+store_points context place pointer value =
     (is_variable (expression_at context (root_at context pointer)), InvalidStorePointer (root_at context pointer))
-    ∷ use_point scope value
+    ∷ use_point place value
     ∷ stored_points context pointer value

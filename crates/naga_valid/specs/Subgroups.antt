@@ -27,7 +27,7 @@ use Rattle.naga_rules.specs.declared.function.FunctionError.{FunctionError}
 use Rattle.naga_rules.specs.declared.function.FunctionError.TheVariants.{InvalidSubgroup, MissingCapability}
 use Rattle.naga_rules.specs.declared.function.SubgroupError.{SubgroupError}
 use Rattle.naga_rules.specs.declared.function.SubgroupError.TheVariants as wrong
-use Rattle.naga_runs.specs.Handles.{Handles}
+use Rattle.naga_runs.specs.Visits.{Place}
 use Rattle.naga_below.specs.Points.{Point}
 use Rattle.naga_valid.specs.Context.{Context}
 use Rattle.naga_valid.specs.Control.{is_bool_kind, is_integer}
@@ -56,15 +56,15 @@ target_points settings these =
     ∷ []
 
 -- the predicate, if there is one: in scope, and a bool of one byte
-abbrev pub predicate_points : Context → Handles → Option ℕ → Points
-predicate_points context scope None = []
-predicate_points context scope (Some h) =
-    use_point scope h ∷ subgroup_point (is_scalar bool_scalar (type_at context h)) (wrong.InvalidOperand h) ∷ []
+abbrev pub predicate_points : Context → Place → Option ℕ → Points
+predicate_points context place None = []
+predicate_points context place (Some h) =
+    use_point place h ∷ subgroup_point (is_scalar bool_scalar (type_at context h)) (wrong.InvalidOperand h) ∷ []
 
 -- SubgroupBallot: its predicate; its result is put, of whatever kind
-abbrev pub ballot_points : Context → Handles → ℕ → Option ℕ → Points
-ballot_points context scope r predicate =
-    target_points context.settings bit.BALLOT ++ (predicate_points context scope predicate ++ put_point scope r ∷ [])
+abbrev pub ballot_points : Context → Place → ℕ → Option ℕ → Points
+ballot_points context place r predicate =
+    target_points context.settings bit.BALLOT ++ (predicate_points context place predicate ++ put_point place r ∷ [])
 
 -- integers of either sign, and floats
 abbrev pub is_number_kind : ScalarKind → Bool
@@ -122,24 +122,24 @@ abbrev pub combined_type_at : Context → ℕ → Option TypeInner
 combined_type_at context r = combined_type_of context.program.types (expression_at context r)
 
 -- the result: it is put, and then looked at. It is one of a subgroup operation, of the argument's type
-abbrev pub combined_points : Context → Handles → ℕ → ℕ → Points
-combined_points context scope argument r =
-    put_point scope r
+abbrev pub combined_points : Context → Place → ℕ → ℕ → Points
+combined_points context place argument r =
+    put_point place r
     ∷ subgroup_point (both_are is_same_inner (combined_type_at context r) (type_at context argument)) (wrong.ResultTypeMismatch r)
     ∷ []
 
 -- the argument and the operation, then the result
-abbrev pub combination_points : Context → Handles → SubgroupOperation → CollectiveOperation → ℕ → ℕ → Points
-combination_points context scope o part argument r =
-    use_point scope argument
+abbrev pub combination_points : Context → Place → SubgroupOperation → CollectiveOperation → ℕ → ℕ → Points
+combination_points context place o part argument r =
+    use_point place argument
     ∷ subgroup_point (is_operand_of o (type_at context argument)) (wrong.InvalidOperand argument)
     ∷ subgroup_point (is_done_over part o) wrong.UnknownOperation
-    ∷ combined_points context scope argument r
+    ∷ combined_points context place argument r
 
 -- SubgroupCollectiveOperation: its argument, its operation, and its result
-abbrev pub collective_points : Context → Handles → SubgroupOperation → CollectiveOperation → ℕ → ℕ → Points
-collective_points context scope o part argument r =
-    target_points context.settings (operation_group o) ++ combination_points context scope o part argument r
+abbrev pub collective_points : Context → Place → SubgroupOperation → CollectiveOperation → ℕ → ℕ → Points
+collective_points context place o part argument r =
+    target_points context.settings (operation_group o) ++ combination_points context place o part argument r
 
 abbrev pub u32_scalar : Scalar
 u32_scalar = record { kind = kind.Uint; width = 4 }
@@ -169,10 +169,10 @@ abbrev pub is_const_at : Context → ℕ → Bool
 is_const_at context h = is_const (slice_get context.kinds h)
 
 -- the index, if there is one: in scope, a u32, and in a broadcast const. What is no u32 is told of the argument
-abbrev pub index_points : Context → Handles → Bool → ℕ → Option ℕ → Points
-index_points context scope broadcasts argument None = []
-index_points context scope broadcasts argument (Some index) =
-    use_point scope index
+abbrev pub index_points : Context → Place → Bool → ℕ → Option ℕ → Points
+index_points context place broadcasts argument None = []
+index_points context place broadcasts argument (Some index) =
+    use_point place index
     ∷ subgroup_point (is_scalar u32_scalar (type_at context index)) (wrong.InvalidOperand argument)
     ∷ subgroup_point (not broadcasts || is_const_at context index) (wrong.InvalidInvocationIdExprType index)
     ∷ []
@@ -184,18 +184,18 @@ is_gathered (Some (inner.Vector size s)) = is_number_kind s.kind
 is_gathered _ = false
 
 -- the argument, then the result
-abbrev pub gathered_points : Context → Handles → ℕ → ℕ → Points
-gathered_points context scope argument r =
-    use_point scope argument
+abbrev pub gathered_points : Context → Place → ℕ → ℕ → Points
+gathered_points context place argument r =
+    use_point place argument
     ∷ subgroup_point (is_gathered (type_at context argument)) (wrong.InvalidOperand argument)
-    ∷ combined_points context scope argument r
+    ∷ combined_points context place argument r
 
 -- the index, the argument and the result
-abbrev pub indexed_points : Context → Handles → GatherMode → ℕ → ℕ → Points
-indexed_points context scope mode argument r =
-    index_points context scope (is_broadcast mode) argument (index_of mode) ++ gathered_points context scope argument r
+abbrev pub indexed_points : Context → Place → GatherMode → ℕ → ℕ → Points
+indexed_points context place mode argument r =
+    index_points context place (is_broadcast mode) argument (index_of mode) ++ gathered_points context place argument r
 
 -- SubgroupGather: its index, its argument, and its result
-abbrev pub gather_points : Context → Handles → GatherMode → ℕ → ℕ → Points
-gather_points context scope mode argument r =
-    target_points context.settings (gather_group mode) ++ indexed_points context scope mode argument r
+abbrev pub gather_points : Context → Place → GatherMode → ℕ → ℕ → Points
+gather_points context place mode argument r =
+    target_points context.settings (gather_group mode) ++ indexed_points context place mode argument r

@@ -5,13 +5,12 @@ use Rattle.naga_below.specs.Tree.{Act, Use, Put, Stmt, Body, Done, Then, Cases}
 use Rattle.naga_below.specs.declared.ir.expressions.Expression.{Expression}
 use Rattle.naga_rules.specs.declared.function.FunctionError.{FunctionError}
 use Rattle.naga_runs.specs.ByTree.{judge, judge_body, judge_parts, judge_stmt, judge_cases, judge_break_if}
-use Rattle.naga_runs.specs.Handles.{no_handles}
 use Rattle.naga_runs.specs.Positions.{StatementNode}
 use Rattle.naga_runs.specs.PutsAndUses.{acts_of}
 use Rattle.naga_runs.specs.Visits.{Place}
 use Rattle.naga_runs.specs.declared.Abilities.{Abilities}
 use Rattle.naga_valid.specs.Context.{Context, if_pre_emitted}
-use Rattle.naga_valid.specs.Scope.{known}
+use Rattle.naga_valid.specs.CodePlace.{place_at}
 use Rattle.naga_valid.specs.State.{State, kept_rules}
 
 -- n handles from the first on
@@ -36,9 +35,9 @@ unfoldable pub body_puts : Body → List ℕ
 body_puts Done = []
 body_puts (Then x b) = puts x ++ body_puts b
 
--- the place where these are in scope. No check asks what every run has put
+-- the same with abilities. No check asks what every run has put
 abbrev pub place : Abilities → List ℕ → Place
-place abilities scope = record { abilities = abilities; scope = known scope; must = no_handles }
+place abilities scope = record (place_at scope) { abilities = abilities }
 
 module _ (context : Context) (state : State) (abilities : Abilities) (scope : List ℕ) where
   unfoldable pub own_answer : Stmt → Result State FunctionError

@@ -9,6 +9,7 @@ ghost use Rattle.naga_valid.specs.Answers.{AnswersPoints};
 ghost use Rattle.naga_valid.specs.Atomics.{atomic_at, is_int64, is_float32, is_min_or_max, is_plain_exchange, is_done_on_floats, is_storage, int64_capability, int64_points, float32_points, scalar_points, value_points, is_atomic_result, is_comparison, result_type_at, compared_points, uncompared_points, result_type_points, typed_points, named_points, atomic_result_points, operation_points, atomic_points};
 ghost use Rattle.naga_valid.specs.Context.{ContextFits};
 ghost use Rattle.naga_valid.specs.Scope.{known};
+ghost use Rattle.naga_valid.specs.CodePlace.{place_at};
 ghost use Rattle.naga_valid.specs.Seen.{context_of};
 ghost use Rattle.naga_valid.specs.Walk.{puts_of};
 
@@ -46,7 +47,7 @@ pub fn check_atomic(
     span: Span,
 ) -> Result<(), Refusal<FunctionError>>
     requires { ContextFits (context_of context.now) }
-    ensures fault { AnswersPoints (atomic_points (context_of context.now) (known filled.now) (known scope.old) pointer fun.now value named.now) result }
+    ensures fault { AnswersPoints (atomic_points (context_of context.now) (known filled.now) (place_at scope.old) pointer fun.now value named.now) result }
     ensures scope { OnOk result (scope.new ≡ scope.old ++ puts_of (put_if named.now)) }
 {
     let alloc = scope.allocator();
@@ -69,7 +70,7 @@ fn validate_atomic(
     named: Option<Handle<tag::Expression>>,
 ) -> Result<(), FunctionError>
     requires { ContextFits (context_of context.now) }
-    ensures { result_err result ≡ first_fault (atomic_points (context_of context.now) (known filled.now) (known scope.now) pointer fun.now value named) }
+    ensures { result_err result ≡ first_fault (atomic_points (context_of context.now) (known filled.now) (place_at scope.now) pointer fun.now value named) }
 {
     check_use(scope, pointer)?;
     match atomic_at(context, pointer) {
@@ -109,7 +110,7 @@ fn check_operation(
     named: Option<Handle<tag::Expression>>,
 ) -> Result<(), FunctionError>
     requires { ContextFits (context_of context.now) }
-    ensures { result_err result ≡ first_fault (operation_points (context_of context.now) (known filled.now) (known scope.now) fun.now value named (Some place.now)) }
+    ensures { result_err result ≡ first_fault (operation_points (context_of context.now) (known filled.now) (place_at scope.now) fun.now value named (Some place.now)) }
 {
     check_value(scope, context, place.scalar, value)?;
     check_scalar(context.settings.capabilities, place, fun, named.is_some())?;
@@ -123,7 +124,7 @@ fn check_value(
     scalar: Scalar,
     value: Handle<tag::Expression>,
 ) -> Result<(), FunctionError>
-    ensures { result_err result ≡ first_fault (value_points (context_of context.now) (known scope.now) scalar value) }
+    ensures { result_err result ≡ first_fault (value_points (context_of context.now) (place_at scope.now) scalar value) }
 {
     check_use(scope, value)?;
     if !is_scalar(scalar, context.type_inner(value)) {
@@ -241,7 +242,7 @@ fn check_atomic_result(
     named: Option<Handle<tag::Expression>>,
 ) -> Result<(), FunctionError>
     requires { ContextFits (context_of context.now) }
-    ensures { result_err result ≡ first_fault (atomic_result_points (context_of context.now) (known filled.now) (known scope.now) scalar fun.now value named) }
+    ensures { result_err result ≡ first_fault (atomic_result_points (context_of context.now) (known filled.now) (place_at scope.now) scalar fun.now value named) }
 {
     match named {
         Some(handle) => check_named(scope, filled, context, scalar, fun, value, handle),
@@ -272,7 +273,7 @@ fn check_named(
     handle: Handle<tag::Expression>,
 ) -> Result<(), FunctionError>
     requires { ContextFits (context_of context.now) }
-    ensures { result_err result ≡ first_fault (named_points (context_of context.now) (known filled.now) (known scope.now) scalar fun.now value handle) }
+    ensures { result_err result ≡ first_fault (named_points (context_of context.now) (known filled.now) (place_at scope.now) scalar fun.now value handle) }
 {
     if !is_atomic_result(context.expression(handle)) {
         let error = AtomicError::InvalidResultExpression(handle);
@@ -295,7 +296,7 @@ fn check_typed(
     handle: Handle<tag::Expression>,
 ) -> Result<(), FunctionError>
     requires { ContextFits (context_of context.now) }
-    ensures { result_err result ≡ first_fault (typed_points (context_of context.now) (known scope.now) scalar fun.now value handle) }
+    ensures { result_err result ≡ first_fault (typed_points (context_of context.now) (place_at scope.now) scalar fun.now value handle) }
 {
     check_result_type(scope, context, scalar, fun, value, handle)?;
     check_put(scope, handle)
@@ -317,7 +318,7 @@ fn check_result_type(
     handle: Handle<tag::Expression>,
 ) -> Result<(), FunctionError>
     requires { ContextFits (context_of context.now) }
-    ensures { result_err result ≡ first_fault (result_type_points (context_of context.now) (known scope.now) scalar fun.now value handle) }
+    ensures { result_err result ≡ first_fault (result_type_points (context_of context.now) (place_at scope.now) scalar fun.now value handle) }
 {
     match fun {
         AtomicFunction::Exchange {
@@ -337,7 +338,7 @@ fn check_compared(
     handle: Handle<tag::Expression>,
 ) -> Result<(), FunctionError>
     requires { ContextFits (context_of context.now) }
-    ensures { result_err result ≡ first_fault (compared_points (context_of context.now) (known scope.now) scalar compare value handle) }
+    ensures { result_err result ≡ first_fault (compared_points (context_of context.now) (place_at scope.now) scalar compare value handle) }
 {
     check_use(scope, compare)?;
     let program = context.program;

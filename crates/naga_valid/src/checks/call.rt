@@ -11,6 +11,7 @@ ghost use Rattle.naga_valid.specs.Answers.{AnswersPoints};
 ghost use Rattle.naga_valid.specs.Calls.{is_passed_as, argument_points, arguments_points, is_call_result_of, call_result_points, callee_points, call_points};
 ghost use Rattle.naga_valid.specs.Context.{ContextFits};
 ghost use Rattle.naga_valid.specs.Scope.{known};
+ghost use Rattle.naga_valid.specs.CodePlace.{place_at};
 ghost use Rattle.naga_valid.specs.Seen.{context_of};
 ghost use Rattle.naga_valid.specs.Walk.{puts_of};
 
@@ -40,7 +41,7 @@ pub fn check_call(
 ) -> Result<(), Refusal<FunctionError>>
     requires context { ContextFits (context_of context.now) }
     requires callee { CalleeFits (context_of context.now).program function }
-    ensures fault { AnswersPoints (call_points (context_of context.now) (known filled.now) (known scope.old) function arguments.now named.now) result }
+    ensures fault { AnswersPoints (call_points (context_of context.now) (known filled.now) (place_at scope.old) function arguments.now named.now) result }
     ensures scope { OnOk result (scope.new ≡ scope.old ++ puts_of (put_if named.now)) }
 {
     let alloc = scope.allocator();
@@ -76,7 +77,7 @@ fn validate_call(
 ) -> Result<(), CallError>
     requires context { ContextFits (context_of context.now) }
     requires callee { CalleeFits (context_of context.now).program function }
-    ensures { result_err result ≡ first_fault (callee_points (context_of context.now) (known filled.now) (known scope.now) function (slice_get (context_of context.now).program.functions function) arguments.now named) }
+    ensures { result_err result ≡ first_fault (callee_points (context_of context.now) (known filled.now) (place_at scope.now) function (slice_get (context_of context.now).program.functions function) arguments.now named) }
 {
     let callee = &context.program.functions[function];
     let checked = check_arguments(scope, context, callee.arguments.as_slice(), arguments);
@@ -96,7 +97,7 @@ fn check_arguments(
 ) -> Result<(), CallError>
     requires context { ContextFits (context_of context.now) }
     requires types { All (λ argument. argument.ty < length (context_of context.now).program.types) declared.now }
-    ensures { result_err result ≡ first_fault (arguments_points (context_of context.now) (known scope.now) declared.now given.now) }
+    ensures { result_err result ≡ first_fault (arguments_points (context_of context.now) (place_at scope.now) declared.now given.now) }
 {
     if declared.len() != given.len() {
         return Err(CallError::ArgumentCount {
@@ -120,7 +121,7 @@ fn check_argument(
 ) -> Result<(), CallError>
     requires context { ContextFits (context_of context.now) }
     requires declared { declared < length (context_of context.now).program.types }
-    ensures { result_err result ≡ first_fault (argument_points (context_of context.now) (known scope.now) index declared given) }
+    ensures { result_err result ≡ first_fault (argument_points (context_of context.now) (place_at scope.now) index declared given) }
 {
     if !scope.contains(given) {
         return Err(CallError::Argument {
@@ -150,7 +151,11 @@ fn is_passed_as(
 {
     match context.resolution(given) {
         None => false,
-        Some(given) => compare_types(&TypeResolution::Handle(declared), given, &context.program.types),
+        Some(given) => compare_types(
+            &TypeResolution::Handle(declared),
+            given,
+            &context.program.types,
+        ),
     }
 }
 
@@ -164,7 +169,7 @@ fn check_call_result(
     returns: bool,
     named: Option<Handle<tag::Expression>>,
 ) -> Result<(), CallError>
-    ensures { result_err result ≡ first_fault (call_result_points (context_of context.now) (known filled.now) (known scope.now) function returns named) }
+    ensures { result_err result ≡ first_fault (call_result_points (context_of context.now) (known filled.now) (place_at scope.now) function returns named) }
 {
     match named {
         Some(handle) => {

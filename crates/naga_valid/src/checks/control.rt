@@ -6,8 +6,8 @@ ghost use Rattle.std.specs.List.{list_any};
 ghost use Rattle.std.specs.Option.{option_copied};
 ghost use Rattle.naga_below.specs.Points.{first_fault};
 ghost use Rattle.naga_valid.specs.Control.{emit_points, is_result, is_bool_scalar, condition_points, is_integer, selector_points, has_signedness_of, is_default, repeated_fault, value_points, values_of, last_falls_through, cases_points, switch_points, declared_type, is_returned_as, return_points, break_points, continue_points};
-ghost use Rattle.naga_valid.specs.Scope.{known};
-ghost use Rattle.naga_valid.specs.Walk.{handles_between};
+ghost use Rattle.naga_valid.specs.CodePlace.{place_at};
+ghost use Rattle.naga_valid.specs.Walk.{handles_between, place};
 ghost use Rattle.naga_valid.specs.Answers.{AnswersPoints};
 ghost use Rattle.naga_valid.specs.Context.{ContextFits};
 ghost use Rattle.naga_valid.specs.Seen.{context_of};
@@ -38,7 +38,7 @@ pub fn check_emit(
     range: Range,
     span: Span,
 ) -> Result<(), Refusal<FunctionError>>
-    ensures fault { AnswersPoints (emit_points (context_of context.now) (known scope.old) range.start range.end) result }
+    ensures fault { AnswersPoints (emit_points (context_of context.now) (place_at scope.old) range.start range.end) result }
     ensures scope { OnOk result (scope.new ≡ scope.old ++ handles_between range.start range.end) }
 {
     for index in range.start..range.end {
@@ -78,7 +78,7 @@ pub fn check_condition(
     context: &BlockContext,
     condition: Handle<tag::Expression>,
 ) -> Result<(), FunctionError>
-    ensures { result_err result ≡ first_fault (condition_points (context_of context.now) (known scope.now) condition) }
+    ensures { result_err result ≡ first_fault (condition_points (context_of context.now) (place_at scope.now) condition) }
 {
     check_use(scope, condition)?;
     if !is_bool_scalar(context.type_inner(condition)) {
@@ -107,7 +107,7 @@ pub fn check_return(
     value: Option<Handle<tag::Expression>>,
 ) -> Result<(), FunctionError>
     requires { ContextFits (context_of context.now) }
-    ensures { result_err result ≡ first_fault (return_points (context_of context.now) abilities (known scope.now) value) }
+    ensures { result_err result ≡ first_fault (return_points (context_of context.now) (place abilities scope.now) value) }
 {
     if !abilities.can_return {
         return Err(FunctionError::InvalidReturnSpot);
@@ -158,14 +158,18 @@ fn is_returned_as(
         None => false,
         Some(declared) => match context.resolution(value) {
             None => false,
-            Some(given) => compare_types(given, &TypeResolution::Handle(declared), &context.program.types),
+            Some(given) => compare_types(
+                given,
+                &TypeResolution::Handle(declared),
+                &context.program.types,
+            ),
         },
     }
 }
 
 /// Break: allowed here.
 pub fn check_break(abilities: Abilities) -> Result<(), FunctionError>
-    ensures { result_err result ≡ first_fault (break_points abilities) }
+    ensures { result_err result ≡ first_fault (break_points (place abilities [])) }
 {
     if !abilities.can_break {
         return Err(FunctionError::BreakOutsideOfLoopOrSwitch);
@@ -175,7 +179,7 @@ pub fn check_break(abilities: Abilities) -> Result<(), FunctionError>
 
 /// Continue: allowed here.
 pub fn check_continue(abilities: Abilities) -> Result<(), FunctionError>
-    ensures { result_err result ≡ first_fault (continue_points abilities) }
+    ensures { result_err result ≡ first_fault (continue_points (place abilities [])) }
 {
     if !abilities.can_continue {
         return Err(FunctionError::ContinueOutsideOfLoop);
@@ -191,7 +195,7 @@ pub fn check_switch(
     cases: &[SwitchCase],
     span: Span,
 ) -> Result<(), Refusal<FunctionError>>
-    ensures { AnswersPoints (switch_points (context_of context.now) (known scope.now) selector (case_list cases.now)) result }
+    ensures { AnswersPoints (switch_points (context_of context.now) (place_at scope.now) selector (case_list cases.now)) result }
 {
     let alloc = scope.allocator();
     answer(alloc, check_selector(scope, context, selector), span)?;
@@ -204,7 +208,7 @@ fn check_selector(
     context: &BlockContext,
     selector: Handle<tag::Expression>,
 ) -> Result<(), FunctionError>
-    ensures { result_err result ≡ first_fault (selector_points (context_of context.now) (known scope.now) selector) }
+    ensures { result_err result ≡ first_fault (selector_points (context_of context.now) (place_at scope.now) selector) }
 {
     check_use(scope, selector)?;
     if !is_integer(context.scalar_kind(selector)) {

@@ -5,7 +5,7 @@ ghost use Rattle.std.specs.Result.{result_err};
 ghost use Rattle.naga_below.specs.Points.{first_fault};
 ghost use Rattle.naga_valid.specs.Context.{ContextFits};
 ghost use Rattle.naga_valid.specs.Cooperative.{matrix_scalar_at, base_scalar_at, data_points, cooperative_points};
-ghost use Rattle.naga_valid.specs.Scope.{known};
+ghost use Rattle.naga_valid.specs.CodePlace.{place_at};
 ghost use Rattle.naga_valid.specs.Seen.{context_of};
 
 use crate::checks::refuse::check_use;
@@ -25,7 +25,7 @@ pub fn check_cooperative_store(
     pointer: Handle<tag::Expression>,
 ) -> Result<(), FunctionError>
     requires { ContextFits (context_of context.now) }
-    ensures { result_err result ≡ first_fault (cooperative_points (context_of context.now) (known scope.now) target pointer) }
+    ensures { result_err result ≡ first_fault (cooperative_points (context_of context.now) (place_at scope.now) target pointer) }
 {
     check_use(scope, target)?;
     match matrix_scalar(context, target) {

@@ -6,7 +6,7 @@ ghost use Rattle.std.specs.Option.{option_copied};
 ghost use Rattle.naga_below.specs.Types.{inner_at};
 ghost use Rattle.naga_below.specs.Points.{first_fault};
 ghost use Rattle.naga_valid.specs.Images.{image_fault, global_type_at, image_global_at, image_of, element_of, storage_of, is_dimension, coordinate_points, is_integer_scalar, array_index_points, texel_points};
-ghost use Rattle.naga_valid.specs.Scope.{known};
+ghost use Rattle.naga_valid.specs.CodePlace.{place_at};
 ghost use Rattle.naga_valid.specs.Seen.{context_of};
 
 use crate::checks::control::is_integer;
@@ -151,7 +151,7 @@ pub fn check_texel(
     image: ImageShape,
     texel: Texel,
 ) -> Result<(), FunctionError>
-    ensures { result_err result ≡ first_fault (texel_points statement (context_of context.now) (known scope.now) image texel) }
+    ensures { result_err result ≡ first_fault (texel_points statement (context_of context.now) (place_at scope.now) image texel) }
 {
     check_coordinate(statement, scope, context, image.dim, texel.coordinate)?;
     check_array_index(statement, scope, context, image.arrayed, texel.array_index)
@@ -165,7 +165,7 @@ fn check_coordinate(
     dim: ImageDimension,
     coordinate: Handle<tag::Expression>,
 ) -> Result<(), FunctionError>
-    ensures { result_err result ≡ first_fault (coordinate_points statement (context_of context.now) (known scope.now) dim coordinate) }
+    ensures { result_err result ≡ first_fault (coordinate_points statement (context_of context.now) (place_at scope.now) dim coordinate) }
 {
     check_use(scope, coordinate)?;
     let given = match context.type_inner(coordinate) {
@@ -196,7 +196,7 @@ fn check_array_index(
     arrayed: bool,
     array_index: Option<Handle<tag::Expression>>,
 ) -> Result<(), FunctionError>
-    ensures { result_err result ≡ first_fault (array_index_points statement (context_of context.now) (known scope.now) arrayed array_index) }
+    ensures { result_err result ≡ first_fault (array_index_points statement (context_of context.now) (place_at scope.now) arrayed array_index) }
 {
     match array_index {
         Some(handle) => {

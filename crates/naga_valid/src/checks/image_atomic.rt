@@ -4,7 +4,7 @@ ghost use Rattle.std.specs.Prelude.{◌≡◌, Some};
 ghost use Rattle.std.specs.Result.{result_err};
 ghost use Rattle.naga_below.specs.Points.{first_fault};
 ghost use Rattle.naga_valid.specs.ImageAtomics.{changed_image, is_done_on_texels, operation_points, format_points, changed_value_points, changed_texel_points, changed_storage_points, changed_class_points, changed_image_points, changed_global_points, image_atomic_points};
-ghost use Rattle.naga_valid.specs.Scope.{known};
+ghost use Rattle.naga_valid.specs.CodePlace.{place_at};
 ghost use Rattle.naga_valid.specs.Seen.{context_of};
 
 use crate::checks::atomic::is_min_or_max;
@@ -34,7 +34,7 @@ pub fn check_image_atomic(
     fun: &AtomicFunction,
     value: Handle<tag::Expression>,
 ) -> Result<(), FunctionError>
-    ensures { result_err result ≡ first_fault (image_atomic_points (context_of context.now) (known scope.now) image texel fun.now value) }
+    ensures { result_err result ≡ first_fault (image_atomic_points (context_of context.now) (place_at scope.now) image texel fun.now value) }
 {
     match image_global(context, image) {
         Some(ty) => check_global(scope, context, texel, fun, value, ty),
@@ -54,7 +54,7 @@ fn check_global(
     value: Handle<tag::Expression>,
     ty: Handle<tag::Type>,
 ) -> Result<(), FunctionError>
-    ensures { result_err result ≡ first_fault (changed_global_points (context_of context.now) (known scope.now) texel fun.now value (Some ty)) }
+    ensures { result_err result ≡ first_fault (changed_global_points (context_of context.now) (place_at scope.now) texel fun.now value (Some ty)) }
 {
     match changed_image(context, ty) {
         Some(image) => check_image(scope, context, texel, fun, value, image),
@@ -85,7 +85,7 @@ fn check_image(
     value: Handle<tag::Expression>,
     image: ImageShape,
 ) -> Result<(), FunctionError>
-    ensures { result_err result ≡ first_fault (changed_image_points (context_of context.now) (known scope.now) texel fun.now value (Some image)) }
+    ensures { result_err result ≡ first_fault (changed_image_points (context_of context.now) (place_at scope.now) texel fun.now value (Some image)) }
 {
     check_texel(ImageStatement::Atomic, scope, context, image, texel)?;
     check_class(scope, context, fun, value, image)
@@ -99,7 +99,7 @@ fn check_class(
     value: Handle<tag::Expression>,
     image: ImageShape,
 ) -> Result<(), FunctionError>
-    ensures { result_err result ≡ first_fault (changed_class_points (context_of context.now) (known scope.now) fun.now value image) }
+    ensures { result_err result ≡ first_fault (changed_class_points (context_of context.now) (place_at scope.now) fun.now value image) }
 {
     match storage_of(image.class) {
         Some(storage) => check_storage(scope, context, fun, value, storage),
@@ -118,7 +118,7 @@ fn check_storage(
     value: Handle<tag::Expression>,
     storage: ImageStorage,
 ) -> Result<(), FunctionError>
-    ensures { result_err result ≡ first_fault (changed_storage_points (context_of context.now) (known scope.now) fun.now value (Some storage)) }
+    ensures { result_err result ≡ first_fault (changed_storage_points (context_of context.now) (place_at scope.now) fun.now value (Some storage)) }
 {
     if !storage.access.contains(StorageAccess::ATOMIC) {
         let error = ExpressionError::InvalidImageStorageAccess(storage.access);
@@ -136,7 +136,7 @@ fn check_changed(
     value: Handle<tag::Expression>,
     format: StorageFormat,
 ) -> Result<(), FunctionError>
-    ensures { result_err result ≡ first_fault (changed_texel_points (context_of context.now) (known scope.now) fun.now value format) }
+    ensures { result_err result ≡ first_fault (changed_texel_points (context_of context.now) (place_at scope.now) fun.now value format) }
 {
     check_format(context.settings.capabilities, format, fun)?;
     check_value(scope, context, format, value)
@@ -206,7 +206,7 @@ fn check_value(
     format: StorageFormat,
     value: Handle<tag::Expression>,
 ) -> Result<(), FunctionError>
-    ensures { result_err result ≡ first_fault (changed_value_points (context_of context.now) (known scope.now) format value) }
+    ensures { result_err result ≡ first_fault (changed_value_points (context_of context.now) (place_at scope.now) format value) }
 {
     check_use(scope, value)?;
     if !is_scalar(Scalar::from(format), context.type_inner(value)) {

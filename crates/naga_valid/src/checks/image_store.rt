@@ -5,7 +5,7 @@ ghost use Rattle.std.specs.Result.{result_err};
 ghost use Rattle.naga_below.specs.Points.{first_fault};
 ghost use Rattle.naga_valid.specs.Answers.{AnswersPoints};
 ghost use Rattle.naga_valid.specs.Images.{stored_image, texel_value_points, stored_texel_points, stored_image_points, stored_global_points, image_store_points};
-ghost use Rattle.naga_valid.specs.Scope.{known};
+ghost use Rattle.naga_valid.specs.CodePlace.{place_at};
 ghost use Rattle.naga_valid.specs.Seen.{context_of};
 ghost use Rattle.naga_valid.specs.Types.{type_at};
 
@@ -34,7 +34,7 @@ pub fn check_image_store(
     value: Handle<tag::Expression>,
     span: Span,
 ) -> Result<(), Refusal<FunctionError>>
-    ensures { AnswersPoints (image_store_points (context_of context.now) (known scope.now) image texel value) result }
+    ensures { AnswersPoints (image_store_points (context_of context.now) (place_at scope.now) image texel value) result }
 {
     let alloc = scope.allocator();
     let given = type_of(alloc, context, value)?;
@@ -66,7 +66,7 @@ fn validate_image_store(
     given: Option<TypeInner>,
 ) -> Result<(), FunctionError>
     requires { given ≡ type_at (context_of context.now) value }
-    ensures { result_err result ≡ first_fault (image_store_points (context_of context.now) (known scope.now) image texel value) }
+    ensures { result_err result ≡ first_fault (image_store_points (context_of context.now) (place_at scope.now) image texel value) }
 {
     let is_element = access_base(context.expression(image)).is_some();
     match image_global(context, image) {
@@ -89,7 +89,7 @@ fn check_global(
     ty: Handle<tag::Type>,
 ) -> Result<(), FunctionError>
     requires { given ≡ type_at (context_of context.now) value }
-    ensures { result_err result ≡ first_fault (stored_global_points (context_of context.now) (known scope.now) is_element texel value (Some ty)) }
+    ensures { result_err result ≡ first_fault (stored_global_points (context_of context.now) (place_at scope.now) is_element texel value (Some ty)) }
 {
     if is_element && element_of(inner_at(context, ty)).is_none() {
         let error = ExpressionError::ExpectedBindingArrayType(ty);
@@ -132,7 +132,7 @@ fn check_image(
     given: Option<TypeInner>,
 ) -> Result<(), FunctionError>
     requires { given ≡ type_at (context_of context.now) value }
-    ensures { result_err result ≡ first_fault (stored_image_points (context_of context.now) (known scope.now) texel value (Some image)) }
+    ensures { result_err result ≡ first_fault (stored_image_points (context_of context.now) (place_at scope.now) texel value (Some image)) }
 {
     match storage_of(image.class) {
         Some(storage) => check_stored(scope, context, image, texel, value, given, storage),
@@ -155,7 +155,7 @@ fn check_stored(
     storage: ImageStorage,
 ) -> Result<(), FunctionError>
     requires { given ≡ type_at (context_of context.now) value }
-    ensures { result_err result ≡ first_fault (stored_texel_points (context_of context.now) (known scope.now) image texel value (Some storage)) }
+    ensures { result_err result ≡ first_fault (stored_texel_points (context_of context.now) (place_at scope.now) image texel value (Some storage)) }
 {
     check_texel(ImageStatement::Store, scope, context, image, texel)?;
     check_texel_value(scope, context, storage.format, value, given)
@@ -170,7 +170,7 @@ fn check_texel_value(
     given: Option<TypeInner>,
 ) -> Result<(), FunctionError>
     requires { given ≡ type_at (context_of context.now) value }
-    ensures { result_err result ≡ first_fault (texel_value_points (context_of context.now) (known scope.now) format value) }
+    ensures { result_err result ≡ first_fault (texel_value_points (context_of context.now) (place_at scope.now) format value) }
 {
     check_use(scope, value)?;
     let expected_ty = TypeInner::Vector {

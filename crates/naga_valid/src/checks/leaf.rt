@@ -6,7 +6,7 @@ ghost use Rattle.naga_valid.specs.Blocks.{tree_of};
 ghost use Rattle.naga_valid.specs.Context.{ContextFits};
 ghost use Rattle.naga_valid.specs.Ready.{IsStatementReady};
 ghost use Rattle.naga_valid.specs.Rules.{leaf_points};
-ghost use Rattle.naga_valid.specs.Scope.{known};
+ghost use Rattle.naga_valid.specs.CodePlace.{place_at};
 ghost use Rattle.naga_valid.specs.Seen.{context_of};
 ghost use Rattle.naga_valid.specs.State.{seen};
 ghost use Rattle.naga_valid.specs.Walk.{puts};
@@ -44,7 +44,7 @@ pub fn check_leaf(
 ) -> Result<(), Refusal<FunctionError>>
     requires context { ContextFits (context_of context.now) }
     requires statement { IsStatementReady (context_of context.now) (tree_of (context_of context.now) located.now) }
-    ensures fault { AnswersPoints (leaf_points (context_of context.now) (seen state.now) (known scope.old) located.now.statement) result }
+    ensures fault { AnswersPoints (leaf_points (context_of context.now) (seen state.now) (place_at scope.old) located.now.statement) result }
     ensures scope { OnOk result (scope.new ≡ scope.old ++ puts (tree_of (context_of context.now) located.now)) }
 {
     let span = located.span;

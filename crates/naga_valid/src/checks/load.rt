@@ -7,7 +7,7 @@ ghost use Rattle.naga_below.specs.Points.{first_fault};
 ghost use Rattle.naga_valid.specs.Answers.{AnswersPoints};
 ghost use Rattle.naga_valid.specs.Context.{ContextFits};
 ghost use Rattle.naga_valid.specs.Loads.{is_work_group, loaded_type_at, points_to, loaded_points, load_points};
-ghost use Rattle.naga_valid.specs.Scope.{known};
+ghost use Rattle.naga_valid.specs.CodePlace.{place_at};
 ghost use Rattle.naga_valid.specs.Seen.{context_of};
 
 use crate::checks::atomic::atomic_at;
@@ -32,7 +32,7 @@ pub fn check_load(
     span: Span,
 ) -> Result<(), Refusal<FunctionError>>
     requires { ContextFits (context_of context.now) }
-    ensures fault { AnswersPoints (load_points (context_of context.now) (known scope.old) pointer loaded) result }
+    ensures fault { AnswersPoints (load_points (context_of context.now) (place_at scope.old) pointer loaded) result }
     ensures scope { OnOk result (scope.new ≡ scope.old ++ loaded ∷ []) }
 {
     let alloc = scope.allocator();
@@ -50,7 +50,7 @@ fn validate_load(
     loaded: Handle<tag::Expression>,
 ) -> Result<(), FunctionError>
     requires { ContextFits (context_of context.now) }
-    ensures { result_err result ≡ first_fault (load_points (context_of context.now) (known scope.now) pointer loaded) }
+    ensures { result_err result ≡ first_fault (load_points (context_of context.now) (place_at scope.now) pointer loaded) }
 {
     check_use(scope, pointer)?;
     if !is_work_group(space(context, pointer)) {

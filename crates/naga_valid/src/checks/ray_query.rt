@@ -7,7 +7,7 @@ ghost use Rattle.naga_below.specs.View.{query_acts};
 ghost use Rattle.naga_below.specs.Points.{first_fault};
 ghost use Rattle.naga_valid.specs.Answers.{AnswersPoints};
 ghost use Rattle.naga_valid.specs.RayQueries.{local_type_at, query_flag_of, structure_flag_at, structure_points, descriptor_type, descriptor_points, returned_points, initialize_points, is_float_scalar, distance_points, query_function_points, queried_points, ray_query_points};
-ghost use Rattle.naga_valid.specs.Scope.{known};
+ghost use Rattle.naga_valid.specs.CodePlace.{place_at};
 ghost use Rattle.naga_valid.specs.Seen.{context_of};
 ghost use Rattle.naga_below.specs.TypeTests.{both_are, is_same_inner};
 ghost use Rattle.naga_valid.specs.Types.{type_at};
@@ -34,7 +34,7 @@ pub fn check_ray_query(
     fun: &RayQueryFunction,
     span: Span,
 ) -> Result<(), Refusal<FunctionError>>
-    ensures fault { AnswersPoints (ray_query_points (context_of context.now) (known scope.old) query fun.now) result }
+    ensures fault { AnswersPoints (ray_query_points (context_of context.now) (place_at scope.old) query fun.now) result }
     ensures scope { OnOk result (scope.new ≡ scope.old ++ puts_of (query_acts fun.now)) }
 {
     let alloc = scope.allocator();
@@ -53,7 +53,7 @@ fn validate_ray_query(
     query: Handle<tag::Expression>,
     fun: &RayQueryFunction,
 ) -> Result<(), FunctionError>
-    ensures { result_err result ≡ first_fault (ray_query_points (context_of context.now) (known scope.now) query fun.now) }
+    ensures { result_err result ≡ first_fault (ray_query_points (context_of context.now) (place_at scope.now) query fun.now) }
 {
     match local_type(context, query) {
         Some(ty) => check_queried(scope, context, query, fun, ty),
@@ -87,7 +87,7 @@ fn check_queried(
     fun: &RayQueryFunction,
     ty: Handle<tag::Type>,
 ) -> Result<(), FunctionError>
-    ensures { result_err result ≡ first_fault (queried_points (context_of context.now) (known scope.now) query fun.now (Some ty)) }
+    ensures { result_err result ≡ first_fault (queried_points (context_of context.now) (place_at scope.now) query fun.now (Some ty)) }
 {
     match query_flag_of(inner_at(context, ty)) {
         Some(vertex_return) => check_query_function(scope, context, query, vertex_return, fun),
@@ -113,7 +113,7 @@ fn check_query_function(
     vertex_return: bool,
     fun: &RayQueryFunction,
 ) -> Result<(), FunctionError>
-    ensures { result_err result ≡ first_fault (query_function_points (context_of context.now) (known scope.now) query vertex_return fun.now) }
+    ensures { result_err result ≡ first_fault (query_function_points (context_of context.now) (place_at scope.now) query vertex_return fun.now) }
 {
     match fun {
         RayQueryFunction::Initialize {
@@ -142,7 +142,7 @@ fn check_initialize(
     structure: Handle<tag::Expression>,
     descriptor: Handle<tag::Expression>,
 ) -> Result<(), FunctionError>
-    ensures { result_err result ≡ first_fault (initialize_points (context_of context.now) (known scope.now) query vertex_return structure descriptor) }
+    ensures { result_err result ≡ first_fault (initialize_points (context_of context.now) (place_at scope.now) query vertex_return structure descriptor) }
 {
     check_structure(scope, context, structure)?;
     check_returned(context, query, vertex_return, structure)?;
@@ -155,7 +155,7 @@ pub fn check_structure(
     context: &BlockContext,
     structure: Handle<tag::Expression>,
 ) -> Result<(), FunctionError>
-    ensures { result_err result ≡ first_fault (structure_points (context_of context.now) (known scope.now) structure) }
+    ensures { result_err result ≡ first_fault (structure_points (context_of context.now) (place_at scope.now) structure) }
 {
     check_use(scope, structure)?;
     if structure_flag(context, structure).is_none() {
@@ -199,7 +199,7 @@ pub fn check_descriptor(
     context: &BlockContext,
     descriptor: Handle<tag::Expression>,
 ) -> Result<(), FunctionError>
-    ensures { result_err result ≡ first_fault (descriptor_points (context_of context.now) (known scope.now) descriptor) }
+    ensures { result_err result ≡ first_fault (descriptor_points (context_of context.now) (place_at scope.now) descriptor) }
 {
     check_use(scope, descriptor)?;
     if !is_descriptor(context, descriptor) {
@@ -231,7 +231,7 @@ fn check_distance(
     context: &BlockContext,
     distance: Handle<tag::Expression>,
 ) -> Result<(), FunctionError>
-    ensures { result_err result ≡ first_fault (distance_points (context_of context.now) (known scope.now) distance) }
+    ensures { result_err result ≡ first_fault (distance_points (context_of context.now) (place_at scope.now) distance) }
 {
     check_use(scope, distance)?;
     if !is_float_scalar(context.type_inner(distance)) {

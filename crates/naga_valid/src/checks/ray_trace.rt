@@ -7,7 +7,7 @@ ghost use Rattle.naga_below.specs.Points.{first_fault};
 ghost use Rattle.naga_runs.specs.Positions.{StatementNode};
 ghost use Rattle.naga_valid.specs.Blocks.{tree_of};
 ghost use Rattle.naga_valid.specs.RayTraces.{is_payload_space, is_global, same_payload_points, pointed_points, payload_points, trace_ray_points};
-ghost use Rattle.naga_valid.specs.Scope.{known};
+ghost use Rattle.naga_valid.specs.CodePlace.{place_at};
 ghost use Rattle.naga_valid.specs.Seen.{context_of};
 ghost use Rattle.naga_valid.specs.Traces.{payload_type_at, lacks_vertex_return, span_where, vertex_return_by, with_trace};
 ghost use Rattle.naga_valid.specs.Types.{type_at};
@@ -34,7 +34,7 @@ pub fn check_trace_ray(
     descriptor: Handle<tag::Expression>,
     payload: Handle<tag::Expression>,
 ) -> Result<(), FunctionError>
-    ensures { result_err result ≡ first_fault (trace_ray_points (context_of context.now) so_far.now (known scope.now) structure descriptor payload) }
+    ensures { result_err result ≡ first_fault (trace_ray_points (context_of context.now) so_far.now (place_at scope.now) structure descriptor payload) }
 {
     check_structure(scope, context, structure)?;
     check_payload(scope, context, so_far, payload)?;
@@ -48,7 +48,7 @@ fn check_payload(
     so_far: &Option<Handle<tag::Type>>,
     payload: Handle<tag::Expression>,
 ) -> Result<(), FunctionError>
-    ensures { result_err result ≡ first_fault (payload_points (context_of context.now) so_far.now (known scope.now) payload) }
+    ensures { result_err result ≡ first_fault (payload_points (context_of context.now) so_far.now (place_at scope.now) payload) }
 {
     check_use(scope, payload)?;
     check_pointed(context, so_far, payload, context.type_inner(payload))

@@ -5,7 +5,7 @@ ghost use Rattle.std.specs.Result.{result_err};
 ghost use Rattle.naga_below.specs.Points.{first_fault};
 ghost use Rattle.naga_valid.specs.Answers.{AnswersPoints, IsRefusalFor};
 ghost use Rattle.naga_valid.specs.Points.{Points, use_point, put_point};
-ghost use Rattle.naga_valid.specs.Scope.{known};
+ghost use Rattle.naga_valid.specs.CodePlace.{place_at};
 
 use crate::handle_set::HandleSet;
 use naga_below::arena::handle::Handle;
@@ -17,7 +17,7 @@ use std::alloc::Global;
 
 /// A use: the expression is in scope.
 pub fn check_use(scope: &HandleSet, handle: Handle<tag::Expression>) -> Result<(), FunctionError>
-    ensures { result_err result ≡ first_fault (use_point (known scope.now) handle ∷ []) }
+    ensures { result_err result ≡ first_fault (use_point (place_at scope.now) handle ∷ []) }
 {
     if !scope.contains(handle) {
         return Err(FunctionError::Expression {
@@ -30,7 +30,7 @@ pub fn check_use(scope: &HandleSet, handle: Handle<tag::Expression>) -> Result<(
 
 /// A put, before it is made: the expression is not in scope.
 pub fn check_put(scope: &HandleSet, handle: Handle<tag::Expression>) -> Result<(), FunctionError>
-    ensures { result_err result ≡ first_fault (put_point (known scope.now) handle ∷ []) }
+    ensures { result_err result ≡ first_fault (put_point (place_at scope.now) handle ∷ []) }
 {
     if scope.contains(handle) {
         return Err(FunctionError::ExpressionAlreadyInScope(handle));

@@ -7,7 +7,7 @@ ghost use Rattle.naga_valid.specs.Context.{ContextFits};
 ghost use Rattle.naga_valid.specs.Control.{break_if_points};
 ghost use Rattle.naga_valid.specs.Ready.{IsStatementReady};
 ghost use Rattle.naga_valid.specs.Rules.{statement_points};
-ghost use Rattle.naga_valid.specs.Scope.{known};
+ghost use Rattle.naga_valid.specs.CodePlace.{place_at};
 ghost use Rattle.naga_valid.specs.Seen.{context_of};
 ghost use Rattle.naga_valid.specs.State.{seen};
 ghost use Rattle.naga_valid.specs.Walk.{place, puts};
@@ -65,7 +65,7 @@ pub fn check_break_if(
     break_if: Option<Handle<tag::Expression>>,
     span: Span,
 ) -> Result<(), Refusal<FunctionError>>
-    ensures { AnswersPoints (break_if_points (context_of context.now) (known scope.now) break_if) result }
+    ensures { AnswersPoints (break_if_points (context_of context.now) (place_at scope.now) break_if) result }
 {
     match break_if {
         Some(condition) => {

@@ -6,7 +6,7 @@ ghost use Rattle.std.specs.Option.{option_copied};
 ghost use Rattle.naga_below.specs.Types.{ResolutionFits};
 ghost use Rattle.naga_below.specs.Points.{first_fault};
 ghost use Rattle.naga_valid.specs.Context.{ContextFits};
-ghost use Rattle.naga_valid.specs.Scope.{known};
+ghost use Rattle.naga_valid.specs.CodePlace.{place_at};
 ghost use Rattle.naga_valid.specs.Seen.{context_of};
 ghost use Rattle.naga_valid.specs.Stores.{access_base, root_at, is_variable, base_type_at, space_at, is_writable, texture_points, is_stored_as, place_points, stored_points, store_points};
 
@@ -31,7 +31,7 @@ pub fn check_store(
     value: Handle<tag::Expression>,
 ) -> Result<(), FunctionError>
     requires { ContextFits (context_of context.now) }
-    ensures { result_err result ≡ first_fault (store_points (context_of context.now) (known scope.now) pointer value) }
+    ensures { result_err result ≡ first_fault (store_points (context_of context.now) (place_at scope.now) pointer value) }
 {
     let root = root_of(context, pointer);
     if !is_variable(context.expression(root)) {

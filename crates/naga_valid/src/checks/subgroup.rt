@@ -5,7 +5,7 @@ ghost use Rattle.std.specs.Option.{option_copied};
 ghost use Rattle.std.specs.Result.{result_err};
 ghost use Rattle.naga_below.specs.Points.{first_fault};
 ghost use Rattle.naga_valid.specs.Answers.{AnswersPoints};
-ghost use Rattle.naga_valid.specs.Scope.{known};
+ghost use Rattle.naga_valid.specs.CodePlace.{place_at};
 ghost use Rattle.naga_valid.specs.Seen.{context_of};
 ghost use Rattle.naga_valid.specs.Subgroups.{operations_point, target_points, predicate_points, ballot_points, is_number_kind, combined_type_at, combined_points};
 
@@ -56,7 +56,7 @@ pub fn check_ballot(
     predicate: &Option<Handle<tag::Expression>>,
     span: Span,
 ) -> Result<(), Refusal<FunctionError>>
-    ensures fault { AnswersPoints (ballot_points (context_of context.now) (known scope.old) ballot predicate.now) result }
+    ensures fault { AnswersPoints (ballot_points (context_of context.now) (place_at scope.old) ballot predicate.now) result }
     ensures scope { OnOk result (scope.new ≡ scope.old ++ ballot ∷ []) }
 {
     let alloc = scope.allocator();
@@ -74,7 +74,7 @@ fn validate_ballot(
     ballot: Handle<tag::Expression>,
     predicate: &Option<Handle<tag::Expression>>,
 ) -> Result<(), FunctionError>
-    ensures { result_err result ≡ first_fault (ballot_points (context_of context.now) (known scope.now) ballot predicate.now) }
+    ensures { result_err result ≡ first_fault (ballot_points (context_of context.now) (place_at scope.now) ballot predicate.now) }
 {
     check_target(&context.settings, SubgroupOperationSet::BALLOT)?;
     check_predicate(scope, context, predicate)?;
@@ -87,7 +87,7 @@ fn check_predicate(
     context: &BlockContext,
     predicate: &Option<Handle<tag::Expression>>,
 ) -> Result<(), FunctionError>
-    ensures { result_err result ≡ first_fault (predicate_points (context_of context.now) (known scope.now) predicate.now) }
+    ensures { result_err result ≡ first_fault (predicate_points (context_of context.now) (place_at scope.now) predicate.now) }
 {
     match predicate {
         Some(handle) => {
@@ -119,7 +119,7 @@ pub fn check_combined(
     argument: Handle<tag::Expression>,
     combined: Handle<tag::Expression>,
 ) -> Result<(), FunctionError>
-    ensures { result_err result ≡ first_fault (combined_points (context_of context.now) (known scope.now) argument combined) }
+    ensures { result_err result ≡ first_fault (combined_points (context_of context.now) (place_at scope.now) argument combined) }
 {
     check_put(scope, combined)?;
     if !are_same_inners(

@@ -5,7 +5,7 @@ ghost use Rattle.std.specs.Option.{option_copied};
 ghost use Rattle.std.specs.Result.{result_err};
 ghost use Rattle.naga_below.specs.Points.{first_fault};
 ghost use Rattle.naga_valid.specs.Answers.{AnswersPoints};
-ghost use Rattle.naga_valid.specs.Scope.{known};
+ghost use Rattle.naga_valid.specs.CodePlace.{place_at};
 ghost use Rattle.naga_valid.specs.Seen.{context_of};
 ghost use Rattle.naga_valid.specs.Subgroups.{is_wide_integer, is_combined_by, takes_vectors, is_operand_of, is_scanned, is_done_over, combination_points, collective_points};
 
@@ -31,7 +31,7 @@ pub fn check_collective(
     combined: Handle<tag::Expression>,
     span: Span,
 ) -> Result<(), Refusal<FunctionError>>
-    ensures fault { AnswersPoints (collective_points (context_of context.now) (known scope.old) operation part argument combined) result }
+    ensures fault { AnswersPoints (collective_points (context_of context.now) (place_at scope.old) operation part argument combined) result }
     ensures scope { OnOk result (scope.new ≡ scope.old ++ combined ∷ []) }
 {
     let alloc = scope.allocator();
@@ -51,7 +51,7 @@ fn validate_collective(
     argument: Handle<tag::Expression>,
     combined: Handle<tag::Expression>,
 ) -> Result<(), FunctionError>
-    ensures { result_err result ≡ first_fault (collective_points (context_of context.now) (known scope.now) operation part argument combined) }
+    ensures { result_err result ≡ first_fault (collective_points (context_of context.now) (place_at scope.now) operation part argument combined) }
 {
     check_target(&context.settings, operation.required_operations())?;
     check_combination(scope, context, operation, part, argument, combined)
@@ -66,7 +66,7 @@ fn check_combination(
     argument: Handle<tag::Expression>,
     combined: Handle<tag::Expression>,
 ) -> Result<(), FunctionError>
-    ensures { result_err result ≡ first_fault (combination_points (context_of context.now) (known scope.now) operation part argument combined) }
+    ensures { result_err result ≡ first_fault (combination_points (context_of context.now) (place_at scope.now) operation part argument combined) }
 {
     check_use(scope, argument)?;
     if !is_operand_of(operation, context.type_inner(argument)) {

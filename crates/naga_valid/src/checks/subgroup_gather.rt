@@ -5,7 +5,7 @@ ghost use Rattle.std.specs.Option.{option_copied};
 ghost use Rattle.std.specs.Result.{result_err};
 ghost use Rattle.naga_below.specs.Points.{first_fault};
 ghost use Rattle.naga_valid.specs.Answers.{AnswersPoints};
-ghost use Rattle.naga_valid.specs.Scope.{known};
+ghost use Rattle.naga_valid.specs.CodePlace.{place_at};
 ghost use Rattle.naga_valid.specs.Seen.{context_of};
 ghost use Rattle.naga_valid.specs.Subgroups.{index_of, is_broadcast, is_const_at, index_points, is_gathered, gathered_points, indexed_points, gather_points};
 
@@ -30,7 +30,7 @@ pub fn check_gather(
     gathered: Handle<tag::Expression>,
     span: Span,
 ) -> Result<(), Refusal<FunctionError>>
-    ensures fault { AnswersPoints (gather_points (context_of context.now) (known scope.old) mode.now argument gathered) result }
+    ensures fault { AnswersPoints (gather_points (context_of context.now) (place_at scope.old) mode.now argument gathered) result }
     ensures scope { OnOk result (scope.new ≡ scope.old ++ gathered ∷ []) }
 {
     let alloc = scope.allocator();
@@ -49,7 +49,7 @@ fn validate_gather(
     argument: Handle<tag::Expression>,
     gathered: Handle<tag::Expression>,
 ) -> Result<(), FunctionError>
-    ensures { result_err result ≡ first_fault (gather_points (context_of context.now) (known scope.now) mode.now argument gathered) }
+    ensures { result_err result ≡ first_fault (gather_points (context_of context.now) (place_at scope.now) mode.now argument gathered) }
 {
     check_target(&context.settings, mode.required_operations())?;
     check_indexed(scope, context, mode, argument, gathered)
@@ -64,7 +64,7 @@ fn check_indexed(
     argument: Handle<tag::Expression>,
     gathered: Handle<tag::Expression>,
 ) -> Result<(), FunctionError>
-    ensures { result_err result ≡ first_fault (indexed_points (context_of context.now) (known scope.now) mode.now argument gathered) }
+    ensures { result_err result ≡ first_fault (indexed_points (context_of context.now) (place_at scope.now) mode.now argument gathered) }
 {
     if let Some(index) = index_of(mode) {
         check_index(scope, context, is_broadcast(mode), argument, index)?;
@@ -105,7 +105,7 @@ fn check_index(
     argument: Handle<tag::Expression>,
     index: Handle<tag::Expression>,
 ) -> Result<(), FunctionError>
-    ensures { result_err result ≡ first_fault (index_points (context_of context.now) (known scope.now) broadcasts argument (Some index)) }
+    ensures { result_err result ≡ first_fault (index_points (context_of context.now) (place_at scope.now) broadcasts argument (Some index)) }
 {
     check_use(scope, index)?;
     if !is_scalar(Scalar::U32, context.type_inner(index)) {
@@ -133,7 +133,7 @@ fn check_gathered(
     argument: Handle<tag::Expression>,
     gathered: Handle<tag::Expression>,
 ) -> Result<(), FunctionError>
-    ensures { result_err result ≡ first_fault (gathered_points (context_of context.now) (known scope.now) argument gathered) }
+    ensures { result_err result ≡ first_fault (gathered_points (context_of context.now) (place_at scope.now) argument gathered) }
 {
     check_use(scope, argument)?;
     if !is_gathered(context.type_inner(argument)) {

@@ -2,6 +2,7 @@ use Rattle.std.proofs.Common.{rules, slice_get, sym, ap, ◌∙◌}
 use Rattle.std.specs.Option.{option_map}
 use Rattle.naga_rules.specs.declared.function.FunctionError.TheVariants.{InvalidCall}
 use Rattle.naga_valid.specs.Calls.{callee_points, call_points}
+use Rattle.naga_valid.specs.CodePlace.{place_at}
 use Rattle.naga_valid.specs.Scope.{known}
 use Rattle.naga_valid.specs.Seen.{context_of}
 use Rattle.naga_valid.proofs.Calls.{callee_holds, result_is_new}
@@ -12,7 +13,7 @@ pub returns-in_err-answer-clause-fault : goal.returns-in_err-answer-clause-fault
 returns-in_err-answer-clause-fault c =
     let context = context_of c.args.context.now in
     let filled = known c.args.filled.now in
-    let s = known c.args.scope.now in
+    let s = place_at c.args.scope.now in
     let f = c.args.function in
     let points = call_points context filled s f c.args.arguments.now c.args.named.now in
     let inside = callee_points context filled s f (slice_get context.program.functions f) c.args.arguments.now c.args.named.now in
@@ -24,7 +25,7 @@ pub put-requires : goal.put-requires
 put-requires c =
     let context = context_of c.args.context.now in
     let filled = known c.args.filled.now in
-    let s = known c.args.scope.now in
+    let s = place_at c.args.scope.now in
     let f = c.args.function in
     let points = call_points context filled s f c.args.arguments.now c.args.named.now in
     let callee = slice_get context.program.functions f in
@@ -37,7 +38,7 @@ pub returns-clause-fault : goal.returns-clause-fault
 returns-clause-fault c =
     let context = context_of c.args.context.now in
     let filled = known c.args.filled.now in
-    let s = known c.args.scope.now in
+    let s = place_at c.args.scope.now in
     let f = c.args.function in
     let points = call_points context filled s f c.args.arguments.now c.args.named.now in
     let inside = callee_points context filled s f (slice_get context.program.functions f) c.args.arguments.now c.args.named.now in

@@ -1,7 +1,8 @@
 use Rattle.std.proofs.Common.{Some, arith, ◌≡◌, ◌++◌, [], ◌∷◌, true, false, sym, ap, ◌∙◌, append_assoc}
 use Rattle.naga_rules.specs.declared.function.FunctionError.TheVariants.{EmitResult, ExpressionAlreadyInScope}
 use Rattle.naga_valid.specs.Control.{is_result, emit_points}
-use Rattle.naga_valid.specs.Scope.{in_scope, known}
+use Rattle.naga_valid.specs.CodePlace.{place_at}
+use Rattle.naga_valid.specs.Scope.{in_scope}
 use Rattle.naga_valid.specs.Seen.{context_of}
 use Rattle.naga_valid.specs.Types.{expression_at}
 use Rattle.naga_valid.specs.Walk.{handles_between}
@@ -14,7 +15,7 @@ returns-then-is_result-clause-fault c =
     let context = context_of c.args.context.now in
     let s = c.args.scope.now in
     let h = c.loop-index.index in
-    let points = emit_points context (known s) c.args.range.start c.args.range.end in
+    let points = emit_points context (place_at s) c.args.range.start c.args.range.end in
     let yes : is_result (expression_at context h) ≡ true = ap (λ k. is_result (expression_at context k)) (sym c.new-handle.ensures) ∙ ap is_result (sym c.expression.ensures) ∙ sym c.is_result.ensures ∙ c.if-is_result.true in
     let fault = sym c.loop-index.invariant.faults ∙ emit_result context s h c.args.range.end c.loop-index-test.true yes in
     refuses_fault _ c.refusal.result points c.refusal.ensures (ap (λ x. Some (EmitResult x)) c.new-handle.ensures ∙ sym fault)
@@ -24,7 +25,7 @@ returns-then-contains-clause-fault c =
     let context = context_of c.args.context.now in
     let s = c.args.scope.now in
     let h = c.loop-index.index in
-    let points = emit_points context (known s) c.args.range.start c.args.range.end in
+    let points = emit_points context (place_at s) c.args.range.start c.args.range.end in
     let no : is_result (expression_at context h) ≡ false = ap (λ k. is_result (expression_at context k)) (sym c.new-handle.ensures) ∙ ap is_result (sym c.expression.ensures) ∙ sym c.is_result.ensures ∙ c.if-is_result.false in
     let inside = in_scope_before s c.args.range.start h c.loop-index.auto.index in
     let yes : in_scope s h ≡ true = sym inside ∙ ap (λ l. in_scope l h) (sym c.loop-index.invariant.scope) ∙ ap (in_scope c.loop-index.scope) (sym c.new-handle.ensures) ∙ sym c.contains.ensures ∙ c.if-contains.true in

@@ -1,7 +1,7 @@
 use Rattle.std.proofs.Common.{rules}
 use Rattle.naga_valid.specs.ImageAtomics.{changed_class_points}
 use Rattle.naga_valid.specs.Images.{texel_points}
-use Rattle.naga_valid.specs.Scope.{known}
+use Rattle.naga_valid.specs.CodePlace.{place_at}
 use Rattle.naga_valid.specs.Seen.{context_of}
 use Rattle.naga_valid.specs.declared.checks.image.ImageStatement.TheVariants.{Atomic}
 use Rattle.naga_valid.proofs.Refusals.{fault_first, fault_second}
@@ -10,13 +10,13 @@ use Rattle.naga_valid.proofs.checks.image_atomic.check_image.Goals as goal
 pub returns-in_err-check_texel : goal.returns-in_err-check_texel
 returns-in_err-check_texel c =
     let context = context_of c.args.context.now in
-    let texels = texel_points Atomic context (known c.args.scope.now) c.args.image c.args.texel in
-    let classes = changed_class_points context (known c.args.scope.now) c.args.fun.now c.args.value c.args.image in
+    let texels = texel_points Atomic context (place_at c.args.scope.now) c.args.image c.args.texel in
+    let classes = changed_class_points context (place_at c.args.scope.now) c.args.fun.now c.args.value c.args.image in
     fault_first c.from_residual.result texels classes (search rules) (search rules)
 
 pub returns : goal.returns
 returns c =
     let context = context_of c.args.context.now in
-    let texels = texel_points Atomic context (known c.args.scope.now) c.args.image c.args.texel in
-    let classes = changed_class_points context (known c.args.scope.now) c.args.fun.now c.args.value c.args.image in
+    let texels = texel_points Atomic context (place_at c.args.scope.now) c.args.image c.args.texel in
+    let classes = changed_class_points context (place_at c.args.scope.now) c.args.fun.now c.args.value c.args.image in
     fault_second _ texels classes (search rules) c.check_class.ensures

@@ -1,5 +1,5 @@
 use Rattle.std.proofs.Common.{rules}
-use Rattle.naga_valid.specs.Scope.{known}
+use Rattle.naga_valid.specs.CodePlace.{place_at}
 use Rattle.naga_valid.specs.Seen.{context_of}
 use Rattle.naga_valid.specs.Subgroups.{gather_points}
 use Rattle.naga_valid.proofs.Subgroups.{gather_is_new}
@@ -7,14 +7,14 @@ use Rattle.naga_valid.proofs.checks.subgroup_gather.check_gather.Goals as goal
 
 pub returns-in_err-answer-clause-fault : goal.returns-in_err-answer-clause-fault
 returns-in_err-answer-clause-fault c =
-    let points = gather_points (context_of c.args.context.now) (known c.args.scope.now) c.args.mode.now c.args.argument c.args.gathered in
+    let points = gather_points (context_of c.args.context.now) (place_at c.args.scope.now) c.args.mode.now c.args.argument c.args.gathered in
     let first = c.in_err-answer.ensures points c.validate_gather-checked.ensures in
     search (rules, first)
 
 pub put-requires : goal.put-requires
 put-requires c =
     let context = context_of c.args.context.now in
-    let s = known c.args.scope.now in
+    let s = place_at c.args.scope.now in
     let points = gather_points context s c.args.mode.now c.args.argument c.args.gathered in
     let holds = c.in_ok-answer.ensures points c.validate_gather-checked.ensures in
     gather_is_new context s c.args.mode.now c.args.argument c.args.gathered holds

@@ -1,0 +1,17 @@
+-- The place where the code's checks are made: work of lemmas, which private functions alone cite.
+use Rattle.std.specs.Prelude.{ℕ, false, List}
+use Rattle.naga_runs.specs.Handles.{no_handles}
+use Rattle.naga_runs.specs.Visits.{Place}
+use Rattle.naga_runs.specs.declared.Abilities.{Abilities}
+use Rattle.naga_valid.specs.Scope.{known}
+
+abbrev pub no_abilities : Abilities
+no_abilities = record { can_return = false; can_break = false; can_continue = false }
+
+-- a place by what the check lists read of it, but for those of jumps
+abbrev pub bare : Place → Place
+bare place = record { abilities = no_abilities; scope = place.scope; must = no_handles }
+
+-- the place where these are in scope
+abbrev pub place_at : List ℕ → Place
+place_at scope = record { abilities = no_abilities; scope = known scope; must = no_handles }
