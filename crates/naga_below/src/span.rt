@@ -63,6 +63,18 @@ impl<E> WithSpan<E> {
         self.inner
     }
 
+    /// Another fault at the same places.
+    pub fn with_fault<T>(self, fault: T) -> WithSpan<T>
+    where
+        E: Drop,
+        ensures { result ≡ fault }
+    {
+        WithSpan {
+            inner: fault,
+            spans: self.spans,
+        }
+    }
+
     /// The places, in the order in which they were added.
     pub fn spans(&self) -> &[Span] {
         self.spans.as_slice()

@@ -1,3 +1,5 @@
 pub mod Answers
 pub mod Lawful
 pub mod Meaning
+pub mod TypeInfos
+pub mod Locals

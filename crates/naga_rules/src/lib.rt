@@ -6,6 +6,7 @@ pub mod analyzer;
 pub mod below;
 pub mod function;
 pub mod interface;
+pub mod local;
 pub mod mesh;
 #[cfg(test)]
 mod tests;

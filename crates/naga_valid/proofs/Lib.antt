@@ -26,3 +26,4 @@ pub mod Accepted
 pub mod Guarded
 pub mod FunctionLaw
 pub mod FunctionSteps
+pub mod Each

@@ -32,3 +32,4 @@ pub mod Parts
 pub mod Accepted
 pub mod FunctionLaw
 pub mod InOrder
+pub mod Declarations

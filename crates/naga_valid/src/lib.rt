@@ -4,6 +4,7 @@
 mod abilities;
 mod checks;
 mod context;
+mod declarations;
 mod function;
 mod handle_set;
 pub mod laws;

@@ -1,0 +1,72 @@
+//! The check of a local variable: naga 30.0.1's `validate_local_var`.
+
+ghost use Rattle.std.specs.Prelude.{◌≡◌, ◌<◌, IfSome, Some, All, length};
+ghost use Rattle.std.specs.Result.{result_err};
+ghost use Rattle.naga_below.specs.Points.{first_fault};
+ghost use Rattle.naga_below.specs.Types.{NameEachOther, ResolutionFits};
+ghost use Rattle.naga_rules.specs.Locals.{local_points, initializer_points};
+
+use crate::function::LocalVariableError;
+use naga_below::arena::handle::Handle;
+use naga_below::arena::tag;
+use naga_below::arena::unique_arena::UniqueArena;
+use naga_below::ir::functions::LocalVariable;
+use naga_below::ir::types::Type;
+use naga_below::proc::expression_kinds::ExpressionKindTracker;
+use naga_below::proc::type_methods::compare_types;
+use naga_below::proc::typifier::TypeResolution;
+use naga_below::valid::flags::TypeFlags;
+use naga_below::valid::info::FunctionInfo;
+use naga_below::valid::types::TypeInfo;
+
+/// Checks a local variable of a function: its type can be constructed (else `InvalidType`), its initializer has that
+/// type (else `InitializerType`) and is known before the pipeline runs (else `NonConstOrOverrideInitializer`). `infos`
+/// is indexed by the types of the module; `kinds` and the types in `fun_info` by the expressions of the function.
+pub fn check_local(
+    var: &LocalVariable,
+    types: &UniqueArena<Type>,
+    infos: &[TypeInfo],
+    fun_info: &FunctionInfo,
+    kinds: &ExpressionKindTracker,
+) -> Result<(), LocalVariableError>
+    requires one_info_each { length infos.now ≡ length types.now }
+    requires ty { var.now.ty < length types.now }
+    requires init { IfSome var.now.init (λ h. h < length kinds.now) }
+    requires one_type_each { length fun_info.now.expression_types ≡ length kinds.now }
+    requires types { NameEachOther types.now }
+    requires resolved { All (ResolutionFits (length types.now)) fun_info.now.expression_types }
+    ensures { result_err result ≡ first_fault (local_points types.now infos.now fun_info.now.expression_types kinds.now var.now) }
+{
+    if !infos[var.ty.index()].flags.contains(TypeFlags::CONSTRUCTIBLE) {
+        return Err(LocalVariableError::InvalidType(var.ty));
+    }
+    match var.init {
+        Some(init) => check_initializer(var.ty, init, types, fun_info, kinds),
+        None => Ok(()),
+    }
+}
+
+/// An initializer has the type of its variable and is known before the pipeline runs.
+fn check_initializer(
+    declared: Handle<tag::Type>,
+    init: Handle<tag::Expression>,
+    types: &UniqueArena<Type>,
+    fun_info: &FunctionInfo,
+    kinds: &ExpressionKindTracker,
+) -> Result<(), LocalVariableError>
+    requires ty { declared < length types.now }
+    requires init { init < length kinds.now }
+    requires one_type_each { length fun_info.now.expression_types ≡ length kinds.now }
+    requires types { NameEachOther types.now }
+    requires resolved { All (ResolutionFits (length types.now)) fun_info.now.expression_types }
+    ensures { result_err result ≡ first_fault (initializer_points types.now fun_info.now.expression_types kinds.now declared (Some init)) }
+{
+    let given = &fun_info.expression_types[init.index()];
+    if !compare_types(&TypeResolution::Handle(declared), given, types) {
+        return Err(LocalVariableError::InitializerType);
+    }
+    if !kinds.is_const_or_override(init) {
+        return Err(LocalVariableError::NonConstOrOverrideInitializer);
+    }
+    Ok(())
+}
