@@ -49,16 +49,16 @@ meet_assoc a b c i = record { 0 = and_assoc c.0 a.0 b.0 i }
 among_itself : (a : ShaderStages) → AreAmong a a
 among_itself a i = record { 0 = and_self a.0 i }
 
-among_all : (a b c : ShaderStages) → AreAmong a b → AreAmong b c → AreAmong a c
+pub among_all : (a b c : ShaderStages) → AreAmong a b → AreAmong b c → AreAmong a c
 among_all a b c p q = ap (λ z. meet z c) (sym p) ∙ meet_assoc a b c ∙ ap (meet a) q ∙ p
 
-meet_among_second : (a b : ShaderStages) → AreAmong (meet a b) b
+pub meet_among_second : (a b : ShaderStages) → AreAmong (meet a b) b
 meet_among_second a b = meet_assoc a b b ∙ ap (meet a) (among_itself b)
 
 meet_comm : (a b : ShaderStages) → meet a b ≡ meet b a
 meet_comm a b i = record { 0 = and_comm a.0 b.0 i }
 
-meet_among_first : (a b : ShaderStages) → AreAmong (meet a b) a
+pub meet_among_first : (a b : ShaderStages) → AreAmong (meet a b) a
 meet_among_first a b =
     ap (λ z. meet z a) (meet_comm a b) ∙ meet_assoc b a a ∙ ap (meet b) (among_itself a) ∙ meet_comm b a
 
@@ -94,7 +94,7 @@ module _ (context : Context) where
   callees_of_all t (node ∷ nodes) a = (of_callee t node a.0, callees_of_all t nodes a.1)
 
 -- the stages that are left are the greatest that are among those at the start and among the mask of every statement
-among_meet : (some a b : ShaderStages) → AreAmong some a → AreAmong some b → AreAmong some (meet a b)
+pub among_meet : (some a b : ShaderStages) → AreAmong some a → AreAmong some b → AreAmong some (meet a b)
 among_meet some a b p q = sym (meet_assoc some a b) ∙ ap (λ z. meet z b) p ∙ q
 
 module _ (context : Context) (some : ShaderStages) where

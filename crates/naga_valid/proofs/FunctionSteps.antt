@@ -1,5 +1,5 @@
 -- The steps of a function's judgement, as the code takes them.
-use Rattle.std.proofs.Common.{◌≡◌, Bool, true, false, List, [], Option, None, Some, Result, Ok, Err, refl, sym, ap, ◌∙◌, subst}
+use Rattle.std.proofs.Common.{◌≡◌, Bool, true, false, List, [], Option, None, Some, Result, Ok, Err, length, refl, sym, ap, ◌∙◌, subst}
 use Rattle.std.specs.Prelude.{if◌then◌else◌}
 use Rattle.naga_below.specs.Points.{first_fault, answer, and_then}
 use Rattle.naga_below.specs.declared.ir.functions.Function.{Function}
@@ -10,15 +10,21 @@ use Rattle.naga_below.specs.declared.span.Refusal.TheVariants as refusal
 use Rattle.naga_below.specs.declared.valid.info.FunctionInfo.{FunctionInfo}
 use Rattle.naga_below.specs.declared.valid.info.ModuleInfo.{ModuleInfo}
 use Rattle.naga_below.specs.declared.valid.settings.Settings.{Settings}
-use Rattle.naga_rules.specs.Answers.{Refuses}
+use Rattle.naga_below.specs.declared.valid.flags.ShaderStages.{ShaderStages}
+use Rattle.naga_below.specs.declared.valid.types.TypeInfo.{TypeInfo}
+use Rattle.naga_rules.specs.Answers.{Answers, Refuses}
 use Rattle.naga_rules.specs.Meaning.{Meaning}
 use Rattle.naga_rules.specs.declared.function.FunctionError.{FunctionError}
 use Rattle.naga_runs.specs.Judgement.{viewed}
 use Rattle.naga_runs.specs.Visits.{Visit}
-use Rattle.naga_valid.specs.Context.{Context}
-use Rattle.naga_valid.specs.Flags.{checks_blocks}
-use Rattle.naga_valid.specs.Judged.{FunctionOutcome, body_judgement, with_stages, outcome_left, judged_with, context_with, lower_step, function_judgement}
+use Rattle.naga_valid.specs.Context.{Context, ContextFits}
+use Rattle.naga_valid.specs.Answers.{IsFirstFault}
+use Rattle.naga_valid.specs.Declarations.{declaration_points}
+use Rattle.naga_valid.specs.Expressions.{with_stages, stages_from, expressions_step}
+use Rattle.naga_valid.specs.Flags.{checks_blocks, checks_expressions}
+use Rattle.naga_valid.specs.Judged.{FunctionOutcome, body_judgement, outcome_left, judged_with, declarations_step, expressions_known, context_with, lower_step, function_judgement}
 use Rattle.naga_valid.specs.Results.{filled_before, filled_points}
+use Rattle.naga_valid.specs.Seen.{asked_context, known_behind}
 use Rattle.naga_valid.specs.State.{body_outcome, body_left}
 use Rattle.naga_valid.specs.declared.state.BodyOutcome.{BodyOutcome}
 use Rattle.naga_valid.specs.declared.trace.TraceState.{TraceState}
@@ -55,29 +61,107 @@ module _ (context : Context) where
       ap (λ b. and_then (if b then body_judgement context else Ok []) (λ visits. answer (first_fault (if b then filled_points context (filled_before visits) else [])) (outcome_left context visits))) off
       ∙ ap (λ t. Ok (record { info = context.info; trace = t })) (no_trace context.trace)
 
-module _ (below : Meaning) (settings : Settings) (trace : TraceState) (program : Module) (earlier : ModuleInfo) (fun : Function) where
-  pub lower_refuses : (x : Refusal FunctionError) → Refuses (lower_step below settings trace program earlier fun) x → Refuses (function_judgement below settings trace program earlier fun) x
+  -- what the body answers of a function of which this is known
+  pub body_refuses : checks_blocks context.settings.flags ≡ true → (x : Refusal FunctionError) → Refuses (body_left context (body_judgement context)) x → Refuses (judged_with context) x
+  body_refuses on x h =
+      subst (λ j. Refuses j x) (sym (body_looked_at on)) (viewed_refuses (outcome_with context.info) (body_left context (body_judgement context)) x h)
+
+  pub body_passes : checks_blocks context.settings.flags ≡ true → (left : BodyOutcome) → body_left context (body_judgement context) ≡ Ok left → judged_with context ≡ Ok (outcome_with context.info left)
+  body_passes on left h = body_looked_at on ∙ ap (viewed (outcome_with context.info)) h
+
+  pub no_body : checks_blocks context.settings.flags ≡ false → judged_with context ≡ Ok (record { info = context.info; trace = context.trace })
+  no_body off = body_passed_over off
+
+-- the declarations and the expressions
+module _ (below : Meaning) (infos : List TypeInfo) (entry_point : Bool) (context : Context) where
+  pub declarations_refuse : (x : Refusal FunctionError) → IsFirstFault (declaration_points context infos entry_point) x → Refuses (known_behind below infos entry_point context) x
+  declarations_refuse (refusal.Fault f) h =
+      ap (λ o. and_then (answer o context.info) (λ info. expressions_known below (record context { info = info }))) h
+  declarations_refuse refusal.Memory h = tt
+
+  declarations_pass : first_fault (declaration_points context infos entry_point) ≡ None → known_behind below infos entry_point context ≡ expressions_known below context
+  declarations_pass h =
+      ap (λ o. and_then (answer o context.info) (λ info. expressions_known below (record context { info = info }))) h
+
+  asked : checks_expressions context.settings.flags ≡ true → expressions_known below context ≡ and_then (stages_from below context context.info.available_stages 0 (length context.fun.expressions)) (λ stages. Ok (with_stages context.info stages))
+  asked on =
+      ap (λ b. and_then (if b then stages_from below context context.info.available_stages 0 (length context.fun.expressions) else Ok context.info.available_stages) (λ stages. Ok (with_stages context.info stages))) on
+
+  pub expressions_refuse : first_fault (declaration_points context infos entry_point) ≡ None → checks_expressions context.settings.flags ≡ true → (x : Refusal FunctionError) →
+      Refuses (stages_from below context context.info.available_stages 0 (length context.fun.expressions)) x → Refuses (known_behind below infos entry_point context) x
+  expressions_refuse h on (refusal.Fault f) e =
+      declarations_pass h ∙ asked on ∙ ap (λ o. and_then o (λ stages. Ok (with_stages context.info stages))) e
+  expressions_refuse h on refusal.Memory e = tt
+
+  pub expressions_pass : first_fault (declaration_points context infos entry_point) ≡ None → checks_expressions context.settings.flags ≡ true → (stages : ShaderStages) →
+      stages_from below context context.info.available_stages 0 (length context.fun.expressions) ≡ Ok stages → known_behind below infos entry_point context ≡ Ok (with_stages context.info stages)
+  expressions_pass h on stages e =
+      declarations_pass h ∙ asked on ∙ ap (λ o. and_then o (λ stages. Ok (with_stages context.info stages))) e
+
+  pub no_expressions : first_fault (declaration_points context infos entry_point) ≡ None → checks_expressions context.settings.flags ≡ false →
+      known_behind below infos entry_point context ≡ Ok context.info
+  no_expressions h off =
+      declarations_pass h
+      ∙ ap (λ b. and_then (if b then stages_from below context context.info.available_stages 0 (length context.fun.expressions) else Ok context.info.available_stages) (λ stages. Ok (with_stages context.info stages))) off
+
+  -- nothing but the stages is changed
+  by_stages : (o : Result ShaderStages FunctionError) (known : FunctionInfo) → and_then o (λ stages. Ok (with_stages context.info stages)) ≡ Ok known → known ≡ with_stages context.info known.available_stages
+  by_stages (Ok stages) known e =
+      let same : with_stages context.info stages ≡ known = cc in
+      subst (λ (k : FunctionInfo). k ≡ with_stages context.info k.available_stages) same refl
+  by_stages (Err f) known e = cc
+
+  by_declarations : (o : Option FunctionError) (known : FunctionInfo) → and_then (answer o context.info) (λ info. expressions_known below (record context { info = info })) ≡ Ok known → known ≡ with_stages context.info known.available_stages
+  by_declarations None known e = by_stages (expressions_step below context) known e
+  by_declarations (Some f) known e = cc
+
+  pub known_is : (known : FunctionInfo) → known_behind below infos entry_point context ≡ Ok known → known ≡ with_stages context.info known.available_stages
+  known_is known e = by_declarations (first_fault (declaration_points context infos entry_point)) known e
+
+-- a context fits whatever stages are left
+pub fits_with : (context : Context) (known : FunctionInfo) → known ≡ with_stages context.info known.available_stages → ContextFits context → ContextFits (record context { info = known })
+fits_with context known e fits =
+    subst (λ i. ContextFits (record context { info = i })) (sym e) (record { types = fits.types; fun = fits.fun; one_type_each = fits.one_type_each; types_in_range = fits.types_in_range; no_struct_values = fits.no_struct_values; one_kind_each = fits.one_kind_each })
+
+-- all steps
+module _ (below : Meaning) (settings : Settings) (infos : List TypeInfo) (trace : TraceState) (program : Module) (earlier : ModuleInfo) (fun : Function) (entry_point : Bool) where
+  abbrev behind : FunctionInfo → Result FunctionOutcome FunctionError
+  behind info =
+      and_then (declarations_step infos entry_point (context_with below settings infos trace program earlier fun entry_point info)) (λ known.
+      and_then (expressions_known below (context_with below settings infos trace program earlier fun entry_point known)) (λ known. judged_with (context_with below settings infos trace program earlier fun entry_point known)))
+
+  pub lower_refuses : (x : Refusal FunctionError) → Refuses (lower_step below settings infos trace program earlier fun entry_point) x → Refuses (function_judgement below settings infos trace program earlier fun entry_point) x
   unfolding function_judgement
-  lower_refuses (refusal.Fault f) h =
-      ap (λ l. and_then l (λ info. judged_with (context_with below settings trace program earlier fun info))) h
+  lower_refuses (refusal.Fault f) h = ap (λ l. and_then l behind) h
   lower_refuses refusal.Memory h = tt
 
-  module _ (info : FunctionInfo) (kinds : List ExpressionKind) (lower : lower_step below settings trace program earlier fun ≡ Ok info) (of : kinds ≡ below.kinds_of fun.expressions) where
-    abbrev context : Context
-    context = record (context_with below settings trace program earlier fun info) { kinds = kinds }
+  module _ (info : FunctionInfo) (kinds : List ExpressionKind) (lower : lower_step below settings infos trace program earlier fun entry_point ≡ Ok info) (of : kinds ≡ below.kinds_of fun.expressions) where
+    abbrev asked_of : List ExpressionKind → FunctionInfo → Context
+    asked_of ks known = asked_context settings trace program earlier fun ks known
 
-    behind_lower : function_judgement below settings trace program earlier fun ≡ judged_with context
+    abbrev steps : List ExpressionKind → Result FunctionOutcome FunctionError
+    steps ks =
+        and_then (declarations_step infos entry_point (asked_of ks info)) (λ known.
+        and_then (expressions_known below (asked_of ks known)) (λ known. judged_with (asked_of ks known)))
+
+    behind_lower : function_judgement below settings infos trace program earlier fun entry_point ≡ steps kinds
     unfolding function_judgement
-    behind_lower =
-        ap (λ l. and_then l (λ info. judged_with (context_with below settings trace program earlier fun info))) lower
-        ∙ ap (λ ks. judged_with (record (context_with below settings trace program earlier fun info) { kinds = ks })) (sym of)
+    behind_lower = ap (λ l. and_then l behind) lower ∙ ap steps (sym of)
 
-    pub body_refuses : checks_blocks settings.flags ≡ true → (x : Refusal FunctionError) → Refuses (body_left context (body_judgement context)) x → Refuses (function_judgement below settings trace program earlier fun) x
-    body_refuses on x h =
-        subst (λ j. Refuses j x) (sym (behind_lower ∙ body_looked_at context on)) (viewed_refuses (outcome_with info) (body_left context (body_judgement context)) x h)
+    grouped : (o : Result FunctionInfo FunctionError) →
+        and_then o (λ known. and_then (expressions_known below (asked_of kinds known)) (λ known. judged_with (asked_of kinds known)))
+        ≡ and_then (and_then o (λ known. expressions_known below (asked_of kinds known))) (λ known. judged_with (asked_of kinds known))
+    grouped (Ok known) = refl
+    grouped (Err f) = refl
 
-    pub body_passes : checks_blocks settings.flags ≡ true → (left : BodyOutcome) → body_left context (body_judgement context) ≡ Ok left → function_judgement below settings trace program earlier fun ≡ Ok (outcome_with info left)
-    body_passes on left h = behind_lower ∙ body_looked_at context on ∙ ap (viewed (outcome_with info)) h
+    by_known : function_judgement below settings infos trace program earlier fun entry_point ≡ and_then (known_behind below infos entry_point (asked_of kinds info)) (λ known. judged_with (asked_of kinds known))
+    by_known = behind_lower ∙ grouped (declarations_step infos entry_point (asked_of kinds info))
 
-    pub no_body : checks_blocks settings.flags ≡ false → function_judgement below settings trace program earlier fun ≡ Ok (record { info = info; trace = trace })
-    no_body off = behind_lower ∙ body_passed_over context off
+    pub known_refuses : (x : Refusal FunctionError) → Refuses (known_behind below infos entry_point (asked_of kinds info)) x → Refuses (function_judgement below settings infos trace program earlier fun entry_point) x
+    known_refuses (refusal.Fault f) h = by_known ∙ ap (λ o. and_then o (λ known. judged_with (asked_of kinds known))) h
+    known_refuses refusal.Memory h = tt
+
+    pub body_decides : (known : FunctionInfo) (r : Result FunctionOutcome (Refusal FunctionError)) → known_behind below infos entry_point (asked_of kinds info) ≡ Ok known →
+        Answers (judged_with (asked_of kinds known)) r → Answers (function_judgement below settings infos trace program earlier fun entry_point) r
+    body_decides known r h a =
+        subst (λ j. Answers j r) (sym (by_known ∙ ap (λ o. and_then o (λ known. judged_with (asked_of kinds known))) h)) a

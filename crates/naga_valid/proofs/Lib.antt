@@ -27,3 +27,4 @@ pub mod Guarded
 pub mod FunctionLaw
 pub mod FunctionSteps
 pub mod Each
+pub mod ExpressionSteps

@@ -33,3 +33,4 @@ pub mod Accepted
 pub mod FunctionLaw
 pub mod InOrder
 pub mod Declarations
+pub mod Expressions

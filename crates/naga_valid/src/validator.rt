@@ -3,8 +3,9 @@
 ghost use Rattle.std.specs.Prelude.{◌≡◌, ◌↔◌, IsTrue, []};
 ghost use Rattle.naga_valid.specs.Parts.{Parts, infos_given, first_settings, no_traces, NamesTypes, AreInfosOf};
 
-mod body;
+mod expressions;
 mod judge;
+mod whole;
 
 use crate::trace::{TraceRayVertexReturnState, TraceState};
 use bitflags::Flags;
@@ -97,15 +98,22 @@ impl<B: Below> Validator<B> {
         self.trace
     }
 
+    /// The infos that were given, none at first.
+    fn infos(&self) -> &[TypeInfo]
+        ensures { result.now ≡ self.now.types }
+    {
+        match &self.types {
+            Some(infos) => infos.as_slice(),
+            None => &[],
+        }
+    }
+
     /// Whether there is one info for each type of the module, and the types that the infos name are the module's.
     pub fn has_types_of(&self, module: &Module) -> bool
         ensures { IsTrue result ↔ AreInfosOf «module».now self.now.types }
     {
         let count = module.types.len();
-        let infos = match &self.types {
-            Some(infos) => infos.as_slice(),
-            None => &[],
-        };
+        let infos = self.infos();
         infos.len() == count && infos.iter().all(|info| names_types(info, count))
     }
 }

@@ -1,19 +1,25 @@
-//! The judgement of a function as far as its body goes.
+//! The judgement of a function: naga's `validate_function`, step by step.
 
 ghost use Rattle.std.specs.Prelude.{length};
 ghost use Rattle.naga_below.specs.Fits.{FitsTypes, FitsFunction};
+ghost use Rattle.naga_below.specs.Points.{and_then};
 ghost use Rattle.naga_rules.specs.Answers.{Answers};
-ghost use Rattle.naga_valid.specs.Judged.{function_judgement};
+ghost use Rattle.naga_valid.specs.Context.{ContextFits};
+ghost use Rattle.naga_valid.specs.Judged.{function_judgement, judged_with};
+ghost use Rattle.naga_valid.specs.Parts.{AreInfosOf};
+ghost use Rattle.naga_valid.specs.Seen.{asked_context, known_behind};
 
 use crate::context::BlockContext;
+use crate::declarations::check_declarations;
 use crate::function::validate_function_body;
 use crate::outcome::FunctionOutcome;
 use crate::validator::Validator;
 use naga_below::ir::functions::Function;
 use naga_below::ir::module::Module;
+use naga_below::proc::expression_kinds::ExpressionKindTracker;
 use naga_below::span::Refusal;
 use naga_below::valid::flags::ValidationFlags;
-use naga_below::valid::info::ModuleInfo;
+use naga_below::valid::info::{FunctionInfo, ModuleInfo};
 use naga_rules::below::Below;
 use naga_rules::function::FunctionError;
 use std::alloc::Global;
@@ -26,26 +32,78 @@ impl<B: Below> Validator<B> {
         fun: &Function,
         module: &Module,
         mod_info: &ModuleInfo,
+        entry_point: bool,
     ) -> Result<FunctionOutcome, Refusal<FunctionError>>
+        requires infos { AreInfosOf «module».now self.now.types }
         requires types { FitsTypes «module».now }
         requires function { FitsFunction fun.now «module».now (length mod_info.now.functions) }
-        ensures { Answers (function_judgement (B.meaning self.now.below) self.now.settings self.now.trace «module».now mod_info.now fun.now) result }
+        ensures { Answers (function_judgement (B.meaning self.now.below) self.now.settings self.now.types self.now.trace «module».now mod_info.now fun.now entry_point) result }
     {
-        let settings = self.settings;
-        let flags = settings.flags;
-        let capabilities = settings.capabilities;
+        let flags = self.settings.flags;
+        let capabilities = self.settings.capabilities;
         let below = &self.below;
-        let mut info = below.process_function(alloc, fun, module, mod_info, flags, capabilities)?;
+        let info = below.process_function(alloc, fun, module, mod_info, flags, capabilities)?;
         let kinds = below.kinds(alloc, &fun.expressions)?;
+        let info = self.check_known(alloc, fun, module, mod_info, &kinds, info, entry_point)?;
+        self.judge_body(alloc, fun, module, mod_info, &kinds, info)
+    }
+
+    /// The declarations of a function, and its expressions where they are looked at: its info with the stages that they
+    /// leave.
+    fn check_known(
+        &self,
+        alloc: Global,
+        fun: &Function,
+        module: &Module,
+        mod_info: &ModuleInfo,
+        kinds: &ExpressionKindTracker,
+        info: FunctionInfo,
+        entry_point: bool,
+    ) -> Result<FunctionInfo, Refusal<FunctionError>>
+        requires infos { AreInfosOf «module».now self.now.types }
+        requires context { ContextFits (asked_context self.now.settings self.now.trace «module».now mod_info.now fun.now kinds.now info) }
+        ensures { Answers (known_behind (B.meaning self.now.below) self.now.types entry_point (asked_context self.now.settings self.now.trace «module».now mod_info.now fun.now kinds.now info)) result }
+    {
+        let context = BlockContext {
+            program: module,
+            earlier: mod_info,
+            fun,
+            info: &info,
+            kinds,
+            settings: self.settings,
+            trace: self.trace,
+        };
+        check_declarations(alloc, &context, self.infos(), entry_point)?;
+        let mut info = info;
+        if self.settings.flags.contains(ValidationFlags::EXPRESSIONS) {
+            self.meet_expressions(alloc, fun, module, mod_info, kinds, &mut info)?;
+        }
+        Ok(info)
+    }
+
+    /// The body of a function, where bodies are looked at, of which this is known.
+    fn judge_body(
+        &self,
+        alloc: Global,
+        fun: &Function,
+        module: &Module,
+        mod_info: &ModuleInfo,
+        kinds: &ExpressionKindTracker,
+        info: FunctionInfo,
+    ) -> Result<FunctionOutcome, Refusal<FunctionError>>
+        requires context { ContextFits (asked_context self.now.settings self.now.trace «module».now mod_info.now fun.now kinds.now info) }
+        ensures { Answers (judged_with (asked_context self.now.settings self.now.trace «module».now mod_info.now fun.now kinds.now info)) result }
+    {
+        let mut info = info;
         let mut trace = self.trace;
-        if flags.contains(ValidationFlags::BLOCKS) {
+        if self.settings.flags.contains(ValidationFlags::BLOCKS) {
             let context = BlockContext {
                 program: module,
                 earlier: mod_info,
                 fun,
                 info: &info,
-                kinds: &kinds,
-                settings,
+                kinds,
+                settings: self.settings,
                 trace,
             };
             let left = validate_function_body(alloc, &context)?;

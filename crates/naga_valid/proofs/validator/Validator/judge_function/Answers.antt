@@ -1,22 +1,29 @@
-use Rattle.std.proofs.Common.{rules, sym, ◌∙◌}
-use Rattle.naga_valid.proofs.FunctionSteps.{lower_refuses, body_refuses, body_passes, no_body}
-use Rattle.naga_valid.proofs.Parts.{ready}
+use Rattle.std.proofs.Common.{rules, length, ap, ◌∙◌}
+use Rattle.naga_valid.specs.Context.{ContextFits}
+use Rattle.naga_valid.specs.Seen.{asked_context}
+use Rattle.naga_valid.proofs.FunctionSteps.{lower_refuses, known_refuses, body_decides, known_is, fits_with}
 use Rattle.naga_valid.proofs.validator.Validator.judge_function.Goals as goal
-use Rattle.naga_valid.proofs.validator.Validator.judge_function.Goals.{then-contains+in_ok-left, else-contains}
-
-pub validate_function_body-requires-clause-ready :
-    goal.validate_function_body-requires-clause-ready
-validate_function_body-requires-clause-ready g c = ready _ c.requires.function
 
 pub returns-in_err-info : goal.returns-in_err-info
 returns-in_err-info g c = search (rules, lower_refuses)
 
-pub returns-in_err-left : goal.returns-in_err-left
-returns-in_err-left g c =
-    search (rules, body_refuses)
+pub returns-in_err-info-2 : goal.returns-in_err-info-2
+returns-in_err-info-2 g c = search (rules, known_refuses)
+
+pub judge_body-requires : goal.judge_body-requires
+judge_body-requires g c =
+    let context = asked_context c.args.self.now.settings c.args.self.now.trace c.args.module.now c.args.mod_info.now c.args.fun.now c.in_ok-kinds.kinds c.in_ok-info.info in
+    let fits : ContextFits context =
+        record {
+          types = c.requires.types;
+          fun = c.requires.function;
+          one_type_each = g.met.B.Below.one_type_each _ _ _ _ _ _ _ c.in_ok-info.ensures;
+          types_in_range = g.met.B.Below.types_in_range _ _ _ _ _ _ _ c.in_ok-info.ensures;
+          no_struct_values = g.met.B.Below.no_struct_values _ _ _ _ _ _ _ c.in_ok-info.ensures;
+          one_kind_each = ap length c.in_ok-kinds.ensures ∙ g.met.B.Below.one_kind_each _ _;
+        } in
+    let same = known_is (g.B.Below.meaning c.args.self.now.below) c.args.self.now.types c.args.entry_point context c.in_ok-info-2.info c.in_ok-info-2.ensures in
+    record { context = fits_with context c.in_ok-info-2.info same fits }
 
 pub returns : goal.returns
-returns g c = elim c.if-contains.branch [
-  | then-contains+in_ok-left w ↦ search (rules, body_passes)
-  | else-contains w ↦ search (rules, no_body)
-]
+returns g c = search (rules, body_decides)

@@ -1,4 +1,4 @@
-//! The validation of a function as far as its body goes.
+//! The validation of a function.
 
 ghost use Rattle.std.specs.Prelude.{◌≡◌, true, OnOk, OnErr, IfOk, length};
 ghost use Rattle.naga_below.specs.Fits.{FitsTypes, FitsFunction};
@@ -8,6 +8,7 @@ ghost use Rattle.naga_valid.specs.Blocks.{body_of};
 ghost use Rattle.naga_valid.specs.Context.{pre_emitted_of};
 ghost use Rattle.naga_valid.specs.Flags.{checks_blocks, checks_expressions};
 ghost use Rattle.naga_valid.specs.Judged.{function_judgement, AnswersTracing};
+ghost use Rattle.naga_valid.specs.Parts.{AreInfosOf};
 
 use crate::validator::Validator;
 use naga_below::ir::functions::Function;
@@ -19,21 +20,26 @@ use naga_rules::function::FunctionError;
 use std::alloc::Global;
 
 impl<B: Below> Validator<B> {
-    /// Judges a function as far as it is judged by now: what the lower layer answers, and, with BLOCKS, its body.
-    /// The fault is the first in visit order; the info has the stages that the lower layer and all statements leave.
-    /// What ray traces leave is kept for later functions; after a refusal the validator is as before.
-    pub fn validate_body(
+    /// Judges a function of a module: naga 30.0.1's `validate_function`. `mod_info` has the infos of the functions before
+    /// it; `entry_point` says that it is an entry point's, whose arguments and result may be bound. The fault is the first
+    /// in this order: what the lower layer answers; the local variables; the arguments; the result; with EXPRESSIONS each
+    /// expression; with BLOCKS the body; with both the lowest result that nothing fills. The info has the stages that the
+    /// lower layer, the expressions and all statements leave. What ray traces leave is kept for later functions; after a
+    /// refusal the validator is as before.
+    pub fn validate_function(
         &mut self,
         alloc: Global,
         fun: &Function,
         module: &Module,
         mod_info: &ModuleInfo,
+        entry_point: bool,
     ) -> Result<FunctionInfo, Refusal<FunctionError>>
+        requires infos { AreInfosOf «module».now self.old.types }
         requires types { FitsTypes «module».now }
         requires function { FitsFunction fun.now «module».now (length mod_info.now.functions) }
 
         // The answer is the judgement's, or there was no memory.
-        ensures judged { AnswersTracing (function_judgement (B.meaning self.old.below) self.old.settings self.old.trace «module».now mod_info.now fun.now) self.new.trace result }
+        ensures judged { AnswersTracing (function_judgement (B.meaning self.old.below) self.old.settings self.old.types self.old.trace «module».now mod_info.now fun.now entry_point) self.new.trace result }
 
         // In every run of an accepted body that was looked at, what is used is live or was skipped by a Continue, no
         // live handle is put, and jumps have targets.
@@ -51,7 +57,7 @@ impl<B: Below> Validator<B> {
         ensures kept { self.new ≡ record self.old { trace = self.new.trace } }
         ensures refused { OnErr result (self.new ≡ self.old) }
     {
-        let outcome = self.judge_function(alloc, fun, module, mod_info)?;
+        let outcome = self.judge_function(alloc, fun, module, mod_info, entry_point)?;
         self.trace = outcome.trace;
         Ok(outcome.info)
     }

@@ -1,0 +1,45 @@
+-- The fold over a function's expressions, one by one.
+use Rattle.std.proofs.Common.{◌≡◌, ℕ, suc, ◌+◌, ◌-◌, ◌<◌, ◌≤◌, Result, Ok, Err, refl, sym, ap, ◌∙◌, subst, arith}
+use Rattle.naga_below.specs.Points.{and_then}
+use Rattle.naga_below.specs.declared.span.Refusal.{Refusal}
+use Rattle.naga_below.specs.declared.span.Refusal.TheVariants as refusal
+use Rattle.naga_below.specs.declared.valid.flags.ShaderStages.{ShaderStages}
+use Rattle.naga_below.specs.declared.valid.info.FunctionInfo.{FunctionInfo}
+use Rattle.naga_rules.specs.Answers.{Answers, Refuses}
+use Rattle.naga_rules.specs.Meaning.{Meaning}
+use Rattle.naga_rules.specs.declared.function.FunctionError.{FunctionError}
+use Rattle.naga_valid.specs.Context.{Context}
+use Rattle.naga_valid.specs.Expressions.{with_stages, of_expression, mask_at, stages_from}
+use Rattle.naga_valid.specs.Stages.{meet}
+
+module _ (below : Meaning) (context : Context) (n h : ℕ) (stages : ShaderStages) (whole : Result ShaderStages FunctionError) where
+  one_more : h < n → stages_from below context stages h (n - h) ≡ and_then (mask_at below context stages h) (λ mask. stages_from below context (meet stages mask) (h + 1) (n - (h + 1)))
+  unfolding stages_from
+  one_more lt =
+      let left : n - h ≡ suc (n - (h + 1)) = omega arith in
+      let next : suc h ≡ h + 1 = omega arith in
+      ap (stages_from below context stages h) left
+      ∙ ap (λ k. and_then (mask_at below context stages h) (λ mask. stages_from below context (meet stages mask) k (n - (h + 1)))) next
+
+  pub mask_met : h < n → stages_from below context stages h (n - h) ≡ whole → (mask : ShaderStages) → mask_at below context stages h ≡ Ok mask →
+      stages_from below context (meet stages mask) (h + 1) (n - (h + 1)) ≡ whole
+  mask_met lt is mask e =
+      sym (one_more lt ∙ ap (λ o. and_then o (λ m. stages_from below context (meet stages m) (h + 1) (n - (h + 1)))) e) ∙ is
+
+  pub mask_refused : h < n → stages_from below context stages h (n - h) ≡ whole → (x : Refusal FunctionError) → Refuses (mask_at below context stages h) x → Refuses whole x
+  mask_refused lt is (refusal.Fault f) e =
+      sym is ∙ one_more lt ∙ ap (λ o. and_then o (λ m. stages_from below context (meet stages m) (h + 1) (n - (h + 1)))) e
+  mask_refused lt is refusal.Memory e = tt
+
+  pub masks_end : n ≤ h → stages_from below context stages h (n - h) ≡ whole → whole ≡ Ok stages
+  unfolding stages_from
+  masks_end le is =
+      let none : n - h ≡ 0 = omega arith in sym is ∙ ap (stages_from below context stages h) none
+
+-- what was asked of an expression is its mask
+pub asked_is : (below : Meaning) (context : Context) (info : FunctionInfo) (handle h : ℕ) (r : Result ShaderStages (Refusal FunctionError)) →
+    info ≡ with_stages context.info info.available_stages → handle ≡ h →
+    Answers (of_expression handle (below.expression_stages context.settings handle context.fun context.program info context.earlier context.kinds)) r →
+    Answers (mask_at below context info.available_stages h) r
+asked_is below context info handle h r kept same a =
+    subst (λ i. Answers (of_expression h (below.expression_stages context.settings h context.fun context.program i context.earlier context.kinds)) r) kept (subst (λ k. Answers (of_expression k (below.expression_stages context.settings k context.fun context.program info context.earlier context.kinds)) r) same a)

@@ -1,0 +1,36 @@
+use Rattle.std.proofs.Common.{rules, ◌≡◌, Ok, length, sym, ap, subst}
+use Rattle.naga_below.specs.declared.valid.info.FunctionInfo.{FunctionInfo}
+use Rattle.naga_rules.specs.Answers.{Answers, Refuses}
+use Rattle.naga_valid.specs.Seen.{asked_context}
+use Rattle.naga_valid.specs.Stages.{meet}
+use Rattle.naga_valid.proofs.ExpressionSteps.{asked_is, mask_met, mask_refused, masks_end}
+use Rattle.naga_valid.proofs.validator.Validator.meet_expressions.Goals as goal
+
+pub returns-in_err-mask-clause-fault : goal.returns-in_err-mask-clause-fault
+returns-in_err-mask-clause-fault g c =
+    let below = g.B.Below.meaning c.args.self.now.below in
+    let context = asked_context c.args.self.now.settings c.args.self.now.trace c.args.module.now c.args.mod_info.now c.args.fun.now c.args.kinds.now c.args.info.now in
+    let lt = rw c.len-count.ensures.len at c.loop-index-test.true in
+    let right = below.expression_stages context.settings c.new-handle.result context.fun context.program c.loop-index.info context.earlier context.kinds in
+    let asked : Answers right c.validate_expression-asked.result = search rules in
+    let refused = asked_is below context c.loop-index.info c.new-handle.result c.loop-index.index c.of_expression.result c.loop-index.invariant.kept c.new-handle.ensures (c.of_expression.ensures right asked) in
+    search (rules, mask_refused below context (length c.args.fun.now.expressions) c.loop-index.index c.loop-index.info.available_stages _ lt c.loop-index.invariant.faults, refused)
+
+pub loop-index-preserved : goal.loop-index-preserved
+loop-index-preserved g c =
+    let below = g.B.Below.meaning c.args.self.now.below in
+    let context = asked_context c.args.self.now.settings c.args.self.now.trace c.args.module.now c.args.mod_info.now c.args.fun.now c.args.kinds.now c.args.info.now in
+    let lt = rw c.len-count.ensures.len at c.loop-index-test.true in
+    let right = below.expression_stages context.settings c.new-handle.result context.fun context.program c.loop-index.info context.earlier context.kinds in
+    let asked : Answers right c.validate_expression-asked.result = search rules in
+    let mask = asked_is below context c.loop-index.info c.new-handle.result c.loop-index.index (Ok c.in_ok-mask.mask) c.loop-index.invariant.kept c.new-handle.ensures (c.in_ok-mask.ensures right asked) in
+    let met : c.intersection-info.result ≡ meet c.loop-index.info.available_stages c.in_ok-mask.mask = search rules in
+    record {
+      faults = rw met (mask_met below context (length c.args.fun.now.expressions) c.loop-index.index c.loop-index.info.available_stages _ lt c.loop-index.invariant.faults c.in_ok-mask.mask mask);
+      kept = ap (λ (i : FunctionInfo). record i { available_stages = c.intersection-info.result }) c.loop-index.invariant.kept;
+    }
+
+pub returns-clause-fault : goal.returns-clause-fault
+returns-clause-fault g c =
+    let over = rw c.len-count.ensures.len at c.loop-index-test.false in
+    masks_end (g.B.Below.meaning c.args.self.now.below) (asked_context c.args.self.now.settings c.args.self.now.trace c.args.module.now c.args.mod_info.now c.args.fun.now c.args.kinds.now c.args.info.now) (length c.args.fun.now.expressions) c.loop-index.index c.loop-index.info.available_stages _ over c.loop-index.invariant.faults

@@ -1,0 +1,13 @@
+use Rattle.naga_valid.proofs.FunctionLaw.{is_sound, fills_once, is_of_all_stages}
+use Rattle.naga_valid.proofs.validator.Validator.validate_function.Goals as goal
+
+pub returns-clause-sound : goal.returns-clause-sound
+returns-clause-sound g c = is_sound _ _ _ _ _ _ _ _ _ c.in_ok-outcome.ensures
+
+pub returns-clause-filled : goal.returns-clause-filled
+returns-clause-filled g c = fills_once _ _ _ _ _ _ _ _ _ c.in_ok-outcome.ensures
+
+pub returns-clause-stages : goal.returns-clause-stages
+returns-clause-stages g c =
+    let of_all = is_of_all_stages _ _ _ _ _ _ _ _ _ c.in_ok-outcome.ensures in
+    rw (← c.outcome.view_is) at of_all

@@ -1,0 +1,68 @@
+//! The checks of a function's expressions, each by the lower layer.
+
+ghost use Rattle.std.specs.Prelude.{◌≡◌, OnOk, Result, length};
+ghost use Rattle.naga_below.specs.declared.valid.expression_error.ExpressionError.{ExpressionError as Source};
+ghost use Rattle.naga_below.specs.declared.valid.flags.ShaderStages.{ShaderStages as Mask};
+ghost use Rattle.naga_rules.specs.Answers.{Answers};
+ghost use Rattle.naga_valid.specs.Answers.{AnswersLeaving};
+ghost use Rattle.naga_valid.specs.Expressions.{with_stages, of_expression, stages_from};
+ghost use Rattle.naga_valid.specs.Seen.{asked_context};
+
+use crate::validator::Validator;
+use bitflags::Flags;
+use naga_below::arena::handle::Handle;
+use naga_below::arena::tag;
+use naga_below::ir::functions::Function;
+use naga_below::ir::module::Module;
+use naga_below::proc::expression_kinds::ExpressionKindTracker;
+use naga_below::span::Refusal;
+use naga_below::valid::expression_error::ExpressionError;
+use naga_below::valid::flags::ShaderStages;
+use naga_below::valid::info::{FunctionInfo, ModuleInfo};
+use naga_rules::below::Below;
+use naga_rules::function::FunctionError;
+use std::alloc::Global;
+
+/// The answer of the lower layer about an expression, as one about its function. It keeps the places.
+fn of_expression(
+    handle: Handle<tag::Expression>,
+    asked: Result<ShaderStages, Refusal<ExpressionError>>,
+) -> Result<ShaderStages, Refusal<FunctionError>>
+    ensures { (right : Result Mask Source) → Answers right asked → Answers (of_expression handle right) result }
+{
+    match asked {
+        Ok(stages) => Ok(stages),
+        Err(Refusal::Fault(fault)) => {
+            let source = *fault.as_inner();
+            Err(Refusal::Fault(fault.with_fault(FunctionError::Expression { handle, source })))
+        }
+        Err(Refusal::Memory) => Err(Refusal::Memory),
+    }
+}
+
+impl<B: Below> Validator<B> {
+    /// Asks for each expression, with the info whose stages have the masks of those before it met in, and leaves the
+    /// stages of all of them in it.
+    pub fn meet_expressions(
+        &self,
+        alloc: Global,
+        fun: &Function,
+        module: &Module,
+        mod_info: &ModuleInfo,
+        kinds: &ExpressionKindTracker,
+        info: &mut FunctionInfo,
+    ) -> Result<(), Refusal<FunctionError>>
+        ensures fault { AnswersLeaving (stages_from (B.meaning self.now.below) (asked_context self.now.settings self.now.trace «module».now mod_info.now fun.now kinds.now info.old) info.old.available_stages 0 (length fun.now.expressions)) info.new.available_stages result }
+        ensures kept { info.new ≡ with_stages info.old info.new.available_stages }
+    {
+        let count = fun.expressions.len() as u32;
+        for index in 0..count {
+            let handle = Handle::new(index);
+            let settings = self.settings;
+            let asked = self.below.validate_expression(alloc, settings, handle, fun, module, info, mod_info, kinds);
+            let mask = of_expression(handle, asked)?;
+            info.available_stages = info.available_stages.intersection(mask);
+        }
+        Ok(())
+    }
+}
