@@ -2,6 +2,7 @@
 
 ghost use Rattle.std.specs.Prelude.{◌≡◌, replicate, IfOk};
 ghost use Rattle.naga_below.specs.Types.{bool_scalar};
+ghost use Rattle.naga_below.specs.Bits.{READ};
 ghost use Rattle.naga_below.specs.declared.ir.types.TypeInner.TheVariants.{Scalar as ScalarType};
 ghost use Rattle.naga_below.specs.declared.proc.typifier.TypeResolution.TheVariants.{Value};
 ghost use Rattle.naga_below.specs.declared.proc.expression_kinds.ExpressionKind.TheVariants.{Const};
@@ -54,7 +55,7 @@ fn constants(alloc: Global, count: usize) -> Result<ExpressionKindTracker, Alloc
 
 /// So many uses that read.
 fn reads(alloc: Global, count: usize) -> Result<Sequence<GlobalUse>, AllocError>
-    ensures { IfOk result (λ made. made ≡ replicate count (record { 0 = 1 })) }
+    ensures { IfOk result (λ made. made ≡ replicate count READ) }
 {
     let uses = vec![in alloc; GlobalUse::READ; count]?;
     Ok(Sequence::from(uses))
@@ -65,6 +66,7 @@ impl Below for Bools {
     ghost use Rattle.std.proofs.lemmas.List.{length-replicate};
     ghost use Rattle.std.proofs.lemmas.Result.{IfOk-at_ok};
     ghost use Rattle.std.proofs.lemmas.List.Elements.{All-replicate};
+    ghost use Rattle.naga_below.specs.Bits.{READ, ALL_STAGES};
     ghost use Rattle.naga_below.specs.Types.{bool_scalar, ResolutionFits};
     ghost use Rattle.naga_below.specs.declared.ir.module.MeshOutputTopology.TheVariants.{Points};
     ghost use Rattle.naga_below.specs.declared.ir.types.TypeInner.TheVariants.{Scalar as ScalarType};
@@ -73,7 +75,7 @@ impl Below for Bools {
     ghost use Rattle.naga_below.specs.declared.valid.expression_error.ExpressionError.TheVariants.{NotInScope};
     ghost use Rattle.naga_rules.specs.Lawful.{IsNoStruct};
 
-    ghost function_info = { λ _ f m _ _ _. Ok (record { expression_types = replicate (length f.expressions) (Value (ScalarType bool_scalar)); global_uses = replicate (length m.global_variables) (record { 0 = 1 }); available_stages = record { 0 = 0x1ff }; dual_source_blending = false }) };
+    ghost function_info = { λ _ f m _ _ _. Ok (record { expression_types = replicate (length f.expressions) (Value (ScalarType bool_scalar)); global_uses = replicate (length m.global_variables) READ; available_stages = ALL_STAGES; dual_source_blending = false }) };
 
     ghost expression_stages = { λ _ _ _ _ _ _ _ _. Err NotInScope };
 
@@ -95,7 +97,7 @@ impl Below for Bools {
         Ok(FunctionInfo {
             expression_types: bool_types(alloc, fun.expressions.len())?,
             global_uses: reads(alloc, module.global_variables.len())?,
-            available_stages: ShaderStages(0x1ff),
+            available_stages: ShaderStages::ALL,
             dual_source_blending: false,
         })
     }
@@ -150,7 +152,7 @@ impl Below for Bools {
 
     ghost one_type_each = { λ _ f _ _ _ _ _ h. IfOk-at_ok (λ info. length info.expression_types ≡ length f.expressions) h (length-replicate (length f.expressions) (Value (ScalarType bool_scalar))) };
 
-    ghost one_use_each = { λ _ _ m _ _ _ _ h. IfOk-at_ok (λ info. length info.global_uses ≡ length m.global_variables) h (length-replicate (length m.global_variables) (record { 0 = 1 })) };
+    ghost one_use_each = { λ _ _ m _ _ _ _ h. IfOk-at_ok (λ info. length info.global_uses ≡ length m.global_variables) h (length-replicate (length m.global_variables) READ) };
 
     ghost types_in_range = { λ _ f m _ _ _ _ h. IfOk-at_ok (λ info. All (ResolutionFits (length m.types)) info.expression_types) h (All-replicate (ResolutionFits (length m.types)) (length f.expressions) (Value (ScalarType bool_scalar)) tt) };
 
