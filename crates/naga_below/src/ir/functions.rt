@@ -62,7 +62,7 @@ impl LocalVariable {
         ensures { IfOk result (λ made. made ≡ self.now) }
     {
         Ok(LocalVariable {
-            name: clone_name(&self.name, alloc)?,
+            name: clone_name(alloc, &self.name)?,
             ty: self.ty,
             init: self.init,
         })
@@ -75,7 +75,7 @@ impl FunctionArgument {
         ensures { IfOk result (λ made. made ≡ self.now) }
     {
         Ok(FunctionArgument {
-            name: clone_name(&self.name, alloc)?,
+            name: clone_name(alloc, &self.name)?,
             ty: self.ty,
             binding: self.binding,
         })
@@ -99,7 +99,7 @@ impl Function {
     pub fn clone(&self, alloc: Global) -> Result<Self, AllocError>
         ensures { IfOk result (λ made. made ≡ self.now) }
     {
-        let arguments = duplicates(self.arguments.as_slice(), alloc)?;
+        let arguments = duplicates(alloc, self.arguments.as_slice())?;
         Ok(Function {
             arguments: Sequence::from(arguments),
             result: self.result,

@@ -181,7 +181,7 @@ impl Module {
     pub fn clone(&self, alloc: Global) -> Result<Self, AllocError>
         ensures { IfOk result (λ made. made ≡ self.now) }
     {
-        let entry_points = duplicates(self.entry_points.as_slice(), alloc)?;
+        let entry_points = duplicates(alloc, self.entry_points.as_slice())?;
         Ok(Module {
             types: self.types.clone(alloc)?,
             special_types: self.special_types,

@@ -220,13 +220,14 @@ impl Block {
     pub fn clone(&self, alloc: Global) -> Result<Self, AllocError>
         ensures { IfOk result (λ made. made ≡ self.now) }
     {
-        let list = clone_list(self.list.as_slice(), alloc)?;
+        let list = clone_list(alloc, self.list.as_slice())?;
         Ok(Block { list })
     }
 }
 
+/// Equal statements in the same order.
 #[cycle(clone)]
-fn clone_list(list: &[Located], alloc: Global) -> Result<Sequence<Located>, AllocError>
+fn clone_list(alloc: Global, list: &[Located]) -> Result<Sequence<Located>, AllocError>
     ensures { IfOk result (λ made. made ≡ list.now) }
 {
     let mut made = Sequence::new(alloc);
@@ -240,8 +241,9 @@ fn clone_list(list: &[Located], alloc: Global) -> Result<Sequence<Located>, Allo
     Ok(made)
 }
 
+/// Equal cases in the same order.
 #[cycle(clone)]
-fn clone_cases(cases: &[SwitchCase], alloc: Global) -> Result<Sequence<SwitchCase>, AllocError>
+fn clone_cases(alloc: Global, cases: &[SwitchCase]) -> Result<Sequence<SwitchCase>, AllocError>
     ensures { IfOk result (λ made. made ≡ cases.now) }
 {
     let mut made = Sequence::new(alloc);
@@ -292,7 +294,7 @@ impl Statement {
                 })
             }
             Statement::Switch { selector, cases } => {
-                let cases = clone_cases(cases.as_slice(), alloc)?;
+                let cases = clone_cases(alloc, cases.as_slice())?;
                 Ok(Statement::Switch {
                     selector: *selector,
                     cases,

@@ -290,7 +290,7 @@ impl StructMember {
         ensures { IfOk result (λ made. made ≡ self.now) }
     {
         Ok(StructMember {
-            name: clone_name(&self.name, alloc)?,
+            name: clone_name(alloc, &self.name)?,
             ty: self.ty,
             binding: self.binding,
             offset: self.offset,
@@ -305,11 +305,10 @@ impl Duplicate for StructMember {
 }
 
 /// Equal members.
-#[tactic(auto, using(std::proofs::lemmas::List::Elements::same_from_all_zip))]
-fn clone_members(members: &Members, alloc: Global) -> Result<Members, AllocError>
+fn clone_members(alloc: Global, members: &Members) -> Result<Members, AllocError>
     ensures { IfOk result (λ made. made ≡ members.now) }
 {
-    Ok(Members::from(duplicates(members.as_slice(), alloc)?))
+    Ok(Members::from(duplicates(alloc, members.as_slice())?))
 }
 
 impl TypeInner {
@@ -356,7 +355,7 @@ impl TypeInner {
                 stride: *stride,
             }),
             TypeInner::Struct { members, span } => Ok(TypeInner::Struct {
-                members: clone_members(members, alloc)?,
+                members: clone_members(alloc, members)?,
                 span: *span,
             }),
             TypeInner::Image {
@@ -393,7 +392,7 @@ impl Type {
         ensures { IfOk result (λ made. made ≡ self.now) }
     {
         Ok(Type {
-            name: clone_name(&self.name, alloc)?,
+            name: clone_name(alloc, &self.name)?,
             inner: self.inner.clone(alloc)?,
         })
     }

@@ -64,7 +64,7 @@ fn letter(alloc: Global) -> Result<Name, Fail> {
 #[test]
 fn names(rt: HostRuntime) -> Result<(), Fail> {
     let name = Some(letter(rt.alloc())?);
-    let Some(copy) = clone_name(&name, rt.alloc())? else {
+    let Some(copy) = clone_name(rt.alloc(), &name)? else {
         panic!(rt; "no name");
     };
     assert_eq!(rt; copy.as_str(), "v");
