@@ -119,7 +119,8 @@ pub struct Block {
     pub list: Sequence<Located>,
 }
 
-/// A case of a switch; where it falls through, the next case runs after its body.
+/// A case of a switch; where it falls through, the next case runs after its body. In a module that passed, the last
+/// case doesn't.
 #[cycle(statement)]
 #[derive(PartialEq, Debug, Drop)]
 pub struct SwitchCase {
@@ -128,7 +129,8 @@ pub struct SwitchCase {
     pub fall_through: bool,
 }
 
-/// A statement. The kinds and their fields are naga's.
+/// A statement. The kinds and their fields are naga's. Handles of expressions are of the same function; in a module that
+/// passed, they are in scope where they are used.
 #[cycle(statement)]
 #[derive(PartialEq, Debug, Drop)]
 pub enum Statement {
