@@ -63,7 +63,7 @@ pub record FitsGlobals (m : Module) (i : ModuleInfo) : Type 0 where
   pub types : All (ResolutionFits (length m.types)) i.global_types
   pub earlier : NameEarlierExpressions m.global_expressions
 
--- what an expression names besides its operands is there
+-- what an expression names besides its operands is there; of the number of an argument nothing is asked
 abbrev pub ReferencesFit : Module → Function → Expression → Type 0
 ReferencesFit m f (e.Constant h) = h < length m.constants
 ReferencesFit m f (e.Override h) = h < length m.overrides
@@ -75,7 +75,30 @@ ReferencesFit m f (e.CallResult h) = CalleeFits m h
 ReferencesFit m f (e.AtomicResult t c) = t < length m.types
 ReferencesFit m f (e.WorkGroupUniformLoadResult t) = t < length m.types
 ReferencesFit m f (e.SubgroupOperationResult t) = t < length m.types
-ReferencesFit m f _ = ⊤
+ReferencesFit m f (e.Literal l) = ⊤
+ReferencesFit m f (e.Access b i) = ⊤
+ReferencesFit m f (e.AccessIndex b i) = ⊤
+ReferencesFit m f (e.FunctionArgument i) = ⊤
+ReferencesFit m f (e.Load p) = ⊤
+ReferencesFit m f e.RayQueryProceedResult = ⊤
+ReferencesFit m f e.SubgroupBallotResult = ⊤
+ReferencesFit m f (e.Splat hs d) = ⊤
+ReferencesFit m f (e.Swizzle hs d) = ⊤
+ReferencesFit m f (e.ImageSample hs d) = ⊤
+ReferencesFit m f (e.ImageLoad hs d) = ⊤
+ReferencesFit m f (e.ImageQuery hs d) = ⊤
+ReferencesFit m f (e.Unary hs d) = ⊤
+ReferencesFit m f (e.Binary hs d) = ⊤
+ReferencesFit m f (e.Select hs d) = ⊤
+ReferencesFit m f (e.Derivative hs d) = ⊤
+ReferencesFit m f (e.Relational hs d) = ⊤
+ReferencesFit m f (e.Math hs d) = ⊤
+ReferencesFit m f (e.As hs d) = ⊤
+ReferencesFit m f (e.ArrayLength hs d) = ⊤
+ReferencesFit m f (e.RayQueryGetIntersection hs d) = ⊤
+ReferencesFit m f (e.RayQueryVertexPositions hs d) = ⊤
+ReferencesFit m f (e.CooperativeLoad hs d) = ⊤
+ReferencesFit m f (e.CooperativeMultiplyAdd hs d) = ⊤
 
 abbrev pub LocalFits : Module → Function → LocalVariable → Type 0
 LocalFits m f v = (v.ty < length m.types) × IfSome v.init (λ h. h < length f.expressions)

@@ -1,14 +1,14 @@
 -- When whatever the statements of a body name, at any depth, is there.
 use Rattle.std.specs.Prelude.{ℕ, ◌<◌, ◌≤◌, IfSome, IsSomeAnd, All, ⊤, length, slice_get}
 use Rattle.naga_below.specs.declared.ir.statements.AtomicFunction.{AtomicFunction}
-use Rattle.naga_below.specs.declared.ir.statements.AtomicFunction.TheVariants.{Exchange}
+use Rattle.naga_below.specs.declared.ir.statements.AtomicFunction.TheVariants as atomic
 use Rattle.naga_below.specs.declared.ir.statements.GatherMode.{GatherMode}
 use Rattle.naga_below.specs.declared.ir.statements.GatherMode.TheVariants as mode
 use Rattle.naga_below.specs.declared.ir.statements.RayQueryFunction.{RayQueryFunction}
 use Rattle.naga_below.specs.declared.ir.statements.RayQueryFunction.TheVariants as query
 use Rattle.naga_below.specs.declared.ir.statements.RayPipelineFunction.{RayPipelineFunction}
 use Rattle.naga_below.specs.declared.ir.statements.RayPipelineFunction.TheVariants.{TraceRay}
-use Rattle.naga_below.specs.declared.ir.statements.Statement.{Statement}
+use Rattle.naga_below.specs.declared.ir.statements.Statement.{Statement, Switch'}
 use Rattle.naga_below.specs.declared.ir.statements.Statement.TheVariants as s
 use Rattle.naga_below.specs.declared.ir.functions.Function.{Function}
 use Rattle.naga_below.specs.declared.ir.module.Module.{Module}
@@ -30,8 +30,14 @@ CalleeFits m f = IsSomeAnd (slice_get m.functions f) (SignatureFits m)
 
 -- of n expressions
 abbrev pub AtomicFits : ℕ → AtomicFunction → Type 0
-AtomicFits n (Exchange c) = IfSome c (λ h. h < n)
-AtomicFits n _ = ⊤
+AtomicFits n (atomic.Exchange c) = IfSome c (λ h. h < n)
+AtomicFits n atomic.Add = ⊤
+AtomicFits n atomic.Subtract = ⊤
+AtomicFits n atomic.And = ⊤
+AtomicFits n atomic.ExclusiveOr = ⊤
+AtomicFits n atomic.InclusiveOr = ⊤
+AtomicFits n atomic.Min = ⊤
+AtomicFits n atomic.Max = ⊤
 
 abbrev pub GatherFits : ℕ → GatherMode → Type 0
 GatherFits n mode.BroadcastFirst = ⊤
@@ -55,7 +61,7 @@ PipelineFits n (TraceRay a d p) = (a < n) × (d < n) × (p < n)
 
 -- of a module, where a function has n expressions and `earlier` functions before it
 module _ (m : Module) (n earlier : ℕ) where
-  -- a statement that is neither a jump nor holds others
+  -- a statement that is neither a jump nor holds others; the parts of any other are asked for below
   abbrev pub LeafFits : Statement → Type 0
   LeafFits (s.Emit r) = (r.start ≤ r.end) × (r.end ≤ n)
   LeafFits (s.Store p v) = (p < n) × (v < n)
@@ -70,7 +76,16 @@ module _ (m : Module) (n earlier : ℕ) where
   LeafFits (s.SubgroupGather g a r) = GatherFits n g × (a < n) × (r < n)
   LeafFits (s.CooperativeStore t d) = (t < n) × (d.pointer < n)
   LeafFits (s.RayPipelineFunction f) = PipelineFits n f
-  LeafFits _ = ⊤
+  LeafFits (s.ControlBarrier b) = ⊤
+  LeafFits (s.MemoryBarrier b) = ⊤
+  LeafFits (s.Block b) = ⊤
+  LeafFits (s.If c a r) = ⊤
+  LeafFits (Switch' h k row) = ⊤
+  LeafFits (s.Loop b c q) = ⊤
+  LeafFits s.Break = ⊤
+  LeafFits s.Continue = ⊤
+  LeafFits (s.Return v) = ⊤
+  LeafFits s.Kill = ⊤
 
   abbrev mutual
     pub StatementFits : Stmt → Type 0

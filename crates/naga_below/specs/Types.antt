@@ -89,7 +89,16 @@ NamesTypesBelow n (inner.Pointer b p) = b < n
 NamesTypesBelow n (inner.Array b size stride) = b < n
 NamesTypesBelow n (inner.Struct members span) = All (λ m. m.ty < n) members
 NamesTypesBelow n (inner.BindingArray b size) = b < n
-NamesTypesBelow n _ = ⊤
+NamesTypesBelow n (inner.Scalar s) = ⊤
+NamesTypesBelow n (inner.Vector k s) = ⊤
+NamesTypesBelow n (inner.Matrix c r s) = ⊤
+NamesTypesBelow n (inner.CooperativeMatrix s d) = ⊤
+NamesTypesBelow n (inner.Atomic s) = ⊤
+NamesTypesBelow n (inner.ValuePointer k s p) = ⊤
+NamesTypesBelow n (inner.Image dim arrayed class) = ⊤
+NamesTypesBelow n (inner.Sampler comparison) = ⊤
+NamesTypesBelow n (inner.AccelerationStructure vertex_return) = ⊤
+NamesTypesBelow n (inner.RayQuery vertex_return) = ⊤
 
 -- every type names types of the list
 abbrev pub NameEachOther : List IrType → Type 0

@@ -7,7 +7,7 @@ use Rattle.naga_below.specs.declared.ir.statements.Block.{Block', Row_of-Located
 use Rattle.naga_below.specs.declared.ir.statements.Located.{Located}
 use Rattle.naga_below.specs.declared.ir.statements.SwitchCase.{SwitchCase, SwitchCase', out-SwitchCase}
 use Rattle.naga_below.specs.declared.ir.statements.AtomicFunction.{AtomicFunction}
-use Rattle.naga_below.specs.declared.ir.statements.AtomicFunction.TheVariants.{Exchange}
+use Rattle.naga_below.specs.declared.ir.statements.AtomicFunction.TheVariants as atomic
 use Rattle.naga_below.specs.declared.ir.statements.GatherMode.{GatherMode}
 use Rattle.naga_below.specs.declared.ir.statements.GatherMode.TheVariants as gather
 use Rattle.naga_below.specs.declared.ir.statements.RayQueryFunction.{RayQueryFunction}
@@ -34,8 +34,14 @@ emitted operands start (suc count) = map Use (operands start) ++ (Put start ∷ 
 
 -- an exchange uses the value that it compares with, if it has one
 abbrev pub compared : AtomicFunction → List Act
-compared (Exchange (Some c)) = Use c ∷ []
-compared _ = []
+compared (atomic.Exchange c) = used_if c
+compared atomic.Add = []
+compared atomic.Subtract = []
+compared atomic.And = []
+compared atomic.ExclusiveOr = []
+compared atomic.InclusiveOr = []
+compared atomic.Min = []
+compared atomic.Max = []
 
 -- an atomic operation without a result doesn't use the value that it compares with
 abbrev pub atomic_acts : AtomicFunction → Option ℕ → List Act
@@ -50,18 +56,22 @@ mode_acts (gather.ShuffleDown h) = Use h ∷ []
 mode_acts (gather.ShuffleUp h) = Use h ∷ []
 mode_acts (gather.ShuffleXor h) = Use h ∷ []
 mode_acts (gather.QuadBroadcast h) = Use h ∷ []
-mode_acts _ = []
+mode_acts gather.BroadcastFirst = []
+mode_acts (gather.QuadSwap d) = []
 
+-- what a step of a ray query uses and puts
 abbrev pub query_acts : RayQueryFunction → List Act
 query_acts (query.Initialize a d) = Use a ∷ Use d ∷ []
 query_acts (query.Proceed r) = Put r ∷ []
 query_acts (query.GenerateIntersection t) = Use t ∷ []
-query_acts _ = []
+query_acts query.ConfirmIntersection = []
+query_acts query.Terminate = []
 
+-- a ray that is traced uses its payload before its descriptor
 abbrev pub pipeline_acts : RayPipelineFunction → List Act
 pipeline_acts (TraceRay a d p) = Use a ∷ Use p ∷ Use d ∷ []
 
--- what a statement does itself, in the order in which it is checked
+-- what a leaf does, in the order in which it is checked; what else a statement uses stands in its tree
 abbrev pub statement_acts : (ℕ → List ℕ) → Statement → List Act
 statement_acts operands (s.Emit r) = emitted operands r.start (r.end - r.start)
 statement_acts operands (s.Store p v) = Use v ∷ []
@@ -76,7 +86,20 @@ statement_acts operands (s.SubgroupCollectiveOperation o c a r) = Use a ∷ Put 
 statement_acts operands (s.SubgroupGather m a r) = mode_acts m ++ (Use a ∷ Put r ∷ [])
 statement_acts operands (s.CooperativeStore t d) = Use t ∷ []
 statement_acts operands (s.RayPipelineFunction f) = pipeline_acts f
-statement_acts operands _ = []
+statement_acts operands (s.ControlBarrier b) = []
+statement_acts operands (s.MemoryBarrier b) = []
+statement_acts operands (s.Block b) = []
+statement_acts operands (s.If c a r) = []
+statement_acts operands (Switch' h k row) = []
+statement_acts operands (s.Loop b c q) = []
+statement_acts operands s.Break = []
+statement_acts operands s.Continue = []
+statement_acts operands (s.Return v) = []
+statement_acts operands s.Kill = []
+
+-- a statement that is neither a jump nor holds others
+abbrev pub leaf_of : (ℕ → List ℕ) → Statement → Span → Stmt
+leaf_of operands x span = Leaf (statement_acts operands x) x span
 
 -- the trees of a statement, a block and a row of cases, as the IR's recursive types hold them
 abbrev mutual
@@ -89,7 +112,21 @@ abbrev mutual
   tree_of operands s.Continue span = Continue
   tree_of operands (s.Return v) span = Return v
   tree_of operands s.Kill span = Kill
-  tree_of operands x span = Leaf (statement_acts operands x) x span
+  tree_of operands (s.Emit r) span = leaf_of operands (s.Emit r) span
+  tree_of operands (s.ControlBarrier b) span = leaf_of operands (s.ControlBarrier b) span
+  tree_of operands (s.MemoryBarrier b) span = leaf_of operands (s.MemoryBarrier b) span
+  tree_of operands (s.Store p v) span = leaf_of operands (s.Store p v) span
+  tree_of operands (s.ImageStore i c a v) span = leaf_of operands (s.ImageStore i c a v) span
+  tree_of operands (s.Atomic p f v r) span = leaf_of operands (s.Atomic p f v r) span
+  tree_of operands (s.ImageAtomic i c a f v) span = leaf_of operands (s.ImageAtomic i c a f v) span
+  tree_of operands (s.WorkGroupUniformLoad p r) span = leaf_of operands (s.WorkGroupUniformLoad p r) span
+  tree_of operands (s.Call f xs r) span = leaf_of operands (s.Call f xs r) span
+  tree_of operands (s.RayQuery q f) span = leaf_of operands (s.RayQuery q f) span
+  tree_of operands (s.SubgroupBallot r p) span = leaf_of operands (s.SubgroupBallot r p) span
+  tree_of operands (s.SubgroupCollectiveOperation o c a r) span = leaf_of operands (s.SubgroupCollectiveOperation o c a r) span
+  tree_of operands (s.SubgroupGather m a r) span = leaf_of operands (s.SubgroupGather m a r) span
+  tree_of operands (s.CooperativeStore t d) span = leaf_of operands (s.CooperativeStore t d) span
+  tree_of operands (s.RayPipelineFunction f) span = leaf_of operands (s.RayPipelineFunction f) span
 
   pub body_of : (ℕ → List ℕ) → b.Block → Body
   body_of operands (Block' k row) = row_body operands row
@@ -117,4 +154,6 @@ list_body operands (x ∷ xs) = Then (tree_of operands x.statement x.span) (list
 -- the tree of a list of cases
 abbrev pub list_cases : (ℕ → List ℕ) → List SwitchCase → Cases
 list_cases operands [] = NoCase
-list_cases operands (c ∷ cs) = OneCase (out-SwitchCase c).value (out-SwitchCase c).fall_through (body_of operands (out-SwitchCase c).body) (list_cases operands cs)
+list_cases operands (c ∷ cs) =
+    let made = out-SwitchCase c in
+    OneCase made.value made.fall_through (body_of operands made.body) (list_cases operands cs)

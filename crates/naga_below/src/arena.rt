@@ -95,7 +95,7 @@ impl<T: Tagged + Duplicate> Arena<T> {
         ensures { IfOk result (λ made. made ≡ self.now) }
     {
         Ok(Arena {
-            values: duplicates(self.values.as_slice(), alloc)?,
+            values: duplicates(alloc, self.values.as_slice())?,
             spans: self.spans.as_slice().to_vec(alloc)?,
         })
     }

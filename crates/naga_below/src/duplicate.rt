@@ -4,8 +4,8 @@ ghost use Rattle.std.specs.Prelude.{◌≡◌, IfOk};
 
 use std::alloc::{AllocError, Global};
 
-/// A type of which an equal value can be made. Each type with an inherent `clone` that a list or an arena holds says
-/// here what contracts know of a value and its clone: that they are identical, or that they agree in what is named.
+/// A type of which an equal value can be made. What lists and arenas hold has it beside its inherent `clone`, which a
+/// type parameter can't name.
 pub trait Duplicate: Drop {
     /// An equal value.
     fn duplicate(&self, alloc: Global) -> Result<Self, AllocError>
@@ -13,7 +13,7 @@ pub trait Duplicate: Drop {
 }
 
 /// Equal values in the same order.
-pub(crate) fn duplicates<T: Duplicate>(items: &[T], alloc: Global) -> Result<Vec<T>, AllocError>
+pub(crate) fn duplicates<T: Duplicate>(alloc: Global, items: &[T]) -> Result<Vec<T>, AllocError>
     ensures { IfOk result (λ made. made.items ≡ items.now) }
 {
     let mut made = Vec::with_capacity(alloc, items.len())?;

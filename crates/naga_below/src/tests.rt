@@ -57,7 +57,7 @@ fn empty_function(alloc: Global) -> Function
         local_variables: Arena::new(alloc),
         expressions: Arena::new(alloc),
         body: Block {
-            list: Vec::new(alloc),
+            list: Sequence::new(alloc),
         },
     }
 }
@@ -71,7 +71,7 @@ fn arena_of<T: Tagged + Drop>(alloc: Global, span: Span, value: T) -> Result<Are
 
 /// A block of one statement.
 fn block_of(alloc: Global, statement: Statement) -> Result<Block, AllocError> {
-    let mut list = Vec::new(alloc);
+    let mut list = Sequence::new(alloc);
     list.push(Located {
         statement,
         span: NOWHERE,

@@ -1,7 +1,10 @@
 //! What can be wrong with a function: the errors of naga 30.0.1's `valid::function`, with its variants and fields.
 
-ghost use Rattle.std.specs.Prelude.{◌≡◌, IfOk};
+ghost use Rattle.std.specs.Prelude.{◌≡◌};
 ghost use Rattle.naga_rules.specs.declared.function.FunctionError.TheVariants.{InvalidAtomic, InvalidSubgroup};
+
+mod clones;
+mod texts;
 
 use crate::analyzer::{UniformityDisruptor, UniformityRequirements};
 use naga_below::arena::handle::Handle;
@@ -12,8 +15,6 @@ use naga_below::ir::types::{AddressSpace, TypeInner};
 use naga_below::valid::capabilities::Capabilities;
 use naga_below::valid::expression_error::ExpressionError;
 use naga_below::valid::flags::SubgroupOperationSet;
-use std::alloc::{AllocError, Global};
-use std::fmt;
 use thiserror::Error;
 
 /// What is wrong with a call of a function.
@@ -267,219 +268,6 @@ pub enum FunctionError {
     /// The payload of a ray is no global.
     PayloadPointerNotGlobal,
 }
-
-impl FunctionError {
-    /// An equal error.
-    pub fn clone(&self, alloc: Global) -> Result<Self, AllocError>
-        ensures { IfOk result (λ made. made ≡ self.now) }
-    {
-        Ok(match self {
-            FunctionError::Expression { handle, source } => FunctionError::Expression {
-                handle: *handle,
-                source: *source,
-            },
-            FunctionError::ExpressionAlreadyInScope(expression) =>
-                FunctionError::ExpressionAlreadyInScope(*expression),
-            FunctionError::LocalVariable {
-                handle,
-                name,
-                source,
-            } => FunctionError::LocalVariable {
-                handle: *handle,
-                name: name.clone(alloc)?,
-                source: *source,
-            },
-            FunctionError::InvalidArgumentType { index, name } =>
-                FunctionError::InvalidArgumentType {
-                    index: *index,
-                    name: name.clone(alloc)?,
-                },
-            FunctionError::NonConstructibleReturnType => FunctionError::NonConstructibleReturnType,
-            FunctionError::InvalidArgumentPointerSpace { index, name, space } =>
-                FunctionError::InvalidArgumentPointerSpace {
-                    index: *index,
-                    name: name.clone(alloc)?,
-                    space: *space,
-                },
-            FunctionError::BreakOutsideOfLoopOrSwitch => FunctionError::BreakOutsideOfLoopOrSwitch,
-            FunctionError::ContinueOutsideOfLoop => FunctionError::ContinueOutsideOfLoop,
-            FunctionError::InvalidReturnSpot => FunctionError::InvalidReturnSpot,
-            FunctionError::InvalidReturnType {
-                expression,
-                expected_ty,
-            } => FunctionError::InvalidReturnType {
-                expression: *expression,
-                expected_ty: *expected_ty,
-            },
-            FunctionError::InvalidIfType(expression) => FunctionError::InvalidIfType(*expression),
-            FunctionError::InvalidSwitchType(expression) => FunctionError::InvalidSwitchType(
-                *expression,
-            ),
-            FunctionError::ConflictingSwitchCase(value) => FunctionError::ConflictingSwitchCase(
-                *value,
-            ),
-            FunctionError::ConflictingCaseType => FunctionError::ConflictingCaseType,
-            FunctionError::MissingDefaultCase => FunctionError::MissingDefaultCase,
-            FunctionError::MultipleDefaultCases => FunctionError::MultipleDefaultCases,
-            FunctionError::LastCaseFallTrough => FunctionError::LastCaseFallTrough,
-            FunctionError::InvalidStorePointer(expression) => FunctionError::InvalidStorePointer(
-                *expression,
-            ),
-            FunctionError::InvalidStoreTexture { actual, actual_ty } =>
-                FunctionError::InvalidStoreTexture {
-                    actual: *actual,
-                    actual_ty: actual_ty.clone(alloc)?,
-                },
-            FunctionError::InvalidStoreValue {
-                actual,
-                actual_ty,
-                expected_ty,
-            } => FunctionError::InvalidStoreValue {
-                actual: *actual,
-                actual_ty: actual_ty.clone(alloc)?,
-                expected_ty: expected_ty.clone(alloc)?,
-            },
-            FunctionError::InvalidStoreTypes { pointer, value } =>
-                FunctionError::InvalidStoreTypes {
-                    pointer: *pointer,
-                    value: *value,
-                },
-            FunctionError::InvalidImageStore(error) => FunctionError::InvalidImageStore(*error),
-            FunctionError::InvalidImageAtomic(error) => FunctionError::InvalidImageAtomic(*error),
-            FunctionError::InvalidImageAtomicFunction(fun) =>
-                FunctionError::InvalidImageAtomicFunction(*fun),
-            FunctionError::InvalidImageAtomicValue(expression) =>
-                FunctionError::InvalidImageAtomicValue(*expression),
-            FunctionError::InvalidCall { function, error } => FunctionError::InvalidCall {
-                function: *function,
-                error: *error,
-            },
-            FunctionError::InvalidAtomic(error) => FunctionError::InvalidAtomic(*error),
-            FunctionError::InvalidRayQueryExpression(expression) =>
-                FunctionError::InvalidRayQueryExpression(*expression),
-            FunctionError::InvalidAccelerationStructure(expression) =>
-                FunctionError::InvalidAccelerationStructure(*expression),
-            FunctionError::MissingAccelerationStructureVertexReturn(first, second) =>
-                FunctionError::MissingAccelerationStructureVertexReturn(*first, *second),
-            FunctionError::MissingRayQueryVertexReturn(expression) =>
-                FunctionError::MissingRayQueryVertexReturn(*expression),
-            FunctionError::InvalidRayDescriptor(expression) => FunctionError::InvalidRayDescriptor(
-                *expression,
-            ),
-            FunctionError::InvalidRayQueryType(ty) => FunctionError::InvalidRayQueryType(*ty),
-            FunctionError::InvalidHitDistanceType(expression) =>
-                FunctionError::InvalidHitDistanceType(*expression),
-            FunctionError::MissingCapability(capabilities) => FunctionError::MissingCapability(
-                *capabilities,
-            ),
-            FunctionError::NonUniformControlFlow(requirements, expression, disruptor) =>
-                FunctionError::NonUniformControlFlow(*requirements, *expression, *disruptor),
-            FunctionError::PipelineInputRegularFunction { name } =>
-                FunctionError::PipelineInputRegularFunction {
-                    name: name.clone(alloc)?,
-                },
-            FunctionError::PipelineOutputRegularFunction =>
-                FunctionError::PipelineOutputRegularFunction,
-            FunctionError::NonUniformWorkgroupUniformLoad(disruptor) =>
-                FunctionError::NonUniformWorkgroupUniformLoad(*disruptor),
-            FunctionError::WorkgroupUniformLoadExpressionMismatch(expression) =>
-                FunctionError::WorkgroupUniformLoadExpressionMismatch(*expression),
-            FunctionError::WorkgroupUniformLoadInvalidPointer(expression) =>
-                FunctionError::WorkgroupUniformLoadInvalidPointer(*expression),
-            FunctionError::InvalidSubgroup(error) => FunctionError::InvalidSubgroup(*error),
-            FunctionError::InvalidCooperativeStoreTarget(expression) =>
-                FunctionError::InvalidCooperativeStoreTarget(*expression),
-            FunctionError::InvalidCooperativeDataPointer(expression) =>
-                FunctionError::InvalidCooperativeDataPointer(*expression),
-            FunctionError::EmitResult(expression) => FunctionError::EmitResult(*expression),
-            FunctionError::UnvisitedExpression(expression) => FunctionError::UnvisitedExpression(
-                *expression,
-            ),
-            FunctionError::InvalidMeshFunctionCall(expression) =>
-                FunctionError::InvalidMeshFunctionCall(*expression),
-            FunctionError::ConflictingMeshOutputTypes(first, second) =>
-                FunctionError::ConflictingMeshOutputTypes(*first, *second),
-            FunctionError::ConflictingTaskPayloadVariables(first, second) =>
-                FunctionError::ConflictingTaskPayloadVariables(*first, *second),
-            FunctionError::InvalidMeshShaderOutputType(expression) =>
-                FunctionError::InvalidMeshShaderOutputType(*expression),
-            FunctionError::InvalidPayloadType => FunctionError::InvalidPayloadType,
-            FunctionError::InvalidPayloadAddressSpace(space) =>
-                FunctionError::InvalidPayloadAddressSpace(*space),
-            FunctionError::MismatchedPayloadType(first, second) =>
-                FunctionError::MismatchedPayloadType(*first, *second),
-            FunctionError::PayloadPointerNotGlobal => FunctionError::PayloadPointerNotGlobal,
-        })
-    }
-}
-
-/// Writes the variant's name.
-impl fmt::Display for FunctionError {
-    fn fmt<W: fmt::Write>(&self, f: &mut fmt::Formatter<W>) -> fmt::Result {
-        f.write_str(match self {
-            FunctionError::Expression { .. } => "Expression",
-            FunctionError::ExpressionAlreadyInScope(_) => "ExpressionAlreadyInScope",
-            FunctionError::LocalVariable { .. } => "LocalVariable",
-            FunctionError::InvalidArgumentType { .. } => "InvalidArgumentType",
-            FunctionError::NonConstructibleReturnType => "NonConstructibleReturnType",
-            FunctionError::InvalidArgumentPointerSpace { .. } => "InvalidArgumentPointerSpace",
-            FunctionError::BreakOutsideOfLoopOrSwitch => "BreakOutsideOfLoopOrSwitch",
-            FunctionError::ContinueOutsideOfLoop => "ContinueOutsideOfLoop",
-            FunctionError::InvalidReturnSpot => "InvalidReturnSpot",
-            FunctionError::InvalidReturnType { .. } => "InvalidReturnType",
-            FunctionError::InvalidIfType(_) => "InvalidIfType",
-            FunctionError::InvalidSwitchType(_) => "InvalidSwitchType",
-            FunctionError::ConflictingSwitchCase(_) => "ConflictingSwitchCase",
-            FunctionError::ConflictingCaseType => "ConflictingCaseType",
-            FunctionError::MissingDefaultCase => "MissingDefaultCase",
-            FunctionError::MultipleDefaultCases => "MultipleDefaultCases",
-            FunctionError::LastCaseFallTrough => "LastCaseFallTrough",
-            FunctionError::InvalidStorePointer(_) => "InvalidStorePointer",
-            FunctionError::InvalidStoreTexture { .. } => "InvalidStoreTexture",
-            FunctionError::InvalidStoreValue { .. } => "InvalidStoreValue",
-            FunctionError::InvalidStoreTypes { .. } => "InvalidStoreTypes",
-            FunctionError::InvalidImageStore(_) => "InvalidImageStore",
-            FunctionError::InvalidImageAtomic(_) => "InvalidImageAtomic",
-            FunctionError::InvalidImageAtomicFunction(_) => "InvalidImageAtomicFunction",
-            FunctionError::InvalidImageAtomicValue(_) => "InvalidImageAtomicValue",
-            FunctionError::InvalidCall { .. } => "InvalidCall",
-            FunctionError::InvalidAtomic(_) => "InvalidAtomic",
-            FunctionError::InvalidRayQueryExpression(_) => "InvalidRayQueryExpression",
-            FunctionError::InvalidAccelerationStructure(_) => "InvalidAccelerationStructure",
-            FunctionError::MissingAccelerationStructureVertexReturn(_, _) =>
-                "MissingAccelerationStructureVertexReturn",
-            FunctionError::MissingRayQueryVertexReturn(_) => "MissingRayQueryVertexReturn",
-            FunctionError::InvalidRayDescriptor(_) => "InvalidRayDescriptor",
-            FunctionError::InvalidRayQueryType(_) => "InvalidRayQueryType",
-            FunctionError::InvalidHitDistanceType(_) => "InvalidHitDistanceType",
-            FunctionError::MissingCapability(_) => "MissingCapability",
-            FunctionError::NonUniformControlFlow(_, _, _) => "NonUniformControlFlow",
-            FunctionError::PipelineInputRegularFunction { .. } => "PipelineInputRegularFunction",
-            FunctionError::PipelineOutputRegularFunction => "PipelineOutputRegularFunction",
-            FunctionError::NonUniformWorkgroupUniformLoad(_) => "NonUniformWorkgroupUniformLoad",
-            FunctionError::WorkgroupUniformLoadExpressionMismatch(_) =>
-                "WorkgroupUniformLoadExpressionMismatch",
-            FunctionError::WorkgroupUniformLoadInvalidPointer(_) =>
-                "WorkgroupUniformLoadInvalidPointer",
-            FunctionError::InvalidSubgroup(_) => "InvalidSubgroup",
-            FunctionError::InvalidCooperativeStoreTarget(_) => "InvalidCooperativeStoreTarget",
-            FunctionError::InvalidCooperativeDataPointer(_) => "InvalidCooperativeDataPointer",
-            FunctionError::EmitResult(_) => "EmitResult",
-            FunctionError::UnvisitedExpression(_) => "UnvisitedExpression",
-            FunctionError::InvalidMeshFunctionCall(_) => "InvalidMeshFunctionCall",
-            FunctionError::ConflictingMeshOutputTypes(_, _) => "ConflictingMeshOutputTypes",
-            FunctionError::ConflictingTaskPayloadVariables(_, _) =>
-                "ConflictingTaskPayloadVariables",
-            FunctionError::InvalidMeshShaderOutputType(_) => "InvalidMeshShaderOutputType",
-            FunctionError::InvalidPayloadType => "InvalidPayloadType",
-            FunctionError::InvalidPayloadAddressSpace(_) => "InvalidPayloadAddressSpace",
-            FunctionError::MismatchedPayloadType(_, _) => "MismatchedPayloadType",
-            FunctionError::PayloadPointerNotGlobal => "PayloadPointerNotGlobal",
-        })
-    }
-}
-
-impl std::error::Error for FunctionError {}
 
 impl From<AtomicError> for FunctionError {
     ghost from_gives = { λ atomic error. error ≡ InvalidAtomic atomic };

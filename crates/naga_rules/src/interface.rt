@@ -1,7 +1,8 @@
 //! What can be wrong with a global variable, and with what a stage takes in and puts out: errors of naga 30.0.1's
 //! `valid::interface`, with its variants and fields.
 
-ghost use Rattle.std.specs.Prelude.{◌≡◌, IfOk};
+mod clones;
+mod texts;
 
 use naga_below::arena::handle::Handle;
 use naga_below::arena::tag;
@@ -11,8 +12,6 @@ use naga_below::ir::types::{AddressSpace, Interpolation, Sampling, TypeInner};
 use naga_below::valid::capabilities::Capabilities;
 use naga_below::valid::flags::TypeFlags;
 use naga_below::valid::types::{Disalignment, ImmediateError};
-use std::alloc::{AllocError, Global};
-use std::fmt;
 use thiserror::Error;
 
 /// What is wrong with a global variable.
@@ -144,120 +143,3 @@ pub enum VaryingError {
     /// An input for each vertex has no sampling, or one at the center.
     InvalidPerVertexSampling,
 }
-
-impl VaryingError {
-    /// An equal error.
-    pub fn clone(&self, alloc: Global) -> Result<Self, AllocError>
-        ensures { IfOk result (λ made. made ≡ self.now) }
-    {
-        Ok(match self {
-            VaryingError::InvalidType(ty) => VaryingError::InvalidType(*ty),
-            VaryingError::NotIOShareableType(ty) => VaryingError::NotIOShareableType(*ty),
-            VaryingError::InvalidInterpolationInStage(interpolation, stage) =>
-                VaryingError::InvalidInterpolationInStage(*interpolation, *stage),
-            VaryingError::InvalidInterpolationSamplingCombination {
-                interpolation,
-                sampling,
-            } => VaryingError::InvalidInterpolationSamplingCombination {
-                interpolation: *interpolation,
-                sampling: *sampling,
-            },
-            VaryingError::InvalidInterpolationForInteger =>
-                VaryingError::InvalidInterpolationForInteger,
-            VaryingError::MissingInterpolation => VaryingError::MissingInterpolation,
-            VaryingError::InvalidBuiltInStage(built_in) => VaryingError::InvalidBuiltInStage(
-                *built_in,
-            ),
-            VaryingError::InvalidBuiltInType(built_in, inner) => VaryingError::InvalidBuiltInType(
-                *built_in,
-                inner.clone(alloc)?,
-            ),
-            VaryingError::MissingBinding => VaryingError::MissingBinding,
-            VaryingError::MemberMissingBinding(member) => VaryingError::MemberMissingBinding(
-                *member,
-            ),
-            VaryingError::BindingCollision { location } => VaryingError::BindingCollision {
-                location: *location,
-            },
-            VaryingError::BindingCollisionBlendSrc { blend_src } =>
-                VaryingError::BindingCollisionBlendSrc {
-                    blend_src: *blend_src,
-                },
-            VaryingError::DuplicateBuiltIn(built_in) => VaryingError::DuplicateBuiltIn(*built_in),
-            VaryingError::UnsupportedCapability(capabilities) =>
-                VaryingError::UnsupportedCapability(*capabilities),
-            VaryingError::InvalidInputAttributeInStage(attribute, stage) =>
-                VaryingError::InvalidInputAttributeInStage(*attribute, *stage),
-            VaryingError::InvalidAttributeInStage(attribute, stage) =>
-                VaryingError::InvalidAttributeInStage(*attribute, *stage),
-            VaryingError::InvalidBlendSrcIndex {
-                location,
-                blend_src,
-            } => VaryingError::InvalidBlendSrcIndex {
-                location: *location,
-                blend_src: *blend_src,
-            },
-            VaryingError::IncompleteBlendSrcUsage { present_blend_src } =>
-                VaryingError::IncompleteBlendSrcUsage {
-                    present_blend_src: *present_blend_src,
-                },
-            VaryingError::InvalidBlendSrcWithOtherBindings { location } =>
-                VaryingError::InvalidBlendSrcWithOtherBindings {
-                    location: *location,
-                },
-            VaryingError::BlendSrcOutputTypeMismatch {
-                blend_src_0_type,
-                blend_src_1_type,
-            } => VaryingError::BlendSrcOutputTypeMismatch {
-                blend_src_0_type: *blend_src_0_type,
-                blend_src_1_type: *blend_src_1_type,
-            },
-            VaryingError::BlendSrcNotOnStructMember => VaryingError::BlendSrcNotOnStructMember,
-            VaryingError::InvalidMultiDimensionalSubgroupBuiltIn =>
-                VaryingError::InvalidMultiDimensionalSubgroupBuiltIn,
-            VaryingError::InvalidPerPrimitive => VaryingError::InvalidPerPrimitive,
-            VaryingError::MissingPerPrimitive => VaryingError::MissingPerPrimitive,
-            VaryingError::PerVertexNotArrayOfThree => VaryingError::PerVertexNotArrayOfThree,
-            VaryingError::InvalidPerVertexSampling => VaryingError::InvalidPerVertexSampling,
-        })
-    }
-}
-
-/// Writes the variant's name.
-impl fmt::Display for VaryingError {
-    fn fmt<W: fmt::Write>(&self, f: &mut fmt::Formatter<W>) -> fmt::Result {
-        f.write_str(match self {
-            VaryingError::InvalidType(_) => "InvalidType",
-            VaryingError::NotIOShareableType(_) => "NotIOShareableType",
-            VaryingError::InvalidInterpolationInStage(_, _) => "InvalidInterpolationInStage",
-            VaryingError::InvalidInterpolationSamplingCombination { .. } =>
-                "InvalidInterpolationSamplingCombination",
-            VaryingError::InvalidInterpolationForInteger => "InvalidInterpolationForInteger",
-            VaryingError::MissingInterpolation => "MissingInterpolation",
-            VaryingError::InvalidBuiltInStage(_) => "InvalidBuiltInStage",
-            VaryingError::InvalidBuiltInType(_, _) => "InvalidBuiltInType",
-            VaryingError::MissingBinding => "MissingBinding",
-            VaryingError::MemberMissingBinding(_) => "MemberMissingBinding",
-            VaryingError::BindingCollision { .. } => "BindingCollision",
-            VaryingError::BindingCollisionBlendSrc { .. } => "BindingCollisionBlendSrc",
-            VaryingError::DuplicateBuiltIn(_) => "DuplicateBuiltIn",
-            VaryingError::UnsupportedCapability(_) => "UnsupportedCapability",
-            VaryingError::InvalidInputAttributeInStage(_, _) => "InvalidInputAttributeInStage",
-            VaryingError::InvalidAttributeInStage(_, _) => "InvalidAttributeInStage",
-            VaryingError::InvalidBlendSrcIndex { .. } => "InvalidBlendSrcIndex",
-            VaryingError::IncompleteBlendSrcUsage { .. } => "IncompleteBlendSrcUsage",
-            VaryingError::InvalidBlendSrcWithOtherBindings { .. } =>
-                "InvalidBlendSrcWithOtherBindings",
-            VaryingError::BlendSrcOutputTypeMismatch { .. } => "BlendSrcOutputTypeMismatch",
-            VaryingError::BlendSrcNotOnStructMember => "BlendSrcNotOnStructMember",
-            VaryingError::InvalidMultiDimensionalSubgroupBuiltIn =>
-                "InvalidMultiDimensionalSubgroupBuiltIn",
-            VaryingError::InvalidPerPrimitive => "InvalidPerPrimitive",
-            VaryingError::MissingPerPrimitive => "MissingPerPrimitive",
-            VaryingError::PerVertexNotArrayOfThree => "PerVertexNotArrayOfThree",
-            VaryingError::InvalidPerVertexSampling => "InvalidPerVertexSampling",
-        })
-    }
-}
-
-impl std::error::Error for VaryingError {}

@@ -37,28 +37,28 @@ impl MeshAnalysis {
         Ok(MeshAnalysis {
             implied: self.implied,
             overrides: [self.overrides[0], self.overrides[1]],
-            fault: clone_fault(&self.fault, alloc)?,
+            fault: clone_fault(alloc, &self.fault)?,
         })
     }
 }
 
 /// An equal fault with the same spans, if there is one.
 fn clone_fault(
-    fault: &Option<WithSpan<MeshFault>>,
     alloc: Global,
+    fault: &Option<WithSpan<MeshFault>>,
 ) -> Result<Option<WithSpan<MeshFault>>, AllocError>
     ensures { IfOk result (λ made. made ≡ fault.now) }
 {
     match fault {
-        Some(fault) => Ok(Some(clone_spans(fault, alloc)?)),
+        Some(fault) => Ok(Some(clone_spans(alloc, fault)?)),
         None => Ok(None),
     }
 }
 
 /// An equal fault with the same spans.
 fn clone_spans(
-    fault: &WithSpan<MeshFault>,
     alloc: Global,
+    fault: &WithSpan<MeshFault>,
 ) -> Result<WithSpan<MeshFault>, AllocError>
     ensures { IfOk result (λ made. made ≡ fault.now) }
 {

@@ -39,7 +39,13 @@ impl Count {
     {
         match fun {
             AtomicFunction::Exchange { compare } => self.has_if_any(compare),
-            _ => true,
+            AtomicFunction::Add
+            | AtomicFunction::Subtract
+            | AtomicFunction::And
+            | AtomicFunction::ExclusiveOr
+            | AtomicFunction::InclusiveOr
+            | AtomicFunction::Min
+            | AtomicFunction::Max => true,
         }
     }
 
@@ -119,7 +125,8 @@ fn fits_cases(cases: &[SwitchCase], module: &Module, expressions: usize, earlier
 
 #[cycle(fits)]
 fn fits_statement(located: &Located, module: &Module, expressions: usize, earlier: usize) -> bool
-    ensures { IsTrue result ↔ StatementFits «module».now expressions earlier (tree_of no_operands located.now.statement located.now.span) }
+    ensures { let tree = tree_of no_operands located.now.statement located.now.span in
+        IsTrue result ↔ StatementFits «module».now expressions earlier tree }
 {
     let count = Count(expressions);
     let statement = &located.statement;
@@ -241,6 +248,15 @@ fn fits_leaf(statement: &Statement, module: &Module, count: Count, earlier: usiz
             count.has(*target) && count.has(source.pointer)
         }
         Statement::RayPipelineFunction(fun) => count.fits_pipeline(*fun),
-        _ => true,
+        Statement::ControlBarrier(_)
+        | Statement::MemoryBarrier(_)
+        | Statement::Block(_)
+        | Statement::If { .. }
+        | Statement::Switch { .. }
+        | Statement::Loop { .. }
+        | Statement::Break
+        | Statement::Continue
+        | Statement::Return { .. }
+        | Statement::Kill => true,
     }
 }

@@ -47,7 +47,19 @@ fn operands_below(expression: &Expression, place: usize) -> bool
             operands.as_slice(),
             place,
         ),
-        _ => true,
+        Expression::Literal(_)
+        | Expression::Constant(_)
+        | Expression::Override(_)
+        | Expression::ZeroValue(_)
+        | Expression::FunctionArgument(_)
+        | Expression::GlobalVariable(_)
+        | Expression::LocalVariable(_)
+        | Expression::CallResult(_)
+        | Expression::AtomicResult { .. }
+        | Expression::WorkGroupUniformLoadResult { .. }
+        | Expression::RayQueryProceedResult
+        | Expression::SubgroupBallotResult
+        | Expression::SubgroupOperationResult { .. } => true,
     }
 }
 
@@ -78,7 +90,30 @@ fn references_fit(expression: &Expression, fun: &Function, module: &Module) -> b
         Expression::GlobalVariable(handle) => handle.index() < module.global_variables.len(),
         Expression::LocalVariable(handle) => handle.index() < fun.local_variables.len(),
         Expression::CallResult(function) => callee_fits(*function, module),
-        _ => true,
+        Expression::Literal(_)
+        | Expression::Access { .. }
+        | Expression::AccessIndex { .. }
+        | Expression::FunctionArgument(_)
+        | Expression::Load { .. }
+        | Expression::RayQueryProceedResult
+        | Expression::SubgroupBallotResult
+        | Expression::Splat { .. }
+        | Expression::Swizzle { .. }
+        | Expression::ImageSample { .. }
+        | Expression::ImageLoad { .. }
+        | Expression::ImageQuery { .. }
+        | Expression::Unary { .. }
+        | Expression::Binary { .. }
+        | Expression::Select { .. }
+        | Expression::Derivative { .. }
+        | Expression::Relational { .. }
+        | Expression::Math { .. }
+        | Expression::As { .. }
+        | Expression::ArrayLength { .. }
+        | Expression::RayQueryGetIntersection { .. }
+        | Expression::RayQueryVertexPositions { .. }
+        | Expression::CooperativeLoad { .. }
+        | Expression::CooperativeMultiplyAdd { .. } => true,
     }
 }
 

@@ -39,7 +39,16 @@ pub(crate) fn names_types_below(inner: &TypeInner, place: usize) -> bool
         | TypeInner::Array { base, .. }
         | TypeInner::BindingArray { base, .. } => base.index() < place,
         TypeInner::Struct { members, .. } => members_name_below(members.as_slice(), place),
-        _ => true,
+        TypeInner::Scalar(_)
+        | TypeInner::Vector { .. }
+        | TypeInner::Matrix { .. }
+        | TypeInner::CooperativeMatrix { .. }
+        | TypeInner::Atomic(_)
+        | TypeInner::ValuePointer { .. }
+        | TypeInner::Image { .. }
+        | TypeInner::Sampler { .. }
+        | TypeInner::AccelerationStructure { .. }
+        | TypeInner::RayQuery { .. } => true,
     }
 }
 

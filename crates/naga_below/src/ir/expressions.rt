@@ -9,7 +9,7 @@ use crate::ir::types::Scalar;
 use crate::sequence::Sequence;
 use std::alloc::{AllocError, Global};
 
-/// A number or a bool as the bits of its value, floats included.
+/// A number or a bool as the bits of its value, floats included: of a scalar below 64 bits the low ones.
 #[derive(Clone, Copy, PartialEq, Eq, Hash, Debug)]
 pub struct Literal {
     pub scalar: Scalar,
@@ -20,7 +20,9 @@ pub struct Literal {
 pub type Operands = Sequence<Handle<tag::Expression>>;
 
 /// An expression. Where validation of functions reads no more of a kind than the expressions that it is made from,
-/// the kind has them in the order of naga's fields, and in `detail` a number that stands for the rest.
+/// the kind has them in the order of naga's fields, and in `detail` a number that stands for the rest. Handles of
+/// expressions and locals are of the same function, all others of the module; a global expression is made from global
+/// expressions. The numbers of `AccessIndex` and `FunctionArgument` count from 0.
 #[derive(PartialEq, Debug, Drop)]
 pub enum Expression {
     Literal(Literal),

@@ -23,7 +23,9 @@ impl Flags for StorageAccess {
 
     ghost exact = { ⊤ };
 
-    ghost table = { (codes "LOAD", bit.LOAD.0) ∷ (codes "STORE", bit.STORE.0) ∷ (codes "ATOMIC", bit.ATOMIC.0) ∷ [] };
+    ghost table = { (codes "LOAD", bit.LOAD.0) ∷
+        (codes "STORE", bit.STORE.0) ∷
+        (codes "ATOMIC", bit.ATOMIC.0) ∷ [] };
 
     ghost set_of = { λ p. p.0 };
 
@@ -71,7 +73,10 @@ impl Flags for Barrier {
 
     ghost exact = { ⊤ };
 
-    ghost table = { (codes "STORAGE", bit.STORAGE.0) ∷ (codes "WORK_GROUP", bit.WORK_GROUP.0) ∷ (codes "SUB_GROUP", bit.SUB_GROUP.0) ∷ (codes "TEXTURE", bit.TEXTURE.0) ∷ [] };
+    ghost table = { (codes "STORAGE", bit.STORAGE.0) ∷
+        (codes "WORK_GROUP", bit.WORK_GROUP.0) ∷
+        (codes "SUB_GROUP", bit.SUB_GROUP.0) ∷
+        (codes "TEXTURE", bit.TEXTURE.0) ∷ [] };
 
     ghost set_of = { λ p. p.0 };
 
@@ -117,7 +122,8 @@ impl Flags for MemoryDecorations {
 
     ghost exact = { ⊤ };
 
-    ghost table = { (codes "COHERENT", bit.COHERENT.0) ∷ (codes "VOLATILE", bit.VOLATILE.0) ∷ [] };
+    ghost table = { (codes "COHERENT", bit.COHERENT.0) ∷
+        (codes "VOLATILE", bit.VOLATILE.0) ∷ [] };
 
     ghost set_of = { λ p. p.0 };
 

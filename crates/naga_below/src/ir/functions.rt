@@ -12,7 +12,8 @@ use crate::ir::types::Binding;
 use crate::sequence::Sequence;
 use std::alloc::{AllocError, Global};
 
-/// A variable of a function; `init` is one of the function's expressions.
+/// A variable of a function, of a type of the module. `init` is an expression of the function; in a module that passed,
+/// one that is known before the function runs, and of the variable's type.
 #[derive(PartialEq, Debug, Drop)]
 pub struct LocalVariable {
     pub name: Option<Name>,
@@ -24,30 +25,31 @@ impl Tagged for LocalVariable {
     type Tag = tag::LocalVariable;
 }
 
-/// An argument of a function.
+/// An argument of a function, of a type of the module.
 #[derive(PartialEq, Debug, Drop)]
 pub struct FunctionArgument {
     pub name: Option<Name>,
     pub ty: Handle<tag::Type>,
-    /// Only the arguments of an entry point's function are bound.
+    /// In a module that passed, only an argument of an entry point's function has one.
     pub binding: Option<Binding>,
 }
 
-/// What a function returns.
+/// What a function returns: a value of a type of the module.
 #[derive(Clone, Copy, PartialEq, Eq, Hash, Debug)]
 pub struct FunctionResult {
     pub ty: Handle<tag::Type>,
-    /// Only the result of an entry point's function is bound.
+    /// In a module that passed, only the result of an entry point's function has one.
     pub binding: Option<Binding>,
 }
 
 /// A function, of a module or of an entry point.
 #[derive(Drop)]
 pub struct Function {
+    /// `Expression::FunctionArgument` has the place in this list, from 0.
     pub arguments: Sequence<FunctionArgument>,
     pub result: Option<FunctionResult>,
     pub local_variables: Arena<LocalVariable>,
-    /// Each expression names only earlier ones.
+    /// In a module that passed, each names only earlier ones.
     pub expressions: Arena<Expression>,
     pub body: Block,
 }
@@ -62,7 +64,7 @@ impl LocalVariable {
         ensures { IfOk result (λ made. made ≡ self.now) }
     {
         Ok(LocalVariable {
-            name: clone_name(&self.name, alloc)?,
+            name: clone_name(alloc, &self.name)?,
             ty: self.ty,
             init: self.init,
         })
@@ -75,7 +77,7 @@ impl FunctionArgument {
         ensures { IfOk result (λ made. made ≡ self.now) }
     {
         Ok(FunctionArgument {
-            name: clone_name(&self.name, alloc)?,
+            name: clone_name(alloc, &self.name)?,
             ty: self.ty,
             binding: self.binding,
         })
@@ -99,7 +101,7 @@ impl Function {
     pub fn clone(&self, alloc: Global) -> Result<Self, AllocError>
         ensures { IfOk result (λ made. made ≡ self.now) }
     {
-        let arguments = duplicates(self.arguments.as_slice(), alloc)?;
+        let arguments = duplicates(alloc, self.arguments.as_slice())?;
         Ok(Function {
             arguments: Sequence::from(arguments),
             result: self.result,

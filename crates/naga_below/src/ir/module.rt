@@ -26,13 +26,14 @@ pub struct ResourceBinding {
     pub binding: u32,
 }
 
-/// A variable of a module.
+/// A variable of a module, of one of its types. In a module that passed, `binding` is there exactly where the space is
+/// one of resources, if bindings were checked.
 #[derive(Clone, Copy, PartialEq, Eq, Hash, Debug)]
 pub struct GlobalVariable {
     pub space: AddressSpace,
     pub binding: Option<ResourceBinding>,
     pub ty: Handle<tag::Type>,
-    /// A global expression.
+    /// One of the module's global expressions; in a module that passed, of the variable's type.
     pub init: Option<Handle<tag::Expression>>,
     pub memory_decorations: MemoryDecorations,
 }
@@ -41,7 +42,7 @@ impl Tagged for GlobalVariable {
     type Tag = tag::GlobalVariable;
 }
 
-/// A constant of a module; its value is carried by another layer.
+/// A constant of a module, of one of its types. Its value is not kept.
 #[derive(Clone, Copy, PartialEq, Eq, Hash, Debug)]
 pub struct Constant {
     pub ty: Handle<tag::Type>,
@@ -51,7 +52,7 @@ impl Tagged for Constant {
     type Tag = tag::Constant;
 }
 
-/// A constant that the pipeline may override.
+/// A constant that the pipeline may override, of a type of the module.
 #[derive(Clone, Copy, PartialEq, Eq, Hash, Debug)]
 pub struct Override {
     pub ty: Handle<tag::Type>,
@@ -61,7 +62,7 @@ impl Tagged for Override {
     type Tag = tag::Override;
 }
 
-/// Types that an expression or a statement needs although no other type names them.
+/// Types of the module that an expression or a statement needs although no other type names them.
 #[derive(Clone, Copy, PartialEq, Eq, Hash, Debug)]
 pub struct SpecialTypes {
     /// The type of the descriptor of a ray.
@@ -94,7 +95,9 @@ pub enum MeshOutputTopology {
     Triangles,
 }
 
-/// What a mesh entry point puts out. The overrides are global expressions, the output variable is a global.
+/// What a mesh entry point puts out: at most so many vertices and primitives in a work group. An override, which stands
+/// in for such a number, is one of the module's global expressions, the types and the output variable are the module's
+/// too. In a module that passed, each is there, and all are what the output variable's type implies.
 #[derive(Clone, Copy, PartialEq, Eq, Hash, Debug)]
 pub struct MeshStageInfo {
     pub topology: MeshOutputTopology,
@@ -112,26 +115,28 @@ pub struct MeshStageInfo {
 pub struct EntryPoint {
     pub stage: ShaderStage,
     pub early_depth_test: Option<EarlyDepthTest>,
-    /// The invocations of a work group in its three dimensions; all 0 at stages without work groups.
+    /// The invocations of a work group along each of its three dimensions. In a module that passed, none is 0 at the
+    /// compute, mesh and task stages, and each is 0 at the others.
     pub workgroup_size: [u32; 3],
     pub function: Function,
-    /// Present exactly at the mesh stage.
+    /// In a module that passed, present exactly at the mesh stage.
     pub mesh_info: Option<MeshStageInfo>,
+    /// A global of the module; in a module that passed, one in `AddressSpace::TaskPayload`.
     pub task_payload: Option<Handle<tag::GlobalVariable>>,
 }
 
 /// A whole shader.
 #[derive(Drop)]
 pub struct Module {
-    /// Each type names only earlier ones.
+    /// In a module that passed, each names only earlier ones.
     pub types: UniqueArena<Type>,
     pub special_types: SpecialTypes,
     pub constants: Arena<Constant>,
     pub overrides: Arena<Override>,
     pub global_variables: Arena<GlobalVariable>,
-    /// Each global expression names only earlier ones.
+    /// In a module that passed, each names only earlier ones.
     pub global_expressions: Arena<Expression>,
-    /// A function calls only earlier ones.
+    /// In a module that passed, each calls only earlier ones.
     pub functions: Arena<Function>,
     pub entry_points: Sequence<EntryPoint>,
 }
@@ -181,7 +186,7 @@ impl Module {
     pub fn clone(&self, alloc: Global) -> Result<Self, AllocError>
         ensures { IfOk result (λ made. made ≡ self.now) }
     {
-        let entry_points = duplicates(self.entry_points.as_slice(), alloc)?;
+        let entry_points = duplicates(alloc, self.entry_points.as_slice())?;
         Ok(Module {
             types: self.types.clone(alloc)?,
             special_types: self.special_types,

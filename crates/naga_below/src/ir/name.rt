@@ -45,7 +45,7 @@ impl Name {
 }
 
 /// An equal name, if there is one.
-pub fn clone_name(name: &Option<Name>, alloc: Global) -> Result<Option<Name>, AllocError>
+pub fn clone_name(alloc: Global, name: &Option<Name>) -> Result<Option<Name>, AllocError>
     ensures { IfOk result (λ made. made ≡ name.now) }
 {
     match name {

@@ -119,7 +119,8 @@ pub struct Block {
     pub list: Sequence<Located>,
 }
 
-/// A case of a switch; where it falls through, the next case runs after its body.
+/// A case of a switch; where it falls through, the next case runs after its body. In a module that passed, the last
+/// case doesn't.
 #[cycle(statement)]
 #[derive(PartialEq, Debug, Drop)]
 pub struct SwitchCase {
@@ -128,7 +129,8 @@ pub struct SwitchCase {
     pub fall_through: bool,
 }
 
-/// A statement. The kinds and their fields are naga's.
+/// A statement. The kinds and their fields are naga's. Handles of expressions are of the same function; in a module that
+/// passed, they are in scope where they are used.
 #[cycle(statement)]
 #[derive(PartialEq, Debug, Drop)]
 pub enum Statement {
@@ -220,13 +222,14 @@ impl Block {
     pub fn clone(&self, alloc: Global) -> Result<Self, AllocError>
         ensures { IfOk result (λ made. made ≡ self.now) }
     {
-        let list = clone_list(self.list.as_slice(), alloc)?;
+        let list = clone_list(alloc, self.list.as_slice())?;
         Ok(Block { list })
     }
 }
 
+/// Equal statements in the same order.
 #[cycle(clone)]
-fn clone_list(list: &[Located], alloc: Global) -> Result<Sequence<Located>, AllocError>
+fn clone_list(alloc: Global, list: &[Located]) -> Result<Sequence<Located>, AllocError>
     ensures { IfOk result (λ made. made ≡ list.now) }
 {
     let mut made = Sequence::new(alloc);
@@ -240,8 +243,9 @@ fn clone_list(list: &[Located], alloc: Global) -> Result<Sequence<Located>, Allo
     Ok(made)
 }
 
+/// Equal cases in the same order.
 #[cycle(clone)]
-fn clone_cases(cases: &[SwitchCase], alloc: Global) -> Result<Sequence<SwitchCase>, AllocError>
+fn clone_cases(alloc: Global, cases: &[SwitchCase]) -> Result<Sequence<SwitchCase>, AllocError>
     ensures { IfOk result (λ made. made ≡ cases.now) }
 {
     let mut made = Sequence::new(alloc);
@@ -292,7 +296,7 @@ impl Statement {
                 })
             }
             Statement::Switch { selector, cases } => {
-                let cases = clone_cases(cases.as_slice(), alloc)?;
+                let cases = clone_cases(alloc, cases.as_slice())?;
                 Ok(Statement::Switch {
                     selector: *selector,
                     cases,

@@ -1,18 +1,16 @@
 //! Types, and what struct members and results are bound to.
 
-ghost use Rattle.std.specs.Prelude.{◌≡◌, IfOk};
+mod clones;
 
 use crate::arena::handle::{Handle, Tagged};
 use crate::arena::tag;
-use crate::duplicate::{Duplicate, duplicates};
 use crate::ir::built_in::BuiltIn;
 use crate::ir::flags::StorageAccess;
-use crate::ir::name::{Name, clone_name};
+use crate::ir::name::Name;
 use crate::sequence::Sequence;
-use std::alloc::{AllocError, Global};
 use std::num::NonZeroU32;
 
-/// What a number is. The abstract kinds have no size at run time.
+/// What a scalar is. In a module that passed, no type is of an abstract kind.
 #[derive(Clone, Copy, PartialEq, Eq, PartialOrd, Ord, Hash, Debug)]
 pub enum ScalarKind {
     Sint,
@@ -27,7 +25,7 @@ pub enum ScalarKind {
 #[derive(Clone, Copy, PartialEq, Eq, PartialOrd, Ord, Hash, Debug)]
 pub struct Scalar {
     pub kind: ScalarKind,
-    /// In bytes; a bool has 1.
+    /// In bytes. In a module that passed, a bool has 1.
     pub width: u8,
 }
 
@@ -164,7 +162,7 @@ pub enum ImageClass {
     },
 }
 
-/// How many items an array has: a number, the value of an override, or as many as its buffer holds.
+/// How many items an array has: a number, the value of an override of the module, or as many as its buffer holds.
 #[derive(Clone, Copy, PartialEq, Eq, Hash, Debug)]
 pub enum ArraySize {
     Constant(NonZeroU32),
@@ -191,7 +189,8 @@ pub enum Sampling {
     Either,
 }
 
-/// What an argument, a result or a struct member of an entry point is bound to.
+/// What an argument, a result or a struct member is bound to, where an entry point takes it in or puts it out.
+/// `location` and `blend_src`, which color of a blend it is, count from 0.
 #[derive(Clone, Copy, PartialEq, Eq, Hash, Debug)]
 pub enum Binding {
     BuiltIn(BuiltIn),
@@ -204,7 +203,8 @@ pub enum Binding {
     },
 }
 
-/// A member of a struct; `offset` is in bytes from the start of the struct.
+/// A member of a struct. `ty` is a type of the module, `offset` is in bytes from the start of the struct. In a module
+/// that passed, the type stands before the struct's, and a member begins where the one before it ends, or behind.
 #[derive(PartialEq, Eq, Hash, Debug, Drop)]
 pub struct StructMember {
     pub name: Option<Name>,
@@ -213,11 +213,12 @@ pub struct StructMember {
     pub offset: u32,
 }
 
-/// The members of a struct, in the order of their offsets.
+/// The members of a struct, in the order in which they are written.
 pub type Members = Sequence<StructMember>;
 
-/// What a type is, without its name. Strides and spans are in bytes; `detail` of a cooperative matrix is a number
-/// that stands for what only the type checker of another layer reads.
+/// What a type is, without its name. `base` is another type of the module; in a module that passed, one that stands
+/// before this one. `stride` is in bytes from one item to the next, the `span` of a struct is its size in bytes.
+/// `detail` of a cooperative matrix is a number that stands for what only the type checker of another layer reads.
 #[derive(PartialEq, Eq, Hash, Debug, Drop)]
 pub enum TypeInner {
     Scalar(Scalar),
@@ -282,125 +283,4 @@ pub struct Type {
 
 impl Tagged for Type {
     type Tag = tag::Type;
-}
-
-impl StructMember {
-    /// An equal member.
-    pub fn clone(&self, alloc: Global) -> Result<Self, AllocError>
-        ensures { IfOk result (λ made. made ≡ self.now) }
-    {
-        Ok(StructMember {
-            name: clone_name(&self.name, alloc)?,
-            ty: self.ty,
-            binding: self.binding,
-            offset: self.offset,
-        })
-    }
-}
-
-impl Duplicate for StructMember {
-    fn duplicate(&self, alloc: Global) -> Result<Self, AllocError> {
-        self.clone(alloc)
-    }
-}
-
-/// Equal members.
-#[tactic(auto, using(std::proofs::lemmas::List::Elements::same_from_all_zip))]
-fn clone_members(members: &Members, alloc: Global) -> Result<Members, AllocError>
-    ensures { IfOk result (λ made. made ≡ members.now) }
-{
-    Ok(Members::from(duplicates(members.as_slice(), alloc)?))
-}
-
-impl TypeInner {
-    /// An equal type.
-    pub fn clone(&self, alloc: Global) -> Result<Self, AllocError>
-        ensures { IfOk result (λ made. made ≡ self.now) }
-    {
-        match self {
-            TypeInner::Scalar(scalar) => Ok(TypeInner::Scalar(*scalar)),
-            TypeInner::Vector { size, scalar } => Ok(TypeInner::Vector {
-                size: *size,
-                scalar: *scalar,
-            }),
-            TypeInner::Matrix {
-                columns,
-                rows,
-                scalar,
-            } => Ok(TypeInner::Matrix {
-                columns: *columns,
-                rows: *rows,
-                scalar: *scalar,
-            }),
-            TypeInner::CooperativeMatrix { scalar, detail } => Ok(TypeInner::CooperativeMatrix {
-                scalar: *scalar,
-                detail: *detail,
-            }),
-            TypeInner::Atomic(scalar) => Ok(TypeInner::Atomic(*scalar)),
-            TypeInner::Pointer { base, space } => Ok(TypeInner::Pointer {
-                base: *base,
-                space: *space,
-            }),
-            TypeInner::ValuePointer {
-                size,
-                scalar,
-                space,
-            } => Ok(TypeInner::ValuePointer {
-                size: *size,
-                scalar: *scalar,
-                space: *space,
-            }),
-            TypeInner::Array { base, size, stride } => Ok(TypeInner::Array {
-                base: *base,
-                size: *size,
-                stride: *stride,
-            }),
-            TypeInner::Struct { members, span } => Ok(TypeInner::Struct {
-                members: clone_members(members, alloc)?,
-                span: *span,
-            }),
-            TypeInner::Image {
-                dim,
-                arrayed,
-                class,
-            } => Ok(TypeInner::Image {
-                dim: *dim,
-                arrayed: *arrayed,
-                class: *class,
-            }),
-            TypeInner::Sampler { comparison } => Ok(TypeInner::Sampler {
-                comparison: *comparison,
-            }),
-            TypeInner::AccelerationStructure { vertex_return } => Ok(
-                TypeInner::AccelerationStructure {
-                    vertex_return: *vertex_return,
-                },
-            ),
-            TypeInner::RayQuery { vertex_return } => Ok(TypeInner::RayQuery {
-                vertex_return: *vertex_return,
-            }),
-            TypeInner::BindingArray { base, size } => Ok(TypeInner::BindingArray {
-                base: *base,
-                size: *size,
-            }),
-        }
-    }
-}
-
-impl Type {
-    /// An equal type of the same name.
-    pub fn clone(&self, alloc: Global) -> Result<Self, AllocError>
-        ensures { IfOk result (λ made. made ≡ self.now) }
-    {
-        Ok(Type {
-            name: clone_name(&self.name, alloc)?,
-            inner: self.inner.clone(alloc)?,
-        })
-    }
-}
-
-impl Duplicate for Type {
-    fn duplicate(&self, alloc: Global) -> Result<Self, AllocError> {
-        self.clone(alloc)
-    }
 }

@@ -88,7 +88,8 @@ impl ExpressionKindTracker {
     /// Whether the value is known before the pipeline runs.
     pub fn is_const_or_override(&self, handle: Handle<tag::Expression>) -> bool
         requires { handle < length self.now }
-        ensures { IsTrue result ↔ (slice_get self.now handle ≡ Some kind.Const) ⊎ (slice_get self.now handle ≡ Some kind.Override) }
+        ensures { let found = slice_get self.now handle in
+            IsTrue result ↔ (found ≡ Some kind.Const) ⊎ (found ≡ Some kind.Override) }
     {
         matches!(
             self.kinds[handle.index()],

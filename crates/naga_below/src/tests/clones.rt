@@ -1,4 +1,4 @@
-//! Clones are equal, spans included.
+//! Each clone is made once, and arenas keep their spans.
 
 use crate::arena::Arena;
 use crate::arena::handle::Handle;
@@ -9,7 +9,7 @@ use crate::ir::flags::MemoryDecorations;
 use crate::ir::functions::{Function, FunctionArgument, FunctionResult, LocalVariable};
 use crate::ir::module::{Constant, EntryPoint, GlobalVariable, Module, Override, ShaderStage};
 use crate::ir::name::{Name, clone_name};
-use crate::ir::statements::{Block, Located, Statement, SwitchCase, SwitchValue};
+use crate::ir::statements::{Block, Statement, SwitchCase, SwitchValue};
 use crate::ir::types::{AddressSpace, Scalar, StructMember, Type, TypeInner};
 use crate::proc::typifier::TypeResolution;
 use crate::sequence::Sequence;
@@ -22,24 +22,25 @@ use std::test::Fail;
 
 const SPAN: Span = Span { start: 4, end: 9 };
 
-/// A block of an Emit and a Continue.
-fn emit_and_continue(alloc: Global) -> Result<Block, AllocError> {
-    let mut list = Vec::new(alloc);
-    list.push(Located {
-        statement: Statement::Emit(Range { start: 1, end: 3 }),
-        span: NOWHERE,
+/// A block of a switch whose one case falls through.
+fn switch_of_one(alloc: Global) -> Result<Block, AllocError> {
+    let mut cases = Sequence::new(alloc);
+    cases.push(SwitchCase {
+        value: SwitchValue::I32(-3),
+        body: block_of(alloc, Statement::Continue)?,
+        fall_through: true,
     })?;
-    list.push(Located {
-        statement: Statement::Continue,
-        span: SPAN,
-    })?;
-    Ok(Block { list })
+    let statement = Statement::Switch {
+        selector: Handle::new(0),
+        cases,
+    };
+    block_of(alloc, statement)
 }
 
-/// A block of a loop over such blocks.
+/// A block of a loop over such a block.
 fn loop_over(alloc: Global) -> Result<Block, AllocError> {
-    let body = emit_and_continue(alloc)?;
-    let continuing = emit_and_continue(alloc)?;
+    let body = switch_of_one(alloc)?;
+    let continuing = block_of(alloc, Statement::Emit(Range { start: 1, end: 3 }))?;
     let statement = Statement::Loop {
         body,
         continuing,
@@ -48,22 +49,10 @@ fn loop_over(alloc: Global) -> Result<Block, AllocError> {
     block_of(alloc, statement)
 }
 
-/// Whether the clone of a block equals it.
-fn is_cloned(alloc: Global, block: &Block) -> Result<bool, AllocError> {
-    Ok(block.clone(alloc)? == *block)
-}
-
 #[test]
-fn a_block_with_an_emit(rt: HostRuntime) -> Result<(), Fail> {
-    let block = emit_and_continue(rt.alloc())?;
-    assert!(rt; is_cloned(rt.alloc(), &block)?);
-    Ok(())
-}
-
-#[test]
-fn a_block_with_a_loop(rt: HostRuntime) -> Result<(), Fail> {
+fn a_block(rt: HostRuntime) -> Result<(), Fail> {
     let block = loop_over(rt.alloc())?;
-    assert!(rt; is_cloned(rt.alloc(), &block)?);
+    assert!(rt; block.clone(rt.alloc())? == block);
     Ok(())
 }
 
@@ -75,7 +64,7 @@ fn letter(alloc: Global) -> Result<Name, Fail> {
 #[test]
 fn names(rt: HostRuntime) -> Result<(), Fail> {
     let name = Some(letter(rt.alloc())?);
-    let Some(copy) = clone_name(&name, rt.alloc())? else {
+    let Some(copy) = clone_name(rt.alloc(), &name)? else {
         panic!(rt; "no name");
     };
     assert_eq!(rt; copy.as_str(), "v");
@@ -84,7 +73,7 @@ fn names(rt: HostRuntime) -> Result<(), Fail> {
 }
 
 /// A struct of one member, which has a name.
-fn struct_of_one(alloc: Global) -> Result<Type, Fail> {
+fn struct_of_one(alloc: Global) -> Result<TypeInner, Fail> {
     let name = Some(letter(alloc)?);
     let mut members = Sequence::new(alloc);
     members.push(StructMember {
@@ -93,22 +82,12 @@ fn struct_of_one(alloc: Global) -> Result<Type, Fail> {
         binding: None,
         offset: 4,
     })?;
-    Ok(Type {
-        name: None,
-        inner: TypeInner::Struct { members, span: 8 },
-    })
-}
-
-#[test]
-fn types(rt: HostRuntime) -> Result<(), Fail> {
-    let ty = struct_of_one(rt.alloc())?;
-    assert!(rt; ty.clone(rt.alloc())? == ty);
-    Ok(())
+    Ok(TypeInner::Struct { members, span: 8 })
 }
 
 #[test]
 fn resolutions(rt: HostRuntime) -> Result<(), Fail> {
-    let resolution = TypeResolution::Value(struct_of_one(rt.alloc())?.inner);
+    let resolution = TypeResolution::Value(struct_of_one(rt.alloc())?);
     assert!(rt; resolution.clone(rt.alloc())? == resolution);
     Ok(())
 }
@@ -122,44 +101,6 @@ fn expressions(rt: HostRuntime) -> Result<(), Fail> {
         components,
     };
     assert!(rt; compose.clone(rt.alloc())? == compose);
-    Ok(())
-}
-
-#[test]
-fn locals(rt: HostRuntime) -> Result<(), Fail> {
-    let local = LocalVariable {
-        name: Some(letter(rt.alloc())?),
-        ty: Handle::new(0),
-        init: None,
-    };
-    assert!(rt; local.clone(rt.alloc())? == local);
-    Ok(())
-}
-
-#[test]
-fn arguments(rt: HostRuntime) -> Result<(), Fail> {
-    let argument = FunctionArgument {
-        name: Some(letter(rt.alloc())?),
-        ty: Handle::new(1),
-        binding: None,
-    };
-    assert!(rt; argument.clone(rt.alloc())? == argument);
-    Ok(())
-}
-
-/// A case that falls through.
-#[test]
-fn a_case(rt: HostRuntime) -> Result<(), Fail> {
-    let case = SwitchCase {
-        value: SwitchValue::I32(-3),
-        body: block_of(rt.alloc(), Statement::Kill)?,
-        fall_through: true,
-    };
-    let copy = case.clone(rt.alloc())?;
-    assert!(rt; copy == case);
-    assert_eq!(rt; copy.value, SwitchValue::I32(-3));
-    assert!(rt; copy.fall_through);
-    assert!(rt; copy.body == block_of(rt.alloc(), Statement::Kill)?);
     Ok(())
 }
 
@@ -244,15 +185,6 @@ fn is_of_each(fun: &Function, body: &Block) -> bool {
         && fun.body == *body
 }
 
-#[test]
-fn a_function(rt: HostRuntime) -> Result<(), Fail> {
-    let body = block_of(rt.alloc(), Statement::Kill)?;
-    let fun = function_of_each(rt.alloc())?;
-    let copy = fun.clone(rt.alloc())?;
-    assert!(rt; is_of_each(&copy, &body));
-    Ok(())
-}
-
 fn entry_point_of_each(alloc: Global) -> Result<EntryPoint, AllocError> {
     Ok(EntryPoint {
         stage: ShaderStage::Task,
@@ -272,15 +204,6 @@ fn is_entry_of_each(ep: &EntryPoint, body: &Block) -> bool {
         && is_of_each(&ep.function, body)
         && ep.mesh_info.is_none()
         && ep.task_payload == Some(Handle::new(6))
-}
-
-#[test]
-fn an_entry_point(rt: HostRuntime) -> Result<(), Fail> {
-    let body = block_of(rt.alloc(), Statement::Kill)?;
-    let ep = entry_point_of_each(rt.alloc())?;
-    let copy = ep.clone(rt.alloc())?;
-    assert!(rt; is_entry_of_each(&copy, &body));
-    Ok(())
 }
 
 /// A module of one constant, override, global and global expression.

@@ -24,7 +24,10 @@ impl Flags for ValidationFlags {
 
     ghost exact = { ⊤ };
 
-    ghost table = { (codes "EXPRESSIONS", bit.EXPRESSIONS.0) ∷ (codes "BLOCKS", bit.BLOCKS.0) ∷ (codes "STRUCT_LAYOUTS", bit.STRUCT_LAYOUTS.0) ∷ (codes "BINDINGS", bit.BINDINGS.0) ∷ [] };
+    ghost table = { (codes "EXPRESSIONS", bit.EXPRESSIONS.0) ∷
+        (codes "BLOCKS", bit.BLOCKS.0) ∷
+        (codes "STRUCT_LAYOUTS", bit.STRUCT_LAYOUTS.0) ∷
+        (codes "BINDINGS", bit.BINDINGS.0) ∷ [] };
 
     ghost set_of = { λ p. p.0 };
 
@@ -76,7 +79,14 @@ impl Flags for TypeFlags {
 
     ghost exact = { ⊤ };
 
-    ghost table = { (codes "DATA", bit.DATA.0) ∷ (codes "SIZED", bit.SIZED.0) ∷ (codes "COPY", bit.COPY.0) ∷ (codes "IO_SHAREABLE", bit.IO_SHAREABLE.0) ∷ (codes "HOST_SHAREABLE", bit.HOST_SHAREABLE.0) ∷ (codes "CREATION_RESOLVED", bit.CREATION_RESOLVED.0) ∷ (codes "ARGUMENT", bit.ARGUMENT.0) ∷ (codes "CONSTRUCTIBLE", bit.CONSTRUCTIBLE.0) ∷ [] };
+    ghost table = { (codes "DATA", bit.DATA.0) ∷
+        (codes "SIZED", bit.SIZED.0) ∷
+        (codes "COPY", bit.COPY.0) ∷
+        (codes "IO_SHAREABLE", bit.IO_SHAREABLE.0) ∷
+        (codes "HOST_SHAREABLE", bit.HOST_SHAREABLE.0) ∷
+        (codes "CREATION_RESOLVED", bit.CREATION_RESOLVED.0) ∷
+        (codes "ARGUMENT", bit.ARGUMENT.0) ∷
+        (codes "CONSTRUCTIBLE", bit.CONSTRUCTIBLE.0) ∷ [] };
 
     ghost set_of = { λ p. p.0 };
 
@@ -124,7 +134,10 @@ impl Flags for GlobalUse {
 
     ghost exact = { ⊤ };
 
-    ghost table = { (codes "READ", bit.READ.0) ∷ (codes "WRITE", bit.WRITE.0) ∷ (codes "QUERY", bit.QUERY.0) ∷ (codes "ATOMIC", bit.ATOMIC_USE.0) ∷ [] };
+    ghost table = { (codes "READ", bit.READ.0) ∷
+        (codes "WRITE", bit.WRITE.0) ∷
+        (codes "QUERY", bit.QUERY.0) ∷
+        (codes "ATOMIC", bit.ATOMIC_USE.0) ∷ [] };
 
     ghost set_of = { λ p. p.0 };
 
@@ -175,7 +188,13 @@ impl Flags for SubgroupOperationSet {
 
     ghost exact = { ⊤ };
 
-    ghost table = { (codes "BASIC", bit.BASIC.0) ∷ (codes "VOTE", bit.VOTE.0) ∷ (codes "ARITHMETIC", bit.ARITHMETIC.0) ∷ (codes "BALLOT", bit.BALLOT.0) ∷ (codes "SHUFFLE", bit.SHUFFLE.0) ∷ (codes "SHUFFLE_RELATIVE", bit.SHUFFLE_RELATIVE.0) ∷ (codes "QUAD", bit.QUAD.0) ∷ [] };
+    ghost table = { (codes "BASIC", bit.BASIC.0) ∷
+        (codes "VOTE", bit.VOTE.0) ∷
+        (codes "ARITHMETIC", bit.ARITHMETIC.0) ∷
+        (codes "BALLOT", bit.BALLOT.0) ∷
+        (codes "SHUFFLE", bit.SHUFFLE.0) ∷
+        (codes "SHUFFLE_RELATIVE", bit.SHUFFLE_RELATIVE.0) ∷
+        (codes "QUAD", bit.QUAD.0) ∷ [] };
 
     ghost set_of = { λ p. p.0 };
 
@@ -232,7 +251,16 @@ impl Flags for ShaderStages {
 
     ghost exact = { ⊤ };
 
-    ghost table = { (codes "VERTEX", bit.VERTEX.0) ∷ (codes "FRAGMENT", bit.FRAGMENT.0) ∷ (codes "COMPUTE", bit.COMPUTE.0) ∷ (codes "MESH", bit.MESH.0) ∷ (codes "TASK", bit.TASK.0) ∷ (codes "RAY_GENERATION", bit.RAY_GENERATION.0) ∷ (codes "ANY_HIT", bit.ANY_HIT.0) ∷ (codes "CLOSEST_HIT", bit.CLOSEST_HIT.0) ∷ (codes "MISS", bit.MISS.0) ∷ (codes "COMPUTE_LIKE", bit.COMPUTE_LIKE.0) ∷ [] };
+    ghost table = { (codes "VERTEX", bit.VERTEX.0) ∷
+        (codes "FRAGMENT", bit.FRAGMENT.0) ∷
+        (codes "COMPUTE", bit.COMPUTE.0) ∷
+        (codes "MESH", bit.MESH.0) ∷
+        (codes "TASK", bit.TASK.0) ∷
+        (codes "RAY_GENERATION", bit.RAY_GENERATION.0) ∷
+        (codes "ANY_HIT", bit.ANY_HIT.0) ∷
+        (codes "CLOSEST_HIT", bit.CLOSEST_HIT.0) ∷
+        (codes "MISS", bit.MISS.0) ∷
+        (codes "COMPUTE_LIKE", bit.COMPUTE_LIKE.0) ∷ [] };
 
     ghost set_of = { λ p. p.0 };
 

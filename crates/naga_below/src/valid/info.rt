@@ -9,15 +9,16 @@ use crate::sequence::Sequence;
 use crate::valid::flags::{GlobalUse, ShaderStages};
 use bitflags::Flags;
 
-/// What is known of a function: `expression_types` is indexed by its expressions, `global_uses` by the module's
-/// globals.
+/// What is known of a function: `expression_types` is indexed by the handles of its expressions, `global_uses` by those
+/// of the module's globals. In the info of a function that passed, each has as many items.
 #[derive(PartialEq, Debug, Drop)]
 pub struct FunctionInfo {
     pub expression_types: Sequence<TypeResolution>,
     pub global_uses: Sequence<GlobalUse>,
-    /// The stages that every statement and expression of the function may run in.
+    /// The stages that every statement and expression of a function that passed may run in.
     pub available_stages: ShaderStages,
-    /// Whether an entry point puts out two colors that are blended.
+    /// In the info of a function that passed, true of an entry point alone, and of one that puts out two colors that are
+    /// blended.
     pub dual_source_blending: bool,
 }
 
@@ -34,8 +35,8 @@ impl FunctionInfo {
     }
 }
 
-/// What is known of a module: `functions` and `entry_points` are indexed as the module's are, `global_types` by
-/// its global expressions.
+/// What is known of a module: `functions` is indexed by the handles of its functions, `entry_points` as the module's
+/// list is, `global_types` by the handles of its global expressions. In a module that passed, each has as many items.
 #[derive(PartialEq, Debug, Drop)]
 pub struct ModuleInfo {
     pub functions: Sequence<FunctionInfo>,

@@ -10,5 +10,6 @@ pub struct Settings {
     pub capabilities: Capabilities,
     /// The stages at which subgroup operations may be used.
     pub subgroup_stages: ShaderStages,
+    /// The groups of subgroup operations that the target has.
     pub subgroup_operations: SubgroupOperationSet,
 }

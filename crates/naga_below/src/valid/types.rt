@@ -12,8 +12,9 @@ pub struct Disalignment(pub u32);
 #[derive(Clone, Copy, PartialEq, Eq, PartialOrd, Ord, Hash, Debug)]
 pub struct ImmediateError(pub u32);
 
-/// Of one type: what it can be used for, and its alignment in bytes in storage and in uniform buffers, or the
-/// type inside it and the reason that make a layout bad there.
+/// Of one type: what it can be used for, and its alignment in bytes in storage and in uniform buffers, or the type of
+/// the module inside it and the reason that make a layout bad there; and whether it can be an immediate. Infos of types
+/// are indexed by the handles of a module's types.
 #[derive(Clone, Copy, PartialEq, Eq, Hash, Debug)]
 pub struct TypeInfo {
     pub flags: TypeFlags,

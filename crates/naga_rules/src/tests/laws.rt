@@ -5,6 +5,7 @@ ghost use Rattle.std.specs.Prelude.{◌≡◌, ◌<◌, length};
 use crate::below::Below;
 use crate::function::FunctionError;
 use crate::tests::bools::Bools;
+use bitflags::Flags;
 use naga_below::arena::handle::Handle;
 use naga_below::arena::unique_arena::UniqueArena;
 use naga_below::arena::{Arena, tag};
@@ -28,12 +29,15 @@ use std::test::Fail;
 
 const NOWHERE: Span = Span { start: 0, end: 0 };
 
-const SETTINGS: Settings = Settings {
-    flags: ValidationFlags(0),
-    capabilities: Capabilities(0),
-    subgroup_stages: ShaderStages(0),
-    subgroup_operations: SubgroupOperationSet(0),
-};
+/// No check, and a target that can do nothing.
+fn settings() -> Settings {
+    Settings {
+        flags: ValidationFlags::empty(),
+        capabilities: Capabilities::empty(),
+        subgroup_stages: ShaderStages::empty(),
+        subgroup_operations: SubgroupOperationSet::empty(),
+    }
+}
 
 /// The info of a function, with one more use of a global, and whether the expression is a struct: by the laws
 /// the expression has a type, the type is there, it is no struct as a value, and the global has a use.
@@ -53,7 +57,7 @@ fn with_query<B: Below>(
         flags,
         capabilities,
         ..
-    } = SETTINGS;
+    } = settings();
     let mut info = below.process_function(alloc, fun, module, mod_info, flags, capabilities)?;
     info.insert_global_use(GlobalUse::QUERY, global);
     let resolution = &info.expression_types[handle.index()];
@@ -91,7 +95,16 @@ fn stages<B: Below>(
     handle: Handle<tag::Expression>,
 ) -> Result<ShaderStages, Refusal<ExpressionError>> {
     let kinds = below.kinds(alloc, &fun.expressions)?;
-    below.validate_expression(alloc, SETTINGS, handle, fun, module, info, mod_info, &kinds)
+    below.validate_expression(
+        alloc,
+        settings(),
+        handle,
+        fun,
+        module,
+        info,
+        mod_info,
+        &kinds,
+    )
 }
 
 /// What a layer says of a global as the output of a mesh shader, and the size of its type.
@@ -116,7 +129,7 @@ fn module_of_bool(alloc: Global) -> Result<Module, AllocError> {
         binding: None,
         ty,
         init: None,
-        memory_decorations: MemoryDecorations(0),
+        memory_decorations: MemoryDecorations::empty(),
     };
     global_variables.append(global, NOWHERE)?;
     Ok(Module {
@@ -145,7 +158,7 @@ fn function_of_bool(alloc: Global) -> Result<Function, AllocError> {
         local_variables: Arena::new(alloc),
         expressions,
         body: Block {
-            list: Vec::new(alloc),
+            list: Sequence::new(alloc),
         },
     })
 }
@@ -164,7 +177,10 @@ fn assert_answers(
     assert_eq!(rt; module.global_variables.len(), 1);
     let (info, is_struct) = with_query(&Bools, alloc, fun, module, mod_info, handle, global)?;
     assert!(rt; !is_struct);
-    assert_eq!(rt; info.global_uses.as_slice(), [GlobalUse(5)].as_slice());
+    assert_eq!(rt;
+        info.global_uses.as_slice(),
+        [GlobalUse::READ.union(GlobalUse::QUERY)].as_slice()
+    );
     assert!(rt; is_constant(&Bools, alloc, fun, handle)?);
     let answer = stages(&Bools, alloc, fun, module, &info, mod_info, handle);
     let Err(Refusal::Fault(fault)) = &answer else {
