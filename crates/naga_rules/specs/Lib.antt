@@ -1,2 +1,3 @@
 pub mod Answers
 pub mod Lawful
+pub use Rattle.naga_below.specs.Types

@@ -41,10 +41,12 @@ use std::alloc::{AllocError, Global};
 /// can't read.
 pub trait Below {
     /// What is known of a function, or what is wrong with it.
-    ghost function_info: { Self → Function → Module → ModuleInfo → ValidationFlags → Capabilities → Result FunctionInfo FunctionError };
+    ghost function_info: { Self → Function → Module → ModuleInfo → ValidationFlags → Capabilities →
+        Result FunctionInfo FunctionError };
 
     /// The stages that an expression of a function may run in, or what is wrong with it.
-    ghost expression_stages: { Self → Settings → ℕ → Function → Module → FunctionInfo → ModuleInfo → List ExpressionKind → Result ShaderStages ExpressionError };
+    ghost expression_stages: { Self → Settings → ℕ → Function → Module → FunctionInfo → ModuleInfo → List ExpressionKind →
+        Result ShaderStages ExpressionError };
 
     /// What the global with this handle implies as the output variable of a mesh shader.
     ghost mesh_analysis: { Self → Module → ℕ → MeshAnalysis };
@@ -81,7 +83,8 @@ pub trait Below {
         mod_info: &ModuleInfo,
         kinds: &ExpressionKindTracker,
     ) -> Result<ShaderStages, Refusal<ExpressionError>>
-        ensures { Answers (expression_stages self.now settings handle fun.now «module».now info.now mod_info.now kinds.now) result };
+        ensures { let right = expression_stages self.now settings handle fun.now «module».now info.now mod_info.now kinds.now in
+            Answers right result };
 
     /// Reads off the type of a mesh shader's output variable what the shader puts out (naga's
     /// `Module::analyze_mesh_shader_info`).
@@ -107,16 +110,24 @@ pub trait Below {
         ensures { result ≡ size_of self.now «module».now ty };
 
     /// An info has one type for each expression of its function.
-    ghost one_type_each: { (b : Self) (f : Function) (m : Module) (i : ModuleInfo) (flags : ValidationFlags) (c : Capabilities) (info : FunctionInfo) → function_info b f m i flags c ≡ Ok info → length info.expression_types ≡ length f.expressions };
+    ghost one_type_each: { (b : Self) (f : Function) (m : Module) (i : ModuleInfo) (flags : ValidationFlags) (c : Capabilities)
+        (info : FunctionInfo) →
+        function_info b f m i flags c ≡ Ok info → length info.expression_types ≡ length f.expressions };
 
     /// An info has one use for each global of the module.
-    ghost one_use_each: { (b : Self) (f : Function) (m : Module) (i : ModuleInfo) (flags : ValidationFlags) (c : Capabilities) (info : FunctionInfo) → function_info b f m i flags c ≡ Ok info → length info.global_uses ≡ length m.global_variables };
+    ghost one_use_each: { (b : Self) (f : Function) (m : Module) (i : ModuleInfo) (flags : ValidationFlags) (c : Capabilities)
+        (info : FunctionInfo) →
+        function_info b f m i flags c ≡ Ok info → length info.global_uses ≡ length m.global_variables };
 
     /// The types of an info name types of the module alone.
-    ghost types_in_range: { (b : Self) (f : Function) (m : Module) (i : ModuleInfo) (flags : ValidationFlags) (c : Capabilities) (info : FunctionInfo) → function_info b f m i flags c ≡ Ok info → All (ResolutionFits (length m.types)) info.expression_types };
+    ghost types_in_range: { (b : Self) (f : Function) (m : Module) (i : ModuleInfo) (flags : ValidationFlags) (c : Capabilities)
+        (info : FunctionInfo) →
+        function_info b f m i flags c ≡ Ok info → All (ResolutionFits (length m.types)) info.expression_types };
 
     /// A type that an info gives as a value is no struct.
-    ghost no_struct_values: { (b : Self) (f : Function) (m : Module) (i : ModuleInfo) (flags : ValidationFlags) (c : Capabilities) (info : FunctionInfo) → function_info b f m i flags c ≡ Ok info → All IsNoStruct info.expression_types };
+    ghost no_struct_values: { (b : Self) (f : Function) (m : Module) (i : ModuleInfo) (flags : ValidationFlags) (c : Capabilities)
+        (info : FunctionInfo) →
+        function_info b f m i flags c ≡ Ok info → All IsNoStruct info.expression_types };
 
     /// There is one kind for each expression.
     ghost one_kind_each: { (b : Self) (es : List Expression) → length (kinds_of b es) ≡ length es };

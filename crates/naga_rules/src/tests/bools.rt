@@ -75,11 +75,29 @@ impl Below for Bools {
     ghost use Rattle.naga_below.specs.declared.valid.expression_error.ExpressionError.TheVariants.{NotInScope};
     ghost use Rattle.naga_rules.specs.Lawful.{IsNoStruct};
 
-    ghost function_info = { λ _ f m _ _ _. Ok (record { expression_types = replicate (length f.expressions) (Value (ScalarType bool_scalar)); global_uses = replicate (length m.global_variables) READ; available_stages = ALL_STAGES; dual_source_blending = false }) };
+    ghost function_info = { λ _ f m _ _ _. Ok (record {
+      expression_types = replicate (length f.expressions) (Value (ScalarType bool_scalar));
+      global_uses = replicate (length m.global_variables) READ;
+      available_stages = ALL_STAGES;
+      dual_source_blending = false;
+    }) };
 
     ghost expression_stages = { λ _ _ _ _ _ _ _ _. Err NotInScope };
 
-    ghost mesh_analysis = { λ _ _ output. record { implied = record { topology = Points; max_vertices = 1; max_vertices_override = None; max_primitives = 1; max_primitives_override = None; vertex_output_type = 0; primitive_output_type = 0; output_variable = output }; overrides = None ∷ None ∷ []; fault = None } };
+    ghost mesh_analysis = { λ _ _ output. record {
+      implied = record {
+        topology = Points;
+        max_vertices = 1;
+        max_vertices_override = None;
+        max_primitives = 1;
+        max_primitives_override = None;
+        vertex_output_type = 0;
+        primitive_output_type = 0;
+        output_variable = output;
+      };
+      overrides = None ∷ None ∷ [];
+      fault = None;
+    } };
 
     ghost kinds_of = { λ _ es. replicate (length es) Const };
 
@@ -150,13 +168,17 @@ impl Below for Bools {
         Some(1)
     }
 
-    ghost one_type_each = { λ _ f _ _ _ _ _ h. IfOk-at_ok (λ info. length info.expression_types ≡ length f.expressions) h (length-replicate (length f.expressions) (Value (ScalarType bool_scalar))) };
+    ghost one_type_each = { λ _ f _ _ _ _ _ h. IfOk-at_ok (λ info. length info.expression_types ≡ length f.expressions) h
+        (length-replicate (length f.expressions) (Value (ScalarType bool_scalar))) };
 
-    ghost one_use_each = { λ _ _ m _ _ _ _ h. IfOk-at_ok (λ info. length info.global_uses ≡ length m.global_variables) h (length-replicate (length m.global_variables) READ) };
+    ghost one_use_each = { λ _ _ m _ _ _ _ h. IfOk-at_ok (λ info. length info.global_uses ≡ length m.global_variables) h
+        (length-replicate (length m.global_variables) READ) };
 
-    ghost types_in_range = { λ _ f m _ _ _ _ h. IfOk-at_ok (λ info. All (ResolutionFits (length m.types)) info.expression_types) h (All-replicate (ResolutionFits (length m.types)) (length f.expressions) (Value (ScalarType bool_scalar)) tt) };
+    ghost types_in_range = { λ _ f m _ _ _ _ h. IfOk-at_ok (λ info. All (ResolutionFits (length m.types)) info.expression_types) h
+        (All-replicate (ResolutionFits (length m.types)) (length f.expressions) (Value (ScalarType bool_scalar)) tt) };
 
-    ghost no_struct_values = { λ _ f _ _ _ _ _ h. IfOk-at_ok (λ info. All IsNoStruct info.expression_types) h (All-replicate IsNoStruct (length f.expressions) (Value (ScalarType bool_scalar)) tt) };
+    ghost no_struct_values = { λ _ f _ _ _ _ _ h. IfOk-at_ok (λ info. All IsNoStruct info.expression_types) h
+        (All-replicate IsNoStruct (length f.expressions) (Value (ScalarType bool_scalar)) tt) };
 
     ghost one_kind_each = { λ _ es. length-replicate (length es) Const };
 }

@@ -150,7 +150,11 @@ fn is_passed_as(
 {
     match context.resolution(given) {
         None => false,
-        Some(given) => compare_types(&TypeResolution::Handle(declared), given, &context.program.types),
+        Some(given) => compare_types(
+            &TypeResolution::Handle(declared),
+            given,
+            &context.program.types,
+        ),
     }
 }
 

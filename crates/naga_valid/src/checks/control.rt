@@ -158,7 +158,11 @@ fn is_returned_as(
         None => false,
         Some(declared) => match context.resolution(value) {
             None => false,
-            Some(given) => compare_types(given, &TypeResolution::Handle(declared), &context.program.types),
+            Some(given) => compare_types(
+                given,
+                &TypeResolution::Handle(declared),
+                &context.program.types,
+            ),
         },
     }
 }
