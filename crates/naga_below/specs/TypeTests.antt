@@ -1,7 +1,6 @@
 -- The tests of types, as check lists compute them. A law says that each decides what `Types` says in words.
-use Rattle.std.specs.Prelude.{ℕ, ◌↔◌, IsTrue, Bool, true, false, ◌&&◌, ◌==◌, List, [], ◌∷◌, Option, None, Some, ◌≡◌, codes}
+use Rattle.std.specs.Prelude.{ℕ, ◌↔◌, IsTrue, Bool, false, ◌&&◌, ◌==◌, List, [], ◌∷◌, Option, None, Some, ◌≡◌, codes}
 use Rattle.std.specs.Cmp.Lexicographic.{pointwise}
-use Rattle.std.specs.Option.{option_map}
 use Rattle.naga_below.specs.Types.{AreEquivalent, IsSameType, IsCompareExchangeStruct, inner_at, bool_scalar, resolved, canonical_of, struct_handle, handle_of}
 use Rattle.naga_below.specs.contracts.ir.types.TypeInnerPartialEq.TheImpl as type_inner
 use Rattle.naga_below.specs.declared.ir.types.Scalar.{Scalar}
