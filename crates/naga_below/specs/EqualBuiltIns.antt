@@ -15,7 +15,8 @@ abbrev pub EachSame : (Fss : List (List Field)) → Each Bool Fss → Type 0
 EachSame [] each = Unit {0}
 EachSame (Fs ∷ Fss) each = ((x y : Values Fs) → each.0 x y ≡ true → x ≡ y) × EachSame Fss each.1
 
-pub by_same : (Fss : List (List Field)) (each : Each Bool Fss) → EachSame Fss each → (c d : Choice Fss) → by false false Fss each c d ≡ true → c ≡ d
+pub by_same : (Fss : List (List Field)) (each : Each Bool Fss) → EachSame Fss each →
+    (c d : Choice Fss) → by false false Fss each c d ≡ true → c ≡ d
 by_same [] each all c d h = absurd c
 by_same (Fs ∷ Fss) each all (inl x) (inl y) h = ap inl (all.0 x y h)
 by_same (Fs ∷ Fss) each all (inl x) (inr y) h = cc
@@ -28,5 +29,146 @@ unit_same x y h = refl
 pub built_in_same : (x y : BuiltIn) → (built_in.ghosts).eq x y ≡ true → x ≡ y
 built_in_same x y h =
     values_one built_in_type.enum x y
-    (by_same (built_in_type.enum).parts _ (unit_same, (unit_same, (unit_same, (unit_same, (unit_same, (unit_same, (unit_same, (unit_same, (unit_same, ((λ p q h. search rules), (unit_same, (unit_same, (unit_same, (unit_same, ((λ p q h. search rules), (unit_same, (unit_same, (unit_same, (unit_same, (unit_same, (unit_same, (unit_same, (unit_same, (unit_same, (unit_same, (unit_same, (unit_same, (unit_same, (unit_same, (unit_same, (unit_same, (unit_same, (unit_same, (unit_same, (unit_same, (unit_same, (unit_same, (unit_same, (unit_same, (unit_same, (unit_same, (unit_same, (unit_same, (unit_same, (unit_same, (unit_same, (unit_same, (unit_same, (unit_same, tt)))))))))))))))))))))))))))))))))))))))))))))))))
+    (by_same (built_in_type.enum).parts _ (
+      unit_same,
+      (
+        unit_same,
+        (
+          unit_same,
+          (
+            unit_same,
+            (
+              unit_same,
+              (
+                unit_same,
+                (
+                  unit_same,
+                  (
+                    unit_same,
+                    (
+                      unit_same,
+                      (
+                        (λ p q h. search rules),
+                        (
+                          unit_same,
+                          (
+                            unit_same,
+                            (
+                              unit_same,
+                              (
+                                unit_same,
+                                (
+                                  (λ p q h. search rules),
+                                  (
+                                    unit_same,
+                                    (
+                                      unit_same,
+                                      (
+                                        unit_same,
+                                        (
+                                          unit_same,
+                                          (
+                                            unit_same,
+                                            (
+                                              unit_same,
+                                              (
+                                                unit_same,
+                                                (
+                                                  unit_same,
+                                                  (
+                                                    unit_same,
+                                                    (
+                                                      unit_same,
+                                                      (
+                                                        unit_same,
+                                                        (
+                                                          unit_same,
+                                                          (
+                                                            unit_same,
+                                                            (
+                                                              unit_same,
+                                                              (
+                                                                unit_same,
+                                                                (
+                                                                  unit_same,
+                                                                  (
+                                                                    unit_same,
+                                                                    (
+                                                                      unit_same,
+                                                                      (
+                                                                        unit_same,
+                                                                        (
+                                                                          unit_same,
+                                                                          (
+                                                                            unit_same,
+                                                                            (
+                                                                              unit_same,
+                                                                              (
+                                                                                unit_same,
+                                                                                (
+                                                                                  unit_same,
+                                                                                  (
+                                                                                    unit_same,
+                                                                                    (
+                                                                                      unit_same,
+                                                                                      (
+                                                                                        unit_same,
+                                                                                        (
+                                                                                          unit_same,
+                                                                                          (
+                                                                                            unit_same,
+                                                                                            (
+                                                                                              unit_same,
+                                                                                              (
+                                                                                                unit_same,
+                                                                                                (
+                                                                                                  unit_same,
+                                                                                                  (unit_same, (unit_same, tt)),
+                                                                                                ),
+                                                                                              ),
+                                                                                            ),
+                                                                                          ),
+                                                                                        ),
+                                                                                      ),
+                                                                                    ),
+                                                                                  ),
+                                                                                ),
+                                                                              ),
+                                                                            ),
+                                                                          ),
+                                                                        ),
+                                                                      ),
+                                                                    ),
+                                                                  ),
+                                                                ),
+                                                              ),
+                                                            ),
+                                                          ),
+                                                        ),
+                                                      ),
+                                                    ),
+                                                  ),
+                                                ),
+                                              ),
+                                            ),
+                                          ),
+                                        ),
+                                      ),
+                                    ),
+                                  ),
+                                ),
+                              ),
+                            ),
+                          ),
+                        ),
+                      ),
+                    ),
+                  ),
+                ),
+              ),
+            ),
+          ),
+        ),
+      ),
+    )
     ((built_in_type.enum).as_values x) ((built_in_type.enum).as_values y) h)

@@ -48,13 +48,15 @@ split : {x y : Bool} {P Q : Type 0} → (x ≡ true → P) → (y ≡ true → Q
 split {x} {y} f g h = let p = both x y h in (f p.0, g p.1)
 
 -- two options that a test finds equal are the same, where it finds only the same values equal
-option_same : {A : Type 0} (eq : A → A → Bool) → ((a b : A) → eq a b ≡ true → a ≡ b) → (x y : Option A) → option_eq eq x y ≡ true → x ≡ y
+option_same : {A : Type 0} (eq : A → A → Bool) → ((a b : A) → eq a b ≡ true → a ≡ b) →
+    (x y : Option A) → option_eq eq x y ≡ true → x ≡ y
 option_same eq f None None h = refl
 option_same eq f (Some a) (Some b) h = ap Some (f a b h)
 option_same eq f _ _ h = cc
 
 -- two lists that a test finds equal item by item are the same
-pub list_same : {A : Type 0} (eq : A → A → Bool) → ((a b : A) → eq a b ≡ true → a ≡ b) → (xs ys : List A) → pointwise eq xs ys ≡ true → xs ≡ ys
+pub list_same : {A : Type 0} (eq : A → A → Bool) → ((a b : A) → eq a b ≡ true → a ≡ b) →
+    (xs ys : List A) → pointwise eq xs ys ≡ true → xs ≡ ys
 list_same eq f [] [] h = refl
 list_same eq f (x ∷ xs) (y ∷ ys) h =
     let p = both (eq x y) (pointwise eq xs ys) h in

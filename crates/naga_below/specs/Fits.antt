@@ -100,6 +100,7 @@ ReferencesFit m f (e.RayQueryVertexPositions hs d) = ⊤
 ReferencesFit m f (e.CooperativeLoad hs d) = ⊤
 ReferencesFit m f (e.CooperativeMultiplyAdd hs d) = ⊤
 
+-- a local: its type and its initializer are there
 abbrev pub LocalFits : Module → Function → LocalVariable → Type 0
 LocalFits m f v = (v.ty < length m.types) × IfSome v.init (λ h. h < length f.expressions)
 

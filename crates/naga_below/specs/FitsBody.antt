@@ -1,13 +1,13 @@
 -- When whatever the statements of a body name, at any depth, is there.
 use Rattle.std.specs.Prelude.{ℕ, ◌<◌, ◌≤◌, IfSome, IsSomeAnd, All, ⊤, length, slice_get}
-use Rattle.naga_below.specs.declared.ir.statements.AtomicFunction.{AtomicFunction}
-use Rattle.naga_below.specs.declared.ir.statements.AtomicFunction.TheVariants as atomic
-use Rattle.naga_below.specs.declared.ir.statements.GatherMode.{GatherMode}
-use Rattle.naga_below.specs.declared.ir.statements.GatherMode.TheVariants as mode
-use Rattle.naga_below.specs.declared.ir.statements.RayQueryFunction.{RayQueryFunction}
-use Rattle.naga_below.specs.declared.ir.statements.RayQueryFunction.TheVariants as query
-use Rattle.naga_below.specs.declared.ir.statements.RayPipelineFunction.{RayPipelineFunction}
-use Rattle.naga_below.specs.declared.ir.statements.RayPipelineFunction.TheVariants.{TraceRay}
+use Rattle.naga_below.specs.declared.ir.operations.AtomicFunction.{AtomicFunction}
+use Rattle.naga_below.specs.declared.ir.operations.AtomicFunction.TheVariants as atomic
+use Rattle.naga_below.specs.declared.ir.operations.GatherMode.{GatherMode}
+use Rattle.naga_below.specs.declared.ir.operations.GatherMode.TheVariants as mode
+use Rattle.naga_below.specs.declared.ir.operations.RayQueryFunction.{RayQueryFunction}
+use Rattle.naga_below.specs.declared.ir.operations.RayQueryFunction.TheVariants as query
+use Rattle.naga_below.specs.declared.ir.operations.RayPipelineFunction.{RayPipelineFunction}
+use Rattle.naga_below.specs.declared.ir.operations.RayPipelineFunction.TheVariants.{TraceRay}
 use Rattle.naga_below.specs.declared.ir.statements.Statement.{Statement, Switch'}
 use Rattle.naga_below.specs.declared.ir.statements.Statement.TheVariants as s
 use Rattle.naga_below.specs.declared.ir.functions.Function.{Function}
@@ -39,6 +39,7 @@ AtomicFits n atomic.InclusiveOr = ⊤
 AtomicFits n atomic.Min = ⊤
 AtomicFits n atomic.Max = ⊤
 
+-- the index of a gather, if its mode has one, is there
 abbrev pub GatherFits : ℕ → GatherMode → Type 0
 GatherFits n mode.BroadcastFirst = ⊤
 GatherFits n (mode.QuadSwap d) = ⊤
@@ -49,6 +50,7 @@ GatherFits n (mode.ShuffleUp h) = h < n
 GatherFits n (mode.ShuffleXor h) = h < n
 GatherFits n (mode.QuadBroadcast h) = h < n
 
+-- what a step of a ray query names is there
 abbrev pub QueryFits : ℕ → RayQueryFunction → Type 0
 QueryFits n (query.Initialize a d) = (a < n) × (d < n)
 QueryFits n (query.Proceed r) = r < n
@@ -56,6 +58,7 @@ QueryFits n (query.GenerateIntersection t) = t < n
 QueryFits n query.ConfirmIntersection = ⊤
 QueryFits n query.Terminate = ⊤
 
+-- what a ray that is traced names is there
 abbrev pub PipelineFits : ℕ → RayPipelineFunction → Type 0
 PipelineFits n (TraceRay a d p) = (a < n) × (d < n) × (p < n)
 

@@ -35,5 +35,6 @@ abbrev pub format_width : StorageFormat → ℕ
 format_width format.R64Uint = 8
 format_width _ = 4
 
+-- kind and width together
 abbrev pub format_scalar : StorageFormat → Scalar
 format_scalar f = record { kind = format_kind f; width = format_width f }

@@ -8,6 +8,7 @@ abbrev pub joined : Option GlobalUse → GlobalUse → GlobalUse
 joined None more = more
 joined (Some uses) more = record { 0 = bit_or uses.0 more.0 }
 
+-- the info with this use joined to those of global k
 abbrev pub with_global_use : FunctionInfo → GlobalUse → ℕ → FunctionInfo
 with_global_use info more k =
     record info { global_uses = slice_set info.global_uses k (joined (slice_get info.global_uses k) more) }

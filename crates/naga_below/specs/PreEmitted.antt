@@ -3,6 +3,7 @@ use Rattle.std.specs.Prelude.{Bool, true, false}
 use Rattle.naga_below.specs.declared.ir.expressions.Expression.{Expression}
 use Rattle.naga_below.specs.declared.ir.expressions.Expression.TheVariants as e
 
+-- what no Emit and no statement puts there
 abbrev pub needs_pre_emit : Expression → Bool
 needs_pre_emit (e.Literal l) = true
 needs_pre_emit (e.Constant h) = true

@@ -1,9 +1,9 @@
 -- Which group of subgroup operations a statement requires of the target.
 use Rattle.naga_below.specs.Bits as bit
-use Rattle.naga_below.specs.declared.ir.statements.SubgroupOperation.{SubgroupOperation}
-use Rattle.naga_below.specs.declared.ir.statements.SubgroupOperation.TheVariants as op
-use Rattle.naga_below.specs.declared.ir.statements.GatherMode.{GatherMode}
-use Rattle.naga_below.specs.declared.ir.statements.GatherMode.TheVariants as mode
+use Rattle.naga_below.specs.declared.ir.operations.SubgroupOperation.{SubgroupOperation}
+use Rattle.naga_below.specs.declared.ir.operations.SubgroupOperation.TheVariants as op
+use Rattle.naga_below.specs.declared.ir.operations.GatherMode.{GatherMode}
+use Rattle.naga_below.specs.declared.ir.operations.GatherMode.TheVariants as mode
 use Rattle.naga_below.specs.declared.valid.flags.SubgroupOperationSet.{SubgroupOperationSet}
 
 -- of a collective operation

@@ -1,7 +1,6 @@
 -- The tests of types, as check lists compute them. A law says that each decides what `Types` says in words.
-use Rattle.std.specs.Prelude.{ℕ, ◌↔◌, IsTrue, Bool, true, false, ◌&&◌, ◌==◌, List, [], ◌∷◌, Option, None, Some, ◌≡◌, codes}
+use Rattle.std.specs.Prelude.{ℕ, ◌↔◌, IsTrue, Bool, false, ◌&&◌, ◌==◌, List, [], ◌∷◌, Option, None, Some, ◌≡◌, codes}
 use Rattle.std.specs.Cmp.Lexicographic.{pointwise}
-use Rattle.std.specs.Option.{option_map}
 use Rattle.naga_below.specs.Types.{AreEquivalent, IsSameType, IsCompareExchangeStruct, inner_at, bool_scalar, resolved, canonical_of, struct_handle, handle_of}
 use Rattle.naga_below.specs.contracts.ir.types.TypeInnerPartialEq.TheImpl as type_inner
 use Rattle.naga_below.specs.declared.ir.types.Scalar.{Scalar}
@@ -33,6 +32,7 @@ is_equivalent types a b = is_same_inner (canonical_of types a) (canonical_of typ
 abbrev pub is_scalar : Scalar → Option TypeInner → Bool
 is_scalar s i = it_is (λ i. is_same_inner i (inner.Scalar s)) i
 
+-- the name is given, and is this one
 abbrev pub is_named : List ℕ → Option (List ℕ) → Bool
 is_named name None = false
 is_named name (Some given) = pointwise (λ a b. a == b) given name
@@ -41,6 +41,7 @@ is_named name (Some given) = pointwise (λ a b. a == b) given name
 abbrev pub is_scalar_member : List IrType → List ℕ → Scalar → StructMember → Bool
 is_scalar_member types name s m = is_named name m.name && is_scalar s (inner_at types m.ty)
 
+-- two members, the old value and whether it was exchanged
 abbrev pub are_exchange_members : List IrType → Scalar → List StructMember → Bool
 are_exchange_members types s (old ∷ exchanged ∷ []) =
     is_scalar_member types (codes "old_value") s old && is_scalar_member types (codes "exchanged") bool_scalar exchanged
@@ -51,10 +52,12 @@ unfoldable pub is_exchange_struct : List IrType → Scalar → TypeInner → Boo
 is_exchange_struct types s (inner.Struct members span) = are_exchange_members types s members
 is_exchange_struct types s _ = false
 
+-- the handle is there, and is this one
 abbrev pub is_handle : ℕ → Option ℕ → Bool
 is_handle h None = false
 is_handle h (Some k) = h == k
 
+-- by the handle of a struct, where the first is one, else by canonical forms
 abbrev pub is_same_by : List IrType → Option ℕ → TypeResolution → TypeResolution → Bool
 is_same_by types (Some h) a b = is_handle h (handle_of b)
 is_same_by types None a b = both_are (is_equivalent types) (resolved types a) (resolved types b)
@@ -67,12 +70,16 @@ is_same_type types a b = is_same_by types (struct_handle types a) a b
 abbrev pub SameIsDecided : Type 0
 SameIsDecided = (types : List IrType) (a b : TypeResolution) → IsTrue (is_same_type types a b) ↔ IsSameType types a b
 
+-- of types that are equivalent
 abbrev pub EquivalentIsDecided : Type 0
 EquivalentIsDecided = (types : List IrType) (a b : TypeInner) → IsTrue (is_equivalent types a b) ↔ AreEquivalent types a b
 
+-- of the struct of a compare exchange
 abbrev pub ExchangeStructIsDecided : Type 0
 ExchangeStructIsDecided =
-    (types : List IrType) (s : Scalar) (i : TypeInner) → IsTrue (is_exchange_struct types s i) ↔ IsCompareExchangeStruct types s i
+    (types : List IrType) (s : Scalar) (i : TypeInner) →
+    IsTrue (is_exchange_struct types s i) ↔ IsCompareExchangeStruct types s i
 
+-- of a type that is this scalar
 abbrev pub ScalarIsDecided : Type 0
 ScalarIsDecided = (s : Scalar) (i : Option TypeInner) → IsTrue (is_scalar s i) ↔ (i ≡ Some (inner.Scalar s))

@@ -28,6 +28,7 @@ scalar_of (inner.Matrix c r s) = Some s
 scalar_of (inner.CooperativeMatrix s d) = Some s
 scalar_of _ = None
 
+-- the kind of that scalar
 abbrev pub scalar_kind_of : TypeInner → Option ScalarKind
 scalar_kind_of i = option_map (λ s. s.kind) (scalar_of i)
 
@@ -54,6 +55,7 @@ if_integer Sint d = Some d
 if_integer Uint d = Some d
 if_integer _ d = None
 
+-- a vector of 2 or 3 integers is a coordinate, one of 4 none
 abbrev pub vector_coordinates : VectorSize → ScalarKind → Option ImageDimension
 vector_coordinates Bi k = if_integer k D2
 vector_coordinates Tri k = if_integer k D3
@@ -109,6 +111,7 @@ abbrev pub ResolutionFits : ℕ → TypeResolution → Type 0
 ResolutionFits n (Handle h) = h < n
 ResolutionFits n (Value i) = NamesTypesBelow n i
 
+-- the type at this handle, without its name
 abbrev pub inner_at : List IrType → ℕ → Option TypeInner
 inner_at types h = option_map (λ t. t.inner) (slice_get types h)
 
@@ -141,10 +144,12 @@ abbrev pub if_struct : ℕ → Option TypeInner → Option ℕ
 if_struct h (Some (inner.Struct members span)) = Some h
 if_struct h _ = None
 
+-- the handle of a resolution, where it is that of a struct
 abbrev pub struct_handle : List IrType → TypeResolution → Option ℕ
 struct_handle types (Handle h) = if_struct h (inner_at types h)
 struct_handle types (Value i) = None
 
+-- the handle of a resolution, where it is one
 abbrev pub handle_of : TypeResolution → Option ℕ
 handle_of (Handle h) = Some h
 handle_of (Value i) = None
@@ -154,6 +159,7 @@ abbrev pub AreBothEquivalent : List IrType → Option TypeInner → Option TypeI
 AreBothEquivalent types (Some a) (Some b) = AreEquivalent types a b
 AreBothEquivalent types _ _ = ⊥
 
+-- by the handle of a struct, where the first is one, else by canonical forms
 abbrev pub SameBy : List IrType → Option ℕ → TypeResolution → TypeResolution → Type 0
 SameBy types (Some h) a b = handle_of b ≡ Some h
 SameBy types None a b = AreBothEquivalent types (resolved types a) (resolved types b)
@@ -170,6 +176,7 @@ bool_scalar = record { kind = Bool; width = 1 }
 abbrev pub IsScalarMember : List IrType → List ℕ → Scalar → StructMember → Type 0
 IsScalarMember types name s m = (m.name ≡ Some name) × (inner_at types m.ty ≡ Some (inner.Scalar s))
 
+-- two members in this order, the old value and whether it was exchanged
 abbrev pub AreCompareExchangeMembers : List IrType → Scalar → List StructMember → Type 0
 AreCompareExchangeMembers types s (old ∷ exchanged ∷ []) =
     IsScalarMember types (codes "old_value") s old × IsScalarMember types (codes "exchanged") bool_scalar exchanged

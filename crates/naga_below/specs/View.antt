@@ -6,14 +6,14 @@ use Rattle.naga_below.specs.declared.ir.statements.Block as b
 use Rattle.naga_below.specs.declared.ir.statements.Block.{Block', Row_of-Located, end_of-Located, more_of-Located}
 use Rattle.naga_below.specs.declared.ir.statements.Located.{Located}
 use Rattle.naga_below.specs.declared.ir.statements.SwitchCase.{SwitchCase, SwitchCase', out-SwitchCase}
-use Rattle.naga_below.specs.declared.ir.statements.AtomicFunction.{AtomicFunction}
-use Rattle.naga_below.specs.declared.ir.statements.AtomicFunction.TheVariants as atomic
-use Rattle.naga_below.specs.declared.ir.statements.GatherMode.{GatherMode}
-use Rattle.naga_below.specs.declared.ir.statements.GatherMode.TheVariants as gather
-use Rattle.naga_below.specs.declared.ir.statements.RayQueryFunction.{RayQueryFunction}
-use Rattle.naga_below.specs.declared.ir.statements.RayQueryFunction.TheVariants as query
-use Rattle.naga_below.specs.declared.ir.statements.RayPipelineFunction.{RayPipelineFunction}
-use Rattle.naga_below.specs.declared.ir.statements.RayPipelineFunction.TheVariants.{TraceRay}
+use Rattle.naga_below.specs.declared.ir.operations.AtomicFunction.{AtomicFunction}
+use Rattle.naga_below.specs.declared.ir.operations.AtomicFunction.TheVariants as atomic
+use Rattle.naga_below.specs.declared.ir.operations.GatherMode.{GatherMode}
+use Rattle.naga_below.specs.declared.ir.operations.GatherMode.TheVariants as gather
+use Rattle.naga_below.specs.declared.ir.operations.RayQueryFunction.{RayQueryFunction}
+use Rattle.naga_below.specs.declared.ir.operations.RayQueryFunction.TheVariants as query
+use Rattle.naga_below.specs.declared.ir.operations.RayPipelineFunction.{RayPipelineFunction}
+use Rattle.naga_below.specs.declared.ir.operations.RayPipelineFunction.TheVariants.{TraceRay}
 use Rattle.naga_below.specs.declared.span.Span.{Span}
 use Rattle.naga_below.specs.Tree.{Act, Use, Put, Stmt, Leaf, Block, Branch, Switch, Loop, Break, Continue, Return, Kill, Body, Done, Then, Cases, NoCase, OneCase}
 

@@ -6,5 +6,6 @@ pub mod flags;
 pub mod functions;
 pub mod module;
 pub mod name;
+pub mod operations;
 pub mod statements;
 pub mod types;

@@ -3,3 +3,4 @@ pub mod Lawful
 pub mod Meaning
 pub mod TypeInfos
 pub mod Locals
+pub use Rattle.naga_below.specs.Types

@@ -3,8 +3,8 @@ use Rattle.std.proofs.Common.{◌≡◌, ℕ, true, false, not, [], ◌∷◌, �
 use Rattle.std.specs.Prelude.{IfSome, is_some}
 use Rattle.naga_below.specs.Tree.{Use, Put}
 use Rattle.naga_below.specs.View.{compared, atomic_acts, put_if}
-use Rattle.naga_below.specs.declared.ir.statements.AtomicFunction.{AtomicFunction}
-use Rattle.naga_below.specs.declared.ir.statements.AtomicFunction.TheVariants.{Exchange}
+use Rattle.naga_below.specs.declared.ir.operations.AtomicFunction.{AtomicFunction}
+use Rattle.naga_below.specs.declared.ir.operations.AtomicFunction.TheVariants.{Exchange}
 use Rattle.naga_below.specs.declared.ir.types.Scalar.{Scalar}
 use Rattle.naga_below.specs.declared.valid.expression_error.ExpressionError.TheVariants.{NotInScope}
 use Rattle.naga_rules.specs.declared.function.AtomicError.TheVariants as wrong

@@ -4,7 +4,7 @@ use Rattle.std.specs.Prelude.{is_some}
 use Rattle.naga_below.specs.Formats.{format_scalar}
 use Rattle.naga_below.specs.Tree.{Use}
 use Rattle.naga_below.specs.View.{used_if}
-use Rattle.naga_below.specs.declared.ir.statements.AtomicFunction.{AtomicFunction}
+use Rattle.naga_below.specs.declared.ir.operations.AtomicFunction.{AtomicFunction}
 use Rattle.naga_below.specs.declared.valid.expression_error.ExpressionError.TheVariants as wrong
 use Rattle.naga_rules.specs.declared.function.FunctionError.TheVariants.{Expression, InvalidImageAtomicValue}
 use Rattle.naga_below.proofs.Points.{first_holds, both_hold}

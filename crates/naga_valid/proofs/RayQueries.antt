@@ -3,8 +3,8 @@ use Rattle.std.proofs.Common.{◌≡◌, ℕ, Bool, true, false, not, [], ◌∷
 use Rattle.std.specs.Prelude.{is_some}
 use Rattle.naga_below.specs.Types.{inner_at}
 use Rattle.naga_below.specs.View.{query_acts}
-use Rattle.naga_below.specs.declared.ir.statements.RayQueryFunction.{RayQueryFunction}
-use Rattle.naga_below.specs.declared.ir.statements.RayQueryFunction.TheVariants as query
+use Rattle.naga_below.specs.declared.ir.operations.RayQueryFunction.{RayQueryFunction}
+use Rattle.naga_below.specs.declared.ir.operations.RayQueryFunction.TheVariants as query
 use Rattle.naga_below.specs.declared.valid.expression_error.ExpressionError.TheVariants.{NotInScope}
 use Rattle.naga_rules.specs.declared.function.FunctionError.TheVariants.{Expression, ExpressionAlreadyInScope, InvalidRayQueryExpression, InvalidRayQueryType, InvalidAccelerationStructure, InvalidRayDescriptor, InvalidHitDistanceType}
 use Rattle.naga_below.proofs.Points.{first_holds, both_hold, not_holds}

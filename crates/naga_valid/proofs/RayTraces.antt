@@ -1,7 +1,7 @@
 -- The check list of TraceRay: what it says of uses.
 use Rattle.std.proofs.Common.{◌≡◌, ℕ, ◌++◌, Option, None}
 use Rattle.naga_below.specs.View.{pipeline_acts}
-use Rattle.naga_below.specs.declared.ir.statements.RayPipelineFunction.TheVariants.{TraceRay}
+use Rattle.naga_below.specs.declared.ir.operations.RayPipelineFunction.TheVariants.{TraceRay}
 use Rattle.naga_below.specs.declared.valid.expression_error.ExpressionError.TheVariants.{NotInScope}
 use Rattle.naga_rules.specs.declared.function.FunctionError.TheVariants.{Expression}
 use Rattle.naga_below.proofs.Points.{first_holds, both_hold}

@@ -5,10 +5,10 @@ use Rattle.naga_below.specs.Subgroups.{operation_group, gather_group}
 use Rattle.naga_below.specs.Tree.{Use, Put}
 use Rattle.naga_below.specs.Types.{bool_scalar}
 use Rattle.naga_below.specs.View.{used_if, mode_acts}
-use Rattle.naga_below.specs.declared.ir.statements.CollectiveOperation.{CollectiveOperation}
-use Rattle.naga_below.specs.declared.ir.statements.GatherMode.{GatherMode}
-use Rattle.naga_below.specs.declared.ir.statements.GatherMode.TheVariants as gather
-use Rattle.naga_below.specs.declared.ir.statements.SubgroupOperation.{SubgroupOperation}
+use Rattle.naga_below.specs.declared.ir.operations.CollectiveOperation.{CollectiveOperation}
+use Rattle.naga_below.specs.declared.ir.operations.GatherMode.{GatherMode}
+use Rattle.naga_below.specs.declared.ir.operations.GatherMode.TheVariants as gather
+use Rattle.naga_below.specs.declared.ir.operations.SubgroupOperation.{SubgroupOperation}
 use Rattle.naga_below.specs.declared.valid.expression_error.ExpressionError.TheVariants.{NotInScope}
 use Rattle.naga_rules.specs.declared.function.FunctionError.TheVariants.{Expression, ExpressionAlreadyInScope}
 use Rattle.naga_rules.specs.declared.function.SubgroupError.TheVariants as wrong

@@ -5,8 +5,8 @@ use Rattle.naga_below.specs.Bits.{has_capability}
 use Rattle.naga_below.specs.Types.{inner_at}
 use Rattle.naga_below.specs.declared.ir.expressions.Expression.{Expression}
 use Rattle.naga_below.specs.declared.ir.expressions.Expression.TheVariants as e
-use Rattle.naga_below.specs.declared.ir.statements.AtomicFunction.{AtomicFunction}
-use Rattle.naga_below.specs.declared.ir.statements.AtomicFunction.TheVariants.{Add, Subtract, Min, Max, Exchange}
+use Rattle.naga_below.specs.declared.ir.operations.AtomicFunction.{AtomicFunction}
+use Rattle.naga_below.specs.declared.ir.operations.AtomicFunction.TheVariants.{Add, Subtract, Min, Max, Exchange}
 use Rattle.naga_below.specs.declared.ir.types.AddressSpace.{AddressSpace}
 use Rattle.naga_below.specs.declared.ir.types.AddressSpace.TheVariants as space
 use Rattle.naga_below.specs.declared.ir.types.Scalar.{Scalar}

@@ -5,8 +5,8 @@ use Rattle.naga_below.specs.Bits.{contains, has_capability}
 use Rattle.naga_below.specs.Formats.{format_scalar}
 use Rattle.naga_below.specs.Types.{inner_at}
 use Rattle.naga_below.specs.declared.ir.flags.StorageAccess.{StorageAccess}
-use Rattle.naga_below.specs.declared.ir.statements.AtomicFunction.{AtomicFunction}
-use Rattle.naga_below.specs.declared.ir.statements.AtomicFunction.TheVariants.{Add, And, ExclusiveOr, InclusiveOr}
+use Rattle.naga_below.specs.declared.ir.operations.AtomicFunction.{AtomicFunction}
+use Rattle.naga_below.specs.declared.ir.operations.AtomicFunction.TheVariants.{Add, And, ExclusiveOr, InclusiveOr}
 use Rattle.naga_below.specs.declared.ir.types.StorageFormat.{StorageFormat}
 use Rattle.naga_below.specs.declared.ir.types.StorageFormat.TheVariants as format
 use Rattle.naga_below.specs.declared.ir.types.Type.{«Type» as IrType}

@@ -4,8 +4,8 @@ use Rattle.std.specs.Option.{option_map}
 use Rattle.naga_below.specs.Types.{inner_at}
 use Rattle.naga_below.specs.declared.ir.expressions.Expression.{Expression}
 use Rattle.naga_below.specs.declared.ir.expressions.Expression.TheVariants as e
-use Rattle.naga_below.specs.declared.ir.statements.RayQueryFunction.{RayQueryFunction}
-use Rattle.naga_below.specs.declared.ir.statements.RayQueryFunction.TheVariants as query
+use Rattle.naga_below.specs.declared.ir.operations.RayQueryFunction.{RayQueryFunction}
+use Rattle.naga_below.specs.declared.ir.operations.RayQueryFunction.TheVariants as query
 use Rattle.naga_below.specs.declared.ir.types.TypeInner.{TypeInner}
 use Rattle.naga_below.specs.declared.ir.types.TypeInner.TheVariants as inner
 use Rattle.naga_rules.specs.declared.function.FunctionError.TheVariants.{InvalidRayQueryExpression, InvalidRayQueryType, InvalidAccelerationStructure, MissingAccelerationStructureVertexReturn, InvalidRayDescriptor, InvalidHitDistanceType}

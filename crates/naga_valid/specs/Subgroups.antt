@@ -6,12 +6,12 @@ use Rattle.naga_below.specs.Subgroups.{operation_group, gather_group}
 use Rattle.naga_below.specs.Types.{inner_at, bool_scalar}
 use Rattle.naga_below.specs.declared.ir.expressions.Expression.{Expression}
 use Rattle.naga_below.specs.declared.ir.expressions.Expression.TheVariants as e
-use Rattle.naga_below.specs.declared.ir.statements.CollectiveOperation.{CollectiveOperation}
-use Rattle.naga_below.specs.declared.ir.statements.CollectiveOperation.TheVariants as over
-use Rattle.naga_below.specs.declared.ir.statements.GatherMode.{GatherMode}
-use Rattle.naga_below.specs.declared.ir.statements.GatherMode.TheVariants as gather
-use Rattle.naga_below.specs.declared.ir.statements.SubgroupOperation.{SubgroupOperation}
-use Rattle.naga_below.specs.declared.ir.statements.SubgroupOperation.TheVariants as op
+use Rattle.naga_below.specs.declared.ir.operations.CollectiveOperation.{CollectiveOperation}
+use Rattle.naga_below.specs.declared.ir.operations.CollectiveOperation.TheVariants as over
+use Rattle.naga_below.specs.declared.ir.operations.GatherMode.{GatherMode}
+use Rattle.naga_below.specs.declared.ir.operations.GatherMode.TheVariants as gather
+use Rattle.naga_below.specs.declared.ir.operations.SubgroupOperation.{SubgroupOperation}
+use Rattle.naga_below.specs.declared.ir.operations.SubgroupOperation.TheVariants as op
 use Rattle.naga_below.specs.declared.ir.types.Scalar.{Scalar}
 use Rattle.naga_below.specs.declared.ir.types.ScalarKind.{ScalarKind}
 use Rattle.naga_below.specs.declared.ir.types.ScalarKind.TheVariants as kind

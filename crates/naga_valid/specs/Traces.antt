@@ -4,7 +4,7 @@ use Rattle.std.specs.Prelude.{ℕ, Bool, true, false, List, [], ◌∷◌, Optio
 use Rattle.std.specs.List.{list_any}
 use Rattle.std.specs.Option.{option_or}
 use Rattle.naga_below.specs.Tree.{Leaf}
-use Rattle.naga_below.specs.declared.ir.statements.RayPipelineFunction.TheVariants.{TraceRay}
+use Rattle.naga_below.specs.declared.ir.operations.RayPipelineFunction.TheVariants.{TraceRay}
 use Rattle.naga_below.specs.declared.ir.statements.Statement as ir
 use Rattle.naga_below.specs.declared.ir.types.TypeInner.{TypeInner}
 use Rattle.naga_below.specs.declared.ir.types.TypeInner.TheVariants as inner

@@ -9,10 +9,8 @@ use crate::arena::tag;
 use crate::fits::expressions::are_below;
 use crate::fits::function::callee_fits;
 use crate::ir::module::Module;
-use crate::ir::statements::{
-    AtomicFunction, Block, GatherMode, Located, RayPipelineFunction, RayQueryFunction, Statement,
-    SwitchCase,
-};
+use crate::ir::operations::{AtomicFunction, GatherMode, RayPipelineFunction, RayQueryFunction};
+use crate::ir::statements::{Block, Located, Statement, SwitchCase};
 
 /// How many expressions a function has.
 #[derive(Clone, Copy)]

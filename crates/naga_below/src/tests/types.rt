@@ -6,7 +6,7 @@ use crate::fits::types::{fits_types, names_types_below};
 use crate::ir::expressions::Expression;
 use crate::ir::flags::StorageAccess;
 use crate::ir::name::Name;
-use crate::ir::statements::{GatherMode, SubgroupOperation};
+use crate::ir::operations::{GatherMode, SubgroupOperation};
 use crate::ir::types::{
     AddressSpace, ImageDimension, Scalar, ScalarKind, StorageFormat, StructMember, Type, TypeInner,
     VectorSize,

@@ -3,7 +3,7 @@
 ghost use Rattle.std.specs.Prelude.{◌≡◌};
 ghost use Rattle.naga_below.specs.Subgroups.{operation_group, gather_group};
 
-use crate::ir::statements::{GatherMode, SubgroupOperation};
+use crate::ir::operations::{GatherMode, SubgroupOperation};
 use crate::valid::flags::SubgroupOperationSet;
 
 impl SubgroupOperation {

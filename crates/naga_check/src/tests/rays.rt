@@ -11,9 +11,8 @@ use naga_below::ir::expressions::Expression;
 use naga_below::ir::flags::MemoryDecorations;
 use naga_below::ir::functions::{Function, FunctionResult, LocalVariable};
 use naga_below::ir::module::{GlobalVariable, Module, SpecialTypes};
-use naga_below::ir::statements::{
-    Block, Located, RayPipelineFunction, RayQueryFunction, Statement,
-};
+use naga_below::ir::operations::{RayPipelineFunction, RayQueryFunction};
+use naga_below::ir::statements::{Block, Located, Statement};
 use naga_below::ir::types::{AddressSpace, Scalar, Type, TypeInner, VectorSize};
 use naga_below::sequence::Sequence;
 use naga_below::span::Span;

@@ -10,7 +10,8 @@ use naga_below::ir::expressions::{Expression, Literal};
 use naga_below::ir::flags::{MemoryDecorations, StorageAccess};
 use naga_below::ir::functions::{Function, LocalVariable};
 use naga_below::ir::module::{GlobalVariable, Module};
-use naga_below::ir::statements::{AtomicFunction, CooperativeData, Statement};
+use naga_below::ir::operations::{AtomicFunction, CooperativeData};
+use naga_below::ir::statements::Statement;
 use naga_below::ir::types::{
     AddressSpace, ImageClass, ImageDimension, Scalar, StorageFormat, Type, TypeInner, VectorSize,
 };

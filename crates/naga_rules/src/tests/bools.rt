@@ -148,13 +148,17 @@ impl Below for Bools {
         Some(1)
     }
 
-    ghost one_type_each = { λ _ f _ _ _ _ _ h. IfOk-at_ok (λ info. length info.expression_types ≡ length f.expressions) h (length-replicate (length f.expressions) (Value (ScalarType bool_scalar))) };
+    ghost one_type_each = { λ _ f _ _ _ _ _ h. IfOk-at_ok (λ info. length info.expression_types ≡ length f.expressions) h
+        (length-replicate (length f.expressions) (Value (ScalarType bool_scalar))) };
 
-    ghost one_use_each = { λ _ _ m _ _ _ _ h. IfOk-at_ok (λ info. length info.global_uses ≡ length m.global_variables) h (length-replicate (length m.global_variables) READ) };
+    ghost one_use_each = { λ _ _ m _ _ _ _ h. IfOk-at_ok (λ info. length info.global_uses ≡ length m.global_variables) h
+        (length-replicate (length m.global_variables) READ) };
 
-    ghost types_in_range = { λ _ f m _ _ _ _ h. IfOk-at_ok (λ info. All (ResolutionFits (length m.types)) info.expression_types) h (All-replicate (ResolutionFits (length m.types)) (length f.expressions) (Value (ScalarType bool_scalar)) tt) };
+    ghost types_in_range = { λ _ f m _ _ _ _ h. IfOk-at_ok (λ info. All (ResolutionFits (length m.types)) info.expression_types) h
+        (All-replicate (ResolutionFits (length m.types)) (length f.expressions) (Value (ScalarType bool_scalar)) tt) };
 
-    ghost no_struct_values = { λ _ f _ _ _ _ _ h. IfOk-at_ok (λ info. All IsNoStruct info.expression_types) h (All-replicate IsNoStruct (length f.expressions) (Value (ScalarType bool_scalar)) tt) };
+    ghost no_struct_values = { λ _ f _ _ _ _ _ h. IfOk-at_ok (λ info. All IsNoStruct info.expression_types) h
+        (All-replicate IsNoStruct (length f.expressions) (Value (ScalarType bool_scalar)) tt) };
 
     ghost one_kind_each = { λ _ es. length-replicate (length es) Const };
 }

@@ -22,7 +22,7 @@ use crate::handle_set::HandleSet;
 use naga_below::arena::handle::Handle;
 use naga_below::arena::tag;
 use naga_below::ir::expressions::Expression;
-use naga_below::ir::statements::AtomicFunction;
+use naga_below::ir::operations::AtomicFunction;
 use naga_below::ir::types::{AddressSpace, Scalar, ScalarKind, TypeInner};
 use naga_below::span::{Refusal, Span};
 use naga_below::valid::capabilities::Capabilities;

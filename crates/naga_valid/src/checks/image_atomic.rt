@@ -19,7 +19,7 @@ use crate::handle_set::HandleSet;
 use naga_below::arena::handle::Handle;
 use naga_below::arena::tag;
 use naga_below::ir::flags::StorageAccess;
-use naga_below::ir::statements::AtomicFunction;
+use naga_below::ir::operations::AtomicFunction;
 use naga_below::ir::types::{Scalar, StorageFormat, TypeInner};
 use naga_below::valid::capabilities::Capabilities;
 use naga_below::valid::expression_error::ExpressionError;

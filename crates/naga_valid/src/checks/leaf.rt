@@ -30,7 +30,8 @@ use crate::checks::subgroup_gather::check_gather;
 use crate::context::BlockContext;
 use crate::handle_set::HandleSet;
 use crate::state::BodyState;
-use naga_below::ir::statements::{Located, RayPipelineFunction, Statement};
+use naga_below::ir::operations::RayPipelineFunction;
+use naga_below::ir::statements::{Located, Statement};
 use naga_below::span::Refusal;
 use naga_rules::function::FunctionError;
 

@@ -21,7 +21,7 @@ use crate::handle_set::HandleSet;
 use naga_below::arena::handle::Handle;
 use naga_below::arena::tag;
 use naga_below::ir::expressions::Expression;
-use naga_below::ir::statements::RayQueryFunction;
+use naga_below::ir::operations::RayQueryFunction;
 use naga_below::ir::types::{ScalarKind, TypeInner};
 use naga_below::span::{Refusal, Span};
 use naga_rules::function::FunctionError;

@@ -16,7 +16,7 @@ use crate::context::BlockContext;
 use crate::handle_set::HandleSet;
 use naga_below::arena::handle::Handle;
 use naga_below::arena::tag;
-use naga_below::ir::statements::{CollectiveOperation, SubgroupOperation};
+use naga_below::ir::operations::{CollectiveOperation, SubgroupOperation};
 use naga_below::ir::types::{Scalar, ScalarKind, TypeInner};
 use naga_below::span::{Refusal, Span};
 use naga_rules::function::{FunctionError, SubgroupError};
