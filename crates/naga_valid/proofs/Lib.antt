@@ -10,7 +10,6 @@ pub mod Values
 pub mod Refusals
 pub mod InRange
 pub mod Stores
-pub mod Bare
 pub mod Loads
 pub mod Cooperative
 pub mod Images
