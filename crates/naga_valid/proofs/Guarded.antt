@@ -79,9 +79,9 @@ node_fits context past place (StatementNode (Leaf acts (ir.WorkGroupUniformLoad 
 node_fits context past place (StatementNode (Leaf acts (ir.CooperativeStore t d) span)) made e =
     (subst (Fit (may_use place) (is_in_scope place)) (sym made) (cooperative_fits context place t d.pointer e), tt)
 node_fits context past place (StatementNode (Leaf acts (ir.ImageStore i k a v) span)) made e =
-    (subst (Fit (may_use place) (is_in_scope place)) (sym made) (image_store_fits context place i (record { coordinate = k; array_index = a }) v e), tt)
+    (subst (Fit (may_use place) (is_in_scope place)) (sym made) (image_store_fits context place i k a v e), tt)
 node_fits context past place (StatementNode (Leaf acts (ir.ImageAtomic i k a f v) span)) made e =
-    (subst (Fit (may_use place) (is_in_scope place)) (sym made) (image_atomic_fits context place f v i (record { coordinate = k; array_index = a }) e), tt)
+    (subst (Fit (may_use place) (is_in_scope place)) (sym made) (image_atomic_fits context place i k a f v e), tt)
 node_fits context past place (StatementNode (Leaf acts (ir.RayQuery q f) span)) made e =
     (subst (Fit (may_use place) (is_in_scope place)) (sym made) (ray_query_fits context place q f e), tt)
 node_fits context past place (StatementNode (Leaf acts (ir.RayPipelineFunction (TraceRay a d p)) span)) made e =

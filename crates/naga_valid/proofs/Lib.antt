@@ -1,5 +1,6 @@
 pub mod Scopes
 pub mod Lists
+pub mod Flat
 pub mod Fillings
 pub mod Traces
 pub mod RayQueries

@@ -22,6 +22,7 @@ pub mod RayTraces
 pub mod Traces
 pub mod Images
 pub mod ImageAtomics
+pub mod CodeImages
 pub mod Subgroups
 pub mod Barriers
 pub mod Ready

@@ -40,9 +40,9 @@ leaf_points context past place (ir.Store pointer value) = store_points context p
 leaf_points context past place (ir.WorkGroupUniformLoad pointer result) = load_points context place pointer result
 leaf_points context past place (ir.CooperativeStore target source) = cooperative_points context place target source.pointer
 leaf_points context past place (ir.ImageStore image coordinate array_index value) =
-    image_store_points context place image (record { coordinate = coordinate; array_index = array_index }) value
+    image_store_points context place image coordinate array_index value
 leaf_points context past place (ir.ImageAtomic image coordinate array_index fun value) =
-    image_atomic_points context place image (record { coordinate = coordinate; array_index = array_index }) fun value
+    image_atomic_points context place image coordinate array_index fun value
 leaf_points context past place (ir.ControlBarrier barrier) = barrier_points context.settings barrier
 leaf_points context past place (ir.MemoryBarrier barrier) = barrier_points context.settings barrier
 leaf_points context past place (ir.RayQuery query fun) = ray_query_points context place query fun
