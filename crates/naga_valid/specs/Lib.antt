@@ -14,6 +14,7 @@ pub mod Results
 pub mod Past
 pub mod Calls
 pub mod Atomics
+pub mod CodeAtomics
 pub mod Stores
 pub mod Loads
 pub mod Cooperative

@@ -18,9 +18,12 @@ resolution_at context h = slice_get context.info.expression_types h
 abbrev pub type_at : Context → ℕ → Option TypeInner
 type_at context h = option_and_then (resolved context.program.types) (resolution_at context h)
 
--- the type as a fault names it; the conditions of a validation say that there is one
+-- a type as a fault names it; the conditions of a validation say that there is one
+abbrev pub named_type : Option TypeInner → TypeInner
+named_type ty = unwrap_or ty (Scalar bool_scalar)
+
 abbrev pub named_type_at : Context → ℕ → TypeInner
-named_type_at context h = unwrap_or (type_at context h) (Scalar bool_scalar)
+named_type_at context h = named_type (type_at context h)
 
 abbrev pub scalar_kind_at : Context → ℕ → Option ScalarKind
 scalar_kind_at context h = option_and_then scalar_kind_of (type_at context h)
