@@ -25,6 +25,7 @@ pub mod Images
 pub mod ImageAtomics
 pub mod CodeImages
 pub mod Subgroups
+pub mod CodeSubgroups
 pub mod Barriers
 pub mod Ready
 pub mod Blocks

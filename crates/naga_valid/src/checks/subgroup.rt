@@ -6,8 +6,9 @@ ghost use Rattle.std.specs.Result.{result_err};
 ghost use Rattle.naga_below.specs.Points.{first_fault};
 ghost use Rattle.naga_valid.specs.Answers.{AnswersPoints};
 ghost use Rattle.naga_valid.specs.CodePlace.{place_at};
+ghost use Rattle.naga_valid.specs.CodeSubgroups.{combined_points};
 ghost use Rattle.naga_valid.specs.Seen.{context_of};
-ghost use Rattle.naga_valid.specs.Subgroups.{operations_point, target_points, predicate_points, ballot_points, is_number_kind, combined_type_at, combined_points};
+ghost use Rattle.naga_valid.specs.Subgroups.{operations_point, subgroups_point, predicate_points, ballot_points, is_number_kind, combined_type_at};
 
 use crate::checks::refuse::{answer, check_put, check_use};
 use crate::checks::types::{are_same_inners, is_scalar};
@@ -37,15 +38,15 @@ pub fn check_operations(
     Ok(())
 }
 
-/// What each statement of a subgroup needs of the target first: subgroups at all, and then these operations.
-pub fn check_target(settings: &Settings, needed: SubgroupOperationSet) -> Result<(), FunctionError>
-    ensures { result_err result ≡ first_fault (target_points settings.now needed) }
+/// Subgroups, which the target has at all.
+pub fn check_subgroups(settings: &Settings) -> Result<(), FunctionError>
+    ensures { result_err result ≡ first_fault (subgroups_point settings.now ∷ []) }
 {
-    let subgroups = Capabilities::SUBGROUP;
-    if !settings.capabilities.contains(subgroups) {
-        return Err(FunctionError::MissingCapability(subgroups));
+    let needed = Capabilities::SUBGROUP;
+    if !settings.capabilities.contains(needed) {
+        return Err(FunctionError::MissingCapability(needed));
     }
-    check_operations(settings, needed)
+    Ok(())
 }
 
 /// SubgroupBallot: its predicate and its result, which is in scope afterwards.
@@ -76,7 +77,8 @@ fn validate_ballot(
 ) -> Result<(), FunctionError>
     ensures { result_err result ≡ first_fault (ballot_points (context_of context.now) (place_at scope.now) ballot predicate.now) }
 {
-    check_target(&context.settings, SubgroupOperationSet::BALLOT)?;
+    check_subgroups(&context.settings)?;
+    check_operations(&context.settings, SubgroupOperationSet::BALLOT)?;
     check_predicate(scope, context, predicate)?;
     check_put(scope, ballot)
 }
