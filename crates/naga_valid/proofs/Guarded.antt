@@ -23,11 +23,11 @@ use Rattle.naga_runs.specs.Soundness.{Fit, Allowed, RunsAreSound}
 use Rattle.naga_runs.specs.Visits.{Place}
 use Rattle.naga_valid.specs.Blocks.{body_of}
 use Rattle.naga_valid.specs.Context.{Context, pre_emitted}
-use Rattle.naga_valid.specs.Control.{emit_points_from, is_result, is_bool_scalar, is_integer, value_points, values_of, cases_points, declared_type, is_returned_as}
+use Rattle.naga_valid.specs.Control.{emit_points_from, is_bool_scalar, is_integer, value_points, values_of, cases_points, declared_type, is_returned_as}
 use Rattle.naga_valid.specs.Judged.{body_judgement}
 use Rattle.naga_valid.specs.Points.{Points, use_point, put_point, may_use, is_in_scope}
 use Rattle.naga_valid.specs.Past.{Past}
-use Rattle.naga_valid.specs.Results.{result_of}
+use Rattle.naga_valid.specs.Results.{is_result, result_of}
 use Rattle.naga_valid.specs.Rules.{statement_points, points_at}
 use Rattle.naga_valid.specs.State.{State, seen, kept_rules, begin_state, state_left}
 use Rattle.naga_valid.specs.Types.{expression_at, type_at, scalar_kind_at}

@@ -10,8 +10,8 @@ use Rattle.naga_runs.specs.Soundness.{Fit}
 use Rattle.naga_runs.specs.Visits.{Place}
 use Rattle.naga_valid.specs.CodeImages.{changed_value_points, changed_class_points}
 use Rattle.naga_valid.specs.Context.{Context}
-use Rattle.naga_valid.specs.ImageAtomics.{changed_shape, changed_format, format_points, image_atomic_points}
-use Rattle.naga_valid.specs.Images.{array_index_points}
+use Rattle.naga_valid.specs.ImageAtomics.{changed_shape, format_points, image_atomic_points}
+use Rattle.naga_valid.specs.Images.{array_index_points, stored_format}
 use Rattle.naga_valid.specs.Points.{may_use, is_in_scope}
 use Rattle.naga_valid.proofs.Flat.{holds_at, holds_behind}
 use Rattle.naga_valid.proofs.Images.{index_fits}
@@ -21,7 +21,7 @@ pub image_atomic_fits : (context : Context) (place : Place) (image coordinate : 
 image_atomic_fits context place image coordinate index fun value e =
     let points = image_atomic_points context place image coordinate index fun value in
     let shape = changed_shape context image in
-    let format = changed_format context image in
+    let format = stored_format shape.class in
     let classes = changed_class_points context place shape.class fun value in
     let both = both_hold (array_index_points InvalidImageAtomic context place shape.arrayed index) classes (holds_behind 4 points e) in
     let values = changed_value_points context place format value in

@@ -9,7 +9,7 @@ use Rattle.naga_rules.specs.Answers.{Refuses}
 use Rattle.naga_rules.specs.declared.function.FunctionError.{FunctionError}
 use Rattle.naga_runs.specs.ByTree.{then_on}
 use Rattle.naga_below.specs.Points.{Point, first_fault}
-use Rattle.naga_valid.specs.Answers.{AnswersPoints, AnswersLeaving, IsFirstFault, IsRefusalFor}
+use Rattle.naga_valid.specs.CodeAnswers.{AnswersPoints, AnswersLeaving, IsFirstFault, IsRefusalFor}
 use Rattle.naga_valid.specs.Points.{Points}
 use Rattle.naga_valid.proofs.Lists.{first_fault-append}
 

@@ -27,7 +27,7 @@ use Rattle.naga_runs.specs.ByTree.{then_on, judge_visits, judge_body, judge_stmt
 use Rattle.naga_runs.proofs.Judgements.{judge_done, judge_more, judge_own, judge_block, judge_branch, judge_switch, judge_loop, judge_no_case, judge_one_case}
 use Rattle.naga_runs.proofs.WithoutMust.{must_is_free}
 use Rattle.naga_rules.specs.Answers.{Refuses}
-use Rattle.naga_valid.specs.Answers.{IsFirstFault}
+use Rattle.naga_valid.specs.CodeAnswers.{IsFirstFault}
 use Rattle.naga_valid.specs.Blocks.{tree_of, body_of, statement_list, case_list}
 use Rattle.naga_valid.specs.Context.{Context}
 use Rattle.naga_valid.specs.Control.{break_if_points}

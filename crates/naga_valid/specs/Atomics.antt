@@ -91,18 +91,25 @@ is_storage _ = false
 -- result is not asked for, need less than the others
 abbrev pub int64_capability : AtomicFunction → AddressSpace → Bool → Capabilities
 int64_capability fun p has_result =
-    if is_min_or_max fun && (is_storage p && not has_result) then bit.SHADER_INT64_ATOMIC_MIN_MAX else bit.SHADER_INT64_ATOMIC_ALL_OPS
+    if is_min_or_max fun && (is_storage p && not has_result)
+    then bit.SHADER_INT64_ATOMIC_MIN_MAX
+    else bit.SHADER_INT64_ATOMIC_ALL_OPS
+
+-- whether there is this capability, or that for all operations on an integer of 64 bits
+abbrev pub has_int64_capability : Capabilities → Capabilities → Bool
+has_int64_capability capabilities needed =
+    has_capability capabilities bit.SHADER_INT64_ATOMIC_ALL_OPS || has_capability capabilities needed
 
 -- what the atomic's scalar asks for
 abbrev pub scalar_points : Capabilities → Scalar → AddressSpace → AtomicFunction → Bool → Points
 scalar_points capabilities s p fun has_result =
+    let int64 = int64_capability fun p has_result in
+    let float32 = bit.SHADER_FLOAT32_ATOMIC in
     if is_int64 s
-    then
-    atomic_point (has_capability capabilities bit.SHADER_INT64_ATOMIC_ALL_OPS || has_capability capabilities (int64_capability fun p has_result)) (wrong.MissingCapability (int64_capability fun p has_result))
-    ∷ []
+    then atomic_point (has_int64_capability capabilities int64) (wrong.MissingCapability int64) ∷ []
     else if is_float32 s
     then
-    atomic_point (has_capability capabilities bit.SHADER_FLOAT32_ATOMIC) (wrong.MissingCapability bit.SHADER_FLOAT32_ATOMIC)
+    atomic_point (has_capability capabilities float32) (wrong.MissingCapability float32)
     ∷ atomic_point (is_done_on_floats fun) (wrong.InvalidOperator fun)
     ∷ atomic_point (is_storage p) (wrong.InvalidAddressSpace p)
     ∷ []
@@ -154,9 +161,10 @@ atomic_result_points context filled place s fun value (Some r) =
 -- Atomic: its pointer, its value, what the scalar asks for, and its result
 abbrev pub atomic_points : Context → Handles → Place → ℕ → AtomicFunction → ℕ → Option ℕ → Points
 atomic_points context filled place pointer fun value result =
+    let s = atomic_scalar context pointer in
     use_point place pointer
     ∷ atomic_point (is_some (atomic_scalar_at context pointer)) (wrong.InvalidPointer pointer)
     ∷ use_point place value
-    ∷ atomic_point (is_scalar (atomic_scalar context pointer) (type_at context value)) (wrong.InvalidOperand value)
-    ∷ (scalar_points context.settings.capabilities (atomic_scalar context pointer) (atomic_space context pointer) fun (is_some result)
-    ++ atomic_result_points context filled place (atomic_scalar context pointer) fun value result)
+    ∷ atomic_point (is_scalar s (type_at context value)) (wrong.InvalidOperand value)
+    ∷ scalar_points context.settings.capabilities s (atomic_space context pointer) fun (is_some result)
+    ++ atomic_result_points context filled place s fun value result

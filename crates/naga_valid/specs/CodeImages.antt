@@ -13,7 +13,7 @@ use Rattle.naga_rules.specs.declared.function.FunctionError.TheVariants.{Invalid
 use Rattle.naga_runs.specs.Visits.{Place}
 use Rattle.naga_valid.specs.Context.{Context}
 use Rattle.naga_valid.specs.ImageAtomics.{change_point, takes_atomics, format_points}
-use Rattle.naga_valid.specs.Images.{is_storage_class, stored_format, stored_access, coordinates_at, is_dimension, array_index_points, texel_type, is_of_type}
+use Rattle.naga_valid.specs.Images.{is_storage_class, stored_format, stored_access, is_coordinate, array_index_points, texel_type, is_of_type}
 use Rattle.naga_valid.specs.Points.{Points, use_point}
 use Rattle.naga_valid.specs.Types.{type_at, named_type_at}
 use Rattle.naga_valid.specs.declared.checks.image.ImageStatement.{ImageStatement}
@@ -28,7 +28,7 @@ image_fault by.Atomic error = InvalidImageAtomic error
 abbrev pub coordinate_points : ImageStatement → Context → Place → ImageDimension → ℕ → Points
 coordinate_points statement context place dim coordinate =
     use_point place coordinate
-    ∷ (is_dimension dim (coordinates_at context coordinate), image_fault statement (wrong.InvalidImageCoordinateType dim coordinate))
+    ∷ (is_coordinate context dim coordinate, image_fault statement (wrong.InvalidImageCoordinateType dim coordinate))
     ∷ []
 
 -- which texel: its coordinate and its array index

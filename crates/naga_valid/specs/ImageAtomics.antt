@@ -10,7 +10,7 @@ use Rattle.naga_below.specs.declared.ir.flags.StorageAccess.{StorageAccess}
 use Rattle.naga_below.specs.declared.ir.statements.AtomicFunction.{AtomicFunction}
 use Rattle.naga_below.specs.declared.ir.statements.AtomicFunction.TheVariants.{Add, And, ExclusiveOr, InclusiveOr}
 use Rattle.naga_below.specs.declared.ir.types.StorageFormat.{StorageFormat}
-use Rattle.naga_below.specs.declared.ir.types.StorageFormat.TheVariants as format
+use Rattle.naga_below.specs.declared.ir.types.StorageFormat.TheVariants as formats
 use Rattle.naga_below.specs.declared.ir.types.Type.{«Type» as IrType}
 use Rattle.naga_below.specs.declared.ir.types.TypeInner.{TypeInner}
 use Rattle.naga_below.specs.declared.ir.types.TypeInner.TheVariants as inner
@@ -22,7 +22,7 @@ use Rattle.naga_rules.specs.declared.function.FunctionError.TheVariants.{Invalid
 use Rattle.naga_runs.specs.Visits.{Place}
 use Rattle.naga_valid.specs.Atomics.{is_min_or_max}
 use Rattle.naga_valid.specs.Context.{Context}
-use Rattle.naga_valid.specs.Images.{image_global_at, image_global, ImageShape, is_image, shape_of, is_storage_class, stored_format, stored_access, coordinates_at, is_dimension, array_index_points}
+use Rattle.naga_valid.specs.Images.{image_global_at, image_global, ImageShape, is_image, shape_of, is_storage_class, stored_format, stored_access, is_coordinate, array_index_points}
 use Rattle.naga_valid.specs.Points.{Points, use_point}
 use Rattle.naga_valid.specs.Types.{type_at}
 
@@ -38,12 +38,6 @@ changed_type_at context image =
 
 abbrev pub changed_shape : Context → ℕ → ImageShape
 changed_shape context image = shape_of (changed_type_at context image)
-
-abbrev pub changed_format : Context → ℕ → StorageFormat
-changed_format context image = stored_format (changed_shape context image).class
-
-abbrev pub changed_access : Context → ℕ → StorageAccess
-changed_access context image = stored_access (changed_shape context image).class
 
 abbrev pub takes_atomics : StorageAccess → Bool
 takes_atomics access = contains access.0 bit.ATOMIC.0
@@ -69,22 +63,25 @@ operation_points capabilities needed is_done fun =
 
 -- what the format asks for
 abbrev pub format_points : Capabilities → StorageFormat → AtomicFunction → Points
-format_points capabilities format.R64Uint fun = operation_points capabilities bit.TEXTURE_INT64_ATOMIC (is_min_or_max fun) fun
-format_points capabilities format.R32Sint fun = operation_points capabilities bit.TEXTURE_ATOMIC (is_done_on_texels fun) fun
-format_points capabilities format.R32Uint fun = operation_points capabilities bit.TEXTURE_ATOMIC (is_done_on_texels fun) fun
+format_points capabilities formats.R64Uint fun = operation_points capabilities bit.TEXTURE_INT64_ATOMIC (is_min_or_max fun) fun
+format_points capabilities formats.R32Sint fun = operation_points capabilities bit.TEXTURE_ATOMIC (is_done_on_texels fun) fun
+format_points capabilities formats.R32Uint fun = operation_points capabilities bit.TEXTURE_ATOMIC (is_done_on_texels fun) fun
 format_points capabilities other fun = change_point false (wrong.InvalidImageFormat other) ∷ []
 
 -- ImageAtomic: its image, the texel, which comes before the class, the operation, and the value
 abbrev pub image_atomic_points : Context → Place → ℕ → ℕ → Option ℕ → AtomicFunction → ℕ → Points
 image_atomic_points context place image coordinate array_index fun value =
+    let shape = changed_shape context image in
+    let format = stored_format shape.class in
+    let access = stored_access shape.class in
     change_point (is_some (image_global_at context image)) wrong.ExpectedGlobalVariable
     ∷ change_point (is_image (changed_type_at context image)) (wrong.ExpectedImageType (image_global context image))
     ∷ use_point place coordinate
-    ∷ change_point (is_dimension (changed_shape context image).dim (coordinates_at context coordinate)) (wrong.InvalidImageCoordinateType (changed_shape context image).dim coordinate)
-    ∷ (array_index_points InvalidImageAtomic context place (changed_shape context image).arrayed array_index
-    ++ change_point (is_storage_class (changed_shape context image).class) (wrong.InvalidImageClass (changed_shape context image).class)
-    ∷ change_point (takes_atomics (changed_access context image)) (wrong.InvalidImageStorageAccess (changed_access context image))
-    ∷ (format_points context.settings.capabilities (changed_format context image) fun
+    ∷ change_point (is_coordinate context shape.dim coordinate) (wrong.InvalidImageCoordinateType shape.dim coordinate)
+    ∷ array_index_points InvalidImageAtomic context place shape.arrayed array_index
+    ++ (change_point (is_storage_class shape.class) (wrong.InvalidImageClass shape.class)
+    ∷ change_point (takes_atomics access) (wrong.InvalidImageStorageAccess access)
+    ∷ format_points context.settings.capabilities format fun
     ++ use_point place value
-    ∷ (is_scalar (format_scalar (changed_format context image)) (type_at context value), InvalidImageAtomicValue value)
-    ∷ []))
+    ∷ (is_scalar (format_scalar format) (type_at context value), InvalidImageAtomicValue value)
+    ∷ [])

@@ -90,6 +90,10 @@ abbrev pub is_dimension : ImageDimension → Option ImageDimension → Bool
 is_dimension dim None = false
 is_dimension dim (Some given) = (dimension.ghosts).eq given dim
 
+-- whether a coordinate is of this dimension
+abbrev pub is_coordinate : Context → ImageDimension → ℕ → Bool
+is_coordinate context dim coordinate = is_dimension dim (coordinates_at context coordinate)
+
 -- an integer of any width, and no vector
 abbrev pub is_integer_scalar : Option TypeInner → Bool
 is_integer_scalar (Some (inner.Scalar s)) = is_integer (Some s.kind)
@@ -109,6 +113,9 @@ abbrev pub element_of : Option TypeInner → Option ℕ
 element_of (Some (inner.BindingArray base size)) = Some base
 element_of _ = None
 
+abbrev pub is_binding_array : Context → ℕ → Bool
+is_binding_array context ty = is_some (element_of (inner_at context.program.types ty))
+
 -- the type of a global, or that of its elements
 abbrev pub stored_type : List IrType → Bool → ℕ → Option TypeInner
 stored_type types true ty = option_and_then (inner_at types) (element_of (inner_at types ty))
@@ -126,10 +133,6 @@ stored_shape context image = shape_of (stored_type_at context image)
 abbrev pub texel_type : StorageFormat → TypeInner
 texel_type format = inner.Vector Quad (format_scalar format)
 
--- and in one of this image
-abbrev pub stored_texel : Context → ℕ → TypeInner
-stored_texel context image = texel_type (stored_format (stored_shape context image).class)
-
 -- the conditions of a validation say that there is a type
 abbrev pub is_of_type : TypeInner → Option TypeInner → Bool
 is_of_type expected None = true
@@ -142,13 +145,16 @@ store_point holds error = (holds, InvalidImageStore error)
 -- ImageStore: its image, the texel, and the value
 abbrev pub image_store_points : Context → Place → ℕ → ℕ → Option ℕ → ℕ → Points
 image_store_points context place image coordinate array_index value =
+    let global = image_global context image in
+    let shape = stored_shape context image in
+    let texel = texel_type (stored_format shape.class) in
     store_point (is_some (image_global_at context image)) wrong.ExpectedGlobalVariable
-    ∷ store_point (not (is_element_at context image) || is_some (element_of (inner_at context.program.types (image_global context image)))) (wrong.ExpectedBindingArrayType (image_global context image))
-    ∷ store_point (is_image (stored_type_at context image)) (wrong.ExpectedImageType (image_global context image))
-    ∷ store_point (is_storage_class (stored_shape context image).class) (wrong.InvalidImageClass (stored_shape context image).class)
+    ∷ store_point (not (is_element_at context image) || is_binding_array context global) (wrong.ExpectedBindingArrayType global)
+    ∷ store_point (is_image (stored_type_at context image)) (wrong.ExpectedImageType global)
+    ∷ store_point (is_storage_class shape.class) (wrong.InvalidImageClass shape.class)
     ∷ use_point place coordinate
-    ∷ store_point (is_dimension (stored_shape context image).dim (coordinates_at context coordinate)) (wrong.InvalidImageCoordinateType (stored_shape context image).dim coordinate)
-    ∷ (array_index_points InvalidImageStore context place (stored_shape context image).arrayed array_index
+    ∷ store_point (is_coordinate context shape.dim coordinate) (wrong.InvalidImageCoordinateType shape.dim coordinate)
+    ∷ array_index_points InvalidImageStore context place shape.arrayed array_index
     ++ use_point place value
-    ∷ (is_of_type (stored_texel context image) (type_at context value), InvalidStoreValue value (named_type_at context value) (stored_texel context image))
-    ∷ [])
+    ∷ (is_of_type texel (type_at context value), InvalidStoreValue value (named_type_at context value) texel)
+    ∷ []

@@ -14,7 +14,7 @@ use Rattle.naga_runs.specs.Judgement.{answer, judgement}
 use Rattle.naga_runs.specs.Visits.{Visit}
 use Rattle.naga_valid.specs.Blocks.{body_of}
 use Rattle.naga_valid.specs.Context.{Context, pre_emitted}
-use Rattle.naga_valid.specs.Flags.{checks_blocks}
+use Rattle.naga_valid.specs.WhatIsChecked.{checks_blocks}
 use Rattle.naga_valid.specs.Results.{filled_before, filled_points}
 use Rattle.naga_valid.specs.Rules.{body_rules, stages_left}
 use Rattle.naga_valid.specs.Traces.{trace_after}

@@ -5,11 +5,11 @@ pub mod State
 pub mod Scope
 pub mod Points
 pub mod Rules
-pub mod Answers
+pub mod CodeAnswers
 pub mod CodePlace
 pub mod Walk
 pub mod Control
-pub mod Flags
+pub mod WhatIsChecked
 pub mod Results
 pub mod Past
 pub mod Calls

@@ -63,7 +63,9 @@ abbrev pub ballot_points : Context → Place → ℕ → Option ℕ → Points
 ballot_points context place r predicate =
     subgroups_point context.settings
     ∷ operations_point context.settings bit.BALLOT
-    ∷ (predicate_points context place predicate ++ put_point place r ∷ [])
+    ∷ predicate_points context place predicate
+    ++ put_point place r
+    ∷ []
 
 -- integers of either sign, and floats
 abbrev pub is_number_kind : ScalarKind → Bool
@@ -183,9 +185,9 @@ abbrev pub gather_points : Context → Place → GatherMode → ℕ → ℕ → 
 gather_points context place mode argument r =
     subgroups_point context.settings
     ∷ operations_point context.settings (gather_group mode)
-    ∷ (index_points context place (is_broadcast mode) argument (index_of mode)
+    ∷ index_points context place (is_broadcast mode) argument (index_of mode)
     ++ use_point place argument
     ∷ subgroup_point (is_gathered (type_at context argument)) (wrong.InvalidOperand argument)
     ∷ put_point place r
     ∷ subgroup_point (is_result_of context argument r) (wrong.ResultTypeMismatch r)
-    ∷ [])
+    ∷ []

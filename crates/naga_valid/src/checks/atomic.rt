@@ -5,7 +5,7 @@ ghost use Rattle.std.specs.Result.{result_err};
 ghost use Rattle.std.specs.Option.{option_copied};
 ghost use Rattle.naga_below.specs.View.{put_if};
 ghost use Rattle.naga_below.specs.Points.{first_fault};
-ghost use Rattle.naga_valid.specs.Answers.{AnswersPoints};
+ghost use Rattle.naga_valid.specs.CodeAnswers.{AnswersPoints};
 ghost use Rattle.naga_valid.specs.Atomics.{atomic_scalar_at, is_int64, is_float32, is_min_or_max, is_plain_exchange, is_done_on_floats, is_storage, int64_capability, scalar_points, is_atomic_result, is_comparison, result_type_at, atomic_result_points, atomic_points};
 ghost use Rattle.naga_valid.specs.CodeAtomics.{compared_points, uncompared_points};
 ghost use Rattle.naga_valid.specs.Context.{ContextFits};

@@ -7,7 +7,7 @@ ghost use Rattle.naga_below.specs.FitsBody.{CalleeFits};
 ghost use Rattle.naga_below.specs.View.{put_if};
 ghost use Rattle.naga_rules.specs.declared.function.FunctionError.TheVariants.{InvalidCall};
 ghost use Rattle.naga_below.specs.Points.{first_fault};
-ghost use Rattle.naga_valid.specs.Answers.{AnswersPoints};
+ghost use Rattle.naga_valid.specs.CodeAnswers.{AnswersPoints};
 ghost use Rattle.naga_valid.specs.Calls.{is_passed_as, argument_points, arguments_points, is_call_result_of, call_result_points, callee_points, call_points};
 ghost use Rattle.naga_valid.specs.Context.{ContextFits};
 ghost use Rattle.naga_valid.specs.Scope.{known};

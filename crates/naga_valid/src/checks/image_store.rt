@@ -4,7 +4,7 @@ ghost use Rattle.std.specs.Prelude.{◌≡◌, ◌++◌, IfOk};
 ghost use Rattle.std.specs.Option.{option_copied};
 ghost use Rattle.std.specs.Result.{result_err};
 ghost use Rattle.naga_below.specs.Points.{first_fault};
-ghost use Rattle.naga_valid.specs.Answers.{AnswersPoints};
+ghost use Rattle.naga_valid.specs.CodeAnswers.{AnswersPoints};
 ghost use Rattle.naga_valid.specs.CodeImages.{texel_points, texel_value_points};
 ghost use Rattle.naga_valid.specs.Images.{stored_type, image_store_points};
 ghost use Rattle.naga_valid.specs.declared.checks.image.ImageStatement.TheVariants.{Store};

@@ -5,7 +5,7 @@ ghost use Rattle.std.specs.Option.{option_copied};
 ghost use Rattle.std.specs.Result.{result_err};
 ghost use Rattle.naga_below.specs.View.{query_acts};
 ghost use Rattle.naga_below.specs.Points.{first_fault};
-ghost use Rattle.naga_valid.specs.Answers.{AnswersPoints};
+ghost use Rattle.naga_valid.specs.CodeAnswers.{AnswersPoints};
 ghost use Rattle.naga_below.specs.declared.ir.statements.RayQueryFunction.TheVariants.{Initialize};
 ghost use Rattle.naga_rules.specs.declared.function.FunctionError.TheVariants.{InvalidHitDistanceType};
 ghost use Rattle.naga_valid.specs.Points.{use_point};

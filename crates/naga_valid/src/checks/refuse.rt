@@ -3,7 +3,7 @@
 ghost use Rattle.std.specs.Prelude.{◌≡◌, [], ◌∷◌};
 ghost use Rattle.std.specs.Result.{result_err};
 ghost use Rattle.naga_below.specs.Points.{first_fault};
-ghost use Rattle.naga_valid.specs.Answers.{AnswersPoints, IsRefusalFor};
+ghost use Rattle.naga_valid.specs.CodeAnswers.{AnswersPoints, IsRefusalFor};
 ghost use Rattle.naga_valid.specs.Points.{Points, use_point, put_point};
 ghost use Rattle.naga_valid.specs.CodePlace.{place_at};
 

@@ -4,7 +4,7 @@ ghost use Rattle.std.specs.Prelude.{◌≡◌, ◌++◌, ◌∷◌, [], OnOk};
 ghost use Rattle.std.specs.Option.{option_copied};
 ghost use Rattle.std.specs.Result.{result_err};
 ghost use Rattle.naga_below.specs.Points.{first_fault};
-ghost use Rattle.naga_valid.specs.Answers.{AnswersPoints};
+ghost use Rattle.naga_valid.specs.CodeAnswers.{AnswersPoints};
 ghost use Rattle.naga_valid.specs.CodePlace.{place_at};
 ghost use Rattle.naga_valid.specs.CodeSubgroups.{combined_points};
 ghost use Rattle.naga_valid.specs.Seen.{context_of};
