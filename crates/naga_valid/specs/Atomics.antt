@@ -119,10 +119,6 @@ abbrev pub is_atomic_result : Option Expression → Bool
 is_atomic_result (Some (e.AtomicResult ty comparison)) = true
 is_atomic_result _ = false
 
--- whether both types are there, and their canonical forms are equal
-abbrev pub are_equivalent_types : Context → Option TypeInner → Option TypeInner → Bool
-are_equivalent_types context a b = both_are (is_equivalent context.program.types) a b
-
 -- whether an atomic result is that of a compare exchange
 abbrev pub is_comparison : Option Expression → Bool
 is_comparison (Some (e.AtomicResult ty comparison)) = comparison
@@ -136,6 +132,18 @@ result_type_of types _ = None
 abbrev pub result_type_at : Context → ℕ → Option TypeInner
 result_type_at context r = result_type_of context.program.types (expression_at context r)
 
+-- two values of one type in canonical form; a result of a value's type; and one of the struct that a compare exchange gives
+abbrev pub are_equivalent_at : Context → ℕ → ℕ → Bool
+are_equivalent_at context a b =
+    both_are (is_equivalent context.program.types) (type_at context a) (type_at context b)
+
+abbrev pub is_result_like : Context → ℕ → ℕ → Bool
+is_result_like context r value =
+    both_are (is_equivalent context.program.types) (result_type_at context r) (type_at context value)
+
+abbrev pub is_exchange_result : Context → Scalar → ℕ → Bool
+is_exchange_result context s r = it_is (is_exchange_struct context.program.types s) (result_type_at context r)
+
 -- the result, if there is one: an atomic result, fresh, and of the right type; then it is put. Of a compare exchange, what
 -- is compared with comes before the type. Without a result: no exchange that compares nothing
 abbrev pub atomic_result_points : Context → Handles → Place → Scalar → AtomicFunction → ℕ → Option ℕ → Points
@@ -145,15 +153,15 @@ atomic_result_points context filled place s (Exchange (Some compare)) value (Som
     atomic_point (is_atomic_result (expression_at context r)) (wrong.InvalidResultExpression r)
     ∷ atomic_point (is_fresh context filled r) (wrong.ResultAlreadyPopulated r)
     ∷ use_point place compare
-    ∷ atomic_point (are_equivalent_types context (type_at context compare) (type_at context value)) (wrong.InvalidOperand compare)
-    ∷ atomic_point (it_is (is_exchange_struct context.program.types s) (result_type_at context r)) (wrong.ResultTypeMismatch r)
+    ∷ atomic_point (are_equivalent_at context compare value) (wrong.InvalidOperand compare)
+    ∷ atomic_point (is_exchange_result context s r) (wrong.ResultTypeMismatch r)
     ∷ atomic_point (is_comparison (expression_at context r)) (wrong.ResultExpressionNotExchange r)
     ∷ put_point place r
     ∷ []
 atomic_result_points context filled place s fun value (Some r) =
     atomic_point (is_atomic_result (expression_at context r)) (wrong.InvalidResultExpression r)
     ∷ atomic_point (is_fresh context filled r) (wrong.ResultAlreadyPopulated r)
-    ∷ atomic_point (are_equivalent_types context (result_type_at context r) (type_at context value)) (wrong.ResultTypeMismatch r)
+    ∷ atomic_point (is_result_like context r value) (wrong.ResultTypeMismatch r)
     ∷ atomic_point (not (is_comparison (expression_at context r))) (wrong.ResultExpressionExchange r)
     ∷ put_point place r
     ∷ []

@@ -41,7 +41,10 @@ texel_points statement context place dim arrayed coordinate array_index =
 abbrev pub texel_value_points : Context → Place → StorageFormat → ℕ → Points
 texel_value_points context place format value =
     use_point place value
-    ∷ (is_of_type (texel_type format) (type_at context value), InvalidStoreValue value (named_type_at context value) (texel_type format))
+    ∷ (
+      is_of_type (texel_type format) (type_at context value),
+      InvalidStoreValue value (named_type_at context value) (texel_type format),
+    )
     ∷ []
 
 -- the value of an ImageAtomic
@@ -51,9 +54,26 @@ changed_value_points context place format value =
     ∷ (is_scalar (format_scalar format) (type_at context value), InvalidImageAtomicValue value)
     ∷ []
 
+-- the format and the value of an ImageAtomic
+abbrev pub changed_format_points : Context → Place → StorageFormat → AtomicFunction → ℕ → Points
+changed_format_points context place format fun value =
+    format_points context.settings.capabilities format fun ++ changed_value_points context place format value
+
 -- the class of an ImageAtomic's image, the operation, and the value
 abbrev pub changed_class_points : Context → Place → ImageClass → AtomicFunction → ℕ → Points
 changed_class_points context place class fun value =
     change_point (is_storage_class class) (wrong.InvalidImageClass class)
     ∷ change_point (takes_atomics (stored_access class)) (wrong.InvalidImageStorageAccess (stored_access class))
-    ∷ (format_points context.settings.capabilities (stored_format class) fun ++ changed_value_points context place (stored_format class) value)
+    ∷ changed_format_points context place (stored_format class) fun value
+
+-- the texel and the value of an ImageStore
+abbrev pub stored_points : Context → Place → ImageDimension → Bool → ℕ → Option ℕ → StorageFormat → ℕ → Points
+stored_points context place dim arrayed coordinate array_index format value =
+    texel_points by.Store context place dim arrayed coordinate array_index ++ texel_value_points context place format value
+
+-- the texel of an ImageAtomic, and what is asked behind it
+abbrev pub changed_points : Context →
+    Place → ImageDimension → Bool → ℕ → Option ℕ → ImageClass → AtomicFunction → ℕ → Points
+changed_points context place dim arrayed coordinate array_index class fun value =
+    texel_points by.Atomic context place dim arrayed coordinate array_index
+    ++ changed_class_points context place class fun value

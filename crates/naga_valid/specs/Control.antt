@@ -101,7 +101,8 @@ is_default _ = false
 abbrev pub last_falls_through : Cases → Bool
 last_falls_through NoCase = false
 last_falls_through (OneCase v falls_through body NoCase) = falls_through
-last_falls_through (OneCase v falls_through body (OneCase w next_falls next rest)) = last_falls_through (OneCase w next_falls next rest)
+last_falls_through (OneCase v falls_through body (OneCase w next_falls next rest)) =
+    last_falls_through (OneCase w next_falls next rest)
 
 -- the cases as a whole: one of them is the default, and the last does not fall through
 abbrev pub cases_points : Cases → Points

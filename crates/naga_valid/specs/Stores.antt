@@ -10,12 +10,14 @@ use Rattle.naga_below.specs.declared.ir.types.Type.{«Type» as IrType}
 use Rattle.naga_below.specs.declared.ir.types.TypeInner.{TypeInner}
 use Rattle.naga_below.specs.declared.ir.types.TypeInner.TheVariants as inner
 use Rattle.naga_below.specs.declared.proc.typifier.TypeResolution.{TypeResolution}
+use Rattle.naga_rules.specs.declared.function.FunctionError.{FunctionError}
 use Rattle.naga_rules.specs.declared.function.FunctionError.TheVariants.{InvalidStorePointer, InvalidStoreTexture, InvalidStoreTypes}
 use Rattle.naga_runs.specs.Visits.{Place}
 use Rattle.naga_valid.specs.Context.{Context}
 use Rattle.naga_valid.specs.Points.{Points, use_point}
+use Rattle.naga_below.specs.Points.{Point}
 use Rattle.naga_below.specs.TypeTests.{is_scalar, is_same_type}
-use Rattle.naga_valid.specs.Types.{expression_at, resolution_at, type_at, named_type_at}
+use Rattle.naga_valid.specs.Types.{expression_at, resolution_at, type_at, named_type}
 
 -- the expression of which an access takes a part
 abbrev pub access_base : Option Expression → Option ℕ
@@ -61,6 +63,10 @@ is_texture (Some (inner.Image dim arrayed class)) = true
 is_texture (Some (inner.Sampler comparison)) = true
 is_texture _ = false
 
+-- what is stored is none
+abbrev pub texture_point : ℕ → Option TypeInner → Point FunctionError
+texture_point value ty = (not (is_texture ty), InvalidStoreTexture value (named_type ty))
+
 abbrev pub is_given_in : List IrType → Option TypeResolution → TypeResolution → Bool
 is_given_in types None base = false
 is_given_in types (Some given) base = is_same_type types given base
@@ -80,7 +86,7 @@ abbrev pub store_points : Context → Place → ℕ → ℕ → Points
 store_points context place pointer value =
     (is_variable (expression_at context (root_at context pointer)), InvalidStorePointer (root_at context pointer))
     ∷ use_point place value
-    ∷ (not (is_texture (type_at context value)), InvalidStoreTexture value (named_type_at context value))
+    ∷ texture_point value (type_at context value)
     ∷ (is_stored_as context value (base_type_at context pointer), InvalidStoreTypes pointer value)
     ∷ (is_writable context pointer, InvalidStorePointer pointer)
     ∷ []

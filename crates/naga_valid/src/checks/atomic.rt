@@ -1,13 +1,11 @@
 //! The check list of Atomic.
 
 ghost use Rattle.std.specs.Prelude.{◌≡◌, ◌++◌, OnOk, Some, is_some};
-ghost use Rattle.std.specs.Result.{result_err};
 ghost use Rattle.std.specs.Option.{option_copied};
 ghost use Rattle.naga_below.specs.View.{put_if};
-ghost use Rattle.naga_below.specs.Points.{first_fault};
-ghost use Rattle.naga_valid.specs.CodeAnswers.{AnswersPoints};
+ghost use Rattle.naga_valid.specs.CodeAnswers.{Finds, AnswersPoints};
 ghost use Rattle.naga_valid.specs.Atomics.{atomic_scalar_at, is_int64, is_float32, is_min_or_max, is_plain_exchange, is_done_on_floats, is_storage, int64_capability, scalar_points, is_atomic_result, is_comparison, result_type_at, atomic_result_points, atomic_points};
-ghost use Rattle.naga_valid.specs.CodeAtomics.{compared_points, uncompared_points};
+ghost use Rattle.naga_valid.specs.CodeAtomics.{operated_points, compared_points, uncompared_points};
 ghost use Rattle.naga_valid.specs.Context.{ContextFits};
 ghost use Rattle.naga_valid.specs.Scope.{known};
 ghost use Rattle.naga_valid.specs.CodePlace.{place_at};
@@ -65,7 +63,7 @@ fn validate_atomic(
     named: Option<Handle<tag::Expression>>,
 ) -> Result<(), FunctionError>
     requires { ContextFits (context_of context.now) }
-    ensures { result_err result ≡ first_fault (atomic_points (context_of context.now) (known filled.now) (place_at scope.now) pointer fun.now value named) }
+    ensures { Finds (atomic_points (context_of context.now) (known filled.now) (place_at scope.now) pointer fun.now value named) result }
 {
     check_use(scope, pointer)?;
     let Some(TypeInner::Pointer { base, space }) = context.type_inner(pointer) else {
@@ -107,7 +105,7 @@ fn check_operation(
     named: Option<Handle<tag::Expression>>,
 ) -> Result<(), FunctionError>
     requires { ContextFits (context_of context.now) }
-    ensures { result_err result ≡ first_fault (scalar_points (context_of context.now).settings.capabilities scalar space fun.now (is_some named) ++ atomic_result_points (context_of context.now) (known filled.now) (place_at scope.now) scalar fun.now value named) }
+    ensures { Finds (operated_points (context_of context.now) (known filled.now) (place_at scope.now) scalar space fun.now value named) result }
 {
     check_scalar(
         context.settings.capabilities,
@@ -127,7 +125,7 @@ fn check_scalar(
     fun: &AtomicFunction,
     has_result: bool,
 ) -> Result<(), FunctionError>
-    ensures { result_err result ≡ first_fault (scalar_points capabilities scalar space.now fun.now has_result) }
+    ensures { Finds (scalar_points capabilities scalar space.now fun.now has_result) result }
 {
     if is_int64(scalar) {
         let needed = int64_capability(fun, space, has_result);
@@ -205,7 +203,7 @@ fn check_atomic_result(
     named: Option<Handle<tag::Expression>>,
 ) -> Result<(), FunctionError>
     requires { ContextFits (context_of context.now) }
-    ensures { result_err result ≡ first_fault (atomic_result_points (context_of context.now) (known filled.now) (place_at scope.now) scalar fun.now value named) }
+    ensures { Finds (atomic_result_points (context_of context.now) (known filled.now) (place_at scope.now) scalar fun.now value named) result }
 {
     match named {
         Some(handle) => check_named(scope, filled, context, scalar, fun, value, handle),
@@ -236,7 +234,7 @@ fn check_named(
     handle: Handle<tag::Expression>,
 ) -> Result<(), FunctionError>
     requires { ContextFits (context_of context.now) }
-    ensures { result_err result ≡ first_fault (atomic_result_points (context_of context.now) (known filled.now) (place_at scope.now) scalar fun.now value (Some handle)) }
+    ensures { Finds (atomic_result_points (context_of context.now) (known filled.now) (place_at scope.now) scalar fun.now value (Some handle)) result }
 {
     if !is_atomic_result(context.expression(handle)) {
         let error = AtomicError::InvalidResultExpression(handle);
@@ -269,7 +267,7 @@ fn check_compared(
     handle: Handle<tag::Expression>,
 ) -> Result<(), FunctionError>
     requires { ContextFits (context_of context.now) }
-    ensures { result_err result ≡ first_fault (compared_points (context_of context.now) (place_at scope.now) scalar compare value handle) }
+    ensures { Finds (compared_points (context_of context.now) (place_at scope.now) scalar compare value handle) result }
 {
     check_use(scope, compare)?;
     let program = context.program;
@@ -298,7 +296,7 @@ fn check_uncompared(
     handle: Handle<tag::Expression>,
 ) -> Result<(), FunctionError>
     requires { ContextFits (context_of context.now) }
-    ensures { result_err result ≡ first_fault (uncompared_points (context_of context.now) (place_at scope.now) value handle) }
+    ensures { Finds (uncompared_points (context_of context.now) (place_at scope.now) value handle) result }
 {
     let program = context.program;
     if !is_equivalent(

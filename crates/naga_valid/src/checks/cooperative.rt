@@ -1,8 +1,7 @@
 //! The check list of CooperativeStore.
 
 ghost use Rattle.std.specs.Prelude.{◌≡◌};
-ghost use Rattle.std.specs.Result.{result_err};
-ghost use Rattle.naga_below.specs.Points.{first_fault};
+ghost use Rattle.naga_valid.specs.CodeAnswers.{Finds};
 ghost use Rattle.naga_valid.specs.Context.{ContextFits};
 ghost use Rattle.naga_valid.specs.Cooperative.{matrix_scalar_at, base_scalar_at, cooperative_points};
 ghost use Rattle.naga_valid.specs.CodePlace.{place_at};
@@ -25,7 +24,7 @@ pub fn check_cooperative_store(
     pointer: Handle<tag::Expression>,
 ) -> Result<(), FunctionError>
     requires { ContextFits (context_of context.now) }
-    ensures { result_err result ≡ first_fault (cooperative_points (context_of context.now) (place_at scope.now) target pointer) }
+    ensures { Finds (cooperative_points (context_of context.now) (place_at scope.now) target pointer) result }
 {
     check_use(scope, target)?;
     let Some(scalar) = matrix_scalar(context, target) else {

@@ -1,10 +1,9 @@
 //! What the check lists of ImageStore and ImageAtomic share: the image, and the texel.
 
 ghost use Rattle.std.specs.Prelude.{◌≡◌};
-ghost use Rattle.std.specs.Result.{result_err};
 ghost use Rattle.std.specs.Option.{option_copied};
 ghost use Rattle.naga_below.specs.Types.{inner_at};
-ghost use Rattle.naga_below.specs.Points.{first_fault};
+ghost use Rattle.naga_valid.specs.CodeAnswers.{Finds};
 ghost use Rattle.naga_valid.specs.CodeImages.{image_fault, coordinate_points, texel_points};
 ghost use Rattle.naga_valid.specs.Images.{global_type_at, image_global_at, element_of, is_dimension, is_integer_scalar, array_index_points};
 ghost use Rattle.naga_valid.specs.CodePlace.{place_at};
@@ -107,7 +106,7 @@ pub fn check_texel(
     arrayed: bool,
     texel: Texel,
 ) -> Result<(), FunctionError>
-    ensures { result_err result ≡ first_fault (texel_points statement (context_of context.now) (place_at scope.now) dim arrayed texel.coordinate texel.array_index) }
+    ensures { Finds (texel_points statement (context_of context.now) (place_at scope.now) dim arrayed texel.coordinate texel.array_index) result }
 {
     check_coordinate(statement, scope, context, dim, texel.coordinate)?;
     check_array_index(statement, scope, context, arrayed, texel.array_index)
@@ -121,7 +120,7 @@ fn check_coordinate(
     dim: ImageDimension,
     coordinate: Handle<tag::Expression>,
 ) -> Result<(), FunctionError>
-    ensures { result_err result ≡ first_fault (coordinate_points statement (context_of context.now) (place_at scope.now) dim coordinate) }
+    ensures { Finds (coordinate_points statement (context_of context.now) (place_at scope.now) dim coordinate) result }
 {
     check_use(scope, coordinate)?;
     let given = match context.type_inner(coordinate) {
@@ -152,7 +151,7 @@ fn check_array_index(
     arrayed: bool,
     array_index: Option<Handle<tag::Expression>>,
 ) -> Result<(), FunctionError>
-    ensures { result_err result ≡ first_fault (array_index_points (image_fault statement) (context_of context.now) (place_at scope.now) arrayed array_index) }
+    ensures { Finds (array_index_points (image_fault statement) (context_of context.now) (place_at scope.now) arrayed array_index) result }
 {
     match array_index {
         Some(handle) => {

@@ -2,12 +2,10 @@
 
 ghost use Rattle.std.specs.Prelude.{◌≡◌, ◌++◌};
 ghost use Rattle.std.specs.Option.{option_copied};
-ghost use Rattle.std.specs.Result.{result_err};
-ghost use Rattle.naga_below.specs.Points.{first_fault};
 ghost use Rattle.naga_below.specs.Types.{inner_at};
-ghost use Rattle.naga_valid.specs.CodeImages.{texel_points, changed_value_points, changed_class_points};
+ghost use Rattle.naga_valid.specs.CodeAnswers.{Finds};
+ghost use Rattle.naga_valid.specs.CodeImages.{changed_points, changed_format_points, changed_value_points, changed_class_points};
 ghost use Rattle.naga_valid.specs.ImageAtomics.{element_or_itself, is_done_on_texels, operation_points, format_points, image_atomic_points};
-ghost use Rattle.naga_valid.specs.declared.checks.image.ImageStatement.TheVariants.{Atomic};
 ghost use Rattle.naga_valid.specs.CodePlace.{place_at};
 ghost use Rattle.naga_valid.specs.Seen.{context_of};
 
@@ -36,7 +34,7 @@ pub fn check_image_atomic(
     fun: &AtomicFunction,
     value: Handle<tag::Expression>,
 ) -> Result<(), FunctionError>
-    ensures { result_err result ≡ first_fault (image_atomic_points (context_of context.now) (place_at scope.now) image texel.coordinate texel.array_index fun.now value) }
+    ensures { Finds (image_atomic_points (context_of context.now) (place_at scope.now) image texel.coordinate texel.array_index fun.now value) result }
 {
     let Some(ty) = image_global(context, image) else {
         let error = ExpressionError::ExpectedGlobalVariable;
@@ -78,7 +76,7 @@ fn check_changed_image(
     fun: &AtomicFunction,
     value: Handle<tag::Expression>,
 ) -> Result<(), FunctionError>
-    ensures { result_err result ≡ first_fault (texel_points Atomic (context_of context.now) (place_at scope.now) dim arrayed texel.coordinate texel.array_index ++ changed_class_points (context_of context.now) (place_at scope.now) class fun.now value) }
+    ensures { Finds (changed_points (context_of context.now) (place_at scope.now) dim arrayed texel.coordinate texel.array_index class fun.now value) result }
 {
     check_texel(ImageStatement::Atomic, scope, context, dim, arrayed, texel)?;
     check_class(scope, context, class, fun, value)
@@ -92,7 +90,7 @@ fn check_class(
     fun: &AtomicFunction,
     value: Handle<tag::Expression>,
 ) -> Result<(), FunctionError>
-    ensures { result_err result ≡ first_fault (changed_class_points (context_of context.now) (place_at scope.now) class fun.now value) }
+    ensures { Finds (changed_class_points (context_of context.now) (place_at scope.now) class fun.now value) result }
 {
     let ImageClass::Storage { format, access } = class else {
         let error = ExpressionError::InvalidImageClass(class);
@@ -114,7 +112,7 @@ fn check_changed(
     value: Handle<tag::Expression>,
     format: StorageFormat,
 ) -> Result<(), FunctionError>
-    ensures { result_err result ≡ first_fault (format_points (context_of context.now).settings.capabilities format fun.now ++ changed_value_points (context_of context.now) (place_at scope.now) format value) }
+    ensures { Finds (changed_format_points (context_of context.now) (place_at scope.now) format fun.now value) result }
 {
     check_format(context.settings.capabilities, format, fun)?;
     check_value(scope, context, format, value)
@@ -126,7 +124,7 @@ fn check_format(
     format: StorageFormat,
     fun: &AtomicFunction,
 ) -> Result<(), FunctionError>
-    ensures { result_err result ≡ first_fault (format_points capabilities format fun.now) }
+    ensures { Finds (format_points capabilities format fun.now) result }
 {
     match format {
         StorageFormat::R64Uint => {
@@ -151,7 +149,7 @@ fn check_operation(
     is_done: bool,
     fun: &AtomicFunction,
 ) -> Result<(), FunctionError>
-    ensures { result_err result ≡ first_fault (operation_points capabilities needed is_done fun.now) }
+    ensures { Finds (operation_points capabilities needed is_done fun.now) result }
 {
     if !capabilities.contains(needed) {
         return Err(FunctionError::MissingCapability(needed));
@@ -184,7 +182,7 @@ fn check_value(
     format: StorageFormat,
     value: Handle<tag::Expression>,
 ) -> Result<(), FunctionError>
-    ensures { result_err result ≡ first_fault (changed_value_points (context_of context.now) (place_at scope.now) format value) }
+    ensures { Finds (changed_value_points (context_of context.now) (place_at scope.now) format value) result }
 {
     check_use(scope, value)?;
     if !is_scalar(Scalar::from(format), context.type_inner(value)) {

@@ -2,12 +2,9 @@
 
 ghost use Rattle.std.specs.Prelude.{◌≡◌, ◌++◌, IfOk};
 ghost use Rattle.std.specs.Option.{option_copied};
-ghost use Rattle.std.specs.Result.{result_err};
-ghost use Rattle.naga_below.specs.Points.{first_fault};
-ghost use Rattle.naga_valid.specs.CodeAnswers.{AnswersPoints};
-ghost use Rattle.naga_valid.specs.CodeImages.{texel_points, texel_value_points};
+ghost use Rattle.naga_valid.specs.CodeAnswers.{Finds, AnswersPoints};
+ghost use Rattle.naga_valid.specs.CodeImages.{stored_points, texel_value_points};
 ghost use Rattle.naga_valid.specs.Images.{stored_type, image_store_points};
-ghost use Rattle.naga_valid.specs.declared.checks.image.ImageStatement.TheVariants.{Store};
 ghost use Rattle.naga_valid.specs.CodePlace.{place_at};
 ghost use Rattle.naga_valid.specs.Seen.{context_of};
 ghost use Rattle.naga_valid.specs.Types.{type_at};
@@ -70,7 +67,7 @@ fn validate_image_store(
     given: Option<TypeInner>,
 ) -> Result<(), FunctionError>
     requires { given ≡ type_at (context_of context.now) value }
-    ensures { result_err result ≡ first_fault (image_store_points (context_of context.now) (place_at scope.now) image texel.coordinate texel.array_index value) }
+    ensures { Finds (image_store_points (context_of context.now) (place_at scope.now) image texel.coordinate texel.array_index value) result }
 {
     let Some(ty) = image_global(context, image) else {
         let error = ExpressionError::ExpectedGlobalVariable;
@@ -130,7 +127,7 @@ fn check_stored(
     format: StorageFormat,
 ) -> Result<(), FunctionError>
     requires { given ≡ type_at (context_of context.now) value }
-    ensures { result_err result ≡ first_fault (texel_points Store (context_of context.now) (place_at scope.now) dim arrayed texel.coordinate texel.array_index ++ texel_value_points (context_of context.now) (place_at scope.now) format value) }
+    ensures { Finds (stored_points (context_of context.now) (place_at scope.now) dim arrayed texel.coordinate texel.array_index format value) result }
 {
     check_texel(ImageStatement::Store, scope, context, dim, arrayed, texel)?;
     check_texel_value(scope, context, format, value, given)
@@ -145,7 +142,7 @@ fn check_texel_value(
     given: Option<TypeInner>,
 ) -> Result<(), FunctionError>
     requires { given ≡ type_at (context_of context.now) value }
-    ensures { result_err result ≡ first_fault (texel_value_points (context_of context.now) (place_at scope.now) format value) }
+    ensures { Finds (texel_value_points (context_of context.now) (place_at scope.now) format value) result }
 {
     check_use(scope, value)?;
     let expected_ty = TypeInner::Vector {

@@ -1,10 +1,8 @@
 //! The check list of WorkGroupUniformLoad.
 
 ghost use Rattle.std.specs.Prelude.{◌≡◌, ◌<◌, ◌++◌, ◌∷◌, [], OnOk, IfSome, length};
-ghost use Rattle.std.specs.Result.{result_err};
 ghost use Rattle.std.specs.Option.{option_copied};
-ghost use Rattle.naga_below.specs.Points.{first_fault};
-ghost use Rattle.naga_valid.specs.CodeAnswers.{AnswersPoints};
+ghost use Rattle.naga_valid.specs.CodeAnswers.{Finds, AnswersPoints};
 ghost use Rattle.naga_valid.specs.Context.{ContextFits};
 ghost use Rattle.naga_valid.specs.Loads.{is_work_group, loaded_type_at, points_to, load_points};
 ghost use Rattle.naga_valid.specs.CodePlace.{place_at};
@@ -50,7 +48,7 @@ fn validate_load(
     loaded: Handle<tag::Expression>,
 ) -> Result<(), FunctionError>
     requires { ContextFits (context_of context.now) }
-    ensures { result_err result ≡ first_fault (load_points (context_of context.now) (place_at scope.now) pointer loaded) }
+    ensures { Finds (load_points (context_of context.now) (place_at scope.now) pointer loaded) result }
 {
     check_use(scope, pointer)?;
     if !is_work_group(space(context, pointer)) {

@@ -2,13 +2,9 @@
 
 ghost use Rattle.std.specs.Prelude.{◌≡◌, ◌++◌, ◌∷◌, [], OnOk};
 ghost use Rattle.std.specs.Option.{option_copied};
-ghost use Rattle.std.specs.Result.{result_err};
 ghost use Rattle.naga_below.specs.View.{query_acts};
-ghost use Rattle.naga_below.specs.Points.{first_fault};
-ghost use Rattle.naga_valid.specs.CodeAnswers.{AnswersPoints};
+ghost use Rattle.naga_valid.specs.CodeAnswers.{Finds, AnswersPoints};
 ghost use Rattle.naga_below.specs.declared.ir.statements.RayQueryFunction.TheVariants.{Initialize};
-ghost use Rattle.naga_rules.specs.declared.function.FunctionError.TheVariants.{InvalidHitDistanceType};
-ghost use Rattle.naga_valid.specs.Points.{use_point};
 ghost use Rattle.naga_valid.specs.RayQueries.{local_type_at, query_flag_of, structure_flag_at, descriptor_type, descriptor_points, is_float_scalar, query_function_points, ray_query_points};
 ghost use Rattle.naga_valid.specs.CodePlace.{place_at};
 ghost use Rattle.naga_valid.specs.Seen.{context_of};
@@ -56,7 +52,7 @@ fn validate_ray_query(
     query: Handle<tag::Expression>,
     fun: &RayQueryFunction,
 ) -> Result<(), FunctionError>
-    ensures { result_err result ≡ first_fault (ray_query_points (context_of context.now) (place_at scope.now) query fun.now) }
+    ensures { Finds (ray_query_points (context_of context.now) (place_at scope.now) query fun.now) result }
 {
     let Some(ty) = local_type(context, query) else {
         return Err(FunctionError::InvalidRayQueryExpression(query));
@@ -103,7 +99,7 @@ fn check_query_function(
     vertex_return: bool,
     fun: &RayQueryFunction,
 ) -> Result<(), FunctionError>
-    ensures { result_err result ≡ first_fault (query_function_points (context_of context.now) (place_at scope.now) query vertex_return fun.now) }
+    ensures { Finds (query_function_points (context_of context.now) (place_at scope.now) query vertex_return fun.now) result }
 {
     match fun {
         RayQueryFunction::Initialize {
@@ -118,7 +114,13 @@ fn check_query_function(
             *descriptor,
         ),
         RayQueryFunction::Proceed { result } => check_put(scope, *result),
-        RayQueryFunction::GenerateIntersection { hit_t } => check_distance(scope, context, *hit_t),
+        RayQueryFunction::GenerateIntersection { hit_t } => {
+            check_use(scope, *hit_t)?;
+            if !is_float_scalar(context.type_inner(*hit_t)) {
+                return Err(FunctionError::InvalidHitDistanceType(*hit_t));
+            }
+            Ok(())
+        }
         RayQueryFunction::ConfirmIntersection | RayQueryFunction::Terminate => Ok(()),
     }
 }
@@ -132,7 +134,7 @@ fn check_initialize(
     structure: Handle<tag::Expression>,
     descriptor: Handle<tag::Expression>,
 ) -> Result<(), FunctionError>
-    ensures { result_err result ≡ first_fault (query_function_points (context_of context.now) (place_at scope.now) query vertex_return (Initialize structure descriptor)) }
+    ensures { Finds (query_function_points (context_of context.now) (place_at scope.now) query vertex_return (Initialize structure descriptor)) result }
 {
     check_use(scope, structure)?;
     let Some(returns) = structure_flag(context, structure) else {
@@ -160,7 +162,7 @@ pub fn check_descriptor(
     context: &BlockContext,
     descriptor: Handle<tag::Expression>,
 ) -> Result<(), FunctionError>
-    ensures { result_err result ≡ first_fault (descriptor_points (context_of context.now) (place_at scope.now) descriptor) }
+    ensures { Finds (descriptor_points (context_of context.now) (place_at scope.now) descriptor) result }
 {
     check_use(scope, descriptor)?;
     if !is_descriptor(context, descriptor) {
@@ -184,21 +186,6 @@ fn descriptor_type<'a>(context: &BlockContext<'a>) -> Option<&'a TypeInner>
         Some(ty) => inner_at(context, ty),
         None => None,
     }
-}
-
-/// How far away a hit is: in scope, and a float.
-fn check_distance(
-    scope: &HandleSet,
-    context: &BlockContext,
-    distance: Handle<tag::Expression>,
-) -> Result<(), FunctionError>
-    ensures { result_err result ≡ first_fault (use_point (place_at scope.now) distance ∷ (is_float_scalar (type_at (context_of context.now) distance), InvalidHitDistanceType distance) ∷ []) }
-{
-    check_use(scope, distance)?;
-    if !is_float_scalar(context.type_inner(distance)) {
-        return Err(FunctionError::InvalidHitDistanceType(distance));
-    }
-    Ok(())
 }
 
 /// Whether a type is a float of any width, and no vector.

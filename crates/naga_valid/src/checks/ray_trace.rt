@@ -2,9 +2,8 @@
 
 ghost use Rattle.std.specs.Prelude.{◌≡◌, true};
 ghost use Rattle.std.specs.Option.{option_copied, option_or};
-ghost use Rattle.std.specs.Result.{result_err};
-ghost use Rattle.naga_below.specs.Points.{first_fault};
 ghost use Rattle.naga_runs.specs.Positions.{StatementNode};
+ghost use Rattle.naga_valid.specs.CodeAnswers.{Finds};
 ghost use Rattle.naga_valid.specs.Blocks.{tree_of};
 ghost use Rattle.naga_valid.specs.RayTraces.{is_payload_space, is_global, trace_ray_points};
 ghost use Rattle.naga_valid.specs.CodePlace.{place_at};
@@ -34,7 +33,7 @@ pub fn check_trace_ray(
     descriptor: Handle<tag::Expression>,
     payload: Handle<tag::Expression>,
 ) -> Result<(), FunctionError>
-    ensures { result_err result ≡ first_fault (trace_ray_points (context_of context.now) so_far.now (place_at scope.now) structure descriptor payload) }
+    ensures { Finds (trace_ray_points (context_of context.now) so_far.now (place_at scope.now) structure descriptor payload) result }
 {
     check_use(scope, structure)?;
     if structure_flag(context, structure).is_none() {

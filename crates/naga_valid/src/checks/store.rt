@@ -1,16 +1,13 @@
 //! The check list of Store.
 
 ghost use Rattle.std.specs.Prelude.{◌≡◌, ◌∷◌, [], not, IfSome, Some, length};
-ghost use Rattle.std.specs.Result.{result_err};
 ghost use Rattle.std.specs.Option.{option_copied};
 ghost use Rattle.naga_below.specs.Types.{ResolutionFits};
-ghost use Rattle.naga_below.specs.Points.{first_fault};
-ghost use Rattle.naga_rules.specs.declared.function.FunctionError.TheVariants.{InvalidStoreTexture};
+ghost use Rattle.naga_valid.specs.CodeAnswers.{Finds};
 ghost use Rattle.naga_valid.specs.Context.{ContextFits};
-ghost use Rattle.naga_valid.specs.Types.{named_type};
 ghost use Rattle.naga_valid.specs.CodePlace.{place_at};
 ghost use Rattle.naga_valid.specs.Seen.{context_of};
-ghost use Rattle.naga_valid.specs.Stores.{access_base, root_at, is_variable, base_type_at, space_at, is_writable, is_texture, is_stored_as, store_points};
+ghost use Rattle.naga_valid.specs.Stores.{access_base, root_at, is_variable, base_type_at, space_at, is_writable, texture_point, is_stored_as, store_points};
 
 use crate::checks::refuse::check_use;
 use crate::checks::types::is_scalar;
@@ -34,7 +31,7 @@ pub fn check_store(
     value: Handle<tag::Expression>,
 ) -> Result<(), FunctionError>
     requires { ContextFits (context_of context.now) }
-    ensures { result_err result ≡ first_fault (store_points (context_of context.now) (place_at scope.now) pointer value) }
+    ensures { Finds (store_points (context_of context.now) (place_at scope.now) pointer value) result }
 {
     let root = root_of(context, pointer);
     if !is_variable(context.expression(root)) {
@@ -94,7 +91,7 @@ fn check_texture(
     value: Handle<tag::Expression>,
     inner: Option<&TypeInner>,
 ) -> Result<(), FunctionError>
-    ensures { result_err result ≡ first_fault ((not (is_texture (option_copied inner.entry)), InvalidStoreTexture value (named_type (option_copied inner.entry))) ∷ []) }
+    ensures { Finds (texture_point value (option_copied inner.entry) ∷ []) result }
 {
     let actual_ty = match inner {
         Some(

@@ -2,9 +2,7 @@
 
 ghost use Rattle.std.specs.Prelude.{◌≡◌, ◌++◌, ◌∷◌, [], OnOk};
 ghost use Rattle.std.specs.Option.{option_copied};
-ghost use Rattle.std.specs.Result.{result_err};
-ghost use Rattle.naga_below.specs.Points.{first_fault};
-ghost use Rattle.naga_valid.specs.CodeAnswers.{AnswersPoints};
+ghost use Rattle.naga_valid.specs.CodeAnswers.{Finds, AnswersPoints};
 ghost use Rattle.naga_valid.specs.CodePlace.{place_at};
 ghost use Rattle.naga_valid.specs.CodeSubgroups.{combined_points};
 ghost use Rattle.naga_valid.specs.Seen.{context_of};
@@ -29,7 +27,7 @@ pub fn check_operations(
     settings: &Settings,
     needed: SubgroupOperationSet,
 ) -> Result<(), FunctionError>
-    ensures { result_err result ≡ first_fault (operations_point settings.now needed ∷ []) }
+    ensures { Finds (operations_point settings.now needed ∷ []) result }
 {
     if !settings.subgroup_operations.contains(needed) {
         let error = SubgroupError::UnsupportedOperation(needed);
@@ -40,7 +38,7 @@ pub fn check_operations(
 
 /// Subgroups, which the target has at all.
 pub fn check_subgroups(settings: &Settings) -> Result<(), FunctionError>
-    ensures { result_err result ≡ first_fault (subgroups_point settings.now ∷ []) }
+    ensures { Finds (subgroups_point settings.now ∷ []) result }
 {
     let needed = Capabilities::SUBGROUP;
     if !settings.capabilities.contains(needed) {
@@ -75,7 +73,7 @@ fn validate_ballot(
     ballot: Handle<tag::Expression>,
     predicate: &Option<Handle<tag::Expression>>,
 ) -> Result<(), FunctionError>
-    ensures { result_err result ≡ first_fault (ballot_points (context_of context.now) (place_at scope.now) ballot predicate.now) }
+    ensures { Finds (ballot_points (context_of context.now) (place_at scope.now) ballot predicate.now) result }
 {
     check_subgroups(&context.settings)?;
     check_operations(&context.settings, SubgroupOperationSet::BALLOT)?;
@@ -89,7 +87,7 @@ fn check_predicate(
     context: &BlockContext,
     predicate: &Option<Handle<tag::Expression>>,
 ) -> Result<(), FunctionError>
-    ensures { result_err result ≡ first_fault (predicate_points (context_of context.now) (place_at scope.now) predicate.now) }
+    ensures { Finds (predicate_points (context_of context.now) (place_at scope.now) predicate.now) result }
 {
     match predicate {
         Some(handle) => {
@@ -121,7 +119,7 @@ pub fn check_combined(
     argument: Handle<tag::Expression>,
     combined: Handle<tag::Expression>,
 ) -> Result<(), FunctionError>
-    ensures { result_err result ≡ first_fault (combined_points (context_of context.now) (place_at scope.now) argument combined) }
+    ensures { Finds (combined_points (context_of context.now) (place_at scope.now) argument combined) result }
 {
     check_put(scope, combined)?;
     if !are_same_inners(

@@ -2,9 +2,7 @@
 
 ghost use Rattle.std.specs.Prelude.{◌≡◌, ◌++◌, ◌∷◌, [], OnOk};
 ghost use Rattle.std.specs.Option.{option_copied};
-ghost use Rattle.std.specs.Result.{result_err};
-ghost use Rattle.naga_below.specs.Points.{first_fault};
-ghost use Rattle.naga_valid.specs.CodeAnswers.{AnswersPoints};
+ghost use Rattle.naga_valid.specs.CodeAnswers.{Finds, AnswersPoints};
 ghost use Rattle.naga_valid.specs.CodePlace.{place_at};
 ghost use Rattle.naga_valid.specs.Seen.{context_of};
 ghost use Rattle.naga_valid.specs.Subgroups.{is_wide_integer, is_combined_by, takes_vectors, is_operand_of, is_scanned, is_done_over, collective_points};
@@ -50,7 +48,7 @@ fn validate_collective(
     argument: Handle<tag::Expression>,
     combined: Handle<tag::Expression>,
 ) -> Result<(), FunctionError>
-    ensures { result_err result ≡ first_fault (collective_points (context_of context.now) (place_at scope.now) operation part argument combined) }
+    ensures { Finds (collective_points (context_of context.now) (place_at scope.now) operation part argument combined) result }
 {
     check_subgroups(&context.settings)?;
     check_operations(&context.settings, operation.required_operations())?;
