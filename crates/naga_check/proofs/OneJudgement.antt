@@ -22,7 +22,7 @@ use Rattle.naga_runs.specs.Positions.{Node, StatementNode}
 use Rattle.naga_runs.specs.Visits.{Place, Visit}
 use Rattle.naga_valid.specs.Calls.{arguments_of, has_result, arguments_points, call_result_points}
 use Rattle.naga_valid.specs.Context.{Context, pre_emitted}
-use Rattle.naga_valid.specs.Flags.{checks_blocks}
+use Rattle.naga_valid.specs.WhatIsChecked.{checks_blocks}
 use Rattle.naga_valid.specs.Judged.{FunctionOutcome, body_judgement, outcome_of, outcome_after, info_with, judged_with, function_judgement}
 use Rattle.naga_valid.specs.Parts.{no_traces}
 use Rattle.naga_valid.specs.Past.{Past, past_of}
@@ -54,7 +54,7 @@ DeclareTheSame fs gs =
 module _ (c : Context) (fs : List Function) (b : Block) (same : DeclareTheSame c.program.functions fs) where
   same_points : (past : Past) (place : Place) (node : Node) → points_at c past place node ≡ points_at (with_bodies c fs b) past place node
   same_points past place (StatementNode (Leaf acts (ir.Call f given result) span)) =
-      λ i. within (InvalidCall f) (arguments_points c place.scope ((same f).0 i) given ++ call_result_points c past.filled place.scope f ((same f).1 i) result)
+      λ i. within (InvalidCall f) (arguments_points c place ((same f).0 i) given ++ call_result_points c past.filled place f ((same f).1 i) result)
   same_points past place node = refl
 
   same_payload : (node : Node) → trace_payload c node ≡ trace_payload (with_bodies c fs b) node

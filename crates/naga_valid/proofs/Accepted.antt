@@ -27,7 +27,7 @@ use Rattle.naga_valid.specs.Atomics.{is_atomic_result}
 use Rattle.naga_valid.specs.Blocks.{body_of}
 use Rattle.naga_valid.specs.Calls.{is_call_result_of, has_result}
 use Rattle.naga_valid.specs.Context.{Context, pre_emitted}
-use Rattle.naga_valid.specs.Flags.{checks_blocks, checks_expressions}
+use Rattle.naga_valid.specs.WhatIsChecked.{checks_blocks, checks_expressions}
 use Rattle.naga_valid.specs.Judged.{FunctionOutcome, body_judgement, judged_with, outcome_left}
 use Rattle.naga_valid.specs.Past.{Past, past_of}
 use Rattle.naga_valid.specs.Results.{is_to_fill, result_of, fills, filled_before, is_unfilled, filled_points_from, filled_points}

@@ -9,7 +9,7 @@ use Rattle.naga_runs.specs.Handles.{Handles}
 use Rattle.naga_below.specs.Points.{first_fault}
 use Rattle.naga_runs.specs.Visits.{Visit}
 use Rattle.naga_valid.specs.Context.{Context}
-use Rattle.naga_valid.specs.Flags.{checks_expressions}
+use Rattle.naga_valid.specs.WhatIsChecked.{checks_expressions}
 use Rattle.naga_valid.specs.Types.{expression_at}
 use Rattle.naga_valid.specs.Results.{result_of, is_this, is_to_fill, is_fresh, filled_before, is_unfilled, filled_points_from}
 use Rattle.naga_valid.specs.Rules.{stages_behind, stages_left}

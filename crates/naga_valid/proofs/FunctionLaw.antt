@@ -18,7 +18,7 @@ use Rattle.naga_valid.specs.Blocks.{body_of}
 use Rattle.naga_valid.specs.Context.{Context}
 use Rattle.naga_valid.specs.Declarations.{declaration_points}
 use Rattle.naga_valid.specs.Expressions.{with_stages, mask_at, mask_and, stages_from, masks_from, expressions_step, expression_masks}
-use Rattle.naga_valid.specs.Flags.{checks_blocks, checks_expressions}
+use Rattle.naga_valid.specs.WhatIsChecked.{checks_blocks, checks_expressions}
 use Rattle.naga_valid.specs.FunctionLaw.{AcceptedIsSound, AcceptedFillsOnce, AcceptedIsOfAllStages, AcceptedStagesAreMet}
 use Rattle.naga_valid.specs.Judged.{FunctionOutcome, context_with, judged_with, declarations_step, expressions_known, lower_step, function_judgement}
 use Rattle.naga_valid.specs.Stages.{meet}

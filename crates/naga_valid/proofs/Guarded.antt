@@ -23,11 +23,11 @@ use Rattle.naga_runs.specs.Soundness.{Fit, Allowed, RunsAreSound}
 use Rattle.naga_runs.specs.Visits.{Place}
 use Rattle.naga_valid.specs.Blocks.{body_of}
 use Rattle.naga_valid.specs.Context.{Context, pre_emitted}
-use Rattle.naga_valid.specs.Control.{emit_points_from, is_result, is_bool_scalar, is_integer, value_points, values_of, cases_points, declared_type, is_returned_as}
+use Rattle.naga_valid.specs.Control.{emit_points_from, is_bool_scalar, is_integer, value_points, values_of, cases_points, declared_type, is_returned_as}
 use Rattle.naga_valid.specs.Judged.{body_judgement}
 use Rattle.naga_valid.specs.Points.{Points, use_point, put_point, may_use, is_in_scope}
 use Rattle.naga_valid.specs.Past.{Past}
-use Rattle.naga_valid.specs.Results.{result_of}
+use Rattle.naga_valid.specs.Results.{is_result, result_of}
 use Rattle.naga_valid.specs.Rules.{statement_points, points_at}
 use Rattle.naga_valid.specs.State.{State, seen, kept_rules, begin_state, state_left}
 use Rattle.naga_valid.specs.Types.{expression_at, type_at, scalar_kind_at}
@@ -79,9 +79,9 @@ node_fits context past place (StatementNode (Leaf acts (ir.WorkGroupUniformLoad 
 node_fits context past place (StatementNode (Leaf acts (ir.CooperativeStore t d) span)) made e =
     (subst (Fit (may_use place) (is_in_scope place)) (sym made) (cooperative_fits context place t d.pointer e), tt)
 node_fits context past place (StatementNode (Leaf acts (ir.ImageStore i k a v) span)) made e =
-    (subst (Fit (may_use place) (is_in_scope place)) (sym made) (image_store_fits context place i (record { coordinate = k; array_index = a }) v e), tt)
+    (subst (Fit (may_use place) (is_in_scope place)) (sym made) (image_store_fits context place i k a v e), tt)
 node_fits context past place (StatementNode (Leaf acts (ir.ImageAtomic i k a f v) span)) made e =
-    (subst (Fit (may_use place) (is_in_scope place)) (sym made) (image_atomic_fits context place f v i (record { coordinate = k; array_index = a }) e), tt)
+    (subst (Fit (may_use place) (is_in_scope place)) (sym made) (image_atomic_fits context place i k a f v e), tt)
 node_fits context past place (StatementNode (Leaf acts (ir.RayQuery q f) span)) made e =
     (subst (Fit (may_use place) (is_in_scope place)) (sym made) (ray_query_fits context place q f e), tt)
 node_fits context past place (StatementNode (Leaf acts (ir.RayPipelineFunction (TraceRay a d p)) span)) made e =

@@ -10,7 +10,7 @@ use Rattle.naga_runs.proofs.Judgements.{by_tree, earlier_agrees}
 use Rattle.naga_below.specs.Points.{first_fault, answer}
 use Rattle.naga_runs.specs.Judgement.{Follows, judgement, viewed}
 use Rattle.naga_runs.specs.Visits.{Visit}
-use Rattle.naga_valid.specs.Answers.{AnswersPoints}
+use Rattle.naga_valid.specs.CodeAnswers.{AnswersPoints}
 use Rattle.naga_valid.specs.Blocks.{body_of}
 use Rattle.naga_valid.specs.Context.{Context, pre_emitted}
 use Rattle.naga_valid.specs.Judged.{body_judgement}

@@ -1,5 +1,6 @@
 pub mod Scopes
 pub mod Lists
+pub mod Flat
 pub mod Fillings
 pub mod Traces
 pub mod RayQueries
@@ -10,7 +11,6 @@ pub mod Values
 pub mod Refusals
 pub mod InRange
 pub mod Stores
-pub mod Bare
 pub mod Loads
 pub mod Cooperative
 pub mod Images

@@ -13,7 +13,8 @@ use Rattle.naga_valid.specs.CodePlace.{place_at}
 use Rattle.naga_valid.specs.Scope.{in_scope}
 use Rattle.naga_valid.specs.Walk.{puts_of, handles_from, handles_between}
 use Rattle.naga_valid.specs.Context.{Context}
-use Rattle.naga_valid.specs.Control.{emit_points, emit_points_from, is_result, values_of, last_falls_through}
+use Rattle.naga_valid.specs.Control.{emit_points, emit_points_from, values_of, last_falls_through}
+use Rattle.naga_valid.specs.Results.{is_result}
 use Rattle.naga_valid.specs.Types.{expression_at}
 use Rattle.naga_rules.specs.declared.function.FunctionError.{FunctionError}
 use Rattle.naga_rules.specs.declared.function.FunctionError.TheVariants.{EmitResult, ExpressionAlreadyInScope}

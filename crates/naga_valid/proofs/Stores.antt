@@ -6,16 +6,13 @@ use Rattle.naga_below.specs.Fits.{NameEarlierExpressions}
 use Rattle.naga_below.specs.Tree.{Use}
 use Rattle.naga_below.specs.declared.ir.expressions.Expression.{Expression as IrExpression}
 use Rattle.naga_below.specs.declared.ir.expressions.Expression.TheVariants as e
-use Rattle.naga_below.specs.declared.valid.expression_error.ExpressionError.TheVariants.{NotInScope}
-use Rattle.naga_rules.specs.declared.function.FunctionError.TheVariants.{Expression, InvalidStorePointer}
-use Rattle.naga_below.proofs.Points.{first_holds}
 use Rattle.naga_runs.specs.Visits.{Place}
 use Rattle.naga_below.specs.Points.{first_fault}
 use Rattle.naga_runs.specs.Soundness.{Fit}
 use Rattle.naga_valid.specs.Context.{Context}
-use Rattle.naga_valid.specs.Points.{use_point, may_use, is_in_scope}
-use Rattle.naga_valid.specs.Stores.{access_base, root_within, root_at, is_variable, stored_points, store_points}
-use Rattle.naga_valid.specs.Types.{expression_at}
+use Rattle.naga_valid.specs.Points.{may_use, is_in_scope}
+use Rattle.naga_valid.specs.Stores.{access_base, root_within, store_points}
+use Rattle.naga_valid.proofs.Flat.{holds_at}
 
 module _ (es : List IrExpression) (earlier : NameEarlierExpressions es) where
   -- a base stands before its access
@@ -67,8 +64,4 @@ module _ (es : List IrExpression) (earlier : NameEarlierExpressions es) where
 
 -- its one use is in scope
 pub store_fits : (context : Context) (place : Place) (pointer value : ℕ) → first_fault (store_points context place pointer value) ≡ None → Fit (may_use place) (is_in_scope place) (Use value ∷ [])
-store_fits context place pointer value e =
-    let root = root_at context pointer in
-    let stored = stored_points context pointer value in
-    let first = first_holds (is_variable (expression_at context root)) (InvalidStorePointer root) (use_point place value ∷ stored) e in
-    ((first_holds (may_use place value) (Expression value NotInScope) stored first.1).0, tt)
+store_fits context place pointer value e = (holds_at 1 (store_points context place pointer value) e, tt)

@@ -26,14 +26,13 @@ use Rattle.naga_runs.specs.ByTree.{judge_visits, judge_body, judge_stmt, judge_p
 use Rattle.naga_runs.proofs.Judgements.{judge_done, judge_more, judge_own, judge_block, judge_branch, judge_switch, judge_loop, judge_no_case, judge_one_case}
 use Rattle.naga_runs.proofs.WithoutMust.{must_is_free}
 use Rattle.naga_rules.specs.Answers.{Refuses}
-use Rattle.naga_valid.specs.Answers.{IsFirstFault}
+use Rattle.naga_valid.specs.CodeAnswers.{IsFirstFault}
 use Rattle.naga_valid.specs.Blocks.{emitted_operands, tree_of, block_of, list_of, cases_of}
 use Rattle.naga_valid.specs.Context.{Context}
 use Rattle.naga_valid.specs.Control.{break_if_points}
 use Rattle.naga_valid.specs.Rules.{statement_points}
 use Rattle.naga_valid.specs.CodePlace.{place_at}
 use Rattle.naga_valid.specs.Scope.{in_scope, known}
-use Rattle.naga_valid.proofs.Bare.{points_without_must}
 use Rattle.naga_valid.specs.Walk.{puts_of, puts, body_puts, place, own_answer, parts_answer, stmt_answer, body_answer, cases_answer, break_if_answer}
 use Rattle.naga_valid.proofs.Refusals.{passes, stops_first, stops_next, answers_next}
 use Rattle.naga_rules.specs.declared.function.FunctionError.{FunctionError}
@@ -61,7 +60,7 @@ known_body (Then x b) s =
 
 module _ (context : Context) where
   ignores : IgnoresMust (kept_rules context)
-  ignores = record { points = λ st a s m n x. points_without_must context (seen st) a s m n x; advance = λ st a s m n x. refl }
+  ignores = record { points = λ st a s m n x. refl; advance = λ st a s m n x. refl }
 
   -- at another spelling of the scope, whatever every run has put
   pub moved : (k : State) (a : Abilities) (s : List ℕ) (t m : Handles) (b : Body) → known s ≡ t →

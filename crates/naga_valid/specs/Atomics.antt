@@ -1,8 +1,8 @@
 -- The check list of Atomic.
-use Rattle.std.specs.Prelude.{ℕ, Bool, true, false, not, ◌&&◌, ◌||◌, ◌==◌, List, [], ◌∷◌, ◌++◌, Option, None, Some, is_some, if◌then◌else◌}
+use Rattle.std.specs.Prelude.{ℕ, Bool, true, false, not, ◌&&◌, ◌||◌, ◌==◌, List, [], ◌∷◌, ◌++◌, Option, None, Some, is_some, if◌then◌else◌, unwrap_or}
 use Rattle.naga_below.specs.Bits as bit
 use Rattle.naga_below.specs.Bits.{has_capability}
-use Rattle.naga_below.specs.Types.{inner_at}
+use Rattle.naga_below.specs.Types.{bool_scalar, inner_at}
 use Rattle.naga_below.specs.declared.ir.expressions.Expression.{Expression}
 use Rattle.naga_below.specs.declared.ir.expressions.Expression.TheVariants as e
 use Rattle.naga_below.specs.declared.ir.operations.AtomicFunction.{AtomicFunction}
@@ -27,25 +27,33 @@ use Rattle.naga_valid.specs.Context.{Context}
 use Rattle.naga_valid.specs.Control.{is_integer}
 use Rattle.naga_valid.specs.Points.{Points, use_point, put_point}
 use Rattle.naga_valid.specs.Results.{is_fresh}
+use Rattle.naga_valid.specs.Stores.{space_at}
 use Rattle.naga_below.specs.TypeTests.{is_scalar, both_are, is_equivalent, it_is, is_exchange_struct}
 use Rattle.naga_valid.specs.Types.{expression_at, type_at}
-use Rattle.naga_valid.specs.declared.checks.atomic.AtomicPlace.{AtomicPlace}
 
 -- a point whose fault stands inside InvalidAtomic
 abbrev pub atomic_point : Bool → AtomicError → Point FunctionError
 atomic_point holds error = (holds, InvalidAtomic error)
 
-abbrev pub atomic_in : AddressSpace → Option TypeInner → Option AtomicPlace
-atomic_in p (Some (inner.Atomic s)) = Some (record { scalar = s; space = p })
-atomic_in p _ = None
+-- the type that a pointer points to
+abbrev pub pointed_type : List IrType → Option TypeInner → Option TypeInner
+pointed_type types (Some (inner.Pointer base p)) = inner_at types base
+pointed_type types _ = None
 
-abbrev pub atomic_behind : List IrType → Option TypeInner → Option AtomicPlace
-atomic_behind types (Some (inner.Pointer base p)) = atomic_in p (inner_at types base)
-atomic_behind types _ = None
+abbrev pub atomic_scalar_of : Option TypeInner → Option Scalar
+atomic_scalar_of (Some (inner.Atomic s)) = Some s
+atomic_scalar_of _ = None
 
--- the atomic that an expression points to: its scalar, and the space where it lies
-abbrev pub atomic_at : Context → ℕ → Option AtomicPlace
-atomic_at context pointer = atomic_behind context.program.types (type_at context pointer)
+-- the scalar of the atomic that an expression points to
+abbrev pub atomic_scalar_at : Context → ℕ → Option Scalar
+atomic_scalar_at context pointer = atomic_scalar_of (pointed_type context.program.types (type_at context pointer))
+
+-- the same, and the space where it lies, where there is one
+abbrev pub atomic_scalar : Context → ℕ → Scalar
+atomic_scalar context pointer = unwrap_or (atomic_scalar_at context pointer) bool_scalar
+
+abbrev pub atomic_space : Context → ℕ → AddressSpace
+atomic_space context pointer = unwrap_or (space_at context pointer) space.Function
 
 -- an integer of 64 bits, of either sign
 abbrev pub is_int64 : Scalar → Bool
@@ -83,31 +91,29 @@ is_storage _ = false
 -- result is not asked for, need less than the others
 abbrev pub int64_capability : AtomicFunction → AddressSpace → Bool → Capabilities
 int64_capability fun p has_result =
-    if is_min_or_max fun && (is_storage p && not has_result) then bit.SHADER_INT64_ATOMIC_MIN_MAX else bit.SHADER_INT64_ATOMIC_ALL_OPS
+    if is_min_or_max fun && (is_storage p && not has_result)
+    then bit.SHADER_INT64_ATOMIC_MIN_MAX
+    else bit.SHADER_INT64_ATOMIC_ALL_OPS
 
-abbrev pub int64_points : Capabilities → AtomicFunction → AddressSpace → Bool → Points
-int64_points capabilities fun p has_result =
-    atomic_point (has_capability capabilities bit.SHADER_INT64_ATOMIC_ALL_OPS || has_capability capabilities (int64_capability fun p has_result)) (wrong.MissingCapability (int64_capability fun p has_result))
-    ∷ []
+-- whether there is this capability, or that for all operations on an integer of 64 bits
+abbrev pub has_int64_capability : Capabilities → Capabilities → Bool
+has_int64_capability capabilities needed =
+    has_capability capabilities bit.SHADER_INT64_ATOMIC_ALL_OPS || has_capability capabilities needed
 
-abbrev pub float32_points : Capabilities → AtomicFunction → AddressSpace → Points
-float32_points capabilities fun p =
-    atomic_point (has_capability capabilities bit.SHADER_FLOAT32_ATOMIC) (wrong.MissingCapability bit.SHADER_FLOAT32_ATOMIC)
+-- what the atomic's scalar asks for
+abbrev pub scalar_points : Capabilities → Scalar → AddressSpace → AtomicFunction → Bool → Points
+scalar_points capabilities s p fun has_result =
+    let int64 = int64_capability fun p has_result in
+    let float32 = bit.SHADER_FLOAT32_ATOMIC in
+    if is_int64 s
+    then atomic_point (has_int64_capability capabilities int64) (wrong.MissingCapability int64) ∷ []
+    else if is_float32 s
+    then
+    atomic_point (has_capability capabilities float32) (wrong.MissingCapability float32)
     ∷ atomic_point (is_done_on_floats fun) (wrong.InvalidOperator fun)
     ∷ atomic_point (is_storage p) (wrong.InvalidAddressSpace p)
     ∷ []
-
--- what the atomic's scalar asks for
-abbrev pub scalar_points : Capabilities → AtomicPlace → AtomicFunction → Bool → Points
-scalar_points capabilities target fun has_result =
-    if is_int64 target.scalar
-    then int64_points capabilities fun target.space has_result
-    else if is_float32 target.scalar then float32_points capabilities fun target.space else []
-
--- the value: in scope, and the atomic's scalar
-abbrev pub value_points : Context → Place → Scalar → ℕ → Points
-value_points context place s value =
-    use_point place value ∷ atomic_point (is_scalar s (type_at context value)) (wrong.InvalidOperand value) ∷ []
+    else []
 
 abbrev pub is_atomic_result : Option Expression → Bool
 is_atomic_result (Some (e.AtomicResult ty comparison)) = true
@@ -126,55 +132,47 @@ result_type_of types _ = None
 abbrev pub result_type_at : Context → ℕ → Option TypeInner
 result_type_at context r = result_type_of context.program.types (expression_at context r)
 
--- of a compare exchange: what is compared with is in scope and of the value's type; the result is of the struct that a
--- compare exchange gives
-abbrev pub compared_points : Context → Place → Scalar → ℕ → ℕ → ℕ → Points
-compared_points context place s compare value r =
-    use_point place compare
-    ∷ atomic_point (both_are (is_equivalent context.program.types) (type_at context compare) (type_at context value)) (wrong.InvalidOperand compare)
-    ∷ atomic_point (it_is (is_exchange_struct context.program.types s) (result_type_at context r)) (wrong.ResultTypeMismatch r)
-    ∷ atomic_point (is_comparison (expression_at context r)) (wrong.ResultExpressionNotExchange r)
-    ∷ []
+-- two values of one type in canonical form; a result of a value's type; and one of the struct that a compare exchange gives
+abbrev pub are_equivalent_at : Context → ℕ → ℕ → Bool
+are_equivalent_at context a b =
+    both_are (is_equivalent context.program.types) (type_at context a) (type_at context b)
 
--- of any other operation: the result is of the value's type
-abbrev pub uncompared_points : Context → ℕ → ℕ → Points
-uncompared_points context value r =
-    atomic_point (both_are (is_equivalent context.program.types) (result_type_at context r) (type_at context value)) (wrong.ResultTypeMismatch r)
-    ∷ atomic_point (not (is_comparison (expression_at context r))) (wrong.ResultExpressionExchange r)
-    ∷ []
+abbrev pub is_result_like : Context → ℕ → ℕ → Bool
+is_result_like context r value =
+    both_are (is_equivalent context.program.types) (result_type_at context r) (type_at context value)
 
--- the type of the result
-abbrev pub result_type_points : Context → Place → Scalar → AtomicFunction → ℕ → ℕ → Points
-result_type_points context place s (Exchange (Some compare)) value r = compared_points context place s compare value r
-result_type_points context place s _ value r = uncompared_points context value r
+abbrev pub is_exchange_result : Context → Scalar → ℕ → Bool
+is_exchange_result context s r = it_is (is_exchange_struct context.program.types s) (result_type_at context r)
 
--- the type of the result; then it is put
-abbrev pub typed_points : Context → Place → Scalar → AtomicFunction → ℕ → ℕ → Points
-typed_points context place s fun value r = result_type_points context place s fun value r ++ put_point place r ∷ []
-
--- the result that is named: an atomic result, fresh, and of the right type
-abbrev pub named_points : Context → Handles → Place → Scalar → AtomicFunction → ℕ → ℕ → Points
-named_points context filled place s fun value r =
-    atomic_point (is_atomic_result (expression_at context r)) (wrong.InvalidResultExpression r)
-    ∷ atomic_point (is_fresh context filled r) (wrong.ResultAlreadyPopulated r)
-    ∷ typed_points context place s fun value r
-
--- the result. An exchange that compares nothing has one
+-- the result, if there is one: an atomic result, fresh, and of the right type; then it is put. Of a compare exchange, what
+-- is compared with comes before the type. Without a result: no exchange that compares nothing
 abbrev pub atomic_result_points : Context → Handles → Place → Scalar → AtomicFunction → ℕ → Option ℕ → Points
-atomic_result_points context filled place s fun value (Some r) = named_points context filled place s fun value r
 atomic_result_points context filled place s fun value None =
     atomic_point (not (is_plain_exchange fun)) wrong.MissingReturnValue ∷ []
+atomic_result_points context filled place s (Exchange (Some compare)) value (Some r) =
+    atomic_point (is_atomic_result (expression_at context r)) (wrong.InvalidResultExpression r)
+    ∷ atomic_point (is_fresh context filled r) (wrong.ResultAlreadyPopulated r)
+    ∷ use_point place compare
+    ∷ atomic_point (are_equivalent_at context compare value) (wrong.InvalidOperand compare)
+    ∷ atomic_point (is_exchange_result context s r) (wrong.ResultTypeMismatch r)
+    ∷ atomic_point (is_comparison (expression_at context r)) (wrong.ResultExpressionNotExchange r)
+    ∷ put_point place r
+    ∷ []
+atomic_result_points context filled place s fun value (Some r) =
+    atomic_point (is_atomic_result (expression_at context r)) (wrong.InvalidResultExpression r)
+    ∷ atomic_point (is_fresh context filled r) (wrong.ResultAlreadyPopulated r)
+    ∷ atomic_point (is_result_like context r value) (wrong.ResultTypeMismatch r)
+    ∷ atomic_point (not (is_comparison (expression_at context r))) (wrong.ResultExpressionExchange r)
+    ∷ put_point place r
+    ∷ []
 
--- what is asked of an operation on an atomic
-abbrev pub operation_points : Context → Handles → Place → AtomicFunction → ℕ → Option ℕ → Option AtomicPlace → Points
-operation_points context filled place fun value result None = []
-operation_points context filled place fun value result (Some target) =
-    value_points context place target.scalar value
-    ++ (scalar_points context.settings.capabilities target fun (is_some result) ++ atomic_result_points context filled place target.scalar fun value result)
-
--- Atomic: its pointer, and what is asked where it points
+-- Atomic: its pointer, its value, what the scalar asks for, and its result
 abbrev pub atomic_points : Context → Handles → Place → ℕ → AtomicFunction → ℕ → Option ℕ → Points
 atomic_points context filled place pointer fun value result =
+    let s = atomic_scalar context pointer in
     use_point place pointer
-    ∷ atomic_point (is_some (atomic_at context pointer)) (wrong.InvalidPointer pointer)
-    ∷ operation_points context filled place fun value result (atomic_at context pointer)
+    ∷ atomic_point (is_some (atomic_scalar_at context pointer)) (wrong.InvalidPointer pointer)
+    ∷ use_point place value
+    ∷ atomic_point (is_scalar s (type_at context value)) (wrong.InvalidOperand value)
+    ∷ scalar_points context.settings.capabilities s (atomic_space context pointer) fun (is_some result)
+    ++ atomic_result_points context filled place s fun value result

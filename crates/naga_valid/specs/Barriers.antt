@@ -18,12 +18,12 @@ is_of_subgroup barrier = contains barrier.0 bit.SUB_GROUP.0
 abbrev pub barrier_capabilities : Capabilities
 barrier_capabilities = record { 0 = bit_or bit.SUBGROUP.0 bit.SUBGROUP_BARRIER.0 }
 
-abbrev pub subgroup_barrier_points : Settings → Points
-subgroup_barrier_points settings =
+-- ControlBarrier and MemoryBarrier: one of a subgroup needs what the target has; any other needs nothing
+abbrev pub barrier_points : Settings → Barrier → Points
+barrier_points settings barrier =
+    if is_of_subgroup barrier
+    then
     (has_capability settings.capabilities barrier_capabilities, MissingCapability barrier_capabilities)
     ∷ operations_point settings bit.BASIC
     ∷ []
-
--- ControlBarrier and MemoryBarrier: one of a subgroup needs what the target has; any other needs nothing
-abbrev pub barrier_points : Settings → Barrier → Points
-barrier_points settings barrier = if is_of_subgroup barrier then subgroup_barrier_points settings else []
+    else []

@@ -8,10 +8,6 @@ use Rattle.naga_valid.specs.Scope.{known}
 abbrev pub no_abilities : Abilities
 no_abilities = record { can_return = false; can_break = false; can_continue = false }
 
--- a place by what the check lists read of it, but for those of jumps
-abbrev pub bare : Place → Place
-bare place = record { abilities = no_abilities; scope = place.scope; must = no_handles }
-
--- the place where these are in scope
+-- the place where these are in scope. Only the lists of jumps ask for the abilities, and none what every run has put
 abbrev pub place_at : List ℕ → Place
 place_at scope = record { abilities = no_abilities; scope = known scope; must = no_handles }

@@ -4,8 +4,6 @@ use Rattle.std.specs.List.{list_any}
 use Rattle.std.specs.Option.{option_map}
 use Rattle.std.specs.Ordering.{int_eq}
 use Rattle.naga_below.specs.Tree.{Cases, NoCase, OneCase}
-use Rattle.naga_below.specs.declared.ir.expressions.Expression.{Expression}
-use Rattle.naga_below.specs.declared.ir.expressions.Expression.TheVariants as e
 use Rattle.naga_below.specs.declared.ir.statements.SwitchValue.{SwitchValue}
 use Rattle.naga_below.specs.declared.ir.statements.SwitchValue.TheVariants.{I32, U32, Default}
 use Rattle.naga_below.specs.declared.ir.types.ScalarKind.{ScalarKind}
@@ -20,18 +18,9 @@ use Rattle.naga_rules.specs.declared.function.FunctionError.TheVariants.{EmitRes
 use Rattle.naga_runs.specs.Visits.{Place}
 use Rattle.naga_valid.specs.Context.{Context}
 use Rattle.naga_valid.specs.Points.{Points, use_point, put_point}
+use Rattle.naga_valid.specs.Results.{is_result}
 use Rattle.naga_below.specs.TypeTests.{is_same_type}
 use Rattle.naga_valid.specs.Types.{expression_at, resolution_at, type_at, scalar_kind_at}
-
--- the kinds of expression that another statement than Emit puts
-abbrev pub is_result : Option Expression → Bool
-is_result (Some (e.CallResult f)) = true
-is_result (Some (e.AtomicResult ty comparison)) = true
-is_result (Some (e.WorkGroupUniformLoadResult ty)) = true
-is_result (Some e.RayQueryProceedResult) = true
-is_result (Some e.SubgroupBallotResult) = true
-is_result (Some (e.SubgroupOperationResult ty)) = true
-is_result _ = false
 
 -- of n handles from the first on: it is none of those kinds, and it is put
 abbrev pub emit_points_from : Context → Place → ℕ → ℕ → Points
@@ -112,7 +101,8 @@ is_default _ = false
 abbrev pub last_falls_through : Cases → Bool
 last_falls_through NoCase = false
 last_falls_through (OneCase v falls_through body NoCase) = falls_through
-last_falls_through (OneCase v falls_through body (OneCase w next_falls next rest)) = last_falls_through (OneCase w next_falls next rest)
+last_falls_through (OneCase v falls_through body (OneCase w next_falls next rest)) =
+    last_falls_through (OneCase w next_falls next rest)
 
 -- the cases as a whole: one of them is the default, and the last does not fall through
 abbrev pub cases_points : Cases → Points

@@ -30,16 +30,11 @@ abbrev pub are_same_scalars : Option Scalar → Option Scalar → Bool
 are_same_scalars (Some a) (Some b) = (scalar.ghosts).eq a b
 are_same_scalars _ _ = false
 
--- the pointer points to the matrix's scalar, and its space takes stores
-abbrev pub data_points : Context → Option Scalar → ℕ → Points
-data_points context s pointer =
-    (are_same_scalars (base_scalar_at context pointer) s, InvalidCooperativeDataPointer pointer)
-    ∷ (is_writable context pointer, InvalidStorePointer pointer)
-    ∷ []
-
--- CooperativeStore: its target, a cooperative matrix, and the place where it goes
+-- CooperativeStore: its target, a cooperative matrix; the pointer points to its scalar, and its space takes stores
 abbrev pub cooperative_points : Context → Place → ℕ → ℕ → Points
 cooperative_points context place target pointer =
     use_point place target
     ∷ (is_some (matrix_scalar_at context target), InvalidCooperativeStoreTarget target)
-    ∷ data_points context (matrix_scalar_at context target) pointer
+    ∷ (are_same_scalars (base_scalar_at context pointer) (matrix_scalar_at context target), InvalidCooperativeDataPointer pointer)
+    ∷ (is_writable context pointer, InvalidStorePointer pointer)
+    ∷ []

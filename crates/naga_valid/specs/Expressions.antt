@@ -8,7 +8,7 @@ use Rattle.naga_rules.specs.Meaning.{Meaning}
 use Rattle.naga_rules.specs.declared.function.FunctionError.{FunctionError}
 use Rattle.naga_rules.specs.declared.function.FunctionError.TheVariants.{Expression}
 use Rattle.naga_valid.specs.Context.{Context}
-use Rattle.naga_valid.specs.Flags.{checks_expressions}
+use Rattle.naga_valid.specs.WhatIsChecked.{checks_expressions}
 use Rattle.naga_valid.specs.Stages.{meet}
 
 -- an info with these stages

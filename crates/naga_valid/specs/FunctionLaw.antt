@@ -14,7 +14,7 @@ use Rattle.naga_valid.specs.Accepted.{nodes_of, ResultsAreFilledOnce, StagesAreO
 use Rattle.naga_valid.specs.Blocks.{body_of}
 use Rattle.naga_valid.specs.Context.{pre_emitted_of}
 use Rattle.naga_valid.specs.Expressions.{expression_masks}
-use Rattle.naga_valid.specs.Flags.{checks_blocks, checks_expressions}
+use Rattle.naga_valid.specs.WhatIsChecked.{checks_blocks, checks_expressions}
 use Rattle.naga_valid.specs.Judged.{FunctionOutcome, context_with, lower_step, function_judgement}
 use Rattle.naga_valid.specs.declared.trace.TraceState.{TraceState}
 

@@ -1,5 +1,5 @@
 -- The check list of RayQuery, and the descriptor of a ray, which TraceRay has too.
-use Rattle.std.specs.Prelude.{ℕ, Bool, false, not, ◌||◌, [], ◌∷◌, ◌++◌, Option, None, Some, is_some, slice_get, option_and_then}
+use Rattle.std.specs.Prelude.{ℕ, Bool, false, not, ◌||◌, [], ◌∷◌, Option, None, Some, is_some, slice_get, option_and_then, unwrap_or}
 use Rattle.std.specs.Option.{option_map}
 use Rattle.naga_below.specs.Types.{inner_at}
 use Rattle.naga_below.specs.declared.ir.expressions.Expression.{Expression}
@@ -24,10 +24,17 @@ local_type_of context _ = None
 abbrev pub local_type_at : Context → ℕ → Option ℕ
 local_type_at context h = local_type_of context (expression_at context h)
 
+-- the same, where there is such a local
+abbrev pub local_type : Context → ℕ → ℕ
+local_type context h = unwrap_or (local_type_at context h) 0
+
 -- whether a ray query returns vertices, and an acceleration structure
 abbrev pub query_flag_of : Option TypeInner → Option Bool
 query_flag_of (Some (inner.RayQuery vertex_return)) = Some vertex_return
 query_flag_of _ = None
+
+abbrev pub query_flag_at : Context → ℕ → Option Bool
+query_flag_at context query = query_flag_of (inner_at context.program.types (local_type context query))
 
 abbrev pub structure_flag_of : Option TypeInner → Option Bool
 structure_flag_of (Some (inner.AccelerationStructure vertex_return)) = Some vertex_return
@@ -40,13 +47,6 @@ abbrev pub is_set : Option Bool → Bool
 is_set (Some flag) = flag
 is_set None = false
 
--- an acceleration structure: in scope, and one
-abbrev pub structure_points : Context → Place → ℕ → Points
-structure_points context place structure =
-    use_point place structure
-    ∷ (is_some (structure_flag_at context structure), InvalidAccelerationStructure structure)
-    ∷ []
-
 -- the module's type of ray descriptors, if it has one
 abbrev pub descriptor_type : Context → Option TypeInner
 descriptor_type context = option_and_then (inner_at context.program.types) context.program.special_types.ray_desc
@@ -58,47 +58,27 @@ descriptor_points context place descriptor =
     ∷ (both_are is_same_inner (type_at context descriptor) (descriptor_type context), InvalidRayDescriptor descriptor)
     ∷ []
 
--- a structure that a query is asked over has the flag where the query has it
-abbrev pub returned_points : Context → ℕ → Bool → ℕ → Points
-returned_points context query vertex_return structure =
-    (not vertex_return || is_set (structure_flag_at context structure), MissingAccelerationStructureVertexReturn structure query)
-    ∷ []
-
-abbrev pub initialize_points : Context → Place → ℕ → Bool → ℕ → ℕ → Points
-initialize_points context place query vertex_return structure descriptor =
-    structure_points context place structure
-    ++ (returned_points context query vertex_return structure ++ descriptor_points context place descriptor)
-
 -- a float of any width, and no vector
 abbrev pub is_float_scalar : Option TypeInner → Bool
 is_float_scalar (Some (inner.Scalar s)) = is_float_kind s.kind
 is_float_scalar _ = false
 
--- how far away a hit is
-abbrev pub distance_points : Context → Place → ℕ → Points
-distance_points context place distance =
-    use_point place distance ∷ (is_float_scalar (type_at context distance), InvalidHitDistanceType distance) ∷ []
-
--- what is done with a query: Proceed puts its result, of any kind; to confirm an intersection or to end asks for nothing
+-- what is done with a query, which returns vertices or not. Proceed puts its result, of any kind
 abbrev pub query_function_points : Context → Place → ℕ → Bool → RayQueryFunction → Points
-query_function_points context place q vertex_return (query.Initialize structure descriptor) = initialize_points context place q vertex_return structure descriptor
+query_function_points context place q vertex_return (query.Initialize structure descriptor) =
+    use_point place structure
+    ∷ (is_some (structure_flag_at context structure), InvalidAccelerationStructure structure)
+    ∷ (not vertex_return || is_set (structure_flag_at context structure), MissingAccelerationStructureVertexReturn structure q)
+    ∷ descriptor_points context place descriptor
 query_function_points context place q vertex_return (query.Proceed result) = put_point place result ∷ []
-query_function_points context place q vertex_return (query.GenerateIntersection distance) = distance_points context place distance
-query_function_points context place q vertex_return _ = []
-
-abbrev pub flagged_points : Context → Place → ℕ → RayQueryFunction → Option Bool → Points
-flagged_points context place query fun None = []
-flagged_points context place query fun (Some vertex_return) = query_function_points context place query vertex_return fun
-
--- the variable: a ray query
-abbrev pub queried_points : Context → Place → ℕ → RayQueryFunction → Option ℕ → Points
-queried_points context place query fun None = []
-queried_points context place query fun (Some ty) =
-    (is_some (query_flag_of (inner_at context.program.types ty)), InvalidRayQueryType ty)
-    ∷ flagged_points context place query fun (query_flag_of (inner_at context.program.types ty))
+query_function_points context place q vertex_return (query.GenerateIntersection distance) =
+    use_point place distance ∷ (is_float_scalar (type_at context distance), InvalidHitDistanceType distance) ∷ []
+query_function_points context place q vertex_return query.ConfirmIntersection = []
+query_function_points context place q vertex_return query.Terminate = []
 
 -- RayQuery: its query, a local, and what is done with it
 abbrev pub ray_query_points : Context → Place → ℕ → RayQueryFunction → Points
 ray_query_points context place query fun =
     (is_some (local_type_at context query), InvalidRayQueryExpression query)
-    ∷ queried_points context place query fun (local_type_at context query)
+    ∷ (is_some (query_flag_at context query), InvalidRayQueryType (local_type context query))
+    ∷ query_function_points context place query (is_set (query_flag_at context query)) fun

@@ -1,17 +1,17 @@
 -- The check list of TraceRay.
-use Rattle.std.specs.Prelude.{ℕ, Bool, true, false, ◌==◌, [], ◌∷◌, ◌++◌, Option, None, Some}
+use Rattle.std.specs.Prelude.{ℕ, Bool, true, false, ◌==◌, ◌∷◌, Option, None, Some, is_some, unwrap_or}
 use Rattle.naga_below.specs.declared.ir.expressions.Expression.{Expression}
 use Rattle.naga_below.specs.declared.ir.expressions.Expression.TheVariants as e
 use Rattle.naga_below.specs.declared.ir.types.AddressSpace.{AddressSpace}
 use Rattle.naga_below.specs.declared.ir.types.AddressSpace.TheVariants as space
-use Rattle.naga_below.specs.declared.ir.types.TypeInner.{TypeInner}
-use Rattle.naga_below.specs.declared.ir.types.TypeInner.TheVariants as inner
-use Rattle.naga_rules.specs.declared.function.FunctionError.TheVariants.{InvalidPayloadType, InvalidPayloadAddressSpace, PayloadPointerNotGlobal, MismatchedPayloadType}
+use Rattle.naga_rules.specs.declared.function.FunctionError.TheVariants.{InvalidAccelerationStructure, InvalidPayloadType, InvalidPayloadAddressSpace, PayloadPointerNotGlobal, MismatchedPayloadType}
 use Rattle.naga_runs.specs.Visits.{Place}
 use Rattle.naga_valid.specs.Context.{Context}
 use Rattle.naga_valid.specs.Points.{Points, use_point}
-use Rattle.naga_valid.specs.RayQueries.{structure_points, descriptor_points}
-use Rattle.naga_valid.specs.Types.{expression_at, type_at}
+use Rattle.naga_valid.specs.RayQueries.{structure_flag_at, descriptor_points}
+use Rattle.naga_valid.specs.Stores.{space_at}
+use Rattle.naga_valid.specs.Traces.{payload_type_at}
+use Rattle.naga_valid.specs.Types.{expression_at}
 
 abbrev pub is_payload_space : AddressSpace → Bool
 is_payload_space space.RayPayload = true
@@ -22,26 +22,27 @@ abbrev pub is_global : Option Expression → Bool
 is_global (Some (e.GlobalVariable g)) = true
 is_global _ = false
 
--- the payload is of the type of those so far, if there was one
-abbrev pub same_payload_points : ℕ → Option ℕ → Points
-same_payload_points base None = []
-same_payload_points base (Some first) = (first == base, MismatchedPayloadType base first) ∷ []
+-- the type that a payload points to, and the space, where it is a pointer
+abbrev pub payload_base : Context → ℕ → ℕ
+payload_base context payload = unwrap_or (payload_type_at context payload) 0
 
--- the type of a payload: a pointer into a space of payloads, to the type so far; the payload itself is a global
-abbrev pub pointed_points : Context → Option ℕ → ℕ → Option TypeInner → Points
-pointed_points context so_far payload (Some (inner.Pointer base p)) =
-    (is_payload_space p, InvalidPayloadAddressSpace p)
-    ∷ (is_global (expression_at context payload), PayloadPointerNotGlobal)
-    ∷ same_payload_points base so_far
-pointed_points context so_far payload _ = (false, InvalidPayloadType) ∷ []
+abbrev pub payload_space : Context → ℕ → AddressSpace
+payload_space context payload = unwrap_or (space_at context payload) space.Function
 
--- the payload: in scope, and of such a type
-abbrev pub payload_points : Context → Option ℕ → Place → ℕ → Points
-payload_points context so_far place payload =
-    use_point place payload ∷ pointed_points context so_far payload (type_at context payload)
+-- the type of the payloads so far, if there was one
+abbrev pub is_so_far : Option ℕ → ℕ → Bool
+is_so_far None base = true
+is_so_far (Some first) base = first == base
 
--- TraceRay: its acceleration structure, its payload and then its descriptor
+-- TraceRay: its acceleration structure; its payload, a global that is a pointer into a space of payloads, to the type so
+-- far; and then its descriptor
 abbrev pub trace_ray_points : Context → Option ℕ → Place → ℕ → ℕ → ℕ → Points
 trace_ray_points context so_far place structure descriptor payload =
-    structure_points context place structure
-    ++ (payload_points context so_far place payload ++ descriptor_points context place descriptor)
+    use_point place structure
+    ∷ (is_some (structure_flag_at context structure), InvalidAccelerationStructure structure)
+    ∷ use_point place payload
+    ∷ (is_some (payload_type_at context payload), InvalidPayloadType)
+    ∷ (is_payload_space (payload_space context payload), InvalidPayloadAddressSpace (payload_space context payload))
+    ∷ (is_global (expression_at context payload), PayloadPointerNotGlobal)
+    ∷ (is_so_far so_far (payload_base context payload), MismatchedPayloadType (payload_base context payload) (unwrap_or so_far 0))
+    ∷ descriptor_points context place descriptor

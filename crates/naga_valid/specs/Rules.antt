@@ -1,9 +1,9 @@
 -- The rules of a body: the check list of each visit, asked with the visits before it, and the stages that are left.
 use Rattle.std.specs.Prelude.{ℕ, List, [], ◌∷◌, Option, None, Some, slice_get}
 use Rattle.naga_below.specs.Bits as bit
-use Rattle.naga_below.specs.Tree.{Stmt, Leaf, Branch, Switch, Break, Continue, Return, Kill}
+use Rattle.naga_below.specs.Tree.{Stmt, Leaf, Block, Branch, Switch, Loop, Break, Continue, Return, Kill}
 use Rattle.naga_below.specs.declared.ir.operations.RayPipelineFunction.TheVariants.{TraceRay}
-use Rattle.naga_below.specs.declared.ir.statements.Statement.{Statement}
+use Rattle.naga_below.specs.declared.ir.statements.Statement.{Statement, Switch'}
 use Rattle.naga_below.specs.declared.ir.statements.Statement as ir
 use Rattle.naga_below.specs.declared.valid.flags.ShaderStages.{ShaderStages}
 use Rattle.naga_below.specs.declared.valid.info.FunctionInfo.{FunctionInfo}
@@ -40,9 +40,9 @@ leaf_points context past place (ir.Store pointer value) = store_points context p
 leaf_points context past place (ir.WorkGroupUniformLoad pointer result) = load_points context place pointer result
 leaf_points context past place (ir.CooperativeStore target source) = cooperative_points context place target source.pointer
 leaf_points context past place (ir.ImageStore image coordinate array_index value) =
-    image_store_points context place image (record { coordinate = coordinate; array_index = array_index }) value
+    image_store_points context place image coordinate array_index value
 leaf_points context past place (ir.ImageAtomic image coordinate array_index fun value) =
-    image_atomic_points context place image (record { coordinate = coordinate; array_index = array_index }) fun value
+    image_atomic_points context place image coordinate array_index fun value
 leaf_points context past place (ir.ControlBarrier barrier) = barrier_points context.settings barrier
 leaf_points context past place (ir.MemoryBarrier barrier) = barrier_points context.settings barrier
 leaf_points context past place (ir.RayQuery query fun) = ray_query_points context place query fun
@@ -52,7 +52,14 @@ leaf_points context past place (ir.SubgroupBallot result predicate) = ballot_poi
 leaf_points context past place (ir.SubgroupGather mode argument result) = gather_points context place mode argument result
 leaf_points context past place (ir.SubgroupCollectiveOperation op collective_op argument result) =
     collective_points context place op collective_op argument result
-leaf_points context past place _ = []
+leaf_points context past place (ir.Block body) = []
+leaf_points context past place (ir.If condition accept reject) = []
+leaf_points context past place (Switch' selector shape row) = []
+leaf_points context past place (ir.Loop body continuing break_if) = []
+leaf_points context past place ir.Break = []
+leaf_points context past place ir.Continue = []
+leaf_points context past place (ir.Return value) = []
+leaf_points context past place ir.Kill = []
 
 -- the check list of a statement
 abbrev pub statement_points : Context → Past → Place → Stmt → Points
@@ -62,7 +69,9 @@ statement_points context past place (Switch h cases) = switch_points context pla
 statement_points context past place (Return value) = return_points context place value
 statement_points context past place Break = break_points place
 statement_points context past place Continue = continue_points place
-statement_points context past place _ = []
+statement_points context past place (Block b) = []
+statement_points context past place (Loop b continuing q) = []
+statement_points context past place Kill = []
 
 -- the check list of what stands at a place
 abbrev pub points_at : Context → Past → Place → Node → Points
@@ -94,19 +103,40 @@ leaf_stages subgroups earlier (ir.Call f arguments result) = callee_stages earli
 leaf_stages subgroups earlier (ir.SubgroupBallot result predicate) = subgroups
 leaf_stages subgroups earlier (ir.SubgroupGather mode argument result) = subgroups
 leaf_stages subgroups earlier (ir.SubgroupCollectiveOperation op collective_op argument result) = subgroups
-leaf_stages subgroups earlier _ = bit.ALL_STAGES
+leaf_stages subgroups earlier (ir.Emit range) = bit.ALL_STAGES
+leaf_stages subgroups earlier (ir.Store pointer value) = bit.ALL_STAGES
+leaf_stages subgroups earlier (ir.ImageStore image coordinate array_index value) = bit.ALL_STAGES
+leaf_stages subgroups earlier (ir.Atomic pointer fun value result) = bit.ALL_STAGES
+leaf_stages subgroups earlier (ir.ImageAtomic image coordinate array_index fun value) = bit.ALL_STAGES
+leaf_stages subgroups earlier (ir.RayQuery query fun) = bit.ALL_STAGES
+leaf_stages subgroups earlier (ir.RayPipelineFunction fun) = bit.ALL_STAGES
+leaf_stages subgroups earlier (ir.Block body) = bit.ALL_STAGES
+leaf_stages subgroups earlier (ir.If condition accept reject) = bit.ALL_STAGES
+leaf_stages subgroups earlier (Switch' selector shape row) = bit.ALL_STAGES
+leaf_stages subgroups earlier (ir.Loop body continuing break_if) = bit.ALL_STAGES
+leaf_stages subgroups earlier ir.Break = bit.ALL_STAGES
+leaf_stages subgroups earlier ir.Continue = bit.ALL_STAGES
+leaf_stages subgroups earlier (ir.Return value) = bit.ALL_STAGES
+leaf_stages subgroups earlier ir.Kill = bit.ALL_STAGES
 
 -- the stages that a statement may run in: a Kill the fragment stage, a Call those of its callee, barriers and work group
 -- loads those that are like compute, a cooperative store compute alone, a subgroup statement those of the settings
 abbrev pub stages_of : ShaderStages → ModuleInfo → Stmt → ShaderStages
 stages_of subgroups earlier (Leaf acts statement span) = leaf_stages subgroups earlier statement
 stages_of subgroups earlier Kill = bit.FRAGMENT
-stages_of subgroups earlier _ = bit.ALL_STAGES
+stages_of subgroups earlier (Block b) = bit.ALL_STAGES
+stages_of subgroups earlier (Branch h accept reject) = bit.ALL_STAGES
+stages_of subgroups earlier (Switch h cases) = bit.ALL_STAGES
+stages_of subgroups earlier (Loop b continuing q) = bit.ALL_STAGES
+stages_of subgroups earlier Break = bit.ALL_STAGES
+stages_of subgroups earlier Continue = bit.ALL_STAGES
+stages_of subgroups earlier (Return value) = bit.ALL_STAGES
 
 -- the stages that are left behind a statement. A break condition takes none
 abbrev pub stages_behind : Context → ShaderStages → Node → ShaderStages
 stages_behind context stages (StatementNode x) = meet stages (stages_of context.settings.subgroup_stages context.earlier x)
-stages_behind context stages _ = stages
+stages_behind context stages (BreakIfNode h) = stages
+stages_behind context stages NoNode = stages
 
 -- the stages that visits leave of these
 abbrev pub stages_left : Context → ShaderStages → List Visit → ShaderStages

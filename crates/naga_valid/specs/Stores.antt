@@ -1,5 +1,5 @@
 -- The check list of Store.
-use Rattle.std.specs.Prelude.{ℕ, zero, suc, Bool, true, false, List, [], ◌∷◌, ◌++◌, Option, None, Some, slice_get, option_and_then, unwrap_or}
+use Rattle.std.specs.Prelude.{ℕ, zero, suc, Bool, true, false, not, List, [], ◌∷◌, Option, None, Some, slice_get, option_and_then, unwrap_or}
 use Rattle.std.specs.Option.{option_map}
 use Rattle.naga_below.specs.Bits.{STORE, contains}
 use Rattle.naga_below.specs.Types.{access_of, pointer_base_of, pointer_space_of, resolved}
@@ -10,12 +10,14 @@ use Rattle.naga_below.specs.declared.ir.types.Type.{«Type» as IrType}
 use Rattle.naga_below.specs.declared.ir.types.TypeInner.{TypeInner}
 use Rattle.naga_below.specs.declared.ir.types.TypeInner.TheVariants as inner
 use Rattle.naga_below.specs.declared.proc.typifier.TypeResolution.{TypeResolution}
+use Rattle.naga_rules.specs.declared.function.FunctionError.{FunctionError}
 use Rattle.naga_rules.specs.declared.function.FunctionError.TheVariants.{InvalidStorePointer, InvalidStoreTexture, InvalidStoreTypes}
 use Rattle.naga_runs.specs.Visits.{Place}
 use Rattle.naga_valid.specs.Context.{Context}
 use Rattle.naga_valid.specs.Points.{Points, use_point}
+use Rattle.naga_below.specs.Points.{Point}
 use Rattle.naga_below.specs.TypeTests.{is_scalar, is_same_type}
-use Rattle.naga_valid.specs.Types.{expression_at, resolution_at, type_at}
+use Rattle.naga_valid.specs.Types.{expression_at, resolution_at, type_at, named_type}
 
 -- the expression of which an access takes a part
 abbrev pub access_base : Option Expression → Option ℕ
@@ -55,13 +57,15 @@ takes_stores (Some p) = contains (access_of p).0 STORE.0
 abbrev pub is_writable : Context → ℕ → Bool
 is_writable context pointer = takes_stores (space_at context pointer)
 
--- an image or a sampler is never stored
-abbrev pub texture_points : ℕ → Option TypeInner → Points
-texture_points value (Some (inner.Image dim arrayed class)) =
-    (false, InvalidStoreTexture value (inner.Image dim arrayed class)) ∷ []
-texture_points value (Some (inner.Sampler comparison)) =
-    (false, InvalidStoreTexture value (inner.Sampler comparison)) ∷ []
-texture_points value _ = []
+-- an image or a sampler
+abbrev pub is_texture : Option TypeInner → Bool
+is_texture (Some (inner.Image dim arrayed class)) = true
+is_texture (Some (inner.Sampler comparison)) = true
+is_texture _ = false
+
+-- what is stored is none
+abbrev pub texture_point : ℕ → Option TypeInner → Point FunctionError
+texture_point value ty = (not (is_texture ty), InvalidStoreTexture value (named_type ty))
 
 abbrev pub is_given_in : List IrType → Option TypeResolution → TypeResolution → Bool
 is_given_in types None base = false
@@ -76,20 +80,13 @@ abbrev pub is_stored_as : Context → ℕ → Option TypeResolution → Bool
 is_stored_as context value None = false
 is_stored_as context value (Some base) = is_held_by context value base (resolved context.program.types base)
 
--- the type that is pointed to holds the value, and its space takes stores
-abbrev pub place_points : Context → ℕ → ℕ → Points
-place_points context pointer value =
-    (is_stored_as context value (base_type_at context pointer), InvalidStoreTypes pointer value)
-    ∷ (is_writable context pointer, InvalidStorePointer pointer)
-    ∷ []
-
-abbrev pub stored_points : Context → ℕ → ℕ → Points
-stored_points context pointer value =
-    texture_points value (type_at context value) ++ place_points context pointer value
-
--- Store: its pointer leads back to a variable or an argument; its value, and the place where it goes
+-- Store: its pointer leads back to a variable or an argument; its value, which is no texture; the type that is pointed to
+-- holds it, and its space takes stores
 abbrev pub store_points : Context → Place → ℕ → ℕ → Points
 store_points context place pointer value =
     (is_variable (expression_at context (root_at context pointer)), InvalidStorePointer (root_at context pointer))
     ∷ use_point place value
-    ∷ stored_points context pointer value
+    ∷ texture_point value (type_at context value)
+    ∷ (is_stored_as context value (base_type_at context pointer), InvalidStoreTypes pointer value)
+    ∷ (is_writable context pointer, InvalidStorePointer pointer)
+    ∷ []

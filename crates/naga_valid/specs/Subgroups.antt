@@ -48,12 +48,9 @@ abbrev pub operations_point : Settings → SubgroupOperationSet → Point Functi
 operations_point settings these =
     subgroup_point (has_operations settings.subgroup_operations these) (wrong.UnsupportedOperation these)
 
--- what each statement of a subgroup needs of the target first: subgroups at all, and then these operations
-abbrev pub target_points : Settings → SubgroupOperationSet → Points
-target_points settings these =
-    (has_capability settings.capabilities bit.SUBGROUP, MissingCapability bit.SUBGROUP)
-    ∷ operations_point settings these
-    ∷ []
+-- subgroups at all
+abbrev pub subgroups_point : Settings → Point FunctionError
+subgroups_point settings = (has_capability settings.capabilities bit.SUBGROUP, MissingCapability bit.SUBGROUP)
 
 -- the predicate, if there is one: in scope, and a bool of one byte
 abbrev pub predicate_points : Context → Place → Option ℕ → Points
@@ -64,7 +61,11 @@ predicate_points context place (Some h) =
 -- SubgroupBallot: its predicate; its result is put, of whatever kind
 abbrev pub ballot_points : Context → Place → ℕ → Option ℕ → Points
 ballot_points context place r predicate =
-    target_points context.settings bit.BALLOT ++ (predicate_points context place predicate ++ put_point place r ∷ [])
+    subgroups_point context.settings
+    ∷ operations_point context.settings bit.BALLOT
+    ∷ predicate_points context place predicate
+    ++ put_point place r
+    ∷ []
 
 -- integers of either sign, and floats
 abbrev pub is_number_kind : ScalarKind → Bool
@@ -121,25 +122,21 @@ combined_type_of types _ = None
 abbrev pub combined_type_at : Context → ℕ → Option TypeInner
 combined_type_at context r = combined_type_of context.program.types (expression_at context r)
 
--- the result: it is put, and then looked at. It is one of a subgroup operation, of the argument's type
-abbrev pub combined_points : Context → Place → ℕ → ℕ → Points
-combined_points context place argument r =
-    put_point place r
-    ∷ subgroup_point (both_are is_same_inner (combined_type_at context r) (type_at context argument)) (wrong.ResultTypeMismatch r)
-    ∷ []
+-- the result is one of a subgroup operation, of the argument's type
+abbrev pub is_result_of : Context → ℕ → ℕ → Bool
+is_result_of context argument r = both_are is_same_inner (combined_type_at context r) (type_at context argument)
 
--- the argument and the operation, then the result
-abbrev pub combination_points : Context → Place → SubgroupOperation → CollectiveOperation → ℕ → ℕ → Points
-combination_points context place o part argument r =
-    use_point place argument
-    ∷ subgroup_point (is_operand_of o (type_at context argument)) (wrong.InvalidOperand argument)
-    ∷ subgroup_point (is_done_over part o) wrong.UnknownOperation
-    ∷ combined_points context place argument r
-
--- SubgroupCollectiveOperation: its argument, its operation, and its result
+-- SubgroupCollectiveOperation: its argument, its operation, and its result, which is put, and then looked at
 abbrev pub collective_points : Context → Place → SubgroupOperation → CollectiveOperation → ℕ → ℕ → Points
 collective_points context place o part argument r =
-    target_points context.settings (operation_group o) ++ combination_points context place o part argument r
+    subgroups_point context.settings
+    ∷ operations_point context.settings (operation_group o)
+    ∷ use_point place argument
+    ∷ subgroup_point (is_operand_of o (type_at context argument)) (wrong.InvalidOperand argument)
+    ∷ subgroup_point (is_done_over part o) wrong.UnknownOperation
+    ∷ put_point place r
+    ∷ subgroup_point (is_result_of context argument r) (wrong.ResultTypeMismatch r)
+    ∷ []
 
 abbrev pub u32_scalar : Scalar
 u32_scalar = record { kind = kind.Uint; width = 4 }
@@ -183,19 +180,14 @@ is_gathered (Some (inner.Scalar s)) = is_number_kind s.kind
 is_gathered (Some (inner.Vector size s)) = is_number_kind s.kind
 is_gathered _ = false
 
--- the argument, then the result
-abbrev pub gathered_points : Context → Place → ℕ → ℕ → Points
-gathered_points context place argument r =
-    use_point place argument
-    ∷ subgroup_point (is_gathered (type_at context argument)) (wrong.InvalidOperand argument)
-    ∷ combined_points context place argument r
-
--- the index, the argument and the result
-abbrev pub indexed_points : Context → Place → GatherMode → ℕ → ℕ → Points
-indexed_points context place mode argument r =
-    index_points context place (is_broadcast mode) argument (index_of mode) ++ gathered_points context place argument r
-
--- SubgroupGather: its index, its argument, and its result
+-- SubgroupGather: its index, its argument, and its result, which is put, and then looked at
 abbrev pub gather_points : Context → Place → GatherMode → ℕ → ℕ → Points
 gather_points context place mode argument r =
-    target_points context.settings (gather_group mode) ++ indexed_points context place mode argument r
+    subgroups_point context.settings
+    ∷ operations_point context.settings (gather_group mode)
+    ∷ index_points context place (is_broadcast mode) argument (index_of mode)
+    ++ use_point place argument
+    ∷ subgroup_point (is_gathered (type_at context argument)) (wrong.InvalidOperand argument)
+    ∷ put_point place r
+    ∷ subgroup_point (is_result_of context argument r) (wrong.ResultTypeMismatch r)
+    ∷ []

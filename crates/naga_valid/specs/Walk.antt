@@ -35,7 +35,7 @@ unfoldable pub body_puts : Body → List ℕ
 body_puts Done = []
 body_puts (Then x b) = puts x ++ body_puts b
 
--- the same with abilities. No check asks what every run has put
+-- the same with these abilities
 abbrev pub place : Abilities → List ℕ → Place
 place abilities scope = record (place_at scope) { abilities = abilities }
 

@@ -3,7 +3,7 @@
 ghost use Rattle.std.specs.Prelude.{◌≡◌, ◌<◌, IfOk, IfSome, Some, List, ℕ, length};
 ghost use Rattle.std.specs.Result.{result_err};
 ghost use Rattle.naga_below.specs.Points.{first_fault, points_of_each};
-ghost use Rattle.naga_valid.specs.Answers.{AnswersPoints};
+ghost use Rattle.naga_valid.specs.CodeAnswers.{AnswersPoints};
 ghost use Rattle.naga_valid.specs.Context.{ContextFits};
 ghost use Rattle.naga_valid.specs.Declarations.{name_or_empty, variable_points, takes_arguments, pointer_points, argument_points, result_points, declaration_points};
 ghost use Rattle.naga_valid.specs.Seen.{context_of};

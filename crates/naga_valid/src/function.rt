@@ -3,7 +3,7 @@
 ghost use Rattle.std.specs.Prelude.{◌≡◌, ◌++◌, [], OnOk};
 ghost use Rattle.naga_runs.specs.Judgement.{viewed};
 ghost use Rattle.naga_rules.specs.Answers.{Answers};
-ghost use Rattle.naga_valid.specs.Answers.{AnswersLeaving};
+ghost use Rattle.naga_valid.specs.CodeAnswers.{AnswersLeaving};
 ghost use Rattle.naga_valid.specs.Blocks.{tree_of, body_of, block_of, cases_of};
 ghost use Rattle.naga_valid.specs.Context.{ContextFits};
 ghost use Rattle.naga_valid.specs.Judged.{body_judgement};

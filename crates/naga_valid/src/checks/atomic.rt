@@ -1,12 +1,11 @@
 //! The check list of Atomic.
 
-ghost use Rattle.std.specs.Prelude.{◌≡◌, ◌++◌, ◌∷◌, [], OnOk, Some};
-ghost use Rattle.std.specs.Result.{result_err};
+ghost use Rattle.std.specs.Prelude.{◌≡◌, ◌++◌, OnOk, Some, is_some};
 ghost use Rattle.std.specs.Option.{option_copied};
 ghost use Rattle.naga_below.specs.View.{put_if};
-ghost use Rattle.naga_below.specs.Points.{first_fault};
-ghost use Rattle.naga_valid.specs.Answers.{AnswersPoints};
-ghost use Rattle.naga_valid.specs.Atomics.{atomic_at, is_int64, is_float32, is_min_or_max, is_plain_exchange, is_done_on_floats, is_storage, int64_capability, int64_points, float32_points, scalar_points, value_points, is_atomic_result, is_comparison, result_type_at, compared_points, uncompared_points, result_type_points, typed_points, named_points, atomic_result_points, operation_points, atomic_points};
+ghost use Rattle.naga_valid.specs.CodeAnswers.{Finds, AnswersPoints};
+ghost use Rattle.naga_valid.specs.Atomics.{atomic_scalar_at, is_int64, is_float32, is_min_or_max, is_plain_exchange, is_done_on_floats, is_storage, int64_capability, scalar_points, is_atomic_result, is_comparison, result_type_at, atomic_result_points, atomic_points};
+ghost use Rattle.naga_valid.specs.CodeAtomics.{operated_points, compared_points, uncompared_points};
 ghost use Rattle.naga_valid.specs.Context.{ContextFits};
 ghost use Rattle.naga_valid.specs.Scope.{known};
 ghost use Rattle.naga_valid.specs.CodePlace.{place_at};
@@ -14,6 +13,7 @@ ghost use Rattle.naga_valid.specs.Seen.{context_of};
 ghost use Rattle.naga_valid.specs.Walk.{puts_of};
 
 use crate::checks::control::is_integer;
+use crate::checks::image::inner_at;
 use crate::checks::refuse::{answer, check_put, check_use};
 use crate::checks::results::is_fresh;
 use crate::checks::types::{is_equivalent, is_exchange_struct, is_scalar};
@@ -27,13 +27,6 @@ use naga_below::ir::types::{AddressSpace, Scalar, ScalarKind, TypeInner};
 use naga_below::span::{Refusal, Span};
 use naga_below::valid::capabilities::Capabilities;
 use naga_rules::function::{AtomicError, FunctionError};
-
-/// An atomic in memory: its scalar, and the space where it lies.
-#[derive(Clone, Copy)]
-pub struct AtomicPlace {
-    pub scalar: Scalar,
-    pub space: AddressSpace,
-}
 
 /// Atomic: its pointer, its value and its result, which is in scope afterwards.
 pub fn check_atomic(
@@ -70,85 +63,89 @@ fn validate_atomic(
     named: Option<Handle<tag::Expression>>,
 ) -> Result<(), FunctionError>
     requires { ContextFits (context_of context.now) }
-    ensures { result_err result ≡ first_fault (atomic_points (context_of context.now) (known filled.now) (place_at scope.now) pointer fun.now value named) }
+    ensures { Finds (atomic_points (context_of context.now) (known filled.now) (place_at scope.now) pointer fun.now value named) result }
 {
     check_use(scope, pointer)?;
-    match atomic_at(context, pointer) {
-        Some(place) => check_operation(scope, filled, context, &place, fun, value, named),
-        None => Err(FunctionError::InvalidAtomic(AtomicError::InvalidPointer(pointer))),
+    let Some(TypeInner::Pointer { base, space }) = context.type_inner(pointer) else {
+        return Err(FunctionError::InvalidAtomic(AtomicError::InvalidPointer(pointer)));
+    };
+    let Some(TypeInner::Atomic(scalar)) = inner_at(context, *base) else {
+        return Err(FunctionError::InvalidAtomic(AtomicError::InvalidPointer(pointer)));
+    };
+    check_use(scope, value)?;
+    if !is_scalar(*scalar, context.type_inner(value)) {
+        return Err(FunctionError::InvalidAtomic(AtomicError::InvalidOperand(value)));
     }
+    check_operation(scope, filled, context, *scalar, *space, fun, value, named)
 }
 
-/// The atomic that an expression points to.
-pub fn atomic_at(context: &BlockContext, pointer: Handle<tag::Expression>) -> Option<AtomicPlace>
-    ensures { result ≡ atomic_at (context_of context.now) pointer }
+/// The scalar of the atomic that an expression points to.
+pub fn atomic_scalar(context: &BlockContext, pointer: Handle<tag::Expression>) -> Option<Scalar>
+    ensures { result ≡ atomic_scalar_at (context_of context.now) pointer }
 {
-    let Some(TypeInner::Pointer { base, space }) = context.type_inner(pointer) else {
+    let Some(TypeInner::Pointer { base, .. }) = context.type_inner(pointer) else {
         return None;
     };
-    match context.program.types.as_slice().get(base.index()) {
-        Some(ty) => match ty.inner {
-            TypeInner::Atomic(scalar) => Some(AtomicPlace {
-                scalar,
-                space: *space,
-            }),
-            _ => None,
-        },
-        None => None,
+    match inner_at(context, *base) {
+        Some(TypeInner::Atomic(scalar)) => Some(*scalar),
+        _ => None,
     }
 }
 
-/// The value, what the atomic's scalar asks for, and the result.
+/// What the atomic's scalar asks for, and the result.
 #[tactic(auto, using(crate::proofs::Lists::appended))]
 fn check_operation(
     scope: &HandleSet,
     filled: &HandleSet,
     context: &BlockContext,
-    place: &AtomicPlace,
+    scalar: Scalar,
+    space: AddressSpace,
     fun: &AtomicFunction,
     value: Handle<tag::Expression>,
     named: Option<Handle<tag::Expression>>,
 ) -> Result<(), FunctionError>
     requires { ContextFits (context_of context.now) }
-    ensures { result_err result ≡ first_fault (operation_points (context_of context.now) (known filled.now) (place_at scope.now) fun.now value named (Some place.now)) }
+    ensures { Finds (operated_points (context_of context.now) (known filled.now) (place_at scope.now) scalar space fun.now value named) result }
 {
-    check_value(scope, context, place.scalar, value)?;
-    check_scalar(context.settings.capabilities, place, fun, named.is_some())?;
-    check_atomic_result(scope, filled, context, place.scalar, fun, value, named)
-}
-
-/// The value: in scope, and the atomic's scalar.
-fn check_value(
-    scope: &HandleSet,
-    context: &BlockContext,
-    scalar: Scalar,
-    value: Handle<tag::Expression>,
-) -> Result<(), FunctionError>
-    ensures { result_err result ≡ first_fault (value_points (context_of context.now) (place_at scope.now) scalar value) }
-{
-    check_use(scope, value)?;
-    if !is_scalar(scalar, context.type_inner(value)) {
-        return Err(FunctionError::InvalidAtomic(AtomicError::InvalidOperand(value)));
-    }
-    Ok(())
+    check_scalar(
+        context.settings.capabilities,
+        scalar,
+        &space,
+        fun,
+        named.is_some(),
+    )?;
+    check_atomic_result(scope, filled, context, scalar, fun, value, named)
 }
 
 /// What the atomic's scalar asks for.
 fn check_scalar(
     capabilities: Capabilities,
-    place: &AtomicPlace,
+    scalar: Scalar,
+    space: &AddressSpace,
     fun: &AtomicFunction,
     has_result: bool,
 ) -> Result<(), FunctionError>
-    ensures { result_err result ≡ first_fault (scalar_points capabilities place.now fun.now has_result) }
+    ensures { Finds (scalar_points capabilities scalar space.now fun.now has_result) result }
 {
-    if is_int64(place.scalar) {
-        check_int64(capabilities, fun, &place.space, has_result)
-    } else if is_float32(place.scalar) {
-        check_float32(capabilities, fun, &place.space)
-    } else {
-        Ok(())
+    if is_int64(scalar) {
+        let needed = int64_capability(fun, space, has_result);
+        let all_ops = Capabilities::SHADER_INT64_ATOMIC_ALL_OPS;
+        if !capabilities.contains(all_ops) && !capabilities.contains(needed) {
+            return Err(FunctionError::InvalidAtomic(AtomicError::MissingCapability(needed)));
+        }
+    } else if is_float32(scalar) {
+        let needed = Capabilities::SHADER_FLOAT32_ATOMIC;
+        if !capabilities.contains(needed) {
+            return Err(FunctionError::InvalidAtomic(AtomicError::MissingCapability(needed)));
+        }
+        if !is_done_on_floats(fun) {
+            return Err(FunctionError::InvalidAtomic(AtomicError::InvalidOperator(*fun)));
+        }
+        if !is_storage(space) {
+            return Err(FunctionError::InvalidAtomic(AtomicError::InvalidAddressSpace(*space)));
+        }
     }
+    Ok(())
 }
 
 fn is_int64(scalar: Scalar) -> bool
@@ -161,22 +158,6 @@ fn is_float32(scalar: Scalar) -> bool
     ensures { result ≡ is_float32 scalar }
 {
     matches!(scalar.kind, ScalarKind::Float) && scalar.width == 4
-}
-
-fn check_int64(
-    capabilities: Capabilities,
-    fun: &AtomicFunction,
-    space: &AddressSpace,
-    has_result: bool,
-) -> Result<(), FunctionError>
-    ensures { result_err result ≡ first_fault (int64_points capabilities fun.now space.now has_result) }
-{
-    let needed = int64_capability(fun, space, has_result);
-    let all_ops = Capabilities::SHADER_INT64_ATOMIC_ALL_OPS;
-    if !capabilities.contains(all_ops) && !capabilities.contains(needed) {
-        return Err(FunctionError::InvalidAtomic(AtomicError::MissingCapability(needed)));
-    }
-    Ok(())
 }
 
 /// The weakest capability that lets an operation be done on an integer of 64 bits.
@@ -202,26 +183,6 @@ fn is_storage(space: &AddressSpace) -> bool
     matches!(space, AddressSpace::Storage { .. })
 }
 
-fn check_float32(
-    capabilities: Capabilities,
-    fun: &AtomicFunction,
-    space: &AddressSpace,
-) -> Result<(), FunctionError>
-    ensures { result_err result ≡ first_fault (float32_points capabilities fun.now space.now) }
-{
-    let needed = Capabilities::SHADER_FLOAT32_ATOMIC;
-    if !capabilities.contains(needed) {
-        return Err(FunctionError::InvalidAtomic(AtomicError::MissingCapability(needed)));
-    }
-    if !is_done_on_floats(fun) {
-        return Err(FunctionError::InvalidAtomic(AtomicError::InvalidOperator(*fun)));
-    }
-    if !is_storage(space) {
-        return Err(FunctionError::InvalidAtomic(AtomicError::InvalidAddressSpace(*space)));
-    }
-    Ok(())
-}
-
 fn is_done_on_floats(fun: &AtomicFunction) -> bool
     ensures { result ≡ is_done_on_floats fun.now }
 {
@@ -242,7 +203,7 @@ fn check_atomic_result(
     named: Option<Handle<tag::Expression>>,
 ) -> Result<(), FunctionError>
     requires { ContextFits (context_of context.now) }
-    ensures { result_err result ≡ first_fault (atomic_result_points (context_of context.now) (known filled.now) (place_at scope.now) scalar fun.now value named) }
+    ensures { Finds (atomic_result_points (context_of context.now) (known filled.now) (place_at scope.now) scalar fun.now value named) result }
 {
     match named {
         Some(handle) => check_named(scope, filled, context, scalar, fun, value, handle),
@@ -273,7 +234,7 @@ fn check_named(
     handle: Handle<tag::Expression>,
 ) -> Result<(), FunctionError>
     requires { ContextFits (context_of context.now) }
-    ensures { result_err result ≡ first_fault (named_points (context_of context.now) (known filled.now) (place_at scope.now) scalar fun.now value handle) }
+    ensures { Finds (atomic_result_points (context_of context.now) (known filled.now) (place_at scope.now) scalar fun.now value (Some handle)) result }
 {
     if !is_atomic_result(context.expression(handle)) {
         let error = AtomicError::InvalidResultExpression(handle);
@@ -282,24 +243,12 @@ fn check_named(
     if !is_fresh(filled, context, handle) {
         return Err(FunctionError::InvalidAtomic(AtomicError::ResultAlreadyPopulated(handle)));
     }
-    check_typed(scope, context, scalar, fun, value, handle)
-}
-
-/// The result: of the right type, and not in scope yet.
-#[tactic(auto, using(crate::proofs::Lists::appended))]
-fn check_typed(
-    scope: &HandleSet,
-    context: &BlockContext,
-    scalar: Scalar,
-    fun: &AtomicFunction,
-    value: Handle<tag::Expression>,
-    handle: Handle<tag::Expression>,
-) -> Result<(), FunctionError>
-    requires { ContextFits (context_of context.now) }
-    ensures { result_err result ≡ first_fault (typed_points (context_of context.now) (place_at scope.now) scalar fun.now value handle) }
-{
-    check_result_type(scope, context, scalar, fun, value, handle)?;
-    check_put(scope, handle)
+    match fun {
+        AtomicFunction::Exchange {
+            compare: Some(compare),
+        } => check_compared(scope, context, scalar, *compare, value, handle),
+        _ => check_uncompared(scope, context, value, handle),
+    }
 }
 
 fn is_atomic_result(expression: Option<&Expression>) -> bool
@@ -308,27 +257,7 @@ fn is_atomic_result(expression: Option<&Expression>) -> bool
     matches!(expression, Some(Expression::AtomicResult { .. }))
 }
 
-/// The type of the result.
-fn check_result_type(
-    scope: &HandleSet,
-    context: &BlockContext,
-    scalar: Scalar,
-    fun: &AtomicFunction,
-    value: Handle<tag::Expression>,
-    handle: Handle<tag::Expression>,
-) -> Result<(), FunctionError>
-    requires { ContextFits (context_of context.now) }
-    ensures { result_err result ≡ first_fault (result_type_points (context_of context.now) (place_at scope.now) scalar fun.now value handle) }
-{
-    match fun {
-        AtomicFunction::Exchange {
-            compare: Some(compare),
-        } => check_compared(scope, context, scalar, *compare, value, handle),
-        _ => check_uncompared(context, value, handle),
-    }
-}
-
-/// Of a compare exchange: what is compared with, and a result of the struct that a compare exchange gives.
+/// Of a compare exchange: what is compared with, and a result of the struct that it gives, not in scope yet.
 fn check_compared(
     scope: &HandleSet,
     context: &BlockContext,
@@ -338,7 +267,7 @@ fn check_compared(
     handle: Handle<tag::Expression>,
 ) -> Result<(), FunctionError>
     requires { ContextFits (context_of context.now) }
-    ensures { result_err result ≡ first_fault (compared_points (context_of context.now) (place_at scope.now) scalar compare value handle) }
+    ensures { Finds (compared_points (context_of context.now) (place_at scope.now) scalar compare value handle) result }
 {
     check_use(scope, compare)?;
     let program = context.program;
@@ -356,17 +285,18 @@ fn check_compared(
         let error = AtomicError::ResultExpressionNotExchange(handle);
         return Err(FunctionError::InvalidAtomic(error));
     }
-    Ok(())
+    check_put(scope, handle)
 }
 
-/// Of any other operation: a result of the value's type.
+/// Of any other operation: a result of the value's type, not in scope yet.
 fn check_uncompared(
+    scope: &HandleSet,
     context: &BlockContext,
     value: Handle<tag::Expression>,
     handle: Handle<tag::Expression>,
 ) -> Result<(), FunctionError>
     requires { ContextFits (context_of context.now) }
-    ensures { result_err result ≡ first_fault (uncompared_points (context_of context.now) value handle) }
+    ensures { Finds (uncompared_points (context_of context.now) (place_at scope.now) value handle) result }
 {
     let program = context.program;
     if !is_equivalent(
@@ -380,7 +310,7 @@ fn check_uncompared(
         let error = AtomicError::ResultExpressionExchange(handle);
         return Err(FunctionError::InvalidAtomic(error));
     }
-    Ok(())
+    check_put(scope, handle)
 }
 
 /// The type that an atomic result is declared with.
@@ -391,12 +321,7 @@ fn result_type<'a>(
     ensures { option_copied result ≡ result_type_at (context_of context.now) handle }
 {
     match context.expression(handle) {
-        Some(Expression::AtomicResult { ty, .. }) => {
-            match context.program.types.as_slice().get(ty.index()) {
-                Some(ty) => Some(&ty.inner),
-                None => None,
-            }
-        }
+        Some(Expression::AtomicResult { ty, .. }) => inner_at(context, *ty),
         _ => None,
     }
 }

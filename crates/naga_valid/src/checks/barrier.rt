@@ -1,9 +1,8 @@
 //! The check list of ControlBarrier and of MemoryBarrier.
 
 ghost use Rattle.std.specs.Prelude.{◌≡◌};
-ghost use Rattle.std.specs.Result.{result_err};
-ghost use Rattle.naga_below.specs.Points.{first_fault};
-ghost use Rattle.naga_valid.specs.Barriers.{barrier_capabilities, subgroup_barrier_points, barrier_points};
+ghost use Rattle.naga_valid.specs.CodeAnswers.{Finds};
+ghost use Rattle.naga_valid.specs.Barriers.{barrier_capabilities, barrier_points};
 
 use crate::checks::subgroup::check_operations;
 use bitflags::Flags;
@@ -15,19 +14,11 @@ use naga_rules::function::FunctionError;
 
 /// ControlBarrier and MemoryBarrier: one of a subgroup needs what the target has.
 pub fn check_barrier(settings: &Settings, barrier: Barrier) -> Result<(), FunctionError>
-    ensures { result_err result ≡ first_fault (barrier_points settings.now barrier) }
+    ensures { Finds (barrier_points settings.now barrier) result }
 {
-    if barrier.contains(Barrier::SUB_GROUP) {
-        check_subgroup_barrier(settings)
-    } else {
-        Ok(())
+    if !barrier.contains(Barrier::SUB_GROUP) {
+        return Ok(());
     }
-}
-
-/// Subgroups and their barriers, both, and the basic operations.
-fn check_subgroup_barrier(settings: &Settings) -> Result<(), FunctionError>
-    ensures { result_err result ≡ first_fault (subgroup_barrier_points settings.now) }
-{
     let needed = barrier_capabilities();
     if !settings.capabilities.contains(needed) {
         return Err(FunctionError::MissingCapability(needed));

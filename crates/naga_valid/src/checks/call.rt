@@ -6,8 +6,7 @@ ghost use Rattle.std.specs.Option.{option_copied, option_map};
 ghost use Rattle.naga_below.specs.FitsBody.{CalleeFits};
 ghost use Rattle.naga_below.specs.View.{put_if};
 ghost use Rattle.naga_rules.specs.declared.function.FunctionError.TheVariants.{InvalidCall};
-ghost use Rattle.naga_below.specs.Points.{first_fault};
-ghost use Rattle.naga_valid.specs.Answers.{AnswersPoints};
+ghost use Rattle.naga_valid.specs.CodeAnswers.{Finds, AnswersPoints};
 ghost use Rattle.naga_valid.specs.Calls.{is_passed_as, argument_points, arguments_points, is_call_result_of, call_result_points, callee_points, call_points};
 ghost use Rattle.naga_valid.specs.Context.{ContextFits};
 ghost use Rattle.naga_valid.specs.Scope.{known};
@@ -77,7 +76,7 @@ fn validate_call(
 ) -> Result<(), CallError>
     requires context { ContextFits (context_of context.now) }
     requires callee { CalleeFits (context_of context.now).program function }
-    ensures { result_err result ≡ first_fault (callee_points (context_of context.now) (known filled.now) (place_at scope.now) function (slice_get (context_of context.now).program.functions function) arguments.now named) }
+    ensures { Finds (callee_points (context_of context.now) (known filled.now) (place_at scope.now) function (slice_get (context_of context.now).program.functions function) arguments.now named) result }
 {
     let callee = &context.program.functions[function];
     let checked = check_arguments(scope, context, callee.arguments.as_slice(), arguments);
@@ -97,7 +96,7 @@ fn check_arguments(
 ) -> Result<(), CallError>
     requires context { ContextFits (context_of context.now) }
     requires types { All (λ argument. argument.ty < length (context_of context.now).program.types) declared.now }
-    ensures { result_err result ≡ first_fault (arguments_points (context_of context.now) (place_at scope.now) declared.now given.now) }
+    ensures { Finds (arguments_points (context_of context.now) (place_at scope.now) declared.now given.now) result }
 {
     if declared.len() != given.len() {
         return Err(CallError::ArgumentCount {
@@ -121,7 +120,7 @@ fn check_argument(
 ) -> Result<(), CallError>
     requires context { ContextFits (context_of context.now) }
     requires declared { declared < length (context_of context.now).program.types }
-    ensures { result_err result ≡ first_fault (argument_points (context_of context.now) (place_at scope.now) index declared given) }
+    ensures { Finds (argument_points (context_of context.now) (place_at scope.now) index declared given) result }
 {
     if !scope.contains(given) {
         return Err(CallError::Argument {
@@ -169,7 +168,7 @@ fn check_call_result(
     returns: bool,
     named: Option<Handle<tag::Expression>>,
 ) -> Result<(), CallError>
-    ensures { result_err result ≡ first_fault (call_result_points (context_of context.now) (known filled.now) (place_at scope.now) function returns named) }
+    ensures { Finds (call_result_points (context_of context.now) (known filled.now) (place_at scope.now) function returns named) result }
 {
     match named {
         Some(handle) => {

@@ -1,14 +1,13 @@
 //! The check lists of Emit, If, Switch, Return, Break and Continue, and of a break condition.
 
 ghost use Rattle.std.specs.Prelude.{◌≡◌, ◌++◌, [], ◌∷◌, OnOk};
-ghost use Rattle.std.specs.Result.{result_err};
 ghost use Rattle.std.specs.List.{list_any};
 ghost use Rattle.std.specs.Option.{option_copied};
-ghost use Rattle.naga_below.specs.Points.{first_fault};
-ghost use Rattle.naga_valid.specs.Control.{emit_points, is_result, is_bool_scalar, condition_points, is_integer, selector_points, has_signedness_of, is_default, repeated_fault, value_points, values_of, last_falls_through, cases_points, switch_points, declared_type, is_returned_as, return_points, break_points, continue_points};
+ghost use Rattle.naga_valid.specs.Control.{emit_points, is_bool_scalar, condition_points, is_integer, selector_points, has_signedness_of, is_default, repeated_fault, value_points, values_of, last_falls_through, cases_points, switch_points, declared_type, is_returned_as, return_points, break_points, continue_points};
+ghost use Rattle.naga_valid.specs.Results.{is_result};
 ghost use Rattle.naga_valid.specs.CodePlace.{place_at};
 ghost use Rattle.naga_valid.specs.Walk.{handles_between, place};
-ghost use Rattle.naga_valid.specs.Answers.{AnswersPoints};
+ghost use Rattle.naga_valid.specs.CodeAnswers.{Finds, AnswersPoints};
 ghost use Rattle.naga_valid.specs.Context.{ContextFits};
 ghost use Rattle.naga_valid.specs.Seen.{context_of};
 ghost use Rattle.naga_valid.specs.Blocks.{case_list};
@@ -78,7 +77,7 @@ pub fn check_condition(
     context: &BlockContext,
     condition: Handle<tag::Expression>,
 ) -> Result<(), FunctionError>
-    ensures { result_err result ≡ first_fault (condition_points (context_of context.now) (place_at scope.now) condition) }
+    ensures { Finds (condition_points (context_of context.now) (place_at scope.now) condition) result }
 {
     check_use(scope, condition)?;
     if !is_bool_scalar(context.type_inner(condition)) {
@@ -107,7 +106,7 @@ pub fn check_return(
     value: Option<Handle<tag::Expression>>,
 ) -> Result<(), FunctionError>
     requires { ContextFits (context_of context.now) }
-    ensures { result_err result ≡ first_fault (return_points (context_of context.now) (place abilities scope.now) value) }
+    ensures { Finds (return_points (context_of context.now) (place abilities scope.now) value) result }
 {
     if !abilities.can_return {
         return Err(FunctionError::InvalidReturnSpot);
@@ -169,7 +168,7 @@ fn is_returned_as(
 
 /// Break: allowed here.
 pub fn check_break(abilities: Abilities) -> Result<(), FunctionError>
-    ensures { result_err result ≡ first_fault (break_points (place abilities [])) }
+    ensures { Finds (break_points (place abilities [])) result }
 {
     if !abilities.can_break {
         return Err(FunctionError::BreakOutsideOfLoopOrSwitch);
@@ -179,7 +178,7 @@ pub fn check_break(abilities: Abilities) -> Result<(), FunctionError>
 
 /// Continue: allowed here.
 pub fn check_continue(abilities: Abilities) -> Result<(), FunctionError>
-    ensures { result_err result ≡ first_fault (continue_points (place abilities [])) }
+    ensures { Finds (continue_points (place abilities [])) result }
 {
     if !abilities.can_continue {
         return Err(FunctionError::ContinueOutsideOfLoop);
@@ -208,7 +207,7 @@ fn check_selector(
     context: &BlockContext,
     selector: Handle<tag::Expression>,
 ) -> Result<(), FunctionError>
-    ensures { result_err result ≡ first_fault (selector_points (context_of context.now) (place_at scope.now) selector) }
+    ensures { Finds (selector_points (context_of context.now) (place_at scope.now) selector) result }
 {
     check_use(scope, selector)?;
     if !is_integer(context.scalar_kind(selector)) {
@@ -269,7 +268,7 @@ fn repeated_fault(value: SwitchValue) -> FunctionError
 /// The cases as a whole: a default among them, and no fall through of the last.
 #[tactic(auto, using(crate::proofs::Lists::any_value))]
 fn check_cases(cases: &[SwitchCase]) -> Result<(), FunctionError>
-    ensures { result_err result ≡ first_fault (cases_points (case_list cases.now)) }
+    ensures { Finds (cases_points (case_list cases.now)) result }
 {
     if !has_default(cases) {
         return Err(FunctionError::MissingDefaultCase);

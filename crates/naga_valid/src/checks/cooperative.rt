@@ -1,10 +1,9 @@
 //! The check list of CooperativeStore.
 
-ghost use Rattle.std.specs.Prelude.{◌≡◌, Some};
-ghost use Rattle.std.specs.Result.{result_err};
-ghost use Rattle.naga_below.specs.Points.{first_fault};
+ghost use Rattle.std.specs.Prelude.{◌≡◌};
+ghost use Rattle.naga_valid.specs.CodeAnswers.{Finds};
 ghost use Rattle.naga_valid.specs.Context.{ContextFits};
-ghost use Rattle.naga_valid.specs.Cooperative.{matrix_scalar_at, base_scalar_at, data_points, cooperative_points};
+ghost use Rattle.naga_valid.specs.Cooperative.{matrix_scalar_at, base_scalar_at, cooperative_points};
 ghost use Rattle.naga_valid.specs.CodePlace.{place_at};
 ghost use Rattle.naga_valid.specs.Seen.{context_of};
 
@@ -17,7 +16,7 @@ use naga_below::arena::tag;
 use naga_below::ir::types::{Scalar, TypeInner};
 use naga_rules::function::FunctionError;
 
-/// CooperativeStore: its target, a cooperative matrix, and the place where it goes.
+/// CooperativeStore: its target, a cooperative matrix; the pointer points to its scalar, and its space takes stores.
 pub fn check_cooperative_store(
     scope: &HandleSet,
     context: &BlockContext,
@@ -25,34 +24,12 @@ pub fn check_cooperative_store(
     pointer: Handle<tag::Expression>,
 ) -> Result<(), FunctionError>
     requires { ContextFits (context_of context.now) }
-    ensures { result_err result ≡ first_fault (cooperative_points (context_of context.now) (place_at scope.now) target pointer) }
+    ensures { Finds (cooperative_points (context_of context.now) (place_at scope.now) target pointer) result }
 {
     check_use(scope, target)?;
-    match matrix_scalar(context, target) {
-        Some(scalar) => check_data(context, scalar, pointer),
-        None => Err(FunctionError::InvalidCooperativeStoreTarget(target)),
-    }
-}
-
-/// The scalar of a cooperative matrix.
-fn matrix_scalar(context: &BlockContext, target: Handle<tag::Expression>) -> Option<Scalar>
-    ensures { result ≡ matrix_scalar_at (context_of context.now) target }
-{
-    match context.type_inner(target) {
-        Some(TypeInner::CooperativeMatrix { scalar, .. }) => Some(*scalar),
-        _ => None,
-    }
-}
-
-/// The pointer points to this scalar, and its space takes stores.
-fn check_data(
-    context: &BlockContext,
-    scalar: Scalar,
-    pointer: Handle<tag::Expression>,
-) -> Result<(), FunctionError>
-    requires { ContextFits (context_of context.now) }
-    ensures { result_err result ≡ first_fault (data_points (context_of context.now) (Some scalar) pointer) }
-{
+    let Some(scalar) = matrix_scalar(context, target) else {
+        return Err(FunctionError::InvalidCooperativeStoreTarget(target));
+    };
     let holds = match base_scalar(context, pointer) {
         Some(given) => given == scalar,
         None => false,
@@ -64,6 +41,16 @@ fn check_data(
         return Err(FunctionError::InvalidStorePointer(pointer));
     }
     Ok(())
+}
+
+/// The scalar of a cooperative matrix.
+fn matrix_scalar(context: &BlockContext, target: Handle<tag::Expression>) -> Option<Scalar>
+    ensures { result ≡ matrix_scalar_at (context_of context.now) target }
+{
+    match context.type_inner(target) {
+        Some(TypeInner::CooperativeMatrix { scalar, .. }) => Some(*scalar),
+        _ => None,
+    }
 }
 
 /// The scalar of what a pointer points to.

@@ -1,11 +1,11 @@
 //! What the check lists of ImageStore and ImageAtomic share: the image, and the texel.
 
 ghost use Rattle.std.specs.Prelude.{◌≡◌};
-ghost use Rattle.std.specs.Result.{result_err};
 ghost use Rattle.std.specs.Option.{option_copied};
 ghost use Rattle.naga_below.specs.Types.{inner_at};
-ghost use Rattle.naga_below.specs.Points.{first_fault};
-ghost use Rattle.naga_valid.specs.Images.{image_fault, global_type_at, image_global_at, image_of, element_of, storage_of, is_dimension, coordinate_points, is_integer_scalar, array_index_points, texel_points};
+ghost use Rattle.naga_valid.specs.CodeAnswers.{Finds};
+ghost use Rattle.naga_valid.specs.CodeImages.{image_fault, coordinate_points, texel_points};
+ghost use Rattle.naga_valid.specs.Images.{global_type_at, image_global_at, element_of, is_dimension, is_integer_scalar, array_index_points};
 ghost use Rattle.naga_valid.specs.CodePlace.{place_at};
 ghost use Rattle.naga_valid.specs.Seen.{context_of};
 
@@ -17,8 +17,7 @@ use crate::handle_set::HandleSet;
 use naga_below::arena::handle::Handle;
 use naga_below::arena::tag;
 use naga_below::ir::expressions::Expression;
-use naga_below::ir::flags::StorageAccess;
-use naga_below::ir::types::{ImageClass, ImageDimension, StorageFormat, TypeInner};
+use naga_below::ir::types::{ImageDimension, TypeInner};
 use naga_below::valid::expression_error::ExpressionError;
 use naga_rules::function::FunctionError;
 
@@ -27,21 +26,6 @@ use naga_rules::function::FunctionError;
 pub enum ImageStatement {
     Store,
     Atomic,
-}
-
-/// An image, as its type has it.
-#[derive(Clone, Copy)]
-pub struct ImageShape {
-    pub dim: ImageDimension,
-    pub arrayed: bool,
-    pub class: ImageClass,
-}
-
-/// How the texels of a storage image are stored.
-#[derive(Clone, Copy)]
-pub struct ImageStorage {
-    pub format: StorageFormat,
-    pub access: StorageAccess,
 }
 
 /// Which texel of an image.
@@ -102,26 +86,6 @@ pub fn inner_at<'a>(context: &BlockContext<'a>, ty: Handle<tag::Type>) -> Option
     }
 }
 
-/// A type as an image.
-pub fn image_of(inner: Option<&TypeInner>) -> Option<ImageShape>
-    ensures { result ≡ image_of (option_copied inner.entry) }
-{
-    match inner {
-        Some(
-            TypeInner::Image {
-                dim,
-                arrayed,
-                class,
-            },
-        ) => Some(ImageShape {
-            dim: *dim,
-            arrayed: *arrayed,
-            class: *class,
-        }),
-        _ => None,
-    }
-}
-
 /// What a binding array has.
 pub fn element_of(inner: Option<&TypeInner>) -> Option<Handle<tag::Type>>
     ensures { result ≡ element_of (option_copied inner.entry) }
@@ -132,29 +96,20 @@ pub fn element_of(inner: Option<&TypeInner>) -> Option<Handle<tag::Type>>
     }
 }
 
-/// How the texels of a storage image are stored.
-pub fn storage_of(class: ImageClass) -> Option<ImageStorage>
-    ensures { result ≡ storage_of class }
-{
-    match class {
-        ImageClass::Storage { format, access } => Some(ImageStorage { format, access }),
-        _ => None,
-    }
-}
-
 /// Which texel: its coordinate and its array index.
 #[tactic(auto, using(crate::proofs::Lists::appended))]
 pub fn check_texel(
     statement: ImageStatement,
     scope: &HandleSet,
     context: &BlockContext,
-    image: ImageShape,
+    dim: ImageDimension,
+    arrayed: bool,
     texel: Texel,
 ) -> Result<(), FunctionError>
-    ensures { result_err result ≡ first_fault (texel_points statement (context_of context.now) (place_at scope.now) image texel) }
+    ensures { Finds (texel_points statement (context_of context.now) (place_at scope.now) dim arrayed texel.coordinate texel.array_index) result }
 {
-    check_coordinate(statement, scope, context, image.dim, texel.coordinate)?;
-    check_array_index(statement, scope, context, image.arrayed, texel.array_index)
+    check_coordinate(statement, scope, context, dim, texel.coordinate)?;
+    check_array_index(statement, scope, context, arrayed, texel.array_index)
 }
 
 /// The coordinate: in scope, and of the image's dimension.
@@ -165,7 +120,7 @@ fn check_coordinate(
     dim: ImageDimension,
     coordinate: Handle<tag::Expression>,
 ) -> Result<(), FunctionError>
-    ensures { result_err result ≡ first_fault (coordinate_points statement (context_of context.now) (place_at scope.now) dim coordinate) }
+    ensures { Finds (coordinate_points statement (context_of context.now) (place_at scope.now) dim coordinate) result }
 {
     check_use(scope, coordinate)?;
     let given = match context.type_inner(coordinate) {
@@ -196,7 +151,7 @@ fn check_array_index(
     arrayed: bool,
     array_index: Option<Handle<tag::Expression>>,
 ) -> Result<(), FunctionError>
-    ensures { result_err result ≡ first_fault (array_index_points statement (context_of context.now) (place_at scope.now) arrayed array_index) }
+    ensures { Finds (array_index_points (image_fault statement) (context_of context.now) (place_at scope.now) arrayed array_index) result }
 {
     match array_index {
         Some(handle) => {

@@ -1,17 +1,16 @@
 //! The check list of ImageAtomic.
 
-ghost use Rattle.std.specs.Prelude.{◌≡◌, Some};
-ghost use Rattle.std.specs.Result.{result_err};
-ghost use Rattle.naga_below.specs.Points.{first_fault};
-ghost use Rattle.naga_valid.specs.ImageAtomics.{changed_image, is_done_on_texels, operation_points, format_points, changed_value_points, changed_texel_points, changed_storage_points, changed_class_points, changed_image_points, changed_global_points, image_atomic_points};
+ghost use Rattle.std.specs.Prelude.{◌≡◌, ◌++◌};
+ghost use Rattle.std.specs.Option.{option_copied};
+ghost use Rattle.naga_below.specs.Types.{inner_at};
+ghost use Rattle.naga_valid.specs.CodeAnswers.{Finds};
+ghost use Rattle.naga_valid.specs.CodeImages.{changed_points, changed_format_points, changed_value_points, changed_class_points};
+ghost use Rattle.naga_valid.specs.ImageAtomics.{element_or_itself, is_done_on_texels, operation_points, format_points, image_atomic_points};
 ghost use Rattle.naga_valid.specs.CodePlace.{place_at};
 ghost use Rattle.naga_valid.specs.Seen.{context_of};
 
 use crate::checks::atomic::is_min_or_max;
-use crate::checks::image::{
-    ImageShape, ImageStatement, ImageStorage, Texel, check_texel, image_fault, image_global,
-    image_of, inner_at, storage_of,
-};
+use crate::checks::image::{ImageStatement, Texel, check_texel, image_global, inner_at};
 use crate::checks::refuse::check_use;
 use crate::checks::types::is_scalar;
 use crate::context::BlockContext;
@@ -20,12 +19,13 @@ use naga_below::arena::handle::Handle;
 use naga_below::arena::tag;
 use naga_below::ir::flags::StorageAccess;
 use naga_below::ir::operations::AtomicFunction;
-use naga_below::ir::types::{Scalar, StorageFormat, TypeInner};
+use naga_below::ir::types::{ImageClass, ImageDimension, Scalar, StorageFormat, TypeInner};
 use naga_below::valid::capabilities::Capabilities;
 use naga_below::valid::expression_error::ExpressionError;
 use naga_rules::function::FunctionError;
 
 /// ImageAtomic: its image, the texel, the operation, and the value.
+#[tactic(auto, using(crate::proofs::Lists::appended))]
 pub fn check_image_atomic(
     scope: &HandleSet,
     context: &BlockContext,
@@ -34,97 +34,73 @@ pub fn check_image_atomic(
     fun: &AtomicFunction,
     value: Handle<tag::Expression>,
 ) -> Result<(), FunctionError>
-    ensures { result_err result ≡ first_fault (image_atomic_points (context_of context.now) (place_at scope.now) image texel fun.now value) }
+    ensures { Finds (image_atomic_points (context_of context.now) (place_at scope.now) image texel.coordinate texel.array_index fun.now value) result }
 {
-    match image_global(context, image) {
-        Some(ty) => check_global(scope, context, texel, fun, value, ty),
-        None => Err(image_fault(
-            ImageStatement::Atomic,
-            ExpressionError::ExpectedGlobalVariable,
-        )),
-    }
+    let Some(ty) = image_global(context, image) else {
+        let error = ExpressionError::ExpectedGlobalVariable;
+        return Err(FunctionError::InvalidImageAtomic(error));
+    };
+    let Some(
+        TypeInner::Image {
+            dim,
+            arrayed,
+            class,
+        },
+    ) = changed_type(context, ty)
+    else {
+        let error = ExpressionError::ExpectedImageType(ty);
+        return Err(FunctionError::InvalidImageAtomic(error));
+    };
+    check_changed_image(scope, context, *dim, *arrayed, *class, texel, fun, value)
 }
 
-/// The type of the global: an image, or a binding array of images.
-fn check_global(
-    scope: &HandleSet,
-    context: &BlockContext,
-    texel: Texel,
-    fun: &AtomicFunction,
-    value: Handle<tag::Expression>,
-    ty: Handle<tag::Type>,
-) -> Result<(), FunctionError>
-    ensures { result_err result ≡ first_fault (changed_global_points (context_of context.now) (place_at scope.now) texel fun.now value (Some ty)) }
-{
-    match changed_image(context, ty) {
-        Some(image) => check_image(scope, context, texel, fun, value, image),
-        None => Err(image_fault(
-            ImageStatement::Atomic,
-            ExpressionError::ExpectedImageType(ty),
-        )),
-    }
-}
-
-/// The image of a global of this type, or what a binding array has.
-fn changed_image(context: &BlockContext, ty: Handle<tag::Type>) -> Option<ImageShape>
-    ensures { result ≡ changed_image (context_of context.now).program.types ty }
+/// The type of a global, or what a binding array has.
+fn changed_type<'a>(context: &BlockContext<'a>, ty: Handle<tag::Type>) -> Option<&'a TypeInner>
+    ensures { option_copied result ≡ element_or_itself (context_of context.now).program.types (inner_at (context_of context.now).program.types ty) }
 {
     match inner_at(context, ty) {
-        Some(TypeInner::BindingArray { base, .. }) => image_of(inner_at(context, *base)),
-        inner => image_of(inner),
+        Some(TypeInner::BindingArray { base, .. }) => inner_at(context, *base),
+        inner => inner,
     }
 }
 
 /// The texel, which comes before what is asked of the image.
 #[tactic(auto, using(crate::proofs::Lists::appended))]
-fn check_image(
+fn check_changed_image(
     scope: &HandleSet,
     context: &BlockContext,
+    dim: ImageDimension,
+    arrayed: bool,
+    class: ImageClass,
     texel: Texel,
     fun: &AtomicFunction,
     value: Handle<tag::Expression>,
-    image: ImageShape,
 ) -> Result<(), FunctionError>
-    ensures { result_err result ≡ first_fault (changed_image_points (context_of context.now) (place_at scope.now) texel fun.now value (Some image)) }
+    ensures { Finds (changed_points (context_of context.now) (place_at scope.now) dim arrayed texel.coordinate texel.array_index class fun.now value) result }
 {
-    check_texel(ImageStatement::Atomic, scope, context, image, texel)?;
-    check_class(scope, context, fun, value, image)
+    check_texel(ImageStatement::Atomic, scope, context, dim, arrayed, texel)?;
+    check_class(scope, context, class, fun, value)
 }
 
-/// The image: one of storage.
+/// The class of the image, its access, the operation, and the value.
 fn check_class(
     scope: &HandleSet,
     context: &BlockContext,
+    class: ImageClass,
     fun: &AtomicFunction,
     value: Handle<tag::Expression>,
-    image: ImageShape,
 ) -> Result<(), FunctionError>
-    ensures { result_err result ≡ first_fault (changed_class_points (context_of context.now) (place_at scope.now) fun.now value image) }
+    ensures { Finds (changed_class_points (context_of context.now) (place_at scope.now) class fun.now value) result }
 {
-    match storage_of(image.class) {
-        Some(storage) => check_storage(scope, context, fun, value, storage),
-        None => Err(image_fault(
-            ImageStatement::Atomic,
-            ExpressionError::InvalidImageClass(image.class),
-        )),
+    let ImageClass::Storage { format, access } = class else {
+        let error = ExpressionError::InvalidImageClass(class);
+        return Err(FunctionError::InvalidImageAtomic(error));
+    };
+    if !access.contains(StorageAccess::ATOMIC) {
+        let error = ExpressionError::InvalidImageStorageAccess(access);
+        return Err(FunctionError::InvalidImageAtomic(error));
     }
-}
-
-/// The access, the format and the value.
-fn check_storage(
-    scope: &HandleSet,
-    context: &BlockContext,
-    fun: &AtomicFunction,
-    value: Handle<tag::Expression>,
-    storage: ImageStorage,
-) -> Result<(), FunctionError>
-    ensures { result_err result ≡ first_fault (changed_storage_points (context_of context.now) (place_at scope.now) fun.now value (Some storage)) }
-{
-    if !storage.access.contains(StorageAccess::ATOMIC) {
-        let error = ExpressionError::InvalidImageStorageAccess(storage.access);
-        return Err(image_fault(ImageStatement::Atomic, error));
-    }
-    check_changed(scope, context, fun, value, storage.format)
+    check_changed(scope, context, fun, value, format)
 }
 
 /// The format and the value.
@@ -136,7 +112,7 @@ fn check_changed(
     value: Handle<tag::Expression>,
     format: StorageFormat,
 ) -> Result<(), FunctionError>
-    ensures { result_err result ≡ first_fault (changed_texel_points (context_of context.now) (place_at scope.now) fun.now value format) }
+    ensures { Finds (changed_format_points (context_of context.now) (place_at scope.now) format fun.now value) result }
 {
     check_format(context.settings.capabilities, format, fun)?;
     check_value(scope, context, format, value)
@@ -148,7 +124,7 @@ fn check_format(
     format: StorageFormat,
     fun: &AtomicFunction,
 ) -> Result<(), FunctionError>
-    ensures { result_err result ≡ first_fault (format_points capabilities format fun.now) }
+    ensures { Finds (format_points capabilities format fun.now) result }
 {
     match format {
         StorageFormat::R64Uint => {
@@ -159,10 +135,10 @@ fn check_format(
             let needed = Capabilities::TEXTURE_ATOMIC;
             check_operation(capabilities, needed, is_done_on_texels(fun), fun)
         }
-        _ => Err(image_fault(
-            ImageStatement::Atomic,
-            ExpressionError::InvalidImageFormat(format),
-        )),
+        _ => {
+            let error = ExpressionError::InvalidImageFormat(format);
+            Err(FunctionError::InvalidImageAtomic(error))
+        }
     }
 }
 
@@ -173,7 +149,7 @@ fn check_operation(
     is_done: bool,
     fun: &AtomicFunction,
 ) -> Result<(), FunctionError>
-    ensures { result_err result ≡ first_fault (operation_points capabilities needed is_done fun.now) }
+    ensures { Finds (operation_points capabilities needed is_done fun.now) result }
 {
     if !capabilities.contains(needed) {
         return Err(FunctionError::MissingCapability(needed));
@@ -206,7 +182,7 @@ fn check_value(
     format: StorageFormat,
     value: Handle<tag::Expression>,
 ) -> Result<(), FunctionError>
-    ensures { result_err result ≡ first_fault (changed_value_points (context_of context.now) (place_at scope.now) format value) }
+    ensures { Finds (changed_value_points (context_of context.now) (place_at scope.now) format value) result }
 {
     check_use(scope, value)?;
     if !is_scalar(Scalar::from(format), context.type_inner(value)) {

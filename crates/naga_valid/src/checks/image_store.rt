@@ -1,17 +1,16 @@
 //! The check list of ImageStore.
 
-ghost use Rattle.std.specs.Prelude.{◌≡◌, Some, IfOk};
-ghost use Rattle.std.specs.Result.{result_err};
-ghost use Rattle.naga_below.specs.Points.{first_fault};
-ghost use Rattle.naga_valid.specs.Answers.{AnswersPoints};
-ghost use Rattle.naga_valid.specs.Images.{stored_image, texel_value_points, stored_texel_points, stored_image_points, stored_global_points, image_store_points};
+ghost use Rattle.std.specs.Prelude.{◌≡◌, ◌++◌, IfOk};
+ghost use Rattle.std.specs.Option.{option_copied};
+ghost use Rattle.naga_valid.specs.CodeAnswers.{Finds, AnswersPoints};
+ghost use Rattle.naga_valid.specs.CodeImages.{stored_points, texel_value_points};
+ghost use Rattle.naga_valid.specs.Images.{stored_type, image_store_points};
 ghost use Rattle.naga_valid.specs.CodePlace.{place_at};
 ghost use Rattle.naga_valid.specs.Seen.{context_of};
 ghost use Rattle.naga_valid.specs.Types.{type_at};
 
 use crate::checks::image::{
-    ImageShape, ImageStatement, ImageStorage, Texel, check_texel, element_of, image_fault,
-    image_global, image_of, inner_at, storage_of,
+    ImageStatement, Texel, check_texel, element_of, image_global, inner_at,
 };
 use crate::checks::refuse::{answer, check_use};
 use crate::checks::store::access_base;
@@ -19,7 +18,9 @@ use crate::context::BlockContext;
 use crate::handle_set::HandleSet;
 use naga_below::arena::handle::Handle;
 use naga_below::arena::tag;
-use naga_below::ir::types::{Scalar, StorageFormat, TypeInner, VectorSize};
+use naga_below::ir::types::{
+    ImageClass, ImageDimension, Scalar, StorageFormat, TypeInner, VectorSize,
+};
 use naga_below::span::{Refusal, Span};
 use naga_below::valid::expression_error::ExpressionError;
 use naga_rules::function::FunctionError;
@@ -34,7 +35,7 @@ pub fn check_image_store(
     value: Handle<tag::Expression>,
     span: Span,
 ) -> Result<(), Refusal<FunctionError>>
-    ensures { AnswersPoints (image_store_points (context_of context.now) (place_at scope.now) image texel value) result }
+    ensures { AnswersPoints (image_store_points (context_of context.now) (place_at scope.now) image texel.coordinate texel.array_index value) result }
 {
     let alloc = scope.allocator();
     let given = type_of(alloc, context, value)?;
@@ -66,80 +67,50 @@ fn validate_image_store(
     given: Option<TypeInner>,
 ) -> Result<(), FunctionError>
     requires { given ≡ type_at (context_of context.now) value }
-    ensures { result_err result ≡ first_fault (image_store_points (context_of context.now) (place_at scope.now) image texel value) }
+    ensures { Finds (image_store_points (context_of context.now) (place_at scope.now) image texel.coordinate texel.array_index value) result }
 {
+    let Some(ty) = image_global(context, image) else {
+        let error = ExpressionError::ExpectedGlobalVariable;
+        return Err(FunctionError::InvalidImageStore(error));
+    };
     let is_element = access_base(context.expression(image)).is_some();
-    match image_global(context, image) {
-        Some(ty) => check_global(scope, context, is_element, texel, value, given, ty),
-        None => Err(image_fault(
-            ImageStatement::Store,
-            ExpressionError::ExpectedGlobalVariable,
-        )),
-    }
-}
-
-/// The type of the global: a binding array, where the image is an element, of images.
-fn check_global(
-    scope: &HandleSet,
-    context: &BlockContext,
-    is_element: bool,
-    texel: Texel,
-    value: Handle<tag::Expression>,
-    given: Option<TypeInner>,
-    ty: Handle<tag::Type>,
-) -> Result<(), FunctionError>
-    requires { given ≡ type_at (context_of context.now) value }
-    ensures { result_err result ≡ first_fault (stored_global_points (context_of context.now) (place_at scope.now) is_element texel value (Some ty)) }
-{
     if is_element && element_of(inner_at(context, ty)).is_none() {
         let error = ExpressionError::ExpectedBindingArrayType(ty);
-        return Err(image_fault(ImageStatement::Store, error));
+        return Err(FunctionError::InvalidImageStore(error));
     }
-    match stored_image(context, is_element, ty) {
-        Some(image) => check_image(scope, context, image, texel, value, given),
-        None => Err(image_fault(
-            ImageStatement::Store,
-            ExpressionError::ExpectedImageType(ty),
-        )),
-    }
+    let Some(
+        TypeInner::Image {
+            dim,
+            arrayed,
+            class,
+        },
+    ) = stored_type(context, is_element, ty)
+    else {
+        let error = ExpressionError::ExpectedImageType(ty);
+        return Err(FunctionError::InvalidImageStore(error));
+    };
+    let ImageClass::Storage { format, .. } = *class else {
+        let error = ExpressionError::InvalidImageClass(*class);
+        return Err(FunctionError::InvalidImageStore(error));
+    };
+    check_stored(scope, context, *dim, *arrayed, texel, value, given, format)
 }
 
-/// The image of a global of this type, or the element of one.
-fn stored_image(
-    context: &BlockContext,
+/// The type of a global, or that of its elements.
+fn stored_type<'a>(
+    context: &BlockContext<'a>,
     is_element: bool,
     ty: Handle<tag::Type>,
-) -> Option<ImageShape>
-    ensures { result ≡ stored_image (context_of context.now).program.types is_element ty }
+) -> Option<&'a TypeInner>
+    ensures { option_copied result ≡ stored_type (context_of context.now).program.types is_element ty }
 {
     if is_element {
         match element_of(inner_at(context, ty)) {
-            Some(element) => image_of(inner_at(context, element)),
+            Some(element) => inner_at(context, element),
             None => None,
         }
     } else {
-        image_of(inner_at(context, ty))
-    }
-}
-
-/// The image: one of storage.
-fn check_image(
-    scope: &HandleSet,
-    context: &BlockContext,
-    image: ImageShape,
-    texel: Texel,
-    value: Handle<tag::Expression>,
-    given: Option<TypeInner>,
-) -> Result<(), FunctionError>
-    requires { given ≡ type_at (context_of context.now) value }
-    ensures { result_err result ≡ first_fault (stored_image_points (context_of context.now) (place_at scope.now) texel value (Some image)) }
-{
-    match storage_of(image.class) {
-        Some(storage) => check_stored(scope, context, image, texel, value, given, storage),
-        None => Err(image_fault(
-            ImageStatement::Store,
-            ExpressionError::InvalidImageClass(image.class),
-        )),
+        inner_at(context, ty)
     }
 }
 
@@ -148,17 +119,18 @@ fn check_image(
 fn check_stored(
     scope: &HandleSet,
     context: &BlockContext,
-    image: ImageShape,
+    dim: ImageDimension,
+    arrayed: bool,
     texel: Texel,
     value: Handle<tag::Expression>,
     given: Option<TypeInner>,
-    storage: ImageStorage,
+    format: StorageFormat,
 ) -> Result<(), FunctionError>
     requires { given ≡ type_at (context_of context.now) value }
-    ensures { result_err result ≡ first_fault (stored_texel_points (context_of context.now) (place_at scope.now) image texel value (Some storage)) }
+    ensures { Finds (stored_points (context_of context.now) (place_at scope.now) dim arrayed texel.coordinate texel.array_index format value) result }
 {
-    check_texel(ImageStatement::Store, scope, context, image, texel)?;
-    check_texel_value(scope, context, storage.format, value, given)
+    check_texel(ImageStatement::Store, scope, context, dim, arrayed, texel)?;
+    check_texel_value(scope, context, format, value, given)
 }
 
 /// The value: in scope, and what a texel holds.
@@ -170,7 +142,7 @@ fn check_texel_value(
     given: Option<TypeInner>,
 ) -> Result<(), FunctionError>
     requires { given ≡ type_at (context_of context.now) value }
-    ensures { result_err result ≡ first_fault (texel_value_points (context_of context.now) (place_at scope.now) format value) }
+    ensures { Finds (texel_value_points (context_of context.now) (place_at scope.now) format value) result }
 {
     check_use(scope, value)?;
     let expected_ty = TypeInner::Vector {

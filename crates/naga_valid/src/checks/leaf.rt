@@ -1,7 +1,7 @@
 //! The check lists of the statements that are neither jumps nor hold others.
 
 ghost use Rattle.std.specs.Prelude.{◌≡◌, ◌++◌, OnOk};
-ghost use Rattle.naga_valid.specs.Answers.{AnswersPoints};
+ghost use Rattle.naga_valid.specs.CodeAnswers.{AnswersPoints};
 ghost use Rattle.naga_valid.specs.Blocks.{tree_of};
 ghost use Rattle.naga_valid.specs.Context.{ContextFits};
 ghost use Rattle.naga_valid.specs.Ready.{IsStatementReady};

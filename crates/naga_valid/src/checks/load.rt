@@ -1,16 +1,14 @@
 //! The check list of WorkGroupUniformLoad.
 
 ghost use Rattle.std.specs.Prelude.{◌≡◌, ◌<◌, ◌++◌, ◌∷◌, [], OnOk, IfSome, length};
-ghost use Rattle.std.specs.Result.{result_err};
 ghost use Rattle.std.specs.Option.{option_copied};
-ghost use Rattle.naga_below.specs.Points.{first_fault};
-ghost use Rattle.naga_valid.specs.Answers.{AnswersPoints};
+ghost use Rattle.naga_valid.specs.CodeAnswers.{Finds, AnswersPoints};
 ghost use Rattle.naga_valid.specs.Context.{ContextFits};
-ghost use Rattle.naga_valid.specs.Loads.{is_work_group, loaded_type_at, points_to, loaded_points, load_points};
+ghost use Rattle.naga_valid.specs.Loads.{is_work_group, loaded_type_at, points_to, load_points};
 ghost use Rattle.naga_valid.specs.CodePlace.{place_at};
 ghost use Rattle.naga_valid.specs.Seen.{context_of};
 
-use crate::checks::atomic::atomic_at;
+use crate::checks::atomic::atomic_scalar;
 use crate::checks::refuse::{answer, check_put, check_use};
 use crate::checks::store::space;
 use crate::checks::types::{is_equivalent, is_scalar};
@@ -50,40 +48,26 @@ fn validate_load(
     loaded: Handle<tag::Expression>,
 ) -> Result<(), FunctionError>
     requires { ContextFits (context_of context.now) }
-    ensures { result_err result ≡ first_fault (load_points (context_of context.now) (place_at scope.now) pointer loaded) }
+    ensures { Finds (load_points (context_of context.now) (place_at scope.now) pointer loaded) result }
 {
     check_use(scope, pointer)?;
     if !is_work_group(space(context, pointer)) {
         return Err(FunctionError::WorkgroupUniformLoadInvalidPointer(pointer));
     }
     check_put(scope, loaded)?;
-    check_loaded(context, pointer, loaded)
+    let Some(ty) = loaded_type(context, loaded) else {
+        return Err(FunctionError::WorkgroupUniformLoadExpressionMismatch(loaded));
+    };
+    if !points_to(context, pointer, ty) {
+        return Err(FunctionError::WorkgroupUniformLoadInvalidPointer(pointer));
+    }
+    Ok(())
 }
 
 fn is_work_group(space: Option<AddressSpace>) -> bool
     ensures { result ≡ is_work_group space }
 {
     matches!(space, Some(AddressSpace::WorkGroup))
-}
-
-/// The result is one of a load, of the type that is pointed to.
-fn check_loaded(
-    context: &BlockContext,
-    pointer: Handle<tag::Expression>,
-    loaded: Handle<tag::Expression>,
-) -> Result<(), FunctionError>
-    requires { ContextFits (context_of context.now) }
-    ensures { result_err result ≡ first_fault (loaded_points (context_of context.now) pointer loaded) }
-{
-    match loaded_type(context, loaded) {
-        Some(ty) => {
-            if !points_to(context, pointer, ty) {
-                return Err(FunctionError::WorkgroupUniformLoadInvalidPointer(pointer));
-            }
-            Ok(())
-        }
-        None => Err(FunctionError::WorkgroupUniformLoadExpressionMismatch(loaded)),
-    }
 }
 
 /// The type that the result of a load is declared with.
@@ -116,8 +100,8 @@ fn points_to(
     if is_equivalent(program, context.type_inner(pointer), Some(&expected)) {
         return true;
     }
-    match atomic_at(context, pointer) {
-        Some(place) => is_scalar(place.scalar, Some(&program.types[ty].inner)),
+    match atomic_scalar(context, pointer) {
+        Some(scalar) => is_scalar(scalar, Some(&program.types[ty].inner)),
         None => false,
     }
 }

@@ -1,12 +1,11 @@
 //! The check list of RayQuery.
 
-ghost use Rattle.std.specs.Prelude.{◌≡◌, ◌++◌, OnOk, Some};
+ghost use Rattle.std.specs.Prelude.{◌≡◌, ◌++◌, ◌∷◌, [], OnOk};
 ghost use Rattle.std.specs.Option.{option_copied};
-ghost use Rattle.std.specs.Result.{result_err};
 ghost use Rattle.naga_below.specs.View.{query_acts};
-ghost use Rattle.naga_below.specs.Points.{first_fault};
-ghost use Rattle.naga_valid.specs.Answers.{AnswersPoints};
-ghost use Rattle.naga_valid.specs.RayQueries.{local_type_at, query_flag_of, structure_flag_at, structure_points, descriptor_type, descriptor_points, returned_points, initialize_points, is_float_scalar, distance_points, query_function_points, queried_points, ray_query_points};
+ghost use Rattle.naga_valid.specs.CodeAnswers.{Finds, AnswersPoints};
+ghost use Rattle.naga_below.specs.declared.ir.operations.RayQueryFunction.TheVariants.{Initialize};
+ghost use Rattle.naga_valid.specs.RayQueries.{local_type_at, query_flag_of, structure_flag_at, descriptor_type, descriptor_points, is_float_scalar, query_function_points, ray_query_points};
 ghost use Rattle.naga_valid.specs.CodePlace.{place_at};
 ghost use Rattle.naga_valid.specs.Seen.{context_of};
 ghost use Rattle.naga_below.specs.TypeTests.{both_are, is_same_inner};
@@ -53,12 +52,15 @@ fn validate_ray_query(
     query: Handle<tag::Expression>,
     fun: &RayQueryFunction,
 ) -> Result<(), FunctionError>
-    ensures { result_err result ≡ first_fault (ray_query_points (context_of context.now) (place_at scope.now) query fun.now) }
+    ensures { Finds (ray_query_points (context_of context.now) (place_at scope.now) query fun.now) result }
 {
-    match local_type(context, query) {
-        Some(ty) => check_queried(scope, context, query, fun, ty),
-        None => Err(FunctionError::InvalidRayQueryExpression(query)),
-    }
+    let Some(ty) = local_type(context, query) else {
+        return Err(FunctionError::InvalidRayQueryExpression(query));
+    };
+    let Some(vertex_return) = query_flag_of(inner_at(context, ty)) else {
+        return Err(FunctionError::InvalidRayQueryType(ty));
+    };
+    check_query_function(scope, context, query, vertex_return, fun)
 }
 
 /// The type that the local is declared with which an expression is.
@@ -76,22 +78,6 @@ fn local_type(context: &BlockContext, handle: Handle<tag::Expression>) -> Option
             None => None,
         },
         _ => None,
-    }
-}
-
-/// The variable is a ray query.
-fn check_queried(
-    scope: &HandleSet,
-    context: &BlockContext,
-    query: Handle<tag::Expression>,
-    fun: &RayQueryFunction,
-    ty: Handle<tag::Type>,
-) -> Result<(), FunctionError>
-    ensures { result_err result ≡ first_fault (queried_points (context_of context.now) (place_at scope.now) query fun.now (Some ty)) }
-{
-    match query_flag_of(inner_at(context, ty)) {
-        Some(vertex_return) => check_query_function(scope, context, query, vertex_return, fun),
-        None => Err(FunctionError::InvalidRayQueryType(ty)),
     }
 }
 
@@ -113,7 +99,7 @@ fn check_query_function(
     vertex_return: bool,
     fun: &RayQueryFunction,
 ) -> Result<(), FunctionError>
-    ensures { result_err result ≡ first_fault (query_function_points (context_of context.now) (place_at scope.now) query vertex_return fun.now) }
+    ensures { Finds (query_function_points (context_of context.now) (place_at scope.now) query vertex_return fun.now) result }
 {
     match fun {
         RayQueryFunction::Initialize {
@@ -128,7 +114,13 @@ fn check_query_function(
             *descriptor,
         ),
         RayQueryFunction::Proceed { result } => check_put(scope, *result),
-        RayQueryFunction::GenerateIntersection { hit_t } => check_distance(scope, context, *hit_t),
+        RayQueryFunction::GenerateIntersection { hit_t } => {
+            check_use(scope, *hit_t)?;
+            if !is_float_scalar(context.type_inner(*hit_t)) {
+                return Err(FunctionError::InvalidHitDistanceType(*hit_t));
+            }
+            Ok(())
+        }
         RayQueryFunction::ConfirmIntersection | RayQueryFunction::Terminate => Ok(()),
     }
 }
@@ -142,26 +134,16 @@ fn check_initialize(
     structure: Handle<tag::Expression>,
     descriptor: Handle<tag::Expression>,
 ) -> Result<(), FunctionError>
-    ensures { result_err result ≡ first_fault (initialize_points (context_of context.now) (place_at scope.now) query vertex_return structure descriptor) }
-{
-    check_structure(scope, context, structure)?;
-    check_returned(context, query, vertex_return, structure)?;
-    check_descriptor(scope, context, descriptor)
-}
-
-/// An acceleration structure: in scope, and one.
-pub fn check_structure(
-    scope: &HandleSet,
-    context: &BlockContext,
-    structure: Handle<tag::Expression>,
-) -> Result<(), FunctionError>
-    ensures { result_err result ≡ first_fault (structure_points (context_of context.now) (place_at scope.now) structure) }
+    ensures { Finds (query_function_points (context_of context.now) (place_at scope.now) query vertex_return (Initialize structure descriptor)) result }
 {
     check_use(scope, structure)?;
-    if structure_flag(context, structure).is_none() {
+    let Some(returns) = structure_flag(context, structure) else {
         return Err(FunctionError::InvalidAccelerationStructure(structure));
+    };
+    if vertex_return && !returns {
+        return Err(FunctionError::MissingAccelerationStructureVertexReturn(structure, query));
     }
-    Ok(())
+    check_descriptor(scope, context, descriptor)
 }
 
 /// Whether an acceleration structure returns vertices.
@@ -174,32 +156,13 @@ pub fn structure_flag(context: &BlockContext, structure: Handle<tag::Expression>
     }
 }
 
-/// The acceleration structure has the flag where the query has it.
-fn check_returned(
-    context: &BlockContext,
-    query: Handle<tag::Expression>,
-    vertex_return: bool,
-    structure: Handle<tag::Expression>,
-) -> Result<(), FunctionError>
-    ensures { result_err result ≡ first_fault (returned_points (context_of context.now) query vertex_return structure) }
-{
-    let returns = match structure_flag(context, structure) {
-        Some(flag) => flag,
-        None => false,
-    };
-    if vertex_return && !returns {
-        return Err(FunctionError::MissingAccelerationStructureVertexReturn(structure, query));
-    }
-    Ok(())
-}
-
 /// The descriptor of a ray: in scope, and of the module's type of ray descriptors.
 pub fn check_descriptor(
     scope: &HandleSet,
     context: &BlockContext,
     descriptor: Handle<tag::Expression>,
 ) -> Result<(), FunctionError>
-    ensures { result_err result ≡ first_fault (descriptor_points (context_of context.now) (place_at scope.now) descriptor) }
+    ensures { Finds (descriptor_points (context_of context.now) (place_at scope.now) descriptor) result }
 {
     check_use(scope, descriptor)?;
     if !is_descriptor(context, descriptor) {
@@ -223,21 +186,6 @@ fn descriptor_type<'a>(context: &BlockContext<'a>) -> Option<&'a TypeInner>
         Some(ty) => inner_at(context, ty),
         None => None,
     }
-}
-
-/// How far away a hit is: in scope, and a float.
-fn check_distance(
-    scope: &HandleSet,
-    context: &BlockContext,
-    distance: Handle<tag::Expression>,
-) -> Result<(), FunctionError>
-    ensures { result_err result ≡ first_fault (distance_points (context_of context.now) (place_at scope.now) distance) }
-{
-    check_use(scope, distance)?;
-    if !is_float_scalar(context.type_inner(distance)) {
-        return Err(FunctionError::InvalidHitDistanceType(distance));
-    }
-    Ok(())
 }
 
 /// Whether a type is a float of any width, and no vector.

@@ -2,17 +2,16 @@
 
 ghost use Rattle.std.specs.Prelude.{◌≡◌, true};
 ghost use Rattle.std.specs.Option.{option_copied, option_or};
-ghost use Rattle.std.specs.Result.{result_err};
-ghost use Rattle.naga_below.specs.Points.{first_fault};
 ghost use Rattle.naga_runs.specs.Positions.{StatementNode};
+ghost use Rattle.naga_valid.specs.CodeAnswers.{Finds};
 ghost use Rattle.naga_valid.specs.Blocks.{tree_of};
-ghost use Rattle.naga_valid.specs.RayTraces.{is_payload_space, is_global, same_payload_points, pointed_points, payload_points, trace_ray_points};
+ghost use Rattle.naga_valid.specs.RayTraces.{is_payload_space, is_global, trace_ray_points};
 ghost use Rattle.naga_valid.specs.CodePlace.{place_at};
 ghost use Rattle.naga_valid.specs.Seen.{context_of};
 ghost use Rattle.naga_valid.specs.Traces.{payload_type_at, lacks_vertex_return, span_where, vertex_return_by, with_trace};
 ghost use Rattle.naga_valid.specs.Types.{type_at};
 
-use crate::checks::ray_query::{check_descriptor, check_structure};
+use crate::checks::ray_query::{check_descriptor, structure_flag};
 use crate::checks::refuse::check_use;
 use crate::context::BlockContext;
 use crate::handle_set::HandleSet;
@@ -35,36 +34,14 @@ pub fn check_trace_ray(
     descriptor: Handle<tag::Expression>,
     payload: Handle<tag::Expression>,
 ) -> Result<(), FunctionError>
-    ensures { result_err result ≡ first_fault (trace_ray_points (context_of context.now) so_far.now (place_at scope.now) structure descriptor payload) }
+    ensures { Finds (trace_ray_points (context_of context.now) so_far.now (place_at scope.now) structure descriptor payload) result }
 {
-    check_structure(scope, context, structure)?;
-    check_payload(scope, context, so_far, payload)?;
-    check_descriptor(scope, context, descriptor)
-}
-
-/// The payload: in scope, a global, and a pointer to the type so far in a space of payloads.
-fn check_payload(
-    scope: &HandleSet,
-    context: &BlockContext,
-    so_far: &Option<Handle<tag::Type>>,
-    payload: Handle<tag::Expression>,
-) -> Result<(), FunctionError>
-    ensures { result_err result ≡ first_fault (payload_points (context_of context.now) so_far.now (place_at scope.now) payload) }
-{
+    check_use(scope, structure)?;
+    if structure_flag(context, structure).is_none() {
+        return Err(FunctionError::InvalidAccelerationStructure(structure));
+    }
     check_use(scope, payload)?;
-    check_pointed(context, so_far, payload, context.type_inner(payload))
-}
-
-/// The type of a payload: a pointer into a space of payloads, to the type so far. The payload itself is a global.
-fn check_pointed(
-    context: &BlockContext,
-    so_far: &Option<Handle<tag::Type>>,
-    payload: Handle<tag::Expression>,
-    inner: Option<&TypeInner>,
-) -> Result<(), FunctionError>
-    ensures { result_err result ≡ first_fault (pointed_points (context_of context.now) so_far.now payload (option_copied inner.entry)) }
-{
-    let Some(TypeInner::Pointer { base, space }) = inner else {
+    let Some(TypeInner::Pointer { base, space }) = context.type_inner(payload) else {
         return Err(FunctionError::InvalidPayloadType);
     };
     if !is_payload_space(*space) {
@@ -73,7 +50,12 @@ fn check_pointed(
     if !is_global(context.expression(payload)) {
         return Err(FunctionError::PayloadPointerNotGlobal);
     }
-    check_same_payload(*base, so_far)
+    if let Some(first) = so_far {
+        if *first != *base {
+            return Err(FunctionError::MismatchedPayloadType(*base, *first));
+        }
+    }
+    check_descriptor(scope, context, descriptor)
 }
 
 /// Whether payloads lie in a space.
@@ -91,21 +73,6 @@ fn is_global(expression: Option<&Expression>) -> bool
     ensures { result ≡ is_global (option_copied expression.entry) }
 {
     matches!(expression, Some(Expression::GlobalVariable(_)))
-}
-
-/// The payload is of the type of those so far, if there was one.
-fn check_same_payload(
-    base: Handle<tag::Type>,
-    so_far: &Option<Handle<tag::Type>>,
-) -> Result<(), FunctionError>
-    ensures { result_err result ≡ first_fault (same_payload_points base so_far.now) }
-{
-    if let Some(first) = so_far {
-        if *first != base {
-            return Err(FunctionError::MismatchedPayloadType(base, *first));
-        }
-    }
-    Ok(())
 }
 
 /// What ray traces leave behind a statement.

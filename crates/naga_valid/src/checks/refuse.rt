@@ -1,9 +1,7 @@
 //! Uses, and refusals with the place of their statement.
 
-ghost use Rattle.std.specs.Prelude.{◌≡◌, [], ◌∷◌};
-ghost use Rattle.std.specs.Result.{result_err};
-ghost use Rattle.naga_below.specs.Points.{first_fault};
-ghost use Rattle.naga_valid.specs.Answers.{AnswersPoints, IsRefusalFor};
+ghost use Rattle.std.specs.Prelude.{[], ◌∷◌};
+ghost use Rattle.naga_valid.specs.CodeAnswers.{Finds, AnswersPoints, IsRefusalFor};
 ghost use Rattle.naga_valid.specs.Points.{Points, use_point, put_point};
 ghost use Rattle.naga_valid.specs.CodePlace.{place_at};
 
@@ -17,7 +15,7 @@ use std::alloc::Global;
 
 /// A use: the expression is in scope.
 pub fn check_use(scope: &HandleSet, handle: Handle<tag::Expression>) -> Result<(), FunctionError>
-    ensures { result_err result ≡ first_fault (use_point (place_at scope.now) handle ∷ []) }
+    ensures { Finds (use_point (place_at scope.now) handle ∷ []) result }
 {
     if !scope.contains(handle) {
         return Err(FunctionError::Expression {
@@ -30,7 +28,7 @@ pub fn check_use(scope: &HandleSet, handle: Handle<tag::Expression>) -> Result<(
 
 /// A put, before it is made: the expression is not in scope.
 pub fn check_put(scope: &HandleSet, handle: Handle<tag::Expression>) -> Result<(), FunctionError>
-    ensures { result_err result ≡ first_fault (put_point (place_at scope.now) handle ∷ []) }
+    ensures { Finds (put_point (place_at scope.now) handle ∷ []) result }
 {
     if scope.contains(handle) {
         return Err(FunctionError::ExpressionAlreadyInScope(handle));
@@ -55,7 +53,7 @@ pub fn answer(
     checked: Result<(), FunctionError>,
     span: Span,
 ) -> Result<(), Refusal<FunctionError>>
-    ensures { (points : Points) → result_err checked ≡ first_fault points → AnswersPoints points result }
+    ensures { (points : Points) → Finds points checked → AnswersPoints points result }
 {
     match checked {
         Ok(()) => Ok(()),
@@ -69,7 +67,7 @@ pub fn answer_of_function(
     alloc: Global,
     checked: Result<(), FunctionError>,
 ) -> Result<(), Refusal<FunctionError>>
-    ensures { (points : Points) → result_err checked ≡ first_fault points → AnswersPoints points result }
+    ensures { (points : Points) → Finds points checked → AnswersPoints points result }
 {
     match checked {
         Ok(()) => Ok(()),

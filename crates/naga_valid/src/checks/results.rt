@@ -1,9 +1,8 @@
 //! Results of calls and of atomic operations.
 
 ghost use Rattle.std.specs.Prelude.{◌≡◌, length};
-ghost use Rattle.std.specs.Result.{result_err};
 ghost use Rattle.std.specs.Option.{option_copied};
-ghost use Rattle.naga_below.specs.Points.{first_fault};
+ghost use Rattle.naga_valid.specs.CodeAnswers.{Finds};
 ghost use Rattle.naga_valid.specs.Results.{is_to_fill, is_unfilled, is_fresh, filled_points_from, filled_points};
 ghost use Rattle.naga_valid.specs.Scope.{known};
 ghost use Rattle.naga_valid.specs.Seen.{context_of};
@@ -43,7 +42,7 @@ pub fn is_fresh(filled: &HandleSet, context: &BlockContext, handle: Handle<tag::
 
 /// Behind a body, where expressions are looked at: each result of the function is filled.
 pub fn check_filled(filled: &HandleSet, context: &BlockContext) -> Result<(), FunctionError>
-    ensures { result_err result ≡ first_fault (filled_points (context_of context.now) (known filled.now)) }
+    ensures { Finds (filled_points (context_of context.now) (known filled.now)) result }
 {
     let flags = context.settings.flags;
     if flags.contains(ValidationFlags::EXPRESSIONS) {
@@ -54,7 +53,7 @@ pub fn check_filled(filled: &HandleSet, context: &BlockContext) -> Result<(), Fu
 }
 
 fn check_each_filled(filled: &HandleSet, context: &BlockContext) -> Result<(), FunctionError>
-    ensures { result_err result ≡ first_fault (filled_points_from (context_of context.now) (known filled.now) 0 (length (context_of context.now).fun.expressions)) }
+    ensures { Finds (filled_points_from (context_of context.now) (known filled.now) 0 (length (context_of context.now).fun.expressions)) result }
 {
     let count = context.fun.expressions.len() as u32;
     for index in 0..count {

@@ -1,14 +1,13 @@
 //! The check list of Store.
 
-ghost use Rattle.std.specs.Prelude.{◌≡◌, IfSome, Some, length};
-ghost use Rattle.std.specs.Result.{result_err};
+ghost use Rattle.std.specs.Prelude.{◌≡◌, ◌∷◌, [], not, IfSome, Some, length};
 ghost use Rattle.std.specs.Option.{option_copied};
 ghost use Rattle.naga_below.specs.Types.{ResolutionFits};
-ghost use Rattle.naga_below.specs.Points.{first_fault};
+ghost use Rattle.naga_valid.specs.CodeAnswers.{Finds};
 ghost use Rattle.naga_valid.specs.Context.{ContextFits};
 ghost use Rattle.naga_valid.specs.CodePlace.{place_at};
 ghost use Rattle.naga_valid.specs.Seen.{context_of};
-ghost use Rattle.naga_valid.specs.Stores.{access_base, root_at, is_variable, base_type_at, space_at, is_writable, texture_points, is_stored_as, place_points, stored_points, store_points};
+ghost use Rattle.naga_valid.specs.Stores.{access_base, root_at, is_variable, base_type_at, space_at, is_writable, texture_point, is_stored_as, store_points};
 
 use crate::checks::refuse::check_use;
 use crate::checks::types::is_scalar;
@@ -23,7 +22,8 @@ use naga_below::proc::type_methods::compare_types;
 use naga_below::proc::typifier::TypeResolution;
 use naga_rules::function::FunctionError;
 
-/// Store: its pointer leads back to a variable or an argument; its value, and the place where it goes.
+/// Store: its pointer leads back to a variable or an argument; its value, which is no texture; the type that is pointed
+/// to holds it, and its space takes stores.
 pub fn check_store(
     scope: &HandleSet,
     context: &BlockContext,
@@ -31,14 +31,21 @@ pub fn check_store(
     value: Handle<tag::Expression>,
 ) -> Result<(), FunctionError>
     requires { ContextFits (context_of context.now) }
-    ensures { result_err result ≡ first_fault (store_points (context_of context.now) (place_at scope.now) pointer value) }
+    ensures { Finds (store_points (context_of context.now) (place_at scope.now) pointer value) result }
 {
     let root = root_of(context, pointer);
     if !is_variable(context.expression(root)) {
         return Err(FunctionError::InvalidStorePointer(root));
     }
     check_use(scope, value)?;
-    check_stored(context, pointer, value)
+    check_texture(value, context.type_inner(value))?;
+    if !is_stored_as(context, value, &base_type(context, pointer)) {
+        return Err(FunctionError::InvalidStoreTypes { pointer, value });
+    }
+    if !is_writable(context, pointer) {
+        return Err(FunctionError::InvalidStorePointer(pointer));
+    }
+    Ok(())
 }
 
 /// Where the walk from a pointer stops, which goes from an access to its base.
@@ -79,25 +86,12 @@ fn is_variable(expression: Option<&Expression>) -> bool
     )
 }
 
-/// What is stored is no texture, the type that is pointed to holds it, and its space takes stores.
-fn check_stored(
-    context: &BlockContext,
-    pointer: Handle<tag::Expression>,
-    value: Handle<tag::Expression>,
-) -> Result<(), FunctionError>
-    requires { ContextFits (context_of context.now) }
-    ensures { result_err result ≡ first_fault (stored_points (context_of context.now) pointer value) }
-{
-    check_texture(value, context.type_inner(value))?;
-    check_place(context, pointer, value)
-}
-
 /// An image or a sampler is never stored.
 fn check_texture(
     value: Handle<tag::Expression>,
     inner: Option<&TypeInner>,
 ) -> Result<(), FunctionError>
-    ensures { result_err result ≡ first_fault (texture_points value (option_copied inner.entry)) }
+    ensures { Finds (texture_point value (option_copied inner.entry) ∷ []) result }
 {
     let actual_ty = match inner {
         Some(
@@ -120,24 +114,6 @@ fn check_texture(
         actual: value,
         actual_ty,
     })
-}
-
-/// The type that is pointed to holds the value, and its space takes stores.
-fn check_place(
-    context: &BlockContext,
-    pointer: Handle<tag::Expression>,
-    value: Handle<tag::Expression>,
-) -> Result<(), FunctionError>
-    requires { ContextFits (context_of context.now) }
-    ensures { result_err result ≡ first_fault (place_points (context_of context.now) pointer value) }
-{
-    if !is_stored_as(context, value, &base_type(context, pointer)) {
-        return Err(FunctionError::InvalidStoreTypes { pointer, value });
-    }
-    if !is_writable(context, pointer) {
-        return Err(FunctionError::InvalidStorePointer(pointer));
-    }
-    Ok(())
 }
 
 /// The type that a pointer points to.

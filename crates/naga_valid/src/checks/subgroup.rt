@@ -2,12 +2,11 @@
 
 ghost use Rattle.std.specs.Prelude.{◌≡◌, ◌++◌, ◌∷◌, [], OnOk};
 ghost use Rattle.std.specs.Option.{option_copied};
-ghost use Rattle.std.specs.Result.{result_err};
-ghost use Rattle.naga_below.specs.Points.{first_fault};
-ghost use Rattle.naga_valid.specs.Answers.{AnswersPoints};
+ghost use Rattle.naga_valid.specs.CodeAnswers.{Finds, AnswersPoints};
 ghost use Rattle.naga_valid.specs.CodePlace.{place_at};
+ghost use Rattle.naga_valid.specs.CodeSubgroups.{combined_points};
 ghost use Rattle.naga_valid.specs.Seen.{context_of};
-ghost use Rattle.naga_valid.specs.Subgroups.{operations_point, target_points, predicate_points, ballot_points, is_number_kind, combined_type_at, combined_points};
+ghost use Rattle.naga_valid.specs.Subgroups.{operations_point, subgroups_point, predicate_points, ballot_points, is_number_kind, combined_type_at};
 
 use crate::checks::refuse::{answer, check_put, check_use};
 use crate::checks::types::{are_same_inners, is_scalar};
@@ -28,7 +27,7 @@ pub fn check_operations(
     settings: &Settings,
     needed: SubgroupOperationSet,
 ) -> Result<(), FunctionError>
-    ensures { result_err result ≡ first_fault (operations_point settings.now needed ∷ []) }
+    ensures { Finds (operations_point settings.now needed ∷ []) result }
 {
     if !settings.subgroup_operations.contains(needed) {
         let error = SubgroupError::UnsupportedOperation(needed);
@@ -37,15 +36,15 @@ pub fn check_operations(
     Ok(())
 }
 
-/// What each statement of a subgroup needs of the target first: subgroups at all, and then these operations.
-pub fn check_target(settings: &Settings, needed: SubgroupOperationSet) -> Result<(), FunctionError>
-    ensures { result_err result ≡ first_fault (target_points settings.now needed) }
+/// Subgroups, which the target has at all.
+pub fn check_subgroups(settings: &Settings) -> Result<(), FunctionError>
+    ensures { Finds (subgroups_point settings.now ∷ []) result }
 {
-    let subgroups = Capabilities::SUBGROUP;
-    if !settings.capabilities.contains(subgroups) {
-        return Err(FunctionError::MissingCapability(subgroups));
+    let needed = Capabilities::SUBGROUP;
+    if !settings.capabilities.contains(needed) {
+        return Err(FunctionError::MissingCapability(needed));
     }
-    check_operations(settings, needed)
+    Ok(())
 }
 
 /// SubgroupBallot: its predicate and its result, which is in scope afterwards.
@@ -74,9 +73,10 @@ fn validate_ballot(
     ballot: Handle<tag::Expression>,
     predicate: &Option<Handle<tag::Expression>>,
 ) -> Result<(), FunctionError>
-    ensures { result_err result ≡ first_fault (ballot_points (context_of context.now) (place_at scope.now) ballot predicate.now) }
+    ensures { Finds (ballot_points (context_of context.now) (place_at scope.now) ballot predicate.now) result }
 {
-    check_target(&context.settings, SubgroupOperationSet::BALLOT)?;
+    check_subgroups(&context.settings)?;
+    check_operations(&context.settings, SubgroupOperationSet::BALLOT)?;
     check_predicate(scope, context, predicate)?;
     check_put(scope, ballot)
 }
@@ -87,7 +87,7 @@ fn check_predicate(
     context: &BlockContext,
     predicate: &Option<Handle<tag::Expression>>,
 ) -> Result<(), FunctionError>
-    ensures { result_err result ≡ first_fault (predicate_points (context_of context.now) (place_at scope.now) predicate.now) }
+    ensures { Finds (predicate_points (context_of context.now) (place_at scope.now) predicate.now) result }
 {
     match predicate {
         Some(handle) => {
@@ -119,7 +119,7 @@ pub fn check_combined(
     argument: Handle<tag::Expression>,
     combined: Handle<tag::Expression>,
 ) -> Result<(), FunctionError>
-    ensures { result_err result ≡ first_fault (combined_points (context_of context.now) (place_at scope.now) argument combined) }
+    ensures { Finds (combined_points (context_of context.now) (place_at scope.now) argument combined) result }
 {
     check_put(scope, combined)?;
     if !are_same_inners(

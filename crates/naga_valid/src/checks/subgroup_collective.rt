@@ -2,16 +2,14 @@
 
 ghost use Rattle.std.specs.Prelude.{◌≡◌, ◌++◌, ◌∷◌, [], OnOk};
 ghost use Rattle.std.specs.Option.{option_copied};
-ghost use Rattle.std.specs.Result.{result_err};
-ghost use Rattle.naga_below.specs.Points.{first_fault};
-ghost use Rattle.naga_valid.specs.Answers.{AnswersPoints};
+ghost use Rattle.naga_valid.specs.CodeAnswers.{Finds, AnswersPoints};
 ghost use Rattle.naga_valid.specs.CodePlace.{place_at};
 ghost use Rattle.naga_valid.specs.Seen.{context_of};
-ghost use Rattle.naga_valid.specs.Subgroups.{is_wide_integer, is_combined_by, takes_vectors, is_operand_of, is_scanned, is_done_over, combination_points, collective_points};
+ghost use Rattle.naga_valid.specs.Subgroups.{is_wide_integer, is_combined_by, takes_vectors, is_operand_of, is_scanned, is_done_over, collective_points};
 
 use crate::checks::control::is_integer;
 use crate::checks::refuse::{answer, check_use};
-use crate::checks::subgroup::{check_combined, check_target, is_number_kind};
+use crate::checks::subgroup::{check_combined, check_operations, check_subgroups, is_number_kind};
 use crate::context::BlockContext;
 use crate::handle_set::HandleSet;
 use naga_below::arena::handle::Handle;
@@ -42,7 +40,6 @@ pub fn check_collective(
 }
 
 /// All that is checked of a collective operation. Its result stays out of scope.
-#[tactic(auto, using(crate::proofs::Lists::appended))]
 fn validate_collective(
     scope: &HandleSet,
     context: &BlockContext,
@@ -51,23 +48,10 @@ fn validate_collective(
     argument: Handle<tag::Expression>,
     combined: Handle<tag::Expression>,
 ) -> Result<(), FunctionError>
-    ensures { result_err result ≡ first_fault (collective_points (context_of context.now) (place_at scope.now) operation part argument combined) }
+    ensures { Finds (collective_points (context_of context.now) (place_at scope.now) operation part argument combined) result }
 {
-    check_target(&context.settings, operation.required_operations())?;
-    check_combination(scope, context, operation, part, argument, combined)
-}
-
-/// The argument and the operation, then the result.
-fn check_combination(
-    scope: &HandleSet,
-    context: &BlockContext,
-    operation: SubgroupOperation,
-    part: CollectiveOperation,
-    argument: Handle<tag::Expression>,
-    combined: Handle<tag::Expression>,
-) -> Result<(), FunctionError>
-    ensures { result_err result ≡ first_fault (combination_points (context_of context.now) (place_at scope.now) operation part argument combined) }
-{
+    check_subgroups(&context.settings)?;
+    check_operations(&context.settings, operation.required_operations())?;
     check_use(scope, argument)?;
     if !is_operand_of(operation, context.type_inner(argument)) {
         let error = SubgroupError::InvalidOperand(argument);

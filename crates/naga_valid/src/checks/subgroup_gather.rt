@@ -2,15 +2,14 @@
 
 ghost use Rattle.std.specs.Prelude.{◌≡◌, ◌++◌, ◌∷◌, [], OnOk, Some};
 ghost use Rattle.std.specs.Option.{option_copied};
-ghost use Rattle.std.specs.Result.{result_err};
-ghost use Rattle.naga_below.specs.Points.{first_fault};
-ghost use Rattle.naga_valid.specs.Answers.{AnswersPoints};
+ghost use Rattle.naga_valid.specs.CodeAnswers.{Finds, AnswersPoints};
 ghost use Rattle.naga_valid.specs.CodePlace.{place_at};
+ghost use Rattle.naga_valid.specs.CodeSubgroups.{indexed_points, gathered_points};
 ghost use Rattle.naga_valid.specs.Seen.{context_of};
-ghost use Rattle.naga_valid.specs.Subgroups.{index_of, is_broadcast, is_const_at, index_points, is_gathered, gathered_points, indexed_points, gather_points};
+ghost use Rattle.naga_valid.specs.Subgroups.{index_of, is_broadcast, is_const_at, index_points, is_gathered, gather_points};
 
 use crate::checks::refuse::{answer, check_use};
-use crate::checks::subgroup::{check_combined, check_target, is_number_kind};
+use crate::checks::subgroup::{check_combined, check_operations, check_subgroups, is_number_kind};
 use crate::checks::types::is_scalar;
 use crate::context::BlockContext;
 use crate::handle_set::HandleSet;
@@ -49,9 +48,10 @@ fn validate_gather(
     argument: Handle<tag::Expression>,
     gathered: Handle<tag::Expression>,
 ) -> Result<(), FunctionError>
-    ensures { result_err result ≡ first_fault (gather_points (context_of context.now) (place_at scope.now) mode.now argument gathered) }
+    ensures { Finds (gather_points (context_of context.now) (place_at scope.now) mode.now argument gathered) result }
 {
-    check_target(&context.settings, mode.required_operations())?;
+    check_subgroups(&context.settings)?;
+    check_operations(&context.settings, mode.required_operations())?;
     check_indexed(scope, context, mode, argument, gathered)
 }
 
@@ -64,7 +64,7 @@ fn check_indexed(
     argument: Handle<tag::Expression>,
     gathered: Handle<tag::Expression>,
 ) -> Result<(), FunctionError>
-    ensures { result_err result ≡ first_fault (indexed_points (context_of context.now) (place_at scope.now) mode.now argument gathered) }
+    ensures { Finds (indexed_points (context_of context.now) (place_at scope.now) mode.now argument gathered) result }
 {
     if let Some(index) = index_of(mode) {
         check_index(scope, context, is_broadcast(mode), argument, index)?;
@@ -105,7 +105,7 @@ fn check_index(
     argument: Handle<tag::Expression>,
     index: Handle<tag::Expression>,
 ) -> Result<(), FunctionError>
-    ensures { result_err result ≡ first_fault (index_points (context_of context.now) (place_at scope.now) broadcasts argument (Some index)) }
+    ensures { Finds (index_points (context_of context.now) (place_at scope.now) broadcasts argument (Some index)) result }
 {
     check_use(scope, index)?;
     if !is_scalar(Scalar::U32, context.type_inner(index)) {
@@ -133,7 +133,7 @@ fn check_gathered(
     argument: Handle<tag::Expression>,
     gathered: Handle<tag::Expression>,
 ) -> Result<(), FunctionError>
-    ensures { result_err result ≡ first_fault (gathered_points (context_of context.now) (place_at scope.now) argument gathered) }
+    ensures { Finds (gathered_points (context_of context.now) (place_at scope.now) argument gathered) result }
 {
     check_use(scope, argument)?;
     if !is_gathered(context.type_inner(argument)) {

@@ -4,7 +4,7 @@ ghost use Rattle.std.specs.Prelude.{◌≡◌, OnOk, Result, length};
 ghost use Rattle.naga_below.specs.declared.valid.expression_error.ExpressionError.{ExpressionError as Source};
 ghost use Rattle.naga_below.specs.declared.valid.flags.ShaderStages.{ShaderStages as Mask};
 ghost use Rattle.naga_rules.specs.Answers.{Answers};
-ghost use Rattle.naga_valid.specs.Answers.{AnswersLeaving};
+ghost use Rattle.naga_valid.specs.CodeAnswers.{AnswersLeaving};
 ghost use Rattle.naga_valid.specs.Expressions.{with_stages, of_expression, stages_from};
 ghost use Rattle.naga_valid.specs.Seen.{asked_context};
 

@@ -6,7 +6,7 @@ ghost use Rattle.naga_runs.specs.Soundness.{RunsAreSound};
 ghost use Rattle.naga_valid.specs.Accepted.{ResultsAreFilledOnce, StagesAreOfAll};
 ghost use Rattle.naga_valid.specs.Blocks.{body_of};
 ghost use Rattle.naga_valid.specs.Context.{pre_emitted_of};
-ghost use Rattle.naga_valid.specs.Flags.{checks_blocks, checks_expressions};
+ghost use Rattle.naga_valid.specs.WhatIsChecked.{checks_blocks, checks_expressions};
 ghost use Rattle.naga_valid.specs.Judged.{function_judgement, AnswersTracing};
 ghost use Rattle.naga_valid.specs.Parts.{AreInfosOf};
 

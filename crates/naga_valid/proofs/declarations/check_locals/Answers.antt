@@ -2,7 +2,7 @@ use Rattle.std.proofs.Common.{rules, ◌≡◌, Some, None, length, sym, subst}
 use Rattle.std.proofs.lemmas.Option.{get_or_from_slice_get}
 use Rattle.std.specs.Prelude.{slice_get}
 use Rattle.naga_below.specs.Points.{first_fault}
-use Rattle.naga_valid.specs.Answers.{AnswersPoints}
+use Rattle.naga_valid.specs.CodeAnswers.{AnswersPoints}
 use Rattle.naga_valid.specs.Declarations.{variable_points}
 use Rattle.naga_valid.specs.Seen.{context_of}
 use Rattle.naga_valid.proofs.Each.{each_stops, each_passes}

@@ -1,6 +1,7 @@
 use Rattle.std.proofs.Common.{Some, arith, ◌≡◌, ◌++◌, [], ◌∷◌, true, false, sym, ap, ◌∙◌, append_assoc}
 use Rattle.naga_rules.specs.declared.function.FunctionError.TheVariants.{EmitResult, ExpressionAlreadyInScope}
-use Rattle.naga_valid.specs.Control.{is_result, emit_points}
+use Rattle.naga_valid.specs.Control.{emit_points}
+use Rattle.naga_valid.specs.Results.{is_result}
 use Rattle.naga_valid.specs.CodePlace.{place_at}
 use Rattle.naga_valid.specs.Scope.{in_scope}
 use Rattle.naga_valid.specs.Seen.{context_of}

@@ -1,5 +1,6 @@
 use Rattle.std.proofs.Common.{rules}
-use Rattle.naga_valid.specs.ImageAtomics.{format_points, changed_value_points}
+use Rattle.naga_valid.specs.CodeImages.{changed_value_points}
+use Rattle.naga_valid.specs.ImageAtomics.{format_points}
 use Rattle.naga_valid.specs.CodePlace.{place_at}
 use Rattle.naga_valid.specs.Seen.{context_of}
 use Rattle.naga_valid.proofs.Refusals.{fault_first, fault_second}

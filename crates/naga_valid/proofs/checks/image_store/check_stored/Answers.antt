@@ -1,5 +1,5 @@
 use Rattle.std.proofs.Common.{rules}
-use Rattle.naga_valid.specs.Images.{texel_points, texel_value_points}
+use Rattle.naga_valid.specs.CodeImages.{texel_points, texel_value_points}
 use Rattle.naga_valid.specs.CodePlace.{place_at}
 use Rattle.naga_valid.specs.Seen.{context_of}
 use Rattle.naga_valid.specs.declared.checks.image.ImageStatement.TheVariants.{Store}
@@ -9,13 +9,13 @@ use Rattle.naga_valid.proofs.checks.image_store.check_stored.Goals as goal
 pub returns-in_err-check_texel : goal.returns-in_err-check_texel
 returns-in_err-check_texel c =
     let context = context_of c.args.context.now in
-    let texels = texel_points Store context (place_at c.args.scope.now) c.args.image c.args.texel in
-    let values = texel_value_points context (place_at c.args.scope.now) c.args.storage.format c.args.value in
+    let texels = texel_points Store context (place_at c.args.scope.now) c.args.dim c.args.arrayed c.args.texel.coordinate c.args.texel.array_index in
+    let values = texel_value_points context (place_at c.args.scope.now) c.args.format c.args.value in
     fault_first c.from_residual.result texels values (search rules) (search rules)
 
 pub returns : goal.returns
 returns c =
     let context = context_of c.args.context.now in
-    let texels = texel_points Store context (place_at c.args.scope.now) c.args.image c.args.texel in
-    let values = texel_value_points context (place_at c.args.scope.now) c.args.storage.format c.args.value in
+    let texels = texel_points Store context (place_at c.args.scope.now) c.args.dim c.args.arrayed c.args.texel.coordinate c.args.texel.array_index in
+    let values = texel_value_points context (place_at c.args.scope.now) c.args.format c.args.value in
     fault_second _ texels values (search rules) c.check_texel_value.ensures

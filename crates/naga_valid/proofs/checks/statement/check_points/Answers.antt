@@ -5,7 +5,6 @@ use Rattle.naga_below.specs.View.{no_operands}
 use Rattle.naga_valid.specs.Seen.{context_of}
 use Rattle.naga_valid.specs.State.{seen}
 use Rattle.naga_valid.specs.Walk.{place}
-use Rattle.naga_valid.proofs.Bare.{leaf_bare}
 use Rattle.naga_valid.proofs.Own.{points_of_leaf}
 use Rattle.naga_valid.proofs.checks.statement.check_points.Goals as goal
 
@@ -18,5 +17,4 @@ returns-in-Switch-clause-fault c =
 pub returns-in_default-clause-fault : goal.returns-in_default-clause-fault
 returns-in_default-clause-fault c =
     let same = points_of_leaf (context_of c.args.context.now) (seen c.args.state.now) (place c.args.abilities c.args.scope.now) c.args.located.now.span c.args.located.now.statement c.in_default.not-If c.in_default.not-Switch c.in_default.not-Break c.in_default.not-Continue c.in_default.not-Return in
-    let leaf = leaf_bare (context_of c.args.context.now) (place c.args.abilities c.args.scope.now) (seen c.args.state.now) c.args.located.now.statement in
-    rw (← same, leaf) c.check_leaf.ensures.fault
+    rw (← same) c.check_leaf.ensures.fault
