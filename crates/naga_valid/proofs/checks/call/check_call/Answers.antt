@@ -1,4 +1,4 @@
-use Rattle.std.proofs.Common.{rules, slice_get, sym, ap, ◌∙◌}
+use Rattle.std.proofs.Common.{rules, sym, ap, ◌∙◌}
 use Rattle.std.specs.Option.{option_map}
 use Rattle.naga_rules.specs.declared.function.FunctionError.TheVariants.{InvalidCall}
 use Rattle.naga_valid.specs.Calls.{callee_points, call_points}

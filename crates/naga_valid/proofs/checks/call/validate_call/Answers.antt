@@ -1,4 +1,4 @@
-use Rattle.std.proofs.Common.{rules, slice_get, sym, ◌∙◌}
+use Rattle.std.proofs.Common.{rules, sym, ◌∙◌}
 use Rattle.naga_valid.specs.CodePlace.{place_at}
 use Rattle.naga_valid.specs.Scope.{known}
 use Rattle.naga_valid.specs.Seen.{context_of}
