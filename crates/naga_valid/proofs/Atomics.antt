@@ -1,9 +1,9 @@
 -- The check list of Atomic: what it says of uses and puts.
-use Rattle.std.proofs.Common.{◌≡◌, ℕ, true, false, [], ◌∷◌, ◌++◌, Option, None, Some, refl}
+use Rattle.std.proofs.Common.{◌≡◌, ℕ, true, false, ◌∷◌, Option, None, Some, refl}
 use Rattle.std.specs.Prelude.{IfSome, is_some}
 use Rattle.naga_below.proofs.Points.{both_hold, not_holds}
 use Rattle.naga_below.specs.Points.{first_fault}
-use Rattle.naga_below.specs.Tree.{Use, Put}
+use Rattle.naga_below.specs.Tree.{Use}
 use Rattle.naga_below.specs.View.{atomic_acts, put_if}
 use Rattle.naga_below.specs.declared.ir.operations.AtomicFunction.{AtomicFunction}
 use Rattle.naga_below.specs.declared.ir.operations.AtomicFunction.TheVariants.{Exchange}

@@ -55,13 +55,16 @@ named_holds context filled place f returns r e =
     let third = first_holds (is_fresh context filled r) (ResultAlreadyPopulated r) [] second.1 in
     (not_holds (is_in_scope place r) first.0, second.0, third.0)
 
-module _ (context : Context) (filled : Handles) (place : Place) (f : ℕ) (callee : Option Function) (gs : List ℕ) where
-  pub result_is_new : (named : Option ℕ) → first_fault (callee_points context filled place f callee gs named) ≡ None → IfSome named (λ r. is_in_scope place r ≡ false)
+module _ (context : Context) (filled : Handles) (place : Place) (f : ℕ) (gs : List ℕ) where
+  abbrev callee : Option Function
+  callee = slice_get context.program.functions f
+
+  pub result_is_new : (named : Option ℕ) → first_fault (callee_points context filled place f gs named) ≡ None → IfSome named (λ r. is_in_scope place r ≡ false)
   result_is_new None e = tt
   result_is_new (Some r) e =
       (named_holds context filled place f (has_result callee) r (both_hold (arguments_points context place (arguments_of callee) gs) (call_result_points context filled place f (has_result callee) (Some r)) e).1).0
 
-  callee_fits : (named : Option ℕ) → first_fault (callee_points context filled place f callee gs named) ≡ None → Fit (may_use place) (is_in_scope place) (map Use gs ++ put_if named)
+  callee_fits : (named : Option ℕ) → first_fault (callee_points context filled place f gs named) ≡ None → Fit (may_use place) (is_in_scope place) (map Use gs ++ put_if named)
   callee_fits named e =
       let both = both_hold (arguments_points context place (arguments_of callee) gs) (call_result_points context filled place f (has_result callee) named) e in
       let count = first_holds (length (arguments_of callee) == length gs) (ArgumentCount (length (arguments_of callee)) (length gs)) (argument_points_from context place 0 (arguments_of callee) gs) both.0 in
@@ -71,9 +74,9 @@ module _ (context : Context) (filled : Handles) (place : Place) (f : ℕ) (calle
       put_fits None h = tt
       put_fits (Some r) h = (h, tt)
 
-pub callee_holds : (context : Context) (filled : Handles) (place : Place) (f : ℕ) (gs : List ℕ) (named : Option ℕ) → first_fault (call_points context filled place f gs named) ≡ None → first_fault (callee_points context filled place f (slice_get context.program.functions f) gs named) ≡ None
+pub callee_holds : (context : Context) (filled : Handles) (place : Place) (f : ℕ) (gs : List ℕ) (named : Option ℕ) → first_fault (call_points context filled place f gs named) ≡ None → first_fault (callee_points context filled place f gs named) ≡ None
 callee_holds context filled place f gs named e =
-    let inside = callee_points context filled place f (slice_get context.program.functions f) gs named in
+    let inside = callee_points context filled place f gs named in
     within_none (first_fault inside) (InvalidCall f) (sym (first_fault-within (InvalidCall f) inside) ∙ e)
 
 -- what holds of the result of a call
@@ -85,22 +88,22 @@ call_holds context filled place f gs r e =
     named_holds context filled place f (has_result callee) r both.1
 
 pub call_fits : (context : Context) (filled : Handles) (place : Place) (f : ℕ) (gs : List ℕ) (named : Option ℕ) → first_fault (call_points context filled place f gs named) ≡ None → Fit (may_use place) (is_in_scope place) (map Use gs ++ put_if named)
-call_fits context filled place f gs named e = callee_fits context filled place f (slice_get context.program.functions f) gs named (callee_holds context filled place f gs named e)
+call_fits context filled place f gs named e = callee_fits context filled place f gs named (callee_holds context filled place f gs named e)
 
 -- a call of a function that is there
-module _ (context : Context) (filled : Handles) (place : Place) (f : ℕ) (gs : List ℕ) (named : Option ℕ) (o : Option Function) (callee : Function) (is : o ≡ Some callee) where
-  split : first_fault (callee_points context filled place f o gs named)
+module _ (context : Context) (filled : Handles) (place : Place) (f : ℕ) (gs : List ℕ) (named : Option ℕ) (callee : Function) (is : slice_get context.program.functions f ≡ Some callee) where
+  split : first_fault (callee_points context filled place f gs named)
       ≡ option_or (first_fault (arguments_points context place callee.arguments gs)) (first_fault (call_result_points context filled place f (is_some callee.result) named))
   split =
-      ap (λ z. first_fault (callee_points context filled place f z gs named)) is
+      ap (λ z. first_fault (arguments_points context place (arguments_of z) gs ++ call_result_points context filled place f (has_result z) named)) is
       ∙ first_fault-append (arguments_points context place callee.arguments gs) (call_result_points context filled place f (is_some callee.result) named)
 
-  pub call_stops : {T : Type 0} (r : Result T CallError) → is_err r ≡ true → result_err r ≡ first_fault (arguments_points context place callee.arguments gs) → result_err r ≡ first_fault (callee_points context filled place f o gs named)
+  pub call_stops : {T : Type 0} (r : Result T CallError) → is_err r ≡ true → result_err r ≡ first_fault (arguments_points context place callee.arguments gs) → result_err r ≡ first_fault (callee_points context filled place f gs named)
   call_stops (Ok t) err e = cc
   call_stops (Err x) err e =
       ap (λ z. option_or z (first_fault (call_result_points context filled place f (is_some callee.result) named))) e ∙ sym split
 
-  pub call_next : {T : Type 0} (r : Result T CallError) (rest : Option CallError) → is_err r ≡ false → result_err r ≡ first_fault (arguments_points context place callee.arguments gs) → rest ≡ first_fault (call_result_points context filled place f (is_some callee.result) named) → rest ≡ first_fault (callee_points context filled place f o gs named)
+  pub call_next : {T : Type 0} (r : Result T CallError) (rest : Option CallError) → is_err r ≡ false → result_err r ≡ first_fault (arguments_points context place callee.arguments gs) → rest ≡ first_fault (call_result_points context filled place f (is_some callee.result) named) → rest ≡ first_fault (callee_points context filled place f gs named)
   call_next (Ok t) rest ok e n =
       n ∙ ap (λ z. option_or z (first_fault (call_result_points context filled place f (is_some callee.result) named))) e ∙ sym split
   call_next (Err x) rest ok e n = cc

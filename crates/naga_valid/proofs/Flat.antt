@@ -1,6 +1,6 @@
 -- What it says that no point of a list fails: of one of them by its index, of those behind some, and of a use and a put.
-use Rattle.std.proofs.Common.{◌≡◌, ℕ, zero, suc, Bool, true, not, List, [], ◌∷◌, None, refl}
-use Rattle.naga_below.proofs.Points.{first_holds, not_holds}
+use Rattle.std.proofs.Common.{◌≡◌, ℕ, zero, suc, Bool, true, List, [], ◌∷◌, None, refl}
+use Rattle.naga_below.proofs.Points.{first_holds}
 use Rattle.naga_below.specs.Points.{Point, first_fault}
 
 -- the condition of a point, and the points behind some

@@ -23,7 +23,8 @@ use Rattle.naga_runs.specs.Soundness.{Fit, Allowed, RunsAreSound}
 use Rattle.naga_runs.specs.Visits.{Place}
 use Rattle.naga_valid.specs.Blocks.{body_of}
 use Rattle.naga_valid.specs.Context.{Context, pre_emitted}
-use Rattle.naga_valid.specs.Control.{emit_points_from, is_bool_scalar, is_integer, value_points, values_of, cases_points, declared_type, is_returned_as}
+use Rattle.naga_valid.specs.CodeSwitch.{cases_points}
+use Rattle.naga_valid.specs.Control.{emit_points_from, is_bool_scalar, is_integer, value_points, values_of, declared_type, is_returned_as}
 use Rattle.naga_valid.specs.Judged.{body_judgement}
 use Rattle.naga_valid.specs.Points.{Points, use_point, put_point, may_use, is_in_scope}
 use Rattle.naga_valid.specs.Past.{Past}

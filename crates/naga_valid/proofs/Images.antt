@@ -1,5 +1,5 @@
 -- The uses of a texel, and what the check list of ImageStore says of uses.
-use Rattle.std.proofs.Common.{◌≡◌, ℕ, true, Bool, List, [], ◌∷◌, ◌++◌, Option, None, Some}
+use Rattle.std.proofs.Common.{◌≡◌, ℕ, Bool, List, [], ◌∷◌, ◌++◌, Option, None, Some}
 use Rattle.naga_below.proofs.Points.{both_hold}
 use Rattle.naga_below.specs.Points.{first_fault}
 use Rattle.naga_below.specs.Tree.{Act, Use}

@@ -1,5 +1,5 @@
 -- The check list of RayQuery: what it says of uses and puts.
-use Rattle.std.proofs.Common.{◌≡◌, ℕ, Bool, true, false, [], ◌∷◌, None}
+use Rattle.std.proofs.Common.{◌≡◌, ℕ, Bool, false, None}
 use Rattle.naga_below.proofs.Points.{not_holds}
 use Rattle.naga_below.specs.Points.{first_fault}
 use Rattle.naga_below.specs.View.{query_acts}

@@ -71,13 +71,14 @@ call_result_points context filled place f returns (Some r) =
     ∷ []
 call_result_points context filled place f returns None = (not returns, ExpressionMismatch None) ∷ []
 
--- what is asked of a call of this function
-abbrev pub callee_points : Context → Handles → Place → ℕ → Option Function → List ℕ → Option ℕ → CallPoints
-callee_points context filled place f callee given result =
+-- what is asked of a call: its arguments, then its result
+abbrev pub callee_points : Context → Handles → Place → ℕ → List ℕ → Option ℕ → CallPoints
+callee_points context filled place f given result =
+    let callee = slice_get context.program.functions f in
     arguments_points context place (arguments_of callee) given
     ++ call_result_points context filled place f (has_result callee) result
 
--- Call: its arguments, then its result
+-- Call: all that inside the fault of the function
 abbrev pub call_points : Context → Handles → Place → ℕ → List ℕ → Option ℕ → Points
 call_points context filled place f given result =
-    within (InvalidCall f) (callee_points context filled place f (slice_get context.program.functions f) given result)
+    within (InvalidCall f) (callee_points context filled place f given result)

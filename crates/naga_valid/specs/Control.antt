@@ -58,11 +58,6 @@ is_integer (Some kind.Uint) = true
 is_integer (Some kind.Sint) = true
 is_integer _ = false
 
--- the selector of a Switch: an integer in scope
-abbrev pub selector_points : Context → Place → ℕ → Points
-selector_points context place h =
-    use_point place h ∷ (is_integer (scalar_kind_at context h), InvalidSwitchType h) ∷ []
-
 -- a case value of the selector's signedness
 abbrev pub has_signedness_of : Option ScalarKind → SwitchValue → Bool
 has_signedness_of (Some kind.Sint) (I32 n) = true
@@ -104,18 +99,15 @@ last_falls_through (OneCase v falls_through body NoCase) = falls_through
 last_falls_through (OneCase v falls_through body (OneCase w next_falls next rest)) =
     last_falls_through (OneCase w next_falls next rest)
 
--- the cases as a whole: one of them is the default, and the last does not fall through
-abbrev pub cases_points : Cases → Points
-cases_points cases =
-    (list_any is_default (values_of cases), MissingDefaultCase)
-    ∷ (not (last_falls_through cases), LastCaseFallTrough)
-    ∷ []
-
--- Switch: its selector, each case value, and the cases as a whole
+-- Switch: its selector, an integer; each case value; one case is the default, and the last does not fall through
 abbrev pub switch_points : Context → Place → ℕ → Cases → Points
 switch_points context place h cases =
-    selector_points context place h
-    ++ (value_points (scalar_kind_at context h) [] (values_of cases) ++ cases_points cases)
+    use_point place h
+    ∷ (is_integer (scalar_kind_at context h), InvalidSwitchType h)
+    ∷ value_points (scalar_kind_at context h) [] (values_of cases)
+    ++ (list_any is_default (values_of cases), MissingDefaultCase)
+    ∷ (not (last_falls_through cases), LastCaseFallTrough)
+    ∷ []
 
 -- the type that the function's result is declared with
 abbrev pub declared_type : Context → Option ℕ

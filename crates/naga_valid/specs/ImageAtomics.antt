@@ -1,5 +1,5 @@
 -- The check list of ImageAtomic.
-use Rattle.std.specs.Prelude.{ℕ, Bool, true, false, List, [], ◌∷◌, ◌++◌, Option, None, Some, is_some}
+use Rattle.std.specs.Prelude.{ℕ, Bool, true, false, List, [], ◌∷◌, ◌++◌, Option, Some, is_some}
 use Rattle.naga_below.specs.Bits as bit
 use Rattle.naga_below.specs.Bits.{contains, has_capability}
 use Rattle.naga_below.specs.Formats.{format_scalar}

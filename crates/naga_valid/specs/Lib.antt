@@ -9,6 +9,7 @@ pub mod CodeAnswers
 pub mod CodePlace
 pub mod Walk
 pub mod Control
+pub mod CodeSwitch
 pub mod WhatIsChecked
 pub mod Results
 pub mod Past

@@ -1,5 +1,5 @@
 -- The check lists of SubgroupBallot, SubgroupCollectiveOperation and SubgroupGather.
-use Rattle.std.specs.Prelude.{ℕ, Bool, true, false, not, ◌&&◌, ◌||◌, ◌==◌, nat_le, List, [], ◌∷◌, ◌++◌, Option, None, Some, slice_get}
+use Rattle.std.specs.Prelude.{ℕ, Bool, true, false, not, ◌&&◌, ◌||◌, nat_le, List, [], ◌∷◌, ◌++◌, Option, None, Some, slice_get}
 use Rattle.naga_below.specs.Bits as bit
 use Rattle.naga_below.specs.Bits.{contains, has_capability}
 use Rattle.naga_below.specs.Subgroups.{operation_group, gather_group}
@@ -20,7 +20,6 @@ use Rattle.naga_below.specs.declared.ir.types.TypeInner.{TypeInner}
 use Rattle.naga_below.specs.declared.ir.types.TypeInner.TheVariants as inner
 use Rattle.naga_below.specs.declared.proc.expression_kinds.ExpressionKind.{ExpressionKind}
 use Rattle.naga_below.specs.declared.proc.expression_kinds.ExpressionKind.TheVariants as known
-use Rattle.naga_below.specs.declared.valid.capabilities.Capabilities.{Capabilities}
 use Rattle.naga_below.specs.declared.valid.flags.SubgroupOperationSet.{SubgroupOperationSet}
 use Rattle.naga_below.specs.declared.valid.settings.Settings.{Settings}
 use Rattle.naga_rules.specs.declared.function.FunctionError.{FunctionError}

@@ -27,7 +27,8 @@ payload_type_at context payload = payload_type_of (type_at context payload)
 
 -- the type of a TraceRay's payload
 abbrev pub trace_payload : Context → Node → Option ℕ
-trace_payload context (StatementNode (Leaf acts (ir.RayPipelineFunction (TraceRay a d payload)) span)) = payload_type_at context payload
+trace_payload context (StatementNode (Leaf acts (ir.RayPipelineFunction (TraceRay a d payload)) span)) =
+    payload_type_at context payload
 trace_payload context _ = None
 
 -- the payload type of the first TraceRay that has one

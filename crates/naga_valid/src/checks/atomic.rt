@@ -40,7 +40,9 @@ pub fn check_atomic(
     span: Span,
 ) -> Result<(), Refusal<FunctionError>>
     requires { ContextFits (context_of context.now) }
-    ensures fault { AnswersPoints (atomic_points (context_of context.now) (known filled.now) (place_at scope.old) pointer fun.now value named.now) result }
+    ensures fault { AnswersPoints
+        (atomic_points (context_of context.now) (known filled.now) (place_at scope.old) pointer fun.now value named.now)
+        result }
     ensures scope { OnOk result (scope.new ≡ scope.old ++ puts_of (put_if named.now)) }
 {
     let alloc = scope.allocator();
@@ -63,7 +65,9 @@ fn validate_atomic(
     named: Option<Handle<tag::Expression>>,
 ) -> Result<(), FunctionError>
     requires { ContextFits (context_of context.now) }
-    ensures { Finds (atomic_points (context_of context.now) (known filled.now) (place_at scope.now) pointer fun.now value named) result }
+    ensures { Finds
+        (atomic_points (context_of context.now) (known filled.now) (place_at scope.now) pointer fun.now value named)
+        result }
 {
     check_use(scope, pointer)?;
     let Some(TypeInner::Pointer { base, space }) = context.type_inner(pointer) else {
@@ -105,7 +109,9 @@ fn check_operation(
     named: Option<Handle<tag::Expression>>,
 ) -> Result<(), FunctionError>
     requires { ContextFits (context_of context.now) }
-    ensures { Finds (operated_points (context_of context.now) (known filled.now) (place_at scope.now) scalar space fun.now value named) result }
+    ensures { Finds
+        (operated_points (context_of context.now) (known filled.now) (place_at scope.now) scalar space fun.now value named)
+        result }
 {
     check_scalar(
         context.settings.capabilities,
@@ -203,7 +209,9 @@ fn check_atomic_result(
     named: Option<Handle<tag::Expression>>,
 ) -> Result<(), FunctionError>
     requires { ContextFits (context_of context.now) }
-    ensures { Finds (atomic_result_points (context_of context.now) (known filled.now) (place_at scope.now) scalar fun.now value named) result }
+    ensures { Finds
+        (atomic_result_points (context_of context.now) (known filled.now) (place_at scope.now) scalar fun.now value named)
+        result }
 {
     match named {
         Some(handle) => check_named(scope, filled, context, scalar, fun, value, handle),
@@ -234,7 +242,9 @@ fn check_named(
     handle: Handle<tag::Expression>,
 ) -> Result<(), FunctionError>
     requires { ContextFits (context_of context.now) }
-    ensures { Finds (atomic_result_points (context_of context.now) (known filled.now) (place_at scope.now) scalar fun.now value (Some handle)) result }
+    ensures { Finds
+        (atomic_result_points (context_of context.now) (known filled.now) (place_at scope.now) scalar fun.now value (Some handle))
+        result }
 {
     if !is_atomic_result(context.expression(handle)) {
         let error = AtomicError::InvalidResultExpression(handle);

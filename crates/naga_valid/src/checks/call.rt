@@ -1,6 +1,6 @@
 //! The check list of Call.
 
-ghost use Rattle.std.specs.Prelude.{◌≡◌, ◌<◌, ◌++◌, OnOk, All, length, slice_get};
+ghost use Rattle.std.specs.Prelude.{◌≡◌, ◌<◌, ◌++◌, OnOk, All, length};
 ghost use Rattle.std.specs.Result.{result_err};
 ghost use Rattle.std.specs.Option.{option_copied, option_map};
 ghost use Rattle.naga_below.specs.FitsBody.{CalleeFits};
@@ -40,7 +40,9 @@ pub fn check_call(
 ) -> Result<(), Refusal<FunctionError>>
     requires context { ContextFits (context_of context.now) }
     requires callee { CalleeFits (context_of context.now).program function }
-    ensures fault { AnswersPoints (call_points (context_of context.now) (known filled.now) (place_at scope.old) function arguments.now named.now) result }
+    ensures fault { AnswersPoints
+        (call_points (context_of context.now) (known filled.now) (place_at scope.old) function arguments.now named.now)
+        result }
     ensures scope { OnOk result (scope.new ≡ scope.old ++ puts_of (put_if named.now)) }
 {
     let alloc = scope.allocator();
@@ -76,7 +78,9 @@ fn validate_call(
 ) -> Result<(), CallError>
     requires context { ContextFits (context_of context.now) }
     requires callee { CalleeFits (context_of context.now).program function }
-    ensures { Finds (callee_points (context_of context.now) (known filled.now) (place_at scope.now) function (slice_get (context_of context.now).program.functions function) arguments.now named) result }
+    ensures { Finds
+        (callee_points (context_of context.now) (known filled.now) (place_at scope.now) function arguments.now named)
+        result }
 {
     let callee = &context.program.functions[function];
     let checked = check_arguments(scope, context, callee.arguments.as_slice(), arguments);
@@ -168,7 +172,9 @@ fn check_call_result(
     returns: bool,
     named: Option<Handle<tag::Expression>>,
 ) -> Result<(), CallError>
-    ensures { Finds (call_result_points (context_of context.now) (known filled.now) (place_at scope.now) function returns named) result }
+    ensures { Finds
+        (call_result_points (context_of context.now) (known filled.now) (place_at scope.now) function returns named)
+        result }
 {
     match named {
         Some(handle) => {

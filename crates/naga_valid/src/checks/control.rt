@@ -3,7 +3,8 @@
 ghost use Rattle.std.specs.Prelude.{◌≡◌, ◌++◌, [], ◌∷◌, OnOk};
 ghost use Rattle.std.specs.List.{list_any};
 ghost use Rattle.std.specs.Option.{option_copied};
-ghost use Rattle.naga_valid.specs.Control.{emit_points, is_bool_scalar, condition_points, is_integer, selector_points, has_signedness_of, is_default, repeated_fault, value_points, values_of, last_falls_through, cases_points, switch_points, declared_type, is_returned_as, return_points, break_points, continue_points};
+ghost use Rattle.naga_valid.specs.CodeSwitch.{selector_points, cases_points};
+ghost use Rattle.naga_valid.specs.Control.{emit_points, is_bool_scalar, condition_points, is_integer, has_signedness_of, is_default, repeated_fault, value_points, values_of, last_falls_through, switch_points, declared_type, is_returned_as, return_points, break_points, continue_points};
 ghost use Rattle.naga_valid.specs.Results.{is_result};
 ghost use Rattle.naga_valid.specs.CodePlace.{place_at};
 ghost use Rattle.naga_valid.specs.Walk.{handles_between, place};

@@ -106,7 +106,9 @@ pub fn check_texel(
     arrayed: bool,
     texel: Texel,
 ) -> Result<(), FunctionError>
-    ensures { Finds (texel_points statement (context_of context.now) (place_at scope.now) dim arrayed texel.coordinate texel.array_index) result }
+    ensures { Finds
+        (texel_points statement (context_of context.now) (place_at scope.now) dim arrayed texel.coordinate texel.array_index)
+        result }
 {
     check_coordinate(statement, scope, context, dim, texel.coordinate)?;
     check_array_index(statement, scope, context, arrayed, texel.array_index)
@@ -151,7 +153,9 @@ fn check_array_index(
     arrayed: bool,
     array_index: Option<Handle<tag::Expression>>,
 ) -> Result<(), FunctionError>
-    ensures { Finds (array_index_points (image_fault statement) (context_of context.now) (place_at scope.now) arrayed array_index) result }
+    ensures { Finds
+        (array_index_points (image_fault statement) (context_of context.now) (place_at scope.now) arrayed array_index)
+        result }
 {
     match array_index {
         Some(handle) => {

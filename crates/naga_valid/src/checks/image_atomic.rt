@@ -34,7 +34,9 @@ pub fn check_image_atomic(
     fun: &AtomicFunction,
     value: Handle<tag::Expression>,
 ) -> Result<(), FunctionError>
-    ensures { Finds (image_atomic_points (context_of context.now) (place_at scope.now) image texel.coordinate texel.array_index fun.now value) result }
+    ensures { Finds
+        (image_atomic_points (context_of context.now) (place_at scope.now) image texel.coordinate texel.array_index fun.now value)
+        result }
 {
     let Some(ty) = image_global(context, image) else {
         let error = ExpressionError::ExpectedGlobalVariable;
@@ -56,7 +58,8 @@ pub fn check_image_atomic(
 
 /// The type of a global, or what a binding array has.
 fn changed_type<'a>(context: &BlockContext<'a>, ty: Handle<tag::Type>) -> Option<&'a TypeInner>
-    ensures { option_copied result ≡ element_or_itself (context_of context.now).program.types (inner_at (context_of context.now).program.types ty) }
+    ensures { option_copied result
+        ≡ element_or_itself (context_of context.now).program.types (inner_at (context_of context.now).program.types ty) }
 {
     match inner_at(context, ty) {
         Some(TypeInner::BindingArray { base, .. }) => inner_at(context, *base),
@@ -76,7 +79,9 @@ fn check_changed_image(
     fun: &AtomicFunction,
     value: Handle<tag::Expression>,
 ) -> Result<(), FunctionError>
-    ensures { Finds (changed_points (context_of context.now) (place_at scope.now) dim arrayed texel.coordinate texel.array_index class fun.now value) result }
+    ensures { Finds
+        (changed_points (context_of context.now) (place_at scope.now) dim arrayed texel.coordinate texel.array_index class fun.now value)
+        result }
 {
     check_texel(ImageStatement::Atomic, scope, context, dim, arrayed, texel)?;
     check_class(scope, context, class, fun, value)

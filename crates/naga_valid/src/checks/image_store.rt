@@ -35,7 +35,9 @@ pub fn check_image_store(
     value: Handle<tag::Expression>,
     span: Span,
 ) -> Result<(), Refusal<FunctionError>>
-    ensures { AnswersPoints (image_store_points (context_of context.now) (place_at scope.now) image texel.coordinate texel.array_index value) result }
+    ensures { AnswersPoints
+        (image_store_points (context_of context.now) (place_at scope.now) image texel.coordinate texel.array_index value)
+        result }
 {
     let alloc = scope.allocator();
     let given = type_of(alloc, context, value)?;
@@ -67,7 +69,9 @@ fn validate_image_store(
     given: Option<TypeInner>,
 ) -> Result<(), FunctionError>
     requires { given ≡ type_at (context_of context.now) value }
-    ensures { Finds (image_store_points (context_of context.now) (place_at scope.now) image texel.coordinate texel.array_index value) result }
+    ensures { Finds
+        (image_store_points (context_of context.now) (place_at scope.now) image texel.coordinate texel.array_index value)
+        result }
 {
     let Some(ty) = image_global(context, image) else {
         let error = ExpressionError::ExpectedGlobalVariable;
@@ -127,7 +131,9 @@ fn check_stored(
     format: StorageFormat,
 ) -> Result<(), FunctionError>
     requires { given ≡ type_at (context_of context.now) value }
-    ensures { Finds (stored_points (context_of context.now) (place_at scope.now) dim arrayed texel.coordinate texel.array_index format value) result }
+    ensures { Finds
+        (stored_points (context_of context.now) (place_at scope.now) dim arrayed texel.coordinate texel.array_index format value)
+        result }
 {
     check_texel(ImageStatement::Store, scope, context, dim, arrayed, texel)?;
     check_texel_value(scope, context, format, value, given)

@@ -45,7 +45,9 @@ pub fn check_leaf(
 ) -> Result<(), Refusal<FunctionError>>
     requires context { ContextFits (context_of context.now) }
     requires statement { IsStatementReady (context_of context.now) (tree_of (context_of context.now) located.now) }
-    ensures fault { AnswersPoints (leaf_points (context_of context.now) (seen state.now) (place_at scope.old) located.now.statement) result }
+    ensures fault { AnswersPoints
+        (leaf_points (context_of context.now) (seen state.now) (place_at scope.old) located.now.statement)
+        result }
     ensures scope { OnOk result (scope.new ≡ scope.old ++ puts (tree_of (context_of context.now) located.now)) }
 {
     let span = located.span;

@@ -134,7 +134,9 @@ fn check_initialize(
     structure: Handle<tag::Expression>,
     descriptor: Handle<tag::Expression>,
 ) -> Result<(), FunctionError>
-    ensures { Finds (query_function_points (context_of context.now) (place_at scope.now) query vertex_return (Initialize structure descriptor)) result }
+    ensures { Finds
+        (query_function_points (context_of context.now) (place_at scope.now) query vertex_return (Initialize structure descriptor))
+        result }
 {
     check_use(scope, structure)?;
     let Some(returns) = structure_flag(context, structure) else {
@@ -173,7 +175,8 @@ pub fn check_descriptor(
 
 /// Whether an expression is of the module's type of ray descriptors.
 fn is_descriptor(context: &BlockContext, descriptor: Handle<tag::Expression>) -> bool
-    ensures { result ≡ both_are is_same_inner (type_at (context_of context.now) descriptor) (descriptor_type (context_of context.now)) }
+    ensures { result
+        ≡ both_are is_same_inner (type_at (context_of context.now) descriptor) (descriptor_type (context_of context.now)) }
 {
     are_same_inners(context.type_inner(descriptor), descriptor_type(context))
 }

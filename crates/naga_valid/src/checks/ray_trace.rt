@@ -34,7 +34,9 @@ pub fn check_trace_ray(
     descriptor: Handle<tag::Expression>,
     payload: Handle<tag::Expression>,
 ) -> Result<(), FunctionError>
-    ensures { Finds (trace_ray_points (context_of context.now) so_far.now (place_at scope.now) structure descriptor payload) result }
+    ensures { Finds
+        (trace_ray_points (context_of context.now) so_far.now (place_at scope.now) structure descriptor payload)
+        result }
 {
     check_use(scope, structure)?;
     if structure_flag(context, structure).is_none() {
@@ -136,7 +138,8 @@ fn vertex_return_behind(
     structure: Handle<tag::Expression>,
     span: Span,
 ) -> TraceRayVertexReturnState
-    ensures { result ≡ vertex_return_by so_far (span_where (lacks_vertex_return (type_at (context_of context.now) structure)) span) true }
+    ensures { result
+        ≡ vertex_return_by so_far (span_where (lacks_vertex_return (type_at (context_of context.now) structure)) span) true }
 {
     if lacks_vertex_return(context, structure) {
         return TraceRayVertexReturnState::NoVertexReturn(span);

@@ -53,7 +53,9 @@ pub fn check_filled(filled: &HandleSet, context: &BlockContext) -> Result<(), Fu
 }
 
 fn check_each_filled(filled: &HandleSet, context: &BlockContext) -> Result<(), FunctionError>
-    ensures { Finds (filled_points_from (context_of context.now) (known filled.now) 0 (length (context_of context.now).fun.expressions)) result }
+    ensures { Finds
+        (filled_points_from (context_of context.now) (known filled.now) 0 (length (context_of context.now).fun.expressions))
+        result }
 {
     let count = context.fun.expressions.len() as u32;
     for index in 0..count {

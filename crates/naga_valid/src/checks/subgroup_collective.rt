@@ -29,7 +29,9 @@ pub fn check_collective(
     combined: Handle<tag::Expression>,
     span: Span,
 ) -> Result<(), Refusal<FunctionError>>
-    ensures fault { AnswersPoints (collective_points (context_of context.now) (place_at scope.old) operation part argument combined) result }
+    ensures fault { AnswersPoints
+        (collective_points (context_of context.now) (place_at scope.old) operation part argument combined)
+        result }
     ensures scope { OnOk result (scope.new ≡ scope.old ++ combined ∷ []) }
 {
     let alloc = scope.allocator();

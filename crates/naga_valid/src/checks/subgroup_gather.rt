@@ -29,7 +29,9 @@ pub fn check_gather(
     gathered: Handle<tag::Expression>,
     span: Span,
 ) -> Result<(), Refusal<FunctionError>>
-    ensures fault { AnswersPoints (gather_points (context_of context.now) (place_at scope.old) mode.now argument gathered) result }
+    ensures fault { AnswersPoints
+        (gather_points (context_of context.now) (place_at scope.old) mode.now argument gathered)
+        result }
     ensures scope { OnOk result (scope.new ≡ scope.old ++ gathered ∷ []) }
 {
     let alloc = scope.allocator();

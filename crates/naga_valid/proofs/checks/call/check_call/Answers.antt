@@ -1,4 +1,4 @@
-use Rattle.std.proofs.Common.{rules, slice_get, sym, ap, ◌∙◌}
+use Rattle.std.proofs.Common.{rules, sym, ap, ◌∙◌}
 use Rattle.std.specs.Option.{option_map}
 use Rattle.naga_rules.specs.declared.function.FunctionError.TheVariants.{InvalidCall}
 use Rattle.naga_valid.specs.Calls.{callee_points, call_points}
@@ -16,7 +16,7 @@ returns-in_err-answer-clause-fault c =
     let s = place_at c.args.scope.now in
     let f = c.args.function in
     let points = call_points context filled s f c.args.arguments.now c.args.named.now in
-    let inside = callee_points context filled s f (slice_get context.program.functions f) c.args.arguments.now c.args.named.now in
+    let inside = callee_points context filled s f c.args.arguments.now c.args.named.now in
     let same = c.in_call.ensures ∙ ap (option_map (InvalidCall f)) c.validate_call-checked.ensures ∙ sym (first_fault-within (InvalidCall f) inside) in
     let first = c.in_err-answer.ensures points same in
     search (rules, first)
@@ -28,11 +28,10 @@ put-requires c =
     let s = place_at c.args.scope.now in
     let f = c.args.function in
     let points = call_points context filled s f c.args.arguments.now c.args.named.now in
-    let callee = slice_get context.program.functions f in
-    let inside = callee_points context filled s f callee c.args.arguments.now c.args.named.now in
+    let inside = callee_points context filled s f c.args.arguments.now c.args.named.now in
     let same = c.in_call.ensures ∙ ap (option_map (InvalidCall f)) c.validate_call-checked.ensures ∙ sym (first_fault-within (InvalidCall f) inside) in
     let holds = callee_holds context filled s f c.args.arguments.now c.args.named.now (c.in_ok-answer.ensures points same) in
-    rw c.in-Some.is at (result_is_new context filled s f callee c.args.arguments.now c.args.named.now holds)
+    rw c.in-Some.is at (result_is_new context filled s f c.args.arguments.now c.args.named.now holds)
 
 pub returns-clause-fault : goal.returns-clause-fault
 returns-clause-fault c =
@@ -41,6 +40,6 @@ returns-clause-fault c =
     let s = place_at c.args.scope.now in
     let f = c.args.function in
     let points = call_points context filled s f c.args.arguments.now c.args.named.now in
-    let inside = callee_points context filled s f (slice_get context.program.functions f) c.args.arguments.now c.args.named.now in
+    let inside = callee_points context filled s f c.args.arguments.now c.args.named.now in
     let same = c.in_call.ensures ∙ ap (option_map (InvalidCall f)) c.validate_call-checked.ensures ∙ sym (first_fault-within (InvalidCall f) inside) in
     c.in_ok-answer.ensures points same

@@ -1,4 +1,4 @@
-use Rattle.std.proofs.Common.{rules, slice_get, sym, ◌∙◌}
+use Rattle.std.proofs.Common.{rules, sym, ◌∙◌}
 use Rattle.naga_valid.specs.CodePlace.{place_at}
 use Rattle.naga_valid.specs.Scope.{known}
 use Rattle.naga_valid.specs.Seen.{context_of}
@@ -7,8 +7,8 @@ use Rattle.naga_valid.proofs.checks.call.validate_call.Goals as goal
 
 pub returns-then-is_err : goal.returns-then-is_err
 returns-then-is_err c =
-    call_stops (context_of c.args.context.now) (known c.args.filled.now) (place_at c.args.scope.now) c.args.function c.args.arguments.now c.args.named (slice_get c.args.context.now.program.now.functions c.args.function) c.index-callee.result.now c.index-callee.ensures c.check_arguments-checked.result (sym c.is_err.ensures.value ∙ c.if-is_err.true) (rw c.as_slice.ensures at c.check_arguments-checked.ensures)
+    call_stops (context_of c.args.context.now) (known c.args.filled.now) (place_at c.args.scope.now) c.args.function c.args.arguments.now c.args.named c.index-callee.result.now c.index-callee.ensures c.check_arguments-checked.result (sym c.is_err.ensures.value ∙ c.if-is_err.true) (rw c.as_slice.ensures at c.check_arguments-checked.ensures)
 
 pub returns : goal.returns
 returns c =
-    call_next (context_of c.args.context.now) (known c.args.filled.now) (place_at c.args.scope.now) c.args.function c.args.arguments.now c.args.named (slice_get c.args.context.now.program.now.functions c.args.function) c.index-callee.result.now c.index-callee.ensures c.check_arguments-checked.result _ (sym c.is_err.ensures.value ∙ c.if-is_err.false) (rw c.as_slice.ensures at c.check_arguments-checked.ensures) (search rules)
+    call_next (context_of c.args.context.now) (known c.args.filled.now) (place_at c.args.scope.now) c.args.function c.args.arguments.now c.args.named c.index-callee.result.now c.index-callee.ensures c.check_arguments-checked.result _ (sym c.is_err.ensures.value ∙ c.if-is_err.false) (rw c.as_slice.ensures at c.check_arguments-checked.ensures) (search rules)

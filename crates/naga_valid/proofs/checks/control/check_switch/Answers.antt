@@ -2,7 +2,8 @@ use Rattle.std.proofs.Common.{rules, [], ◌++◌}
 use Rattle.naga_valid.specs.Blocks.{case_list}
 use Rattle.naga_valid.specs.Seen.{context_of}
 use Rattle.naga_valid.specs.Types.{scalar_kind_at}
-use Rattle.naga_valid.specs.Control.{selector_points, value_points, values_of, cases_points}
+use Rattle.naga_valid.specs.CodeSwitch.{selector_points, cases_points}
+use Rattle.naga_valid.specs.Control.{value_points, values_of}
 use Rattle.naga_valid.specs.CodePlace.{place_at}
 use Rattle.naga_valid.proofs.Refusals.{refuses_first, refuses_second}
 use Rattle.naga_valid.proofs.checks.control.check_switch.Goals as goal
