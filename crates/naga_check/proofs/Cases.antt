@@ -13,6 +13,7 @@ use Rattle.naga_below.specs.declared.valid.info.ModuleInfo.{ModuleInfo}
 use Rattle.naga_rules.specs.Answers.{Answers}
 use Rattle.naga_rules.specs.declared.function.FunctionError.{FunctionError}
 use Rattle.naga_valid.specs.Parts.{no_traces}
+use Rattle.naga_check.specs.EmptySets.{NO_STAGE}
 use Rattle.naga_check.specs.BenchModule.{IsBenchModule}
 use Rattle.naga_check.specs.Judged.{IsJudgement, Judges, infos_from, no_infos, settings_of, stages_of_last}
 use Rattle.naga_check.specs.Line.{Replies, Writes, IsLine, line_of, reply_line, reply_status}
@@ -93,7 +94,7 @@ replies_memory input = tt
 pub ruleset replying = (replies_accepted, replies_fault, replies_none, replies_memory)
 
 abbrev pub stages_if : Option FunctionInfo → ShaderStages
-stages_if None = record { 0 = 0 }
+stages_if None = NO_STAGE
 stages_if (Some info) = info.available_stages
 
 -- the last one's stages, where the last one is read at its place

@@ -124,7 +124,7 @@ fn bench_function(alloc: Global, bench: Bench, body: Block) -> Result<Function, 
 fn callee_body(alloc: Global) -> Result<Block, AllocError>
     ensures { IfOk result (λ b. body_of no_operands b ≡ Then (Return (Some 0)) Done) }
 {
-    let mut list = Vec::new(alloc);
+    let mut list = Sequence::new(alloc);
     list.push(Located {
         statement: Statement::Return {
             value: Some(Handle::new(0)),

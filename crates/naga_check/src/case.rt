@@ -7,7 +7,7 @@ ghost use Rattle.naga_rules.specs.Answers.{Answers};
 ghost use Rattle.naga_valid.specs.Judged.{AnswersTracing};
 ghost use Rattle.naga_valid.specs.Parts.{no_traces};
 ghost use Rattle.naga_check.specs.Bench.{names_of, callees_of};
-ghost use Rattle.naga_check.specs.Judged.{flags_of, all_capabilities, settings_with, plain_judgement, no_infos, infos_from, stages_of_last, IsJudgement, Judges};
+ghost use Rattle.naga_check.specs.Judged.{flags_of, settings_with, plain_judgement, no_infos, infos_from, stages_of_last, IsJudgement, Judges};
 ghost use Rattle.naga_check.specs.Ready.{IsReady};
 ghost use Rattle.naga_check.specs.Line.{Replies, Writes};
 ghost use Rattle.naga_below.specs.declared.valid.info.ModuleInfo.{ModuleInfo};
@@ -49,14 +49,6 @@ fn flags_of(expressions: bool, blocks: bool) -> ValidationFlags
     flags
 }
 
-/// Every capability.
-#[tactic(auto, unfolding(bitflags::proofs::OnLiterals::bitflags_on_literals))]
-fn all_capabilities() -> Capabilities
-    ensures { result ≡ all_capabilities }
-{
-    Capabilities::all()
-}
-
 /// The plain layer. No bench has a mesh shader, so its analysis is one of nothing.
 pub fn plain() -> Plain {
     Plain {
@@ -79,14 +71,13 @@ pub fn plain() -> Plain {
 
 /// A validator over the plain layer with these flags, for a target with every capability, and with subgroup operations
 /// of all groups in all stages.
-#[tactic(auto, unfolding(bitflags::proofs::OnLiterals::bitflags_on_literals))]
 fn validator_with(alloc: Global, flags: ValidationFlags) -> Validator<Plain>
     ensures settings { result.settings ≡ settings_with flags }
     ensures trace { result.trace ≡ no_traces }
 {
-    let mut validator = Validator::new(plain(), flags, all_capabilities());
-    validator.subgroup_stages(ShaderStages::all());
-    validator.subgroup_operations(SubgroupOperationSet::all());
+    let mut validator = Validator::new(plain(), flags, Capabilities::ALL);
+    validator.subgroup_stages(ShaderStages::ALL);
+    validator.subgroup_operations(SubgroupOperationSet::ALL);
     validator
 }
 
@@ -160,7 +151,7 @@ fn stages_of_last(infos: &[FunctionInfo]) -> ShaderStages
 {
     match infos.last() {
         Some(info) => info.available_stages,
-        None => ShaderStages(0),
+        None => ShaderStages::empty(),
     }
 }
 

@@ -6,6 +6,7 @@ use Rattle.naga_below.specs.declared.span.Span.{Span}
 use Rattle.naga_below.specs.declared.ir.statements.Statement.{Statement}
 use Rattle.naga_below.specs.declared.ir.statements.Statement as statement
 use Rattle.naga_below.specs.Tree.{Act, Stmt, Leaf, Block, Branch, Switch, Loop, Break, Continue, Return, Kill, Body, Done, Then, Cases, NoCase, OneCase}
+use Rattle.naga_check.specs.EmptySets.{NO_MEMORY}
 use Rattle.naga_check.specs.declared.bench.Bench.{Bench}
 use Rattle.naga_check.specs.declared.bench.Bench.TheVariants.{P, C}
 use Rattle.naga_check.specs.declared.notation.token.Token.{Token}
@@ -87,7 +88,7 @@ store_plain n callees acts x span ts pointer value same e k =
 
 barrier_plain : (n callees : ℕ) (acts : List Act) (x : Statement) (span : Span) → Leaf acts x span ≡ waiting → is_plain_leaf n callees x ≡ true
 barrier_plain n callees acts x span same =
-    let is : x ≡ statement.ControlBarrier (record { 0 = 0 }) = cc in rw is refl
+    let is : x ≡ statement.ControlBarrier NO_MEMORY = cc in rw is refl
 
 call_plain : (n callees : ℕ) (acts : List Act) (x : Statement) (span : Span) (ts : List Token) (result : Option ℕ) → Leaf acts x span ≡ calling result → ts ≡ token.Call ∷ token.Callee ∷ arrow_if_any result → NamesBelow n callees ts → is_plain_leaf n callees x ≡ true
 call_plain n callees acts x span ts None same e k =

@@ -4,6 +4,7 @@ use Rattle.naga_below.specs.declared.span.Span.{Span}
 use Rattle.naga_below.specs.declared.ir.statements.Statement as statement
 use Rattle.naga_below.specs.Tree.{Stmt, Leaf, Block, Branch, Switch, Loop, Break, Continue, Return, Kill, Body, Done, Then, Cases, NoCase, OneCase}
 use Rattle.naga_below.specs.View.{tree_of}
+use Rattle.naga_check.specs.EmptySets.{NO_MEMORY}
 use Rattle.naga_check.specs.declared.notation.token.Token.{Token}
 use Rattle.naga_check.specs.declared.notation.token.Token.TheVariants as token
 
@@ -31,7 +32,7 @@ storing pointer value = tree_of (λ _. []) (statement.Store pointer value) no_sp
 
 -- the control barrier that names no memory
 abbrev pub waiting : Stmt
-waiting = tree_of (λ _. []) (statement.ControlBarrier (record { 0 = 0 })) no_span
+waiting = tree_of (λ _. []) (statement.ControlBarrier NO_MEMORY) no_span
 
 abbrev pub arrow_if_any : Option ℕ → List Token
 arrow_if_any None = []

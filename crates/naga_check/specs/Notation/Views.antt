@@ -32,18 +32,18 @@ abbrev pub clauses_of : List SwitchCase → List Clause
 clauses_of cs = map clause_of cs
 
 unfoldable pub part_of : Frame → Part
-part_of (frame.Block outer) = in_block (list_of outer.items)
-part_of (frame.Accept condition outer) = in_accept condition (list_of outer.items)
-part_of (frame.Reject condition accept outer) = in_reject condition (body_of accept) (list_of outer.items)
-part_of (frame.Cases selector cases outer) = in_cases selector (clauses_of cases.items) (list_of outer.items)
+part_of (frame.Block outer) = in_block (list_of outer)
+part_of (frame.Accept condition outer) = in_accept condition (list_of outer)
+part_of (frame.Reject condition accept outer) = in_reject condition (body_of accept) (list_of outer)
+part_of (frame.Cases selector cases outer) = in_cases selector (clauses_of cases) (list_of outer)
 part_of (frame.Case value falls) = in_case value falls
-part_of (frame.Turn outer) = in_turn (list_of outer.items)
-part_of (frame.Continuing turn outer) = in_continuing (body_of turn) (list_of outer.items)
-part_of (frame.Looped turn continuing outer) = looped (body_of turn) (body_of continuing) (list_of outer.items)
+part_of (frame.Turn outer) = in_turn (list_of outer)
+part_of (frame.Continuing turn outer) = in_continuing (body_of turn) (list_of outer)
+part_of (frame.Looped turn continuing outer) = looped (body_of turn) (body_of continuing) (list_of outer)
 
 -- the open parts, the newest first
 unfoldable pub parts_of : List Frame → List Part
 parts_of fs = reverse (map part_of fs)
 
 abbrev pub state_of : Reader → State
-state_of r = record { opened = parts_of r.opened.items; list = list_of r.list.items; wants = r.wants }
+state_of r = record { opened = parts_of r.opened.items; list = list_of r.list; wants = r.wants }

@@ -6,6 +6,7 @@ use Rattle.std.proofs.lemmas.List.{length-append, length-set, length-replicate}
 use Rattle.std.proofs.lemmas.List.Elements.{All-push, All-nil}
 use Rattle.std.proofs.lemmas.Option.{slice_get_within, get_or_from_slice_get, option_and_then_some, same_Some}
 use Rattle.std.proofs.lemmas.Result.{IfOk-at_ok}
+use Rattle.naga_below.specs.Bits.{ALL_STAGES, READ}
 use Rattle.naga_below.specs.Types.{ResolutionFits, pointer_base_of, resolved}
 use Rattle.naga_below.specs.declared.ir.expressions.Expression.{Expression}
 use Rattle.naga_below.specs.declared.ir.expressions.Expression.TheVariants as e
@@ -30,10 +31,11 @@ use Rattle.naga_rules.specs.Lawful.{IsNoStruct}
 use Rattle.naga_rules.specs.declared.function.FunctionError.{FunctionError}
 use Rattle.naga_rules.specs.declared.function.FunctionError.TheVariants.{Expression as InExpression}
 use Rattle.naga_below.specs.declared.valid.expression_error.ExpressionError.TheVariants.{Lower}
-use Rattle.naga_check.specs.Plain.Infos.{plain_info, with_types, all_stages}
+use Rattle.naga_check.specs.EmptySets.{NO_USE}
+use Rattle.naga_check.specs.Plain.Infos.{plain_info, with_types}
 use Rattle.naga_check.specs.Plain.Kinds.{kinds_from, kind_of}
 use Rattle.naga_check.specs.Plain.Types.{type_at, pointer_to, global_type, known_type, loaded_type, own_type, type_of, or_refuse, types_from}
-use Rattle.naga_check.specs.Plain.Uses.{uses_of, with_all_named, no_use, read_use}
+use Rattle.naga_check.specs.Plain.Uses.{uses_of, with_all_named}
 
 -- a type that the module has, and that is no struct as a value
 abbrev pub IsLawful : Module → TypeResolution → Type 0
@@ -110,7 +112,7 @@ types_from-lawful m f earlier (x ∷ rest) types all h =
     (more.0, omega (arith, more.1, length-append earlier (t ∷ []))))
 
 -- an info is of types that were found
-by_types : (f : Function) (m : Module) (info : FunctionInfo) → (P : FunctionInfo → Type 0) → ((types : List TypeResolution) → All (IsLawful m) types → length types ≡ length f.expressions → P (record { expression_types = types; global_uses = uses_of m f; available_stages = all_stages; dual_source_blending = false })) → (found : Result (List TypeResolution) FunctionError) → types_from m f [] f.expressions ≡ found → with_types m f found ≡ Ok info → P info
+by_types : (f : Function) (m : Module) (info : FunctionInfo) → (P : FunctionInfo → Type 0) → ((types : List TypeResolution) → All (IsLawful m) types → length types ≡ length f.expressions → P (record { expression_types = types; global_uses = uses_of m f; available_stages = ALL_STAGES; dual_source_blending = false })) → (found : Result (List TypeResolution) FunctionError) → types_from m f [] f.expressions ≡ found → with_types m f found ≡ Ok info → P info
 by_types f m info P p (Err fault) e h = absurd cc
 by_types f m info P p (Ok types) e h =
     let lawful = types_from-lawful m f [] f.expressions types (All-nil (IsLawful m)) e in
@@ -123,12 +125,12 @@ info_one_type_each f m info h =
 with_all_named-length : (uses : List GlobalUse) (xs : List Expression) → length (with_all_named uses xs) ≡ length uses
 unfolding with_all_named
 with_all_named-length uses [] = refl
-with_all_named-length uses (e.GlobalVariable g ∷ rest) = with_all_named-length (slice_set uses g read_use) rest ∙ length-set uses g read_use
+with_all_named-length uses (e.GlobalVariable g ∷ rest) = with_all_named-length (slice_set uses g READ) rest ∙ length-set uses g READ
 with_all_named-length uses (x ∷ rest) = with_all_named-length uses rest
 
 pub info_one_use_each : (f : Function) (m : Module) (info : FunctionInfo) → plain_info f m ≡ Ok info → length info.global_uses ≡ length m.global_variables
 info_one_use_each f m info h =
-    by_types f m info (λ i. length i.global_uses ≡ length m.global_variables) (λ types all count. with_all_named-length (replicate (length m.global_variables) no_use) f.expressions ∙ length-replicate (length m.global_variables) no_use) (types_from m f [] f.expressions) refl h
+    by_types f m info (λ i. length i.global_uses ≡ length m.global_variables) (λ types all count. with_all_named-length (replicate (length m.global_variables) NO_USE) f.expressions ∙ length-replicate (length m.global_variables) NO_USE) (types_from m f [] f.expressions) refl h
 
 pub info_types_in_range : (f : Function) (m : Module) (info : FunctionInfo) → plain_info f m ≡ Ok info → All (ResolutionFits (length m.types)) info.expression_types
 info_types_in_range f m info h =

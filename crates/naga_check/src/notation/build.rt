@@ -6,6 +6,7 @@ ghost use Rattle.naga_check.specs.Notation.Grammar.{emission, calling, storing, 
 ghost use Rattle.naga_check.specs.Notation.Reading.{Clause, body_from, cases_from};
 ghost use Rattle.naga_check.specs.Notation.Views.{body_of, stmt_of, list_of, clause_of, clauses_of};
 
+use bitflags::Flags;
 use naga_below::arena::handle::Handle;
 use naga_below::arena::range::Range;
 use naga_below::arena::tag;
@@ -23,8 +24,8 @@ pub fn expression(index: u8) -> Handle<tag::Expression>
 }
 
 /// Puts a statement behind the others.
-pub fn push(list: &mut Vec<Located>, statement: Statement) -> Result<(), AllocError>
-    ensures { OnOk result (list_of list.new.items ≡ list_of list.old.items ++ stmt_of statement ∷ []) }
+pub fn push(list: &mut Sequence<Located>, statement: Statement) -> Result<(), AllocError>
+    ensures { OnOk result (list_of list.new ≡ list_of list.old ++ stmt_of statement ∷ []) }
 {
     let span = Span { start: 0, end: 0 };
     list.push(Located { statement, span })?;
@@ -32,8 +33,8 @@ pub fn push(list: &mut Vec<Located>, statement: Statement) -> Result<(), AllocEr
 }
 
 /// A block of these statements.
-pub fn block_of(list: Vec<Located>) -> Block
-    ensures { body_of result ≡ body_from (list_of list.items) }
+pub fn block_of(list: Sequence<Located>) -> Block
+    ensures { body_of result ≡ body_from (list_of list) }
 {
     Block { list }
 }
@@ -62,7 +63,7 @@ pub fn storing(pointer: u8, value: u8) -> Statement
 pub fn waiting() -> Statement
     ensures { stmt_of result ≡ waiting }
 {
-    Statement::ControlBarrier(Barrier(0))
+    Statement::ControlBarrier(Barrier::empty())
 }
 
 /// A call of `f` with this result.
@@ -117,8 +118,8 @@ pub fn repetition(body: Block, continuing: Block, break_if: Option<u8>) -> State
 }
 
 /// A choice among cases.
-pub fn switch(selector: u8, cases: Vec<SwitchCase>) -> Statement
-    ensures { stmt_of result ≡ Switch selector (cases_from (clauses_of cases.items)) }
+pub fn switch(selector: u8, cases: Sequence<SwitchCase>) -> Statement
+    ensures { stmt_of result ≡ Switch selector (cases_from (clauses_of cases)) }
 {
     Statement::Switch {
         selector: expression(selector),

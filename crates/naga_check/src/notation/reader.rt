@@ -14,6 +14,7 @@ use crate::notation::build::{
 };
 use crate::notation::token::Token;
 use naga_below::ir::statements::{Block, Located, Statement, SwitchCase, SwitchValue};
+use naga_below::sequence::Sequence;
 use std::alloc::Global;
 use std::mem;
 
@@ -87,21 +88,21 @@ pub enum Wants {
 #[derive(Drop)]
 pub enum Frame {
     Block {
-        outer: Vec<Located>,
+        outer: Sequence<Located>,
     },
     Accept {
         condition: u8,
-        outer: Vec<Located>,
+        outer: Sequence<Located>,
     },
     Reject {
         condition: u8,
         accept: Block,
-        outer: Vec<Located>,
+        outer: Sequence<Located>,
     },
     Cases {
         selector: u8,
-        cases: Vec<SwitchCase>,
-        outer: Vec<Located>,
+        cases: Sequence<SwitchCase>,
+        outer: Sequence<Located>,
     },
     /// A case of the Switch whose frame lies below.
     Case {
@@ -109,17 +110,17 @@ pub enum Frame {
         fall_through: bool,
     },
     Turn {
-        outer: Vec<Located>,
+        outer: Sequence<Located>,
     },
     Continuing {
         turn: Block,
-        outer: Vec<Located>,
+        outer: Sequence<Located>,
     },
     /// A Loop whose lists are both closed: no brace of it is open.
     Looped {
         turn: Block,
         continuing: Block,
-        outer: Vec<Located>,
+        outer: Sequence<Located>,
     },
 }
 
@@ -130,7 +131,7 @@ pub struct Reader {
     /// The open parts, the newest last.
     pub opened: Vec<Frame>,
     /// The statements of the newest open part.
-    pub list: Vec<Located>,
+    pub list: Sequence<Located>,
     pub wants: Wants,
 }
 
@@ -147,7 +148,7 @@ impl Reader {
         Reader {
             alloc,
             opened: Vec::new(alloc),
-            list: Vec::new(alloc),
+            list: Sequence::new(alloc),
             wants: Wants::Statement(Tail::Nothing),
         }
     }
@@ -317,7 +318,7 @@ impl Reader {
             }
             Brace::Cases(selector) => {
                 let outer = self.take_list();
-                let cases = Vec::new(self.alloc);
+                let cases = Sequence::new(self.alloc);
                 let frame = Frame::Cases {
                     selector,
                     cases,
@@ -343,11 +344,11 @@ impl Reader {
     }
 
     /// Takes the list at hand, and leaves an empty one.
-    fn take_list(&mut self) -> Vec<Located>
-        ensures list { list_of result.items ≡ (state_of self.old).list }
+    fn take_list(&mut self) -> Sequence<Located>
+        ensures list { list_of result ≡ (state_of self.old).list }
         ensures rest { state_of self.new ≡ record (state_of self.old) { list = [] } }
     {
-        mem::replace(&mut self.list, Vec::new(self.alloc))
+        mem::replace(&mut self.list, Sequence::new(self.alloc))
     }
 
     /// Opens one part more, with an empty list.
@@ -358,7 +359,7 @@ impl Reader {
         if self.opened.len() >= MOST_OPEN {
             return Err(ReadError::Unreadable);
         }
-        self.list = Vec::new(self.alloc);
+        self.list = Sequence::new(self.alloc);
         self.opened.push(frame)?;
         self.want(wants)
     }
@@ -372,8 +373,12 @@ impl Reader {
     }
 
     /// Puts a whole statement behind those that stood before it.
-    fn put_behind(&mut self, outer: Vec<Located>, statement: Statement) -> Result<(), ReadError>
-        ensures { Steps (ready (state_of self.old).opened (list_of outer.items ++ stmt_of statement ∷ [])) result (state_of self.new) }
+    fn put_behind(
+        &mut self,
+        outer: Sequence<Located>,
+        statement: Statement,
+    ) -> Result<(), ReadError>
+        ensures { Steps (ready (state_of self.old).opened (list_of outer ++ stmt_of statement ∷ [])) result (state_of self.new) }
     {
         self.list = outer;
         self.put(statement)
@@ -384,7 +389,7 @@ impl Reader {
     fn go_over(&mut self, frame: Frame, wants: Wants) -> Result<(), ReadError>
         ensures { Steps (wanting (part_of frame ∷ (state_of self.old).opened) [] wants) result (state_of self.new) }
     {
-        self.list = Vec::new(self.alloc);
+        self.list = Sequence::new(self.alloc);
         self.opened.push(frame)?;
         self.want(wants)
     }

@@ -6,4 +6,4 @@ use Rattle.naga_check.proofs.bench_module.callee_body.Goals as goal
 pub returns : goal.returns
 unfolding body_from
 returns c =
-    block_body c.push.new.self ∙ rw (c.in_ok-push.ensures.items, c.new-list.ensures.items, c.new.ensures) refl
+    block_body c.push.new.self ∙ rw (c.in_ok-push.ensures.pushed, c.new-list.ensures, c.new.ensures) refl
