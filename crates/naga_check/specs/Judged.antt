@@ -1,10 +1,8 @@
 -- The judgement of a case: that of the validator of functions over the bench's module, with the plain lower layer.
-use Rattle.std.specs.Prelude.{◌≡◌, ◌+◌, ℕ, Bool, List, [], ◌∷◌, ◌++◌, Result, Ok, Err, if◌then◌else◌, ⊤}
+use Rattle.std.specs.Prelude.{◌+◌, ℕ, Bool, List, [], ◌∷◌, ◌++◌, Result, Ok, Err, if◌then◌else◌}
 use Rattle.naga_below.specs.Bits.{STRUCT_LAYOUTS, BINDINGS, EXPRESSIONS, BLOCKS, ALL_STAGES, ALL_OPERATIONS, ALL_CAPABILITIES}
 use Rattle.naga_below.specs.declared.ir.functions.Function.{Function}
 use Rattle.naga_below.specs.declared.ir.module.Module.{Module}
-use Rattle.naga_below.specs.declared.span.Refusal.{Refusal}
-use Rattle.naga_below.specs.declared.span.Refusal.TheVariants.{Fault, Memory}
 use Rattle.naga_below.specs.declared.valid.flags.ShaderStages.{ShaderStages}
 use Rattle.naga_below.specs.declared.valid.flags.ValidationFlags.{ValidationFlags}
 use Rattle.naga_below.specs.declared.valid.info.FunctionInfo.{FunctionInfo}
@@ -15,7 +13,8 @@ use Rattle.naga_valid.specs.Judged.{FunctionOutcome, function_judgement}
 use Rattle.naga_valid.specs.Parts.{first_settings, no_traces}
 use Rattle.naga_valid.specs.declared.trace.TraceState.{TraceState}
 use Rattle.naga_check.specs.EmptySets.{NO_STAGE}
-use Rattle.naga_check.specs.BenchModule.{IsBenchModule}
+use Rattle.naga_check.specs.BenchModule.{bench_module}
+use Rattle.naga_check.specs.Notation.Blocks.{block_of}
 use Rattle.naga_check.specs.Notation.Case.{Case}
 use Rattle.naga_check.specs.Plain.Infos.{plain_info}
 use Rattle.naga_check.specs.Plain.Kinds.{kinds_from}
@@ -61,23 +60,16 @@ infos_from settings trace m infos [] = Ok infos
 infos_from settings trace m infos (f ∷ fs) =
     and_then (λ left. infos_from settings left.trace m (with_info infos left.info) fs) (plain_judgement settings trace m infos f)
 
--- the judgement of a case: that of the functions of the bench's module with the case's body, in order
-unfoldable pub IsJudgement : Case → Result ModuleInfo FunctionError → Type 0
-IsJudgement c answer =
-    (m : Module) × IsBenchModule c.bench c.body m × (infos_from (settings_of c) no_traces m no_infos m.functions ≡ answer)
+-- the bench's module with the case's body
+abbrev pub module_of : Case → Module
+module_of c = bench_module c.bench (block_of c.body)
+
+-- the judgement of a case: that of the functions of its module, in order
+unfoldable pub judgement_of : Case → Result ModuleInfo FunctionError
+judgement_of c = infos_from (settings_of c) no_traces (module_of c) no_infos (module_of c).functions
 
 -- the stages that the last function may run in
 abbrev pub stages_of_last : List FunctionInfo → ShaderStages
 stages_of_last [] = NO_STAGE
 stages_of_last (info ∷ []) = info.available_stages
 stages_of_last (info ∷ next ∷ rest) = stages_of_last (next ∷ rest)
-
--- the case is accepted, and its function may run in these stages
-abbrev pub IsAccepted : Case → ShaderStages → Type 0
-IsAccepted c stages = (infos : ModuleInfo) × IsJudgement c (Ok infos) × (stages_of_last infos.functions ≡ stages)
-
--- the answer is the case's judgement, or there was no memory
-abbrev pub Judges : Case → Result ModuleInfo (Refusal FunctionError) → Type 0
-Judges c (Ok infos) = IsJudgement c (Ok infos)
-Judges c (Err (Fault fault)) = IsJudgement c (Err fault)
-Judges c (Err Memory) = ⊤

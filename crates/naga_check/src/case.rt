@@ -1,19 +1,17 @@
 //! One case, from a reader to a writer.
 
-ghost use Rattle.std.specs.Prelude.{Result, ◌≡◌, ◌≤◌, ◌+◌, length, take, true, IsTrue, IfOk, IfSome};
+ghost use Rattle.std.specs.Prelude.{◌≡◌, ◌≤◌, ◌+◌, length, take, true, IsTrue, IfOk, IfSome};
 ghost use Rattle.naga_below.specs.Each.{EachAt};
 ghost use Rattle.naga_below.specs.Fits.{FitsTypes};
 ghost use Rattle.naga_rules.specs.Answers.{Answers};
 ghost use Rattle.naga_valid.specs.Judged.{AnswersTracing};
 ghost use Rattle.naga_valid.specs.Parts.{no_traces};
 ghost use Rattle.naga_check.specs.Bench.{names_of, callees_of};
-ghost use Rattle.naga_check.specs.Judged.{flags_of, settings_with, plain_judgement, no_infos, infos_from, stages_of_last, IsJudgement, Judges};
+ghost use Rattle.naga_check.specs.Judged.{flags_of, settings_with, plain_judgement, no_infos, infos_from, judgement_of, stages_of_last};
 ghost use Rattle.naga_check.specs.Ready.{IsReady};
 ghost use Rattle.naga_check.specs.Line.{Replies, Writes};
-ghost use Rattle.naga_below.specs.declared.valid.info.ModuleInfo.{ModuleInfo};
-ghost use Rattle.naga_rules.specs.declared.function.FunctionError.{FunctionError};
-ghost use Rattle.naga_check.specs.Notation.Case.{Case as CaseOf, case_of};
-ghost use Rattle.naga_check.specs.Notation.Plain.{is_plain};
+ghost use Rattle.naga_check.specs.Notation.Case.{HoldsBlock, case_of};
+ghost use Rattle.naga_check.specs.Notation.Sayable.{is_sayable};
 
 use crate::bench_module::bench_module;
 use crate::line::Reply;
@@ -131,18 +129,14 @@ fn judge_functions(
 
 /// The judgement of a case.
 fn judge(alloc: Global, case: Case) -> Result<ModuleInfo, Refusal<FunctionError>>
-    requires { IsTrue (is_plain (length (names_of case.bench)) (callees_of case.bench) (case_of case).body) }
-    ensures { Judges (case_of case) result }
+    requires block { HoldsBlock case }
+    requires sayable { IsTrue (is_sayable (length (names_of case.bench)) (callees_of case.bench) (case_of case).body) }
+    ensures { Answers (judgement_of (case_of case)) result }
 {
     let flags = flags_of(case.expressions, case.blocks);
     let module = bench_module(alloc, case.bench, case.body)?;
     judge_functions(alloc, flags, &module)
 }
-
-/// A case has one judgement, whichever module of its bench is judged.
-pub fn one_judgement()
-    ensures { (c : CaseOf) (a b : Result ModuleInfo FunctionError) → IsJudgement c a → IsJudgement c b → a ≡ b }
-{}
 
 /// The stages that the last function may run in.
 #[tactic(auto, using(crate::proofs::Cases::last_stages))]
