@@ -9,10 +9,9 @@ use Rattle.naga_below.specs.declared.valid.flags.ShaderStages.{ShaderStages}
 use Rattle.naga_below.specs.declared.valid.info.FunctionInfo.{FunctionInfo}
 use Rattle.naga_below.specs.declared.valid.info.ModuleInfo.{ModuleInfo}
 use Rattle.naga_rules.specs.declared.function.FunctionError.{FunctionError}
-use Rattle.naga_valid.specs.Parts.{no_traces}
 use Rattle.naga_check.specs.EmptySets.{NO_STAGE}
 use Rattle.naga_check.specs.BenchModule.{bench_module}
-use Rattle.naga_check.specs.Judged.{infos_from, judgement_of, no_infos, settings_of, stages_of_last}
+use Rattle.naga_check.specs.Judged.{judgement_of, module_judgement, settings_of, stages_of_last}
 use Rattle.naga_check.specs.Line.{Replies, IsDue, Writes, IsLine, line_of, status_of, reply_of, reply_line, reply_status}
 use Rattle.naga_check.specs.Notation.Case.{Case, HoldsBlock, Reads, case_of}
 use Rattle.naga_check.specs.declared.notation.Case as declared
@@ -88,11 +87,10 @@ heard (Some input) n front reply e h r =
     whole_replies input n (omega arith) reply (subst (λ xs. Replies xs reply) h r)
 
 -- the judgement of a case is that of the module that is made for it
-pub judged_as : (c : declared.Case) (m : Module) → HoldsBlock c → m ≡ bench_module c.bench c.body → judgement_of (case_of c) ≡ infos_from (settings_of (case_of c)) no_traces m no_infos m.functions
+pub judged_as : (c : declared.Case) (m : Module) → HoldsBlock c → m ≡ bench_module c.bench c.body → judgement_of (case_of c) ≡ module_judgement (settings_of (case_of c)) m
 unfolding judgement_of
 judged_as c m holds is =
-    let judged = λ (n : Module). infos_from (settings_of (case_of c)) no_traces n no_infos n.functions in
-    sym (ap judged (is ∙ ap (bench_module c.bench) holds))
+    sym (ap (module_judgement (settings_of (case_of c))) (is ∙ ap (bench_module c.bench) holds))
 
 -- the replies to a case that was read
 pub replies_accepted : (input : List ℕ) (c : Case) (infos : ModuleInfo) → Reads input c → judgement_of c ≡ Ok infos → Replies input (Accepted (stages_of_last infos.functions))

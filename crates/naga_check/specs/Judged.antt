@@ -45,7 +45,8 @@ with_info infos info = record infos { functions = infos.functions ++ info ∷ []
 
 -- what the validator of functions says of a function over the plain layer, where these are the infos of those before it,
 -- and this is left of their ray traces
-unfoldable pub plain_judgement : Settings → TraceState → Module → ModuleInfo → Function → Result FunctionOutcome FunctionError
+unfoldable pub plain_judgement : Settings → TraceState → Module → ModuleInfo → Function
+    → Result FunctionOutcome FunctionError
 plain_judgement settings trace m infos f =
     function_judgement settings trace m infos f (kinds_from [] f.expressions) (plain_info f m)
 
@@ -60,13 +61,17 @@ infos_from settings trace m infos [] = Ok infos
 infos_from settings trace m infos (f ∷ fs) =
     and_then (λ left. infos_from settings left.trace m (with_info infos left.info) fs) (plain_judgement settings trace m infos f)
 
+-- the infos of a module's functions, from the first on, with these settings
+abbrev pub module_judgement : Settings → Module → Result ModuleInfo FunctionError
+module_judgement settings m = infos_from settings no_traces m no_infos m.functions
+
 -- the bench's module with the case's body
 abbrev pub module_of : Case → Module
 module_of c = bench_module c.bench (block_of c.body)
 
 -- the judgement of a case: that of the functions of its module, in order
 unfoldable pub judgement_of : Case → Result ModuleInfo FunctionError
-judgement_of c = infos_from (settings_of c) no_traces (module_of c) no_infos (module_of c).functions
+judgement_of c = module_judgement (settings_of c) (module_of c)
 
 -- the stages that the last function may run in
 abbrev pub stages_of_last : List FunctionInfo → ShaderStages

@@ -1,17 +1,16 @@
 //! One case, from a reader to a writer.
 
-ghost use Rattle.std.specs.Prelude.{◌≡◌, ◌≤◌, ◌+◌, length, take, true, IsTrue, IfOk, IfSome};
+ghost use Rattle.std.specs.Prelude.{◌≡◌, ◌≤◌, ◌+◌, length, take, IfOk, IfSome};
 ghost use Rattle.naga_below.specs.Each.{EachAt};
 ghost use Rattle.naga_below.specs.Fits.{FitsTypes};
 ghost use Rattle.naga_rules.specs.Answers.{Answers};
 ghost use Rattle.naga_valid.specs.Judged.{AnswersTracing};
 ghost use Rattle.naga_valid.specs.Parts.{no_traces};
-ghost use Rattle.naga_check.specs.Bench.{names_of, callees_of};
-ghost use Rattle.naga_check.specs.Judged.{flags_of, settings_with, plain_judgement, no_infos, infos_from, judgement_of, stages_of_last};
+ghost use Rattle.naga_check.specs.Judged.{flags_of, settings_with, plain_judgement, no_infos, judgement_of, module_judgement, stages_of_last};
 ghost use Rattle.naga_check.specs.Ready.{IsReady};
 ghost use Rattle.naga_check.specs.Line.{Replies, Writes};
 ghost use Rattle.naga_check.specs.Notation.Case.{HoldsBlock, case_of};
-ghost use Rattle.naga_check.specs.Notation.Sayable.{is_sayable};
+ghost use Rattle.naga_check.specs.Notation.Sayable.{IsSayable};
 
 use crate::bench_module::bench_module;
 use crate::line::Reply;
@@ -102,7 +101,9 @@ fn judge_function(
 ) -> Result<FunctionInfo, Refusal<FunctionError>>
     requires types { FitsTypes «module».now }
     requires ready { IsReady «module».now (length infos.now.functions) fun.now }
-    ensures judged { AnswersTracing (plain_judgement validator.old.settings validator.old.trace «module».now infos.now fun.now) validator.new.trace result }
+    ensures judged { AnswersTracing
+        (plain_judgement validator.old.settings validator.old.trace «module».now infos.now fun.now)
+        validator.new.trace result }
     ensures kept { validator.new ≡ record validator.old { trace = validator.new.trace } }
 {
     validator.validate_body(alloc, fun, module, infos)
@@ -116,7 +117,7 @@ fn judge_functions(
 ) -> Result<ModuleInfo, Refusal<FunctionError>>
     requires types { FitsTypes «module».now }
     requires functions { EachAt (λ k f. IsReady «module».now k f) «module».now.functions }
-    ensures { Answers (infos_from (settings_with flags) no_traces «module».now no_infos «module».now.functions) result }
+    ensures { Answers (module_judgement (settings_with flags) «module».now) result }
 {
     let mut infos = no_infos(alloc);
     let mut validator = validator_with(alloc, flags);
@@ -130,7 +131,7 @@ fn judge_functions(
 /// The judgement of a case.
 fn judge(alloc: Global, case: Case) -> Result<ModuleInfo, Refusal<FunctionError>>
     requires block { HoldsBlock case }
-    requires sayable { IsTrue (is_sayable (length (names_of case.bench)) (callees_of case.bench) (case_of case).body) }
+    requires sayable { IsSayable case.bench (case_of case).body }
     ensures { Answers (judgement_of (case_of case)) result }
 {
     let flags = flags_of(case.expressions, case.blocks);
@@ -170,7 +171,8 @@ fn reply_to(alloc: Global, input: &[u8]) -> Reply
 /// Reads until the end, or until the buffer is full, and says how many bytes.
 fn fill<R: Read>(reader: &mut R, buffer: &mut [u8]) -> io::Result<usize>
     ensures count { IfOk result (λ n. n ≤ length buffer.new) }
-    ensures bytes { IfOk result (λ n. IfSome (R.remaining reader.old) (λ input. take n buffer.new ≡ take (length buffer.new) input)) }
+    ensures bytes { IfOk result (λ n. IfSome (R.remaining reader.old) (λ input.
+        take n buffer.new ≡ take (length buffer.new) input)) }
 {
     let mut at = 0;
     while at < buffer.len() {

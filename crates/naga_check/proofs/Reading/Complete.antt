@@ -74,7 +74,7 @@ key (Some s) opened list h t k = key_at s.opened s.list s.wants opened list h t 
 
 -- the body ends
 end_here : (o : List Frame) (l : List Located) (w : Wants) (list : List Located) → Holds o l w [] list → end_at o l w ≡ Some (block_from list)
-unfolding end_at whole
+unfolding end_at
 end_here o l (wants.Statement tail) list h = ap (option_and_then (λ s. whole s.opened s.list)) h
 end_here o l w list h = absurd h
 

@@ -4,9 +4,7 @@ use Rattle.std.specs.Str.{bytes_eq}
 use Rattle.std.proofs.Math.Seq.{drop-cons}
 use Rattle.std.proofs.lemmas.List.{drop_all, get_or-map, length-map}
 use Rattle.naga_check.specs.Notation.Lookup.{options_of, take_option}
-
-abbrev pub texts : List (Bor (List ℕ)) → List (List ℕ)
-texts words = map (λ w. w.now) words
+use Rattle.naga_check.specs.Notation.Words.{texts}
 
 words_at : (words : List (Bor (List ℕ))) (i : ℕ) (w : Bor (List ℕ)) → i < length words → drop i (texts words) ≡ (get_or words i w).now ∷ drop (i + 1) (texts words)
 words_at words i w lt =

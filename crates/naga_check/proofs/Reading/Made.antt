@@ -15,3 +15,5 @@ pub reads_made : (b : Block) (ts : List Token) → reading_of ts ≡ Some b → 
 reads_made b ts e =
     let sound = reads_sound b ts e in
     same_block _ _ (sym e ∙ reads_complete (body_of no_operands b) ts sound.0 sound.1)
+
+pub ruleset readings = (reads_sound, reads_made, reads_complete)

@@ -373,7 +373,7 @@ feed_told (t ∷ ts) (Some x) before h s e =
 
 -- the body is whole
 whole_told : (opened : List Frame) (list : List Located) (ts : List Token) → Told opened list ts → (b : Block) → whole opened list ≡ Some b → Spells (body_of b) ts × (depth (body_of b) ≤ 256)
-unfolding whole Told
+unfolding Told
 whole_told [] list ts h b e =
     let same : block_from list ≡ b = cc in
     subst (λ x. Spells (body_of x) ts × (depth (body_of x) ≤ 256)) same (closed list ts h.0, omega (arith, closed_depth list, h.1))

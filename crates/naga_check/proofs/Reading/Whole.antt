@@ -2,7 +2,6 @@
 use Rattle.std.proofs.Common.{◌≡◌, ◌≤◌, ℕ, List, [], ◌∷◌, ◌++◌, Bool, true, false, Option, Some, None, refl, ap, sym, subst, ◌∙◌, codes, cond, inl, inr, ◌⊎◌}
 use Rattle.std.proofs.Common.{drop, take, length, ◌-◌, Bor, arith, length-drop}
 use Rattle.std.proofs.lemmas.List.{drop-map, take_all}
-use Rattle.naga_check.proofs.Reading.Head.{texts}
 use Rattle.std.specs.Prelude.{option_and_then}
 use Rattle.std.specs.Str.{bytes_eq}
 use Rattle.std.specs.Cmp.Lexicographic.{same_text}
@@ -18,7 +17,7 @@ use Rattle.naga_check.specs.Notation.Head.{AreOptions}
 use Rattle.naga_check.specs.Notation.Lookup.{options_of, take_option}
 use Rattle.naga_check.specs.Notation.Reading.{reading_of}
 use Rattle.naga_check.specs.Notation.Text.{AreTextsOf}
-use Rattle.naga_check.specs.Notation.Words.{words_of}
+use Rattle.naga_check.specs.Notation.Words.{texts, words_of}
 use Rattle.naga_check.proofs.Reading.Complete.{reads_complete}
 use Rattle.naga_check.proofs.Reading.Trees.{body_of, same_tree}
 use Rattle.naga_check.proofs.Reading.Tokens.{one_list}

@@ -21,6 +21,7 @@ tree_at x = tree_of no_operands x no_span
 abbrev pub emitting : ℕ → ℕ → Statement
 emitting first last = statement.Emit (record { start = first; end = last + 1 })
 
+-- its tree
 abbrev pub emission : ℕ → ℕ → Stmt
 emission first last = tree_at (emitting first last)
 
@@ -34,6 +35,7 @@ SpellsEmit first last ts =
 abbrev pub call_of : Option ℕ → Statement
 call_of result = statement.Call 0 [] result
 
+-- its tree
 abbrev pub calling : Option ℕ → Stmt
 calling result = tree_at (call_of result)
 
@@ -41,6 +43,7 @@ calling result = tree_at (call_of result)
 abbrev pub store_of : ℕ → ℕ → Statement
 store_of pointer value = statement.Store pointer value
 
+-- its tree
 abbrev pub storing : ℕ → ℕ → Stmt
 storing pointer value = tree_at (store_of pointer value)
 
@@ -48,6 +51,7 @@ storing pointer value = tree_at (store_of pointer value)
 abbrev pub control_barrier : Statement
 control_barrier = statement.ControlBarrier NO_MEMORY
 
+-- its tree
 abbrev pub waiting : Stmt
 waiting = tree_at control_barrier
 
@@ -83,7 +87,8 @@ unfoldable mutual
   SpellsStatement (Leaf acts x span) ts =
       ((first : ℕ) × (last : ℕ) × (Leaf acts x span ≡ emission first last) × SpellsEmit first last ts)
       ⊎ (((result : Option ℕ) × (Leaf acts x span ≡ calling result) × (ts ≡ token.Call ∷ token.Callee ∷ arrow_if_any result))
-      ⊎ (((pointer : ℕ) × (value : ℕ) × (Leaf acts x span ≡ storing pointer value) × (ts ≡ token.Store ∷ token.Name pointer ∷ token.Name value ∷ []))
+      ⊎ (((pointer : ℕ) × (value : ℕ) × (Leaf acts x span ≡ storing pointer value)
+      × (ts ≡ token.Store ∷ token.Name pointer ∷ token.Name value ∷ []))
       ⊎ ((Leaf acts x span ≡ waiting) × (ts ≡ token.Barrier ∷ []))))
   SpellsStatement (Block body) ts = (inner : List Token) × Spells body inner × (ts ≡ token.Block ∷ in_braces inner)
   SpellsStatement (Branch condition accept reject) ts =

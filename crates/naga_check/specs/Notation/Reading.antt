@@ -52,9 +52,9 @@ unfoldable pub close : List Frame → List Located → Option State
 close (frame.Block outer ∷ opened) list = ready opened (outer ++ placed (ir.Block (block_from list)) ∷ [])
 close (frame.Accept c outer ∷ opened) list =
     wanting (frame.Reject c (block_from list) outer ∷ opened) [] (wants.Open brace.Reject)
-close (frame.Reject c accept outer ∷ opened) list = ready opened (outer ++ placed (ir.If c accept (block_from list)) ∷ [])
-close (frame.Case value falls ∷ opened) list =
-    add_case opened (SwitchCase' value (block_from list) falls)
+close (frame.Reject c accept outer ∷ opened) list =
+    ready opened (outer ++ placed (ir.If c accept (block_from list)) ∷ [])
+close (frame.Case value falls ∷ opened) list = add_case opened (SwitchCase' value (block_from list) falls)
 close (frame.Turn outer ∷ opened) list =
     wanting (frame.Continuing (block_from list) outer ∷ opened) [] (wants.Open brace.Continuing)
 close (frame.Continuing turn outer ∷ opened) list =
@@ -63,12 +63,14 @@ close opened list = None
 
 -- the Switch at hand is closed
 unfoldable pub close_switch : List Frame → Option State
-close_switch (frame.Cases selector cases outer ∷ opened) = ready opened (outer ++ placed (ir.Switch selector cases) ∷ [])
+close_switch (frame.Cases selector cases outer ∷ opened) =
+    ready opened (outer ++ placed (ir.Switch selector cases) ∷ [])
 close_switch opened = None
 
 -- the Loop at hand ends
 unfoldable pub end_loop : List Frame → Option ℕ → Option State
-end_loop (frame.Looped turn continuing outer ∷ opened) condition = ready opened (outer ++ placed (ir.Loop turn continuing condition) ∷ [])
+end_loop (frame.Looped turn continuing outer ∷ opened) condition =
+    ready opened (outer ++ placed (ir.Loop turn continuing condition) ∷ [])
 end_loop opened condition = None
 
 -- a token where a statement may begin
@@ -144,7 +146,7 @@ abbrev pub step : State → Token → Option State
 step s t = next s.opened s.list s.wants t
 
 -- the block, where no part is open
-unfoldable pub whole : List Frame → List Located → Option Block
+abbrev pub whole : List Frame → List Located → Option Block
 whole [] list = Some (block_from list)
 whole (p ∷ ps) list = None
 

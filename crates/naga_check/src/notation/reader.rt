@@ -37,7 +37,7 @@ pub struct Reader {
 impl Reader {
     ghost use Rattle.naga_check.specs.Notation.Feeding.{Steps};
     ghost use Rattle.naga_check.specs.Notation.Reading.{State, begun, step, go_on, settle, begin, begin_at, take_name, open_brace, finish};
-    ghost use Rattle.naga_check.specs.Notation.Views.{state_of};
+    ghost use Rattle.naga_check.specs.Notation.Views.{Moves, state_of};
 
     /// A reader that has read nothing.
     #[tactic(auto, using(crate::proofs::Reading::Stack::stacks))]
@@ -93,7 +93,7 @@ impl Reader {
     /// A tail of the newest statement, or a token where a statement may begin.
     #[tactic(auto, using(crate::proofs::Reading::Stack::stacks), unfolding(crate::specs::Notation::Reading::go_on))]
     fn go_on(&mut self, tail: Tail, token: Token) -> Result<(), ReadError>
-        ensures { Steps (go_on (state_of self.old).opened (state_of self.old).list tail token) result (state_of self.new) }
+        ensures { Moves (λ opened list. go_on opened list tail token) self.old result self.new }
     {
         match tail {
             Tail::Nothing => self.begin_behind(tail, token),
@@ -120,7 +120,7 @@ impl Reader {
 
     /// A token where a statement may begin, the newest one having no tail.
     fn begin_behind(&mut self, tail: Tail, token: Token) -> Result<(), ReadError>
-        ensures { Steps (option_and_then (begin_at token) (settle (state_of self.old).opened (state_of self.old).list tail)) result (state_of self.new) }
+        ensures { Moves (λ opened list. option_and_then (begin_at token) (settle opened list tail)) self.old result self.new }
     {
         self.settle(tail)?;
         self.begin(token)
@@ -129,7 +129,7 @@ impl Reader {
     /// Ends the newest statement with no tail.
     #[tactic(auto, using(crate::proofs::Reading::Stack::stacks), unfolding(crate::specs::Notation::Reading::settle))]
     fn settle(&mut self, tail: Tail) -> Result<(), ReadError>
-        ensures { Steps (settle (state_of self.old).opened (state_of self.old).list tail) result (state_of self.new) }
+        ensures { Moves (λ opened list. settle opened list tail) self.old result self.new }
     {
         match tail {
             Tail::Nothing => self.want(Wants::Statement(Tail::Nothing)),
@@ -146,7 +146,7 @@ impl Reader {
     /// A token where a statement may begin.
     #[tactic(auto, using(crate::proofs::Reading::Stack::stacks), unfolding(crate::specs::Notation::Reading::begin))]
     fn begin(&mut self, token: Token) -> Result<(), ReadError>
-        ensures { Steps (begin (state_of self.old).opened (state_of self.old).list token) result (state_of self.new) }
+        ensures { Moves (λ opened list. begin opened list token) self.old result self.new }
     {
         match token {
             Token::Emit => self.want(Wants::Name(Naming::First)),
@@ -169,7 +169,7 @@ impl Reader {
     /// A name.
     #[tactic(auto, using(crate::proofs::Reading::Stack::stacks), unfolding(crate::specs::Notation::Reading::take_name))]
     fn take_name(&mut self, naming: Naming, name: u8) -> Result<(), ReadError>
-        ensures { Steps (take_name (state_of self.old).opened (state_of self.old).list naming name) result (state_of self.new) }
+        ensures { Moves (λ opened list. take_name opened list naming name) self.old result self.new }
     {
         match naming {
             Naming::First => self.want(Wants::Statement(Tail::Emit(name))),
@@ -194,7 +194,7 @@ impl Reader {
     /// An open brace.
     #[tactic(auto, using(crate::proofs::Reading::Stack::stacks), unfolding(crate::specs::Notation::Reading::open_brace))]
     fn open(&mut self, brace: Brace) -> Result<(), ReadError>
-        ensures { Steps (open_brace (state_of self.old).opened (state_of self.old).list brace) result (state_of self.new) }
+        ensures { Moves (λ opened list. open_brace opened list brace) self.old result self.new }
     {
         let statement = Wants::Statement(Tail::Nothing);
         match brace {
@@ -235,7 +235,7 @@ impl Reader {
     }
 
     /// The body, where it is whole.
-    #[tactic(auto, using(crate::proofs::Reading::Stack::stacks), unfolding(crate::specs::Notation::Reading::end_at, crate::specs::Notation::Reading::whole))]
+    #[tactic(auto, using(crate::proofs::Reading::Stack::stacks), unfolding(crate::specs::Notation::Reading::end_at))]
     pub fn finish(mut self) -> Result<Block, ReadError>
         ensures { Ends (finish (state_of self)) result }
     {
@@ -268,7 +268,7 @@ fn body_of_tokens(alloc: Global, tokens: &[Token]) -> Result<Block, ReadError>
 }
 
 /// The body that the tokens spell.
-#[tactic(auto, using(crate::proofs::Reading::Sound::reads_sound, crate::proofs::Reading::Made::reads_made, crate::proofs::Reading::Complete::reads_complete))]
+#[tactic(auto, using(crate::proofs::Reading::Made::readings))]
 pub fn read_body(alloc: Global, tokens: &[Token]) -> Result<Block, ReadError>
     ensures found { IfOk result (λ b. Spells (body_of no_operands b) tokens.now × (depth (body_of no_operands b) ≤ 256)) }
     ensures made { IfOk result (λ b. b ≡ block_of (body_of no_operands b)) }

@@ -9,12 +9,12 @@ use naga_below::ir::statements::{Statement, SwitchCase};
 impl Reader {
     ghost use Rattle.naga_check.specs.Notation.Feeding.{Steps};
     ghost use Rattle.naga_check.specs.Notation.Reading.{State, close, add_case, close_switch, end_loop};
-    ghost use Rattle.naga_check.specs.Notation.Views.{state_of};
+    ghost use Rattle.naga_check.specs.Notation.Views.{Moves, state_of};
 
     /// Closes the list at hand.
     #[tactic(auto, using(crate::proofs::Reading::Stack::stacks), unfolding(crate::specs::Notation::Reading::close))]
     pub fn close(&mut self) -> Result<(), ReadError>
-        ensures { Steps (close (state_of self.old).opened (state_of self.old).list) result (state_of self.new) }
+        ensures { Moves close self.old result self.new }
     {
         let Some(frame) = self.opened.pop() else {
             return Err(ReadError::Unreadable);
@@ -58,7 +58,7 @@ impl Reader {
     /// Puts a case behind the others of the Switch at hand.
     #[tactic(auto, using(crate::proofs::Reading::Stack::stacks), unfolding(crate::specs::Notation::Reading::add_case))]
     pub fn add_case(&mut self, case: SwitchCase) -> Result<(), ReadError>
-        ensures { Steps (add_case (state_of self.old).opened (case)) result (state_of self.new) }
+        ensures { Moves (λ opened _. add_case opened case) self.old result self.new }
     {
         let Some(
             Frame::Cases {
@@ -82,7 +82,7 @@ impl Reader {
     /// Closes the Switch at hand.
     #[tactic(auto, using(crate::proofs::Reading::Stack::stacks), unfolding(crate::specs::Notation::Reading::close_switch))]
     pub fn close_switch(&mut self) -> Result<(), ReadError>
-        ensures { Steps (close_switch (state_of self.old).opened) result (state_of self.new) }
+        ensures { Moves (λ opened _. close_switch opened) self.old result self.new }
     {
         let Some(
             Frame::Cases {
@@ -100,7 +100,7 @@ impl Reader {
     /// Ends the Loop at hand.
     #[tactic(auto, using(crate::proofs::Reading::Stack::stacks), unfolding(crate::specs::Notation::Reading::end_loop))]
     pub fn end_loop(&mut self, break_if: Option<u8>) -> Result<(), ReadError>
-        ensures { Steps (end_loop (state_of self.old).opened break_if) result (state_of self.new) }
+        ensures { Moves (λ opened _. end_loop opened break_if) self.old result self.new }
     {
         let Some(
             Frame::Looped {

@@ -13,11 +13,11 @@ impl Reader {
     ghost use Rattle.naga_check.specs.Notation.Blocks.{placed};
     ghost use Rattle.naga_check.specs.Notation.Feeding.{Steps};
     ghost use Rattle.naga_check.specs.Notation.Reading.{State, enter, ready, wanting};
-    ghost use Rattle.naga_check.specs.Notation.Views.{state_of};
+    ghost use Rattle.naga_check.specs.Notation.Views.{Moves, state_of};
 
     /// Says what is wanted next.
     pub fn want(&mut self, wants: Wants) -> Result<(), ReadError>
-        ensures { Steps (wanting (state_of self.old).opened (state_of self.old).list wants) result (state_of self.new) }
+        ensures { Moves (λ opened list. wanting opened list wants) self.old result self.new }
     {
         self.wants = wants;
         Ok(())
@@ -34,7 +34,7 @@ impl Reader {
     /// Opens one part more, with an empty list.
     #[tactic(auto, using(crate::proofs::Reading::Stack::stacks))]
     pub fn enter(&mut self, frame: Frame, wants: Wants) -> Result<(), ReadError>
-        ensures { Steps (enter (state_of self.old).opened (frame) wants) result (state_of self.new) }
+        ensures { Moves (λ opened _. enter opened frame wants) self.old result self.new }
     {
         if self.opened.len() >= MOST_OPEN {
             return Err(ReadError::Unreadable);
@@ -46,7 +46,7 @@ impl Reader {
 
     /// Puts a whole statement behind the others.
     pub fn put(&mut self, statement: Statement) -> Result<(), ReadError>
-        ensures { Steps (ready (state_of self.old).opened ((state_of self.old).list ++ placed statement ∷ [])) result (state_of self.new) }
+        ensures { Moves (λ opened list. ready opened (list ++ placed statement ∷ [])) self.old result self.new }
     {
         push(&mut self.list, statement)?;
         self.want(Wants::Statement(Tail::Nothing))
@@ -58,7 +58,7 @@ impl Reader {
         outer: Sequence<Located>,
         statement: Statement,
     ) -> Result<(), ReadError>
-        ensures { Steps (ready (state_of self.old).opened (outer ++ placed statement ∷ [])) result (state_of self.new) }
+        ensures { Moves (λ opened _. ready opened (outer ++ placed statement ∷ [])) self.old result self.new }
     {
         self.list = outer;
         self.put(statement)
@@ -67,7 +67,7 @@ impl Reader {
     /// Opens a frame in place of one that was closed, with an empty list.
     #[tactic(auto, using(crate::proofs::Reading::Stack::stacks))]
     pub fn go_over(&mut self, frame: Frame, wants: Wants) -> Result<(), ReadError>
-        ensures { Steps (wanting (frame ∷ (state_of self.old).opened) [] wants) result (state_of self.new) }
+        ensures { Moves (λ opened _. wanting (frame ∷ opened) [] wants) self.old result self.new }
     {
         self.list = Sequence::new(self.alloc);
         self.opened.push(frame)?;
