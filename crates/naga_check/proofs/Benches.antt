@@ -1,8 +1,8 @@
 -- What the benches name is there, and so is what a body of the notation names.
-use Rattle.std.proofs.Common.{◌≡◌, ℕ, zero, suc, ◌++◌, ◌<◌, ◌≤◌, Bool, true, false, ◌&&◌, List, [], ◌∷◌, All, Option, Some, None, length, sym, ap, ◌∙◌, subst, refl, arith}
+use Rattle.std.proofs.Common.{◌≡◌, ℕ, zero, suc, ◌++◌, ◌<◌, Bool, true, false, ◌&&◌, List, [], ◌∷◌, All, Option, Some, None, length, sym, subst, refl, arith}
 use Rattle.std.proofs.lemmas.Bool.{ltb-true, leb-true}
 use Rattle.std.proofs.lemmas.List.Elements.{All-nil, All-from_recursion}
-use Rattle.std.specs.Prelude.{IfSome, IsSomeAnd, nat_lt, slice_get}
+use Rattle.std.specs.Prelude.{IfSome, nat_lt}
 use Rattle.naga_below.proofs.Each.{EachFrom, each_from}
 use Rattle.naga_below.specs.Each.{EachAt}
 use Rattle.naga_below.specs.Fits.{FitsTypes, FitsFunction, MemberCountFits, NameEarlierExpressions, ReferencesFit, LocalFits}
@@ -13,8 +13,7 @@ use Rattle.naga_below.specs.declared.ir.statements.Block.{Block}
 use Rattle.naga_below.specs.Tree.{Stmt, Leaf, Block as Nested, Branch, Switch, Loop, Break, Continue, Return, Kill, Body, Done, Then, Cases, NoCase, OneCase}
 use Rattle.naga_below.specs.Types.{NamesTypesBelow}
 use Rattle.naga_below.specs.declared.ir.expressions.Expression.{Expression}
-use Rattle.naga_below.specs.declared.ir.expressions.Expression.TheVariants.{Literal, CallResult}
-use Rattle.naga_below.specs.declared.ir.functions.Function.{Function}
+use Rattle.naga_below.specs.declared.ir.expressions.Expression.TheVariants.{CallResult}
 use Rattle.naga_below.specs.declared.ir.functions.FunctionArgument.{FunctionArgument}
 use Rattle.naga_below.specs.declared.ir.module.Constant.{Constant}
 use Rattle.naga_below.specs.declared.ir.module.Module.{Module}

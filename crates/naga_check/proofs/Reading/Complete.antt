@@ -4,13 +4,12 @@ use Rattle.std.specs.Prelude.{option_and_then}
 use Rattle.std.proofs.lemmas.Grind.{common_steps}
 use Rattle.std.proofs.lemmas.Bool.{le-leb}
 use Rattle.naga_below.specs.declared.ir.statements.SwitchValue.{SwitchValue}
-use Rattle.naga_below.specs.declared.span.Span.{Span}
 use Rattle.naga_below.specs.declared.ir.statements.Block as b
 use Rattle.naga_below.specs.declared.ir.statements.Located.{Located}
 use Rattle.naga_below.specs.declared.ir.statements.Statement.{Statement}
 use Rattle.naga_below.specs.declared.ir.statements.Statement as ir
 use Rattle.naga_below.specs.declared.ir.statements.SwitchCase.{SwitchCase, SwitchCase'}
-use Rattle.naga_below.specs.Tree.{Act, Stmt, Leaf, Block, Branch, Switch, Loop, Break, Continue, Return, Kill, Body, Done, Then, Cases, NoCase, OneCase}
+use Rattle.naga_below.specs.Tree.{Stmt, Leaf, Block, Branch, Switch, Loop, Break, Continue, Return, Kill, Body, Done, Then, Cases, NoCase, OneCase}
 use Rattle.naga_check.specs.declared.notation.token.Token.{Token}
 use Rattle.naga_check.specs.declared.notation.token.Token.TheVariants as token
 use Rattle.naga_check.specs.declared.notation.reader.parts.Tail.{Tail}

@@ -1,5 +1,5 @@
 -- The options of a case.
-use Rattle.std.proofs.Common.{◌≡◌, ◌<◌, ◌≤◌, ◌+◌, ℕ, List, ◌∷◌, Bool, true, false, Option, Some, None, refl, ap, sym, ◌∙◌, arith, length, get_or, drop, codes, map, Bor, add-one}
+use Rattle.std.proofs.Common.{◌≡◌, ◌<◌, ◌≤◌, ◌+◌, ℕ, List, ◌∷◌, Bool, true, false, Option, Some, None, refl, ap, sym, ◌∙◌, arith, length, get_or, drop, codes, Bor, add-one}
 use Rattle.std.specs.Str.{bytes_eq}
 use Rattle.std.proofs.Math.Seq.{drop-cons}
 use Rattle.std.proofs.lemmas.List.{drop_all, get_or-map, length-map}

@@ -1,5 +1,5 @@
 -- The blocks that are read and the trees that the grammar spells: each is what the other stands for.
-use Rattle.std.proofs.Common.{◌≡◌, ℕ, List, [], ◌∷◌, Option, Some, None, refl, ap, sym, ◌∙◌, inl, inr}
+use Rattle.std.proofs.Common.{◌≡◌, ℕ, List, refl, ap, sym, ◌∙◌, inl, inr}
 use Rattle.naga_below.proofs.Rows.{body_of-list, tree_of-switch}
 use Rattle.naga_below.specs.Tree.{Act, Stmt, Leaf, Block, Branch, Switch, Loop, Break, Continue, Return, Kill, Body, Done, Then, Cases, NoCase, OneCase}
 use Rattle.naga_below.specs.View.{tree_of, list_body, list_cases, no_operands}

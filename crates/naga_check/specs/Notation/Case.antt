@@ -1,5 +1,5 @@
 -- A case, and the inputs that read as it.
-use Rattle.std.specs.Prelude.{◌≡◌, ◌≤◌, ℕ, Bool, List, [], ◌∷◌, ◌++◌, length, codes}
+use Rattle.std.specs.Prelude.{◌≡◌, ◌≤◌, ℕ, Bool, List, ◌∷◌, ◌++◌, length, codes}
 use Rattle.naga_below.specs.Tree.{Body}
 use Rattle.naga_below.specs.View.{body_of, no_operands}
 use Rattle.naga_check.specs.declared.bench.Bench.{Bench}

@@ -1,6 +1,6 @@
 -- How the statements are read, a token at a time: what the private functions of the reader do. No public contract cites
 -- this; it is proved to read what the grammar spells, and nothing else.
-use Rattle.std.specs.Prelude.{ℕ, Bool, true, false, List, [], ◌∷◌, ◌++◌, length, Option, Some, None, nat_lt, nat_le, if◌then◌else◌, option_and_then}
+use Rattle.std.specs.Prelude.{ℕ, true, false, List, [], ◌∷◌, ◌++◌, length, Option, Some, None, nat_lt, nat_le, if◌then◌else◌, option_and_then}
 use Rattle.naga_below.specs.declared.ir.statements.Block.{Block}
 use Rattle.naga_below.specs.declared.ir.statements.Located.{Located}
 use Rattle.naga_below.specs.declared.ir.statements.Statement as ir

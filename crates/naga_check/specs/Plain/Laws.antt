@@ -6,7 +6,7 @@ use Rattle.std.proofs.lemmas.List.{length-append, length-set, length-replicate}
 use Rattle.std.proofs.lemmas.List.Elements.{All-push, All-nil}
 use Rattle.std.proofs.lemmas.Option.{slice_get_within, get_or_from_slice_get, option_and_then_some, same_Some}
 use Rattle.std.proofs.lemmas.Result.{IfOk-at_ok}
-use Rattle.naga_below.specs.Bits.{ALL_STAGES, READ}
+use Rattle.naga_below.specs.Bits.{READ}
 use Rattle.naga_below.specs.Types.{ResolutionFits, pointer_base_of, resolved}
 use Rattle.naga_below.specs.declared.ir.expressions.Expression.{Expression}
 use Rattle.naga_below.specs.declared.ir.expressions.Expression.TheVariants as e
@@ -35,7 +35,7 @@ use Rattle.naga_check.specs.EmptySets.{NO_USE}
 use Rattle.naga_check.specs.Plain.Infos.{plain_info, info_of, with_types}
 use Rattle.naga_check.specs.Plain.Kinds.{kinds_from, kind_of}
 use Rattle.naga_check.specs.Plain.Types.{type_at, pointer_to, global_type, known_type, loaded_type, own_type, type_of, or_refuse, types_from}
-use Rattle.naga_check.specs.Plain.Uses.{uses_of, with_all_named}
+use Rattle.naga_check.specs.Plain.Uses.{with_all_named}
 
 -- a type that the module has, and that is no struct as a value
 abbrev pub IsLawful : Module → TypeResolution → Type 0

@@ -1,8 +1,6 @@
-use Rattle.std.proofs.Common.{sym, subst, ◌∙◌, ap}
+use Rattle.std.proofs.Common.{sym, subst}
 use Rattle.naga_below.specs.Each.{EachAt}
 use Rattle.naga_below.specs.Fits.{FitsTypes}
-use Rattle.naga_check.specs.Judged.{judgement_of, settings_of}
-use Rattle.naga_check.specs.Notation.Case.{case_of}
 use Rattle.naga_check.specs.Ready.{IsReady}
 use Rattle.naga_check.proofs.Benches.{types_fit, functions_ready}
 use Rattle.naga_check.proofs.Cases.{judged_as}
