@@ -5,29 +5,49 @@ use Rattle.std.proofs.Math.Seq.{take-append-add}
 use Rattle.std.specs.Prelude.{IfSome, Result, slice_get}
 use Rattle.std.specs.Io.KnownBytes.{Appends}
 use Rattle.naga_below.specs.declared.ir.module.Module.{Module}
-use Rattle.naga_below.specs.declared.span.Refusal.{Refusal}
-use Rattle.naga_below.specs.declared.span.Refusal.TheVariants as refusal
 use Rattle.naga_below.specs.declared.valid.flags.ShaderStages.{ShaderStages}
 use Rattle.naga_below.specs.declared.valid.info.FunctionInfo.{FunctionInfo}
 use Rattle.naga_below.specs.declared.valid.info.ModuleInfo.{ModuleInfo}
-use Rattle.naga_rules.specs.Answers.{Answers}
 use Rattle.naga_rules.specs.declared.function.FunctionError.{FunctionError}
-use Rattle.naga_valid.specs.Parts.{no_traces}
-use Rattle.naga_check.specs.BenchModule.{IsBenchModule}
-use Rattle.naga_check.specs.Judged.{IsJudgement, Judges, infos_from, no_infos, settings_of, stages_of_last}
-use Rattle.naga_check.specs.Line.{Replies, Writes, IsLine, line_of, reply_line, reply_status}
-use Rattle.naga_check.specs.Notation.Case.{Case, Reads}
+use Rattle.naga_check.specs.EmptySets.{NO_STAGE}
+use Rattle.naga_check.specs.BenchModule.{bench_module}
+use Rattle.naga_check.specs.Judged.{judgement_of, module_judgement, settings_of, stages_of_last}
+use Rattle.naga_check.specs.Line.{Replies, IsDue, Writes, IsLine, line_of, status_of, reply_of, reply_line, reply_status}
+use Rattle.naga_check.specs.Notation.Case.{Case, HoldsBlock, Reads, case_of}
+use Rattle.naga_check.specs.declared.notation.Case as declared
 use Rattle.naga_check.specs.declared.line.Reply.{Reply}
 use Rattle.naga_check.specs.declared.line.Reply.TheVariants.{Accepted, Fault, Unreadable, Memory}
 
+line_due : (judged : Result ModuleInfo FunctionError) → reply_line (reply_of judged) ≡ line_of judged
+unfolding reply_line line_of
+line_due (Ok infos) = refl
+line_due (Err fault) = refl
+
+status_due : (judged : Result ModuleInfo FunctionError) → reply_status (reply_of judged) ≡ status_of judged
+status_due (Ok infos) = refl
+status_due (Err fault) = refl
+
+-- the line of a reply that is due
+due_line : (input : List ℕ) (reply : Reply) → IsDue input reply → IsLine input (reply_line reply) (reply_status reply)
+unfolding IsLine
+due_line input reply (c, reads, due) =
+    inl (c, reads, sym (ap reply_line due) ∙ line_due (judgement_of c), sym (ap reply_status due) ∙ status_due (judgement_of c))
+
+unreadable_writes : (input : List ℕ) (old new : Option (List ℕ)) → ((c : Case) → Reads input c → ⊥) → Appends old new (reply_line Unreadable) → Writes input old new 2
+unfolding Writes IsLine reply_line
+unreadable_writes input old new none h = inl (_, inr (none, refl, refl), h)
+
+memory_writes : (input : List ℕ) (old new : Option (List ℕ)) → Appends old new (reply_line Memory) → Writes input old new 3
+unfolding Writes reply_line
+memory_writes input old new h = inr (h, refl)
+
 -- the line of a reply is one that may be written
 pub reply_writes : (input : List ℕ) (reply : Reply) (old new : Option (List ℕ)) → Replies input reply → Appends old new (reply_line reply) → Writes input old new (reply_status reply)
-unfolding Replies Writes IsLine line_of reply_line
-reply_writes input (Accepted stages) old new (c, reads, (infos, judged, same)) h =
-    inl (_, inl (c, reads, (Ok infos, judged, rw same refl, refl)), h)
-reply_writes input (Fault fault) old new (c, reads, judged) h = inl (_, inl (c, reads, (Err fault, judged, refl, refl)), h)
-reply_writes input Unreadable old new none h = inl (_, inr (none, refl, refl), h)
-reply_writes input Memory old new u h = inr (h, refl)
+unfolding Replies Writes
+reply_writes input (Accepted stages) old new due h = inl (_, due_line input (Accepted stages) due, h)
+reply_writes input (Fault fault) old new due h = inl (_, due_line input (Fault fault) due, h)
+reply_writes input Unreadable old new none h = unreadable_writes input old new none h
+reply_writes input Memory old new u h = memory_writes input old new h
 
 within : (input : List ℕ) (n : ℕ) → 65536 < n → length (take n input) ≤ 65536 → length input ≤ n
 within input n lt h = omega (arith, length-take n input)
@@ -66,21 +86,20 @@ heard None n front reply e h r = tt
 heard (Some input) n front reply e h r =
     whole_replies input n (omega arith) reply (subst (λ xs. Replies xs reply) h r)
 
--- the answer about the functions of the bench's module is the case's judgement
-pub judges : (c : Case) (m : Module) (answer : Result ModuleInfo (Refusal FunctionError)) → IsBenchModule c.bench c.body m → Answers (infos_from (settings_of c) no_traces m no_infos m.functions) answer → Judges c answer
-unfolding IsJudgement
-judges c m (Ok infos) is h = (m, is, h)
-judges c m (Err (refusal.Fault fault)) is h = (m, is, h)
-judges c m (Err refusal.Memory) is h = tt
+-- the judgement of a case is that of the module that is made for it
+pub judged_as : (c : declared.Case) (m : Module) → HoldsBlock c → m ≡ bench_module c.bench c.body → judgement_of (case_of c) ≡ module_judgement (settings_of (case_of c)) m
+unfolding judgement_of
+judged_as c m holds is =
+    sym (ap (module_judgement (settings_of (case_of c))) (is ∙ ap (bench_module c.bench) holds))
 
 -- the replies to a case that was read
-pub replies_accepted : (input : List ℕ) (c : Case) (infos : ModuleInfo) → Reads input c → IsJudgement c (Ok infos) → Replies input (Accepted (stages_of_last infos.functions))
+pub replies_accepted : (input : List ℕ) (c : Case) (infos : ModuleInfo) → Reads input c → judgement_of c ≡ Ok infos → Replies input (Accepted (stages_of_last infos.functions))
 unfolding Replies
-replies_accepted input c infos reads judged = (c, reads, (infos, judged, refl))
+replies_accepted input c infos reads judged = (c, reads, ap reply_of judged)
 
-pub replies_fault : (input : List ℕ) (c : Case) (fault : FunctionError) → Reads input c → IsJudgement c (Err fault) → Replies input (Fault fault)
+pub replies_fault : (input : List ℕ) (c : Case) (fault : FunctionError) → Reads input c → judgement_of c ≡ Err fault → Replies input (Fault fault)
 unfolding Replies
-replies_fault input c fault reads judged = (c, reads, judged)
+replies_fault input c fault reads judged = (c, reads, ap reply_of judged)
 
 pub replies_none : (input : List ℕ) → ((c : Case) → Reads input c → ⊥) → Replies input Unreadable
 unfolding Replies
@@ -93,7 +112,7 @@ replies_memory input = tt
 pub ruleset replying = (replies_accepted, replies_fault, replies_none, replies_memory)
 
 abbrev pub stages_if : Option FunctionInfo → ShaderStages
-stages_if None = record { 0 = 0 }
+stages_if None = NO_STAGE
 stages_if (Some info) = info.available_stages
 
 -- the last one's stages, where the last one is read at its place

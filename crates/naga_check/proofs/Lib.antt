@@ -2,5 +2,4 @@ pub mod Reading
 pub mod PlainTypes
 pub mod Benches
 pub mod Infos
-pub mod OneJudgement
 pub mod Cases

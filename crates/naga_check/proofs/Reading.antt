@@ -1,11 +1,12 @@
 -- How the notation is read.
-pub mod Rows
+pub mod Stack
+pub mod Trees
 pub mod Turns
-pub mod Lists
 pub mod Complete
 pub mod Sound
+pub mod Made
 pub mod Values
 pub mod Tokens
 pub mod Head
 pub mod Whole
-pub mod Plain
+pub mod Sayable

@@ -1,19 +1,20 @@
 -- The module of a bench, and its last function, into which the body of a case is put.
-use Rattle.std.specs.Prelude.{◌≡◌, List, [], ◌∷◌, ◌++◌, None, Some}
-use Rattle.naga_below.specs.Tree.{Body, Done, Then, Return}
+use Rattle.std.specs.Prelude.{List, [], ◌∷◌, ◌++◌, None, Some}
+use Rattle.naga_below.specs.Tree.{Done, Then, Return}
 use Rattle.naga_below.specs.Types.{bool_scalar}
-use Rattle.naga_below.specs.View.{body_of, no_operands}
 use Rattle.naga_below.specs.declared.ir.expressions.Expression.{Expression}
 use Rattle.naga_below.specs.declared.ir.expressions.Expression.TheVariants.{Literal, Unary, LocalVariable as LocalPointer, Load, CallResult}
 use Rattle.naga_below.specs.declared.ir.functions.Function.{Function}
 use Rattle.naga_below.specs.declared.ir.functions.LocalVariable.{LocalVariable}
 use Rattle.naga_below.specs.declared.ir.module.Module.{Module}
+use Rattle.naga_below.specs.declared.ir.statements.Block.{Block}
 use Rattle.naga_below.specs.declared.ir.types.Scalar.{Scalar}
 use Rattle.naga_below.specs.declared.ir.types.ScalarKind.TheVariants.{Sint, Uint}
 use Rattle.naga_below.specs.declared.ir.types.Type.{«Type» as IrType}
 use Rattle.naga_below.specs.declared.ir.types.TypeInner.TheVariants.{Scalar as ScalarType}
 use Rattle.naga_check.specs.declared.bench.Bench.{Bench}
 use Rattle.naga_check.specs.declared.bench.Bench.TheVariants.{P, C}
+use Rattle.naga_check.specs.Notation.Blocks.{block_of}
 
 abbrev pub u32_scalar : Scalar
 u32_scalar = record { kind = Uint; width = 4 }
@@ -51,34 +52,40 @@ bench_expressions P = shared_expressions
 bench_expressions C = shared_expressions ++ CallResult 0 ∷ []
 
 -- the function of the bench with this body: no arguments and no result
-pub record IsBenchFunction (bench : Bench) (body : Body) (f : Function) : Type 0 where
-  pub arguments : f.arguments ≡ []
-  pub declared : f.result ≡ None
-  pub locals : f.local_variables ≡ bench_locals
-  pub expressions : f.expressions ≡ bench_expressions bench
-  pub body_is : body_of no_operands f.body ≡ body
+abbrev pub bench_function : Bench → Block → Function
+bench_function bench block =
+    record { arguments = []; result = None; local_variables = bench_locals; expressions = bench_expressions bench; body = block }
+
+-- the body of the function to call: it returns its expression
+abbrev pub callee_block : Block
+callee_block = block_of (Then (Return (Some 0)) Done)
 
 -- the function to call, `f`: it has no arguments and returns a literal of u32
-pub record IsCallee (f : Function) : Type 0 where
-  pub arguments : f.arguments ≡ []
-  pub declared : f.result ≡ Some (record { ty = 1; binding = None })
-  pub locals : f.local_variables ≡ []
-  pub expressions : f.expressions ≡ Literal (record { scalar = u32_scalar; bits = 0 }) ∷ []
-  pub body_is : body_of no_operands f.body ≡ Then (Return (Some 0)) Done
+abbrev pub callee_function : Function
+callee_function =
+    record {
+      arguments = [];
+      result = Some (record { ty = 1; binding = None });
+      local_variables = [];
+      expressions = Literal (record { scalar = u32_scalar; bits = 0 }) ∷ [];
+      body = callee_block;
+    }
 
--- the functions of the bench's module
-abbrev pub AreFunctionsOf : Bench → Body → List Function → Type 0
-AreFunctionsOf P body (f ∷ []) = IsBenchFunction P body f
-AreFunctionsOf C body (callee ∷ f ∷ []) = IsCallee callee × IsBenchFunction C body f
-AreFunctionsOf bench body fs = ⊥
+-- the functions of the bench's module: the one with the body is the last
+abbrev pub bench_functions : Bench → Block → List Function
+bench_functions P block = bench_function P block ∷ []
+bench_functions C block = callee_function ∷ bench_function C block ∷ []
 
 -- the module of the bench with this body
-pub record IsBenchModule (bench : Bench) (body : Body) (m : Module) : Type 0 where
-  pub types : m.types ≡ bench_types
-  pub special_types : m.special_types ≡ record { ray_desc = None }
-  pub constants : m.constants ≡ []
-  pub overrides : m.overrides ≡ []
-  pub global_variables : m.global_variables ≡ []
-  pub global_expressions : m.global_expressions ≡ []
-  pub functions : AreFunctionsOf bench body m.functions
-  pub entry_points : m.entry_points ≡ []
+abbrev pub bench_module : Bench → Block → Module
+bench_module bench block =
+    record {
+      types = bench_types;
+      special_types = record { ray_desc = None };
+      constants = [];
+      overrides = [];
+      global_variables = [];
+      global_expressions = [];
+      functions = bench_functions bench block;
+      entry_points = [];
+    }

@@ -1,3 +1,4 @@
+pub mod EmptySets
 pub mod Bench
 pub mod BenchModule
 pub mod Notation

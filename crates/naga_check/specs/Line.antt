@@ -6,7 +6,7 @@ use Rattle.naga_below.specs.declared.valid.flags.ShaderStages.{ShaderStages}
 use Rattle.naga_below.specs.declared.valid.info.ModuleInfo.{ModuleInfo}
 use Rattle.naga_rules.specs.declared.function.FunctionError.{FunctionError}
 use Rattle.naga_check.specs.Faults.{fault_name, inner_text, fault_handle}
-use Rattle.naga_check.specs.Judged.{IsJudgement, IsAccepted, stages_of_last}
+use Rattle.naga_check.specs.Judged.{judgement_of, stages_of_last}
 use Rattle.naga_check.specs.Notation.Case.{Case, Reads}
 use Rattle.naga_check.specs.declared.line.Reply.{Reply}
 use Rattle.naga_check.specs.declared.line.Reply.TheVariants.{Accepted, Fault, Unreadable, Memory}
@@ -47,11 +47,18 @@ abbrev pub status_of : Result ModuleInfo FunctionError → ℕ
 status_of (Ok infos) = 0
 status_of (Err fault) = 1
 
--- The line of an input, and its status: those of the judgement of the case that it reads as; where it reads as none,
--- that it is unreadable.
+-- the line of a case, and its status
+abbrev pub case_line : Case → List ℕ
+case_line c = line_of (judgement_of c)
+
+abbrev pub case_status : Case → ℕ
+case_status c = status_of (judgement_of c)
+
+-- The line of an input, and its status: those of the case that it reads as; where it reads as none, that it is
+-- unreadable.
 unfoldable pub IsLine : List ℕ → List ℕ → ℕ → Type 0
 IsLine input line status =
-    ((c : Case) × Reads input c × ((answer : Result ModuleInfo FunctionError) × IsJudgement c answer × (line ≡ line_of answer) × (status ≡ status_of answer)))
+    ((c : Case) × Reads input c × (line ≡ case_line c) × (status ≡ case_status c))
     ⊎ (((c : Case) → Reads input c → ⊥) × (line ≡ unreadable_line) × (status ≡ 2))
 
 -- the line of the input was written, or that there is no memory, and nothing else; and the status is the line's
@@ -72,9 +79,18 @@ reply_status (Fault fault) = 1
 reply_status Unreadable = 2
 reply_status Memory = 3
 
+-- the reply that a judgement asks for
+abbrev pub reply_of : Result ModuleInfo FunctionError → Reply
+reply_of (Ok infos) = Accepted (stages_of_last infos.functions)
+reply_of (Err fault) = Fault fault
+
+-- the input reads as a case whose judgement asks for this reply
+abbrev pub IsDue : List ℕ → Reply → Type 0
+IsDue input reply = (c : Case) × Reads input c × (reply_of (judgement_of c) ≡ reply)
+
 -- the reply is the one that is due to the input, or want of memory
 unfoldable pub Replies : List ℕ → Reply → Type 0
-Replies input (Accepted stages) = (c : Case) × Reads input c × IsAccepted c stages
-Replies input (Fault fault) = (c : Case) × Reads input c × IsJudgement c (Err fault)
+Replies input (Accepted stages) = IsDue input (Accepted stages)
+Replies input (Fault fault) = IsDue input (Fault fault)
 Replies input Unreadable = (c : Case) → Reads input c → ⊥
 Replies input Memory = Unit {0}

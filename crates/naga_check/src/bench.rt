@@ -1,4 +1,4 @@
-//! The benches: modules that are the same for each input, into whose one function the body of a case is put.
+//! The benches: fixed modules, into whose last function the body of a case is put; and the words for their expressions.
 
 ghost use Rattle.std.specs.Prelude.{◌≡◌};
 ghost use Rattle.naga_check.specs.Bench.{bench_of, has_callee, index_of};

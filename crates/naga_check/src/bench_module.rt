@@ -1,9 +1,7 @@
 //! The modules of the benches.
 
-ghost use Rattle.std.specs.Prelude.{◌≡◌, Some, IfOk};
-ghost use Rattle.naga_below.specs.Tree.{Done, Then, Return};
-ghost use Rattle.naga_below.specs.View.{body_of, no_operands};
-ghost use Rattle.naga_check.specs.BenchModule.{bench_types, bench_locals, shared_expressions, bench_expressions, type_of, IsBenchFunction, IsCallee, AreFunctionsOf, IsBenchModule};
+ghost use Rattle.std.specs.Prelude.{◌≡◌, IfOk};
+ghost use Rattle.naga_check.specs.BenchModule.{bench_types, bench_locals, shared_expressions, bench_expressions, type_of, bench_function, callee_block, callee_function, bench_functions, bench_module};
 ghost use Rattle.naga_below.specs.declared.ir.expressions.Expression.TheVariants.{Literal as LiteralOf};
 
 use crate::bench::Bench;
@@ -107,7 +105,7 @@ fn bench_expressions(alloc: Global, bench: Bench) -> Result<Arena<Expression>, A
 
 /// The bench's function with a body.
 fn bench_function(alloc: Global, bench: Bench, body: Block) -> Result<Function, AllocError>
-    ensures { IfOk result (λ f. IsBenchFunction bench (body_of no_operands body) f) }
+    ensures { IfOk result (λ f. f ≡ bench_function bench body) }
 {
     let local_variables = bench_locals(alloc)?;
     let expressions = bench_expressions(alloc, bench)?;
@@ -121,10 +119,11 @@ fn bench_function(alloc: Global, bench: Bench, body: Block) -> Result<Function, 
 }
 
 /// The statements of `f`: it returns its literal.
+#[tactic(auto, unfolding(crate::specs::Notation::Blocks::list_of, crate::specs::Notation::Blocks::block_from))]
 fn callee_body(alloc: Global) -> Result<Block, AllocError>
-    ensures { IfOk result (λ b. body_of no_operands b ≡ Then (Return (Some 0)) Done) }
+    ensures { IfOk result (λ b. b ≡ callee_block) }
 {
-    let mut list = Vec::new(alloc);
+    let mut list = Sequence::new(alloc);
     list.push(Located {
         statement: Statement::Return {
             value: Some(Handle::new(0)),
@@ -136,7 +135,7 @@ fn callee_body(alloc: Global) -> Result<Block, AllocError>
 
 /// The function to call.
 fn callee(alloc: Global) -> Result<Function, AllocError>
-    ensures { IfOk result (λ f. IsCallee f) }
+    ensures { IfOk result (λ f. f ≡ callee_function) }
 {
     let mut expressions = Arena::new(alloc);
     expressions.append(literal(Scalar::U32, 0), NO_SPAN)?;
@@ -155,7 +154,7 @@ fn callee(alloc: Global) -> Result<Function, AllocError>
 
 /// The functions of the bench's module.
 fn bench_functions(alloc: Global, bench: Bench, body: Block) -> Result<Arena<Function>, AllocError>
-    ensures { IfOk result (λ fs. AreFunctionsOf bench (body_of no_operands body) fs) }
+    ensures { IfOk result (λ fs. fs ≡ bench_functions bench body) }
 {
     let mut functions = Arena::new(alloc);
     match bench {
@@ -173,7 +172,7 @@ fn bench_functions(alloc: Global, bench: Bench, body: Block) -> Result<Arena<Fun
 
 /// The bench's module, with a body in its last function.
 pub fn bench_module(alloc: Global, bench: Bench, body: Block) -> Result<Module, AllocError>
-    ensures { IfOk result (λ m. IsBenchModule bench (body_of no_operands body) m) }
+    ensures { IfOk result (λ m. m ≡ bench_module bench body) }
 {
     let types = bench_types(alloc)?;
     let functions = bench_functions(alloc, bench, body)?;

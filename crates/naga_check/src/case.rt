@@ -1,19 +1,16 @@
 //! One case, from a reader to a writer.
 
-ghost use Rattle.std.specs.Prelude.{Result, ◌≡◌, ◌≤◌, ◌+◌, length, take, true, IsTrue, IfOk, IfSome};
+ghost use Rattle.std.specs.Prelude.{◌≡◌, ◌≤◌, ◌+◌, length, take, IfOk, IfSome};
 ghost use Rattle.naga_below.specs.Each.{EachAt};
 ghost use Rattle.naga_below.specs.Fits.{FitsTypes};
 ghost use Rattle.naga_rules.specs.Answers.{Answers};
 ghost use Rattle.naga_valid.specs.Judged.{AnswersTracing};
 ghost use Rattle.naga_valid.specs.Parts.{no_traces};
-ghost use Rattle.naga_check.specs.Bench.{names_of, callees_of};
-ghost use Rattle.naga_check.specs.Judged.{flags_of, all_capabilities, settings_with, plain_judgement, no_infos, infos_from, stages_of_last, IsJudgement, Judges};
+ghost use Rattle.naga_check.specs.Judged.{flags_of, settings_with, plain_judgement, no_infos, judgement_of, module_judgement, stages_of_last};
 ghost use Rattle.naga_check.specs.Ready.{IsReady};
 ghost use Rattle.naga_check.specs.Line.{Replies, Writes};
-ghost use Rattle.naga_below.specs.declared.valid.info.ModuleInfo.{ModuleInfo};
-ghost use Rattle.naga_rules.specs.declared.function.FunctionError.{FunctionError};
-ghost use Rattle.naga_check.specs.Notation.Case.{Case as CaseOf, case_of};
-ghost use Rattle.naga_check.specs.Notation.Plain.{is_plain};
+ghost use Rattle.naga_check.specs.Notation.Case.{HoldsBlock, case_of};
+ghost use Rattle.naga_check.specs.Notation.Sayable.{IsSayable};
 
 use crate::bench_module::bench_module;
 use crate::line::Reply;
@@ -49,14 +46,6 @@ fn flags_of(expressions: bool, blocks: bool) -> ValidationFlags
     flags
 }
 
-/// Every capability.
-#[tactic(auto, unfolding(bitflags::proofs::OnLiterals::bitflags_on_literals))]
-fn all_capabilities() -> Capabilities
-    ensures { result ≡ all_capabilities }
-{
-    Capabilities::all()
-}
-
 /// The plain layer. No bench has a mesh shader, so its analysis is one of nothing.
 pub fn plain() -> Plain {
     Plain {
@@ -79,14 +68,13 @@ pub fn plain() -> Plain {
 
 /// A validator over the plain layer with these flags, for a target with every capability, and with subgroup operations
 /// of all groups in all stages.
-#[tactic(auto, unfolding(bitflags::proofs::OnLiterals::bitflags_on_literals))]
 fn validator_with(alloc: Global, flags: ValidationFlags) -> Validator<Plain>
     ensures settings { result.settings ≡ settings_with flags }
     ensures trace { result.trace ≡ no_traces }
 {
-    let mut validator = Validator::new(plain(), flags, all_capabilities());
-    validator.subgroup_stages(ShaderStages::all());
-    validator.subgroup_operations(SubgroupOperationSet::all());
+    let mut validator = Validator::new(plain(), flags, Capabilities::ALL);
+    validator.subgroup_stages(ShaderStages::ALL);
+    validator.subgroup_operations(SubgroupOperationSet::ALL);
     validator
 }
 
@@ -113,7 +101,9 @@ fn judge_function(
 ) -> Result<FunctionInfo, Refusal<FunctionError>>
     requires types { FitsTypes «module».now }
     requires ready { IsReady «module».now (length infos.now.functions) fun.now }
-    ensures judged { AnswersTracing (plain_judgement validator.old.settings validator.old.trace «module».now infos.now fun.now) validator.new.trace result }
+    ensures judged { AnswersTracing
+        (plain_judgement validator.old.settings validator.old.trace «module».now infos.now fun.now)
+        validator.new.trace result }
     ensures kept { validator.new ≡ record validator.old { trace = validator.new.trace } }
 {
     validator.validate_body(alloc, fun, module, infos)
@@ -127,7 +117,7 @@ fn judge_functions(
 ) -> Result<ModuleInfo, Refusal<FunctionError>>
     requires types { FitsTypes «module».now }
     requires functions { EachAt (λ k f. IsReady «module».now k f) «module».now.functions }
-    ensures { Answers (infos_from (settings_with flags) no_traces «module».now no_infos «module».now.functions) result }
+    ensures { Answers (module_judgement (settings_with flags) «module».now) result }
 {
     let mut infos = no_infos(alloc);
     let mut validator = validator_with(alloc, flags);
@@ -140,18 +130,14 @@ fn judge_functions(
 
 /// The judgement of a case.
 fn judge(alloc: Global, case: Case) -> Result<ModuleInfo, Refusal<FunctionError>>
-    requires { IsTrue (is_plain (length (names_of case.bench)) (callees_of case.bench) (case_of case).body) }
-    ensures { Judges (case_of case) result }
+    requires block { HoldsBlock case }
+    requires sayable { IsSayable case.bench (case_of case).body }
+    ensures { Answers (judgement_of (case_of case)) result }
 {
     let flags = flags_of(case.expressions, case.blocks);
     let module = bench_module(alloc, case.bench, case.body)?;
     judge_functions(alloc, flags, &module)
 }
-
-/// A case has one judgement, whichever module of its bench is judged.
-pub fn one_judgement()
-    ensures { (c : CaseOf) (a b : Result ModuleInfo FunctionError) → IsJudgement c a → IsJudgement c b → a ≡ b }
-{}
 
 /// The stages that the last function may run in.
 #[tactic(auto, using(crate::proofs::Cases::last_stages))]
@@ -160,7 +146,7 @@ fn stages_of_last(infos: &[FunctionInfo]) -> ShaderStages
 {
     match infos.last() {
         Some(info) => info.available_stages,
-        None => ShaderStages(0),
+        None => ShaderStages::empty(),
     }
 }
 
@@ -185,7 +171,8 @@ fn reply_to(alloc: Global, input: &[u8]) -> Reply
 /// Reads until the end, or until the buffer is full, and says how many bytes.
 fn fill<R: Read>(reader: &mut R, buffer: &mut [u8]) -> io::Result<usize>
     ensures count { IfOk result (λ n. n ≤ length buffer.new) }
-    ensures bytes { IfOk result (λ n. IfSome (R.remaining reader.old) (λ input. take n buffer.new ≡ take (length buffer.new) input)) }
+    ensures bytes { IfOk result (λ n. IfSome (R.remaining reader.old) (λ input.
+        take n buffer.new ≡ take (length buffer.new) input)) }
 {
     let mut at = 0;
     while at < buffer.len() {

@@ -1,9 +1,9 @@
 //! The notation in which a case is written.
 
-ghost use Rattle.std.specs.Prelude.{◌≡◌, ℕ, List, IfOk, IsErrOf, IsTrue, length, map};
-ghost use Rattle.naga_check.specs.Bench.{names_of, callees_of};
+ghost use Rattle.std.specs.Prelude.{◌≡◌, ℕ, List, IfOk, IsErrOf};
 ghost use Rattle.naga_check.specs.Notation.Case as notation;
-ghost use Rattle.naga_check.specs.Notation.Plain.{is_plain};
+ghost use Rattle.naga_check.specs.Notation.Words.{texts};
+ghost use Rattle.naga_check.specs.Notation.Sayable.{IsSayable};
 ghost use Rattle.naga_check.specs.declared.notation.ReadError.TheVariants.{Memory};
 
 mod build;
@@ -69,8 +69,10 @@ impl<T: Drop> From<AllocFailed<T>> for ReadError {
 pub fn read_case(alloc: Global, input: &[u8]) -> Result<Case, ReadError>
     // What is read is what the input says.
     ensures found { IfOk result (λ c. notation.Reads input.now (notation.case_of c)) }
+    // Its block is that of the case's tree.
+    ensures block { IfOk result (λ c. notation.HoldsBlock c) }
     // It holds the statements of the notation alone, and names none but the bench's expressions.
-    ensures plain { IfOk result (λ c. IsTrue (is_plain (length (names_of c.bench)) (callees_of c.bench) (notation.case_of c).body)) }
+    ensures sayable { IfOk result (λ c. IsSayable c.bench (notation.case_of c).body) }
     // An input is unreadable only where it says nothing.
     ensures none { IsErrOf result ReadError.Unreadable → (c : notation.Case) → notation.Reads input.now c → ⊥ }
 {
@@ -83,8 +85,9 @@ pub fn read_case(alloc: Global, input: &[u8]) -> Result<Case, ReadError>
 
 /// The case that these words say.
 fn case_of_words(alloc: Global, words: &[&[u8]]) -> Result<Case, ReadError>
-    ensures found { IfOk result (λ c. notation.Say (map (λ w. w.now) words.now) (notation.case_of c)) }
-    ensures none { IsErrOf result ReadError.Unreadable → (c : notation.Case) → notation.Say (map (λ w. w.now) words.now) c → ⊥ }
+    ensures found { IfOk result (λ c. notation.Say (texts words.now) (notation.case_of c)) }
+    ensures block { IfOk result (λ c. notation.HoldsBlock c) }
+    ensures none { IsErrOf result ReadError.Unreadable → (c : notation.Case) → notation.Say (texts words.now) c → ⊥ }
 {
     let Some((first, rest)) = words.split_first() else {
         return Err(ReadError::Unreadable);

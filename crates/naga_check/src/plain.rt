@@ -51,21 +51,22 @@ fn info_of(
     Ok(FunctionInfo {
         expression_types,
         global_uses,
-        available_stages: ShaderStages(0x1ff),
+        available_stages: ShaderStages::ALL,
         dual_source_blending: false,
     })
 }
 
 impl Below for Plain {
     ghost use Rattle.std.specs.Prelude.{Ok, []};
-    ghost use Rattle.naga_check.specs.Plain.Infos.{plain_info, all_stages};
+    ghost use Rattle.naga_check.specs.Plain.Infos.{plain_info};
+    ghost use Rattle.naga_below.specs.Bits.{ALL_STAGES};
     ghost use Rattle.naga_check.specs.Plain.Kinds.{kinds_from};
     ghost use Rattle.naga_check.specs.Plain.Sizes.{size_at};
     ghost use Rattle.naga_check.specs.Plain.Laws.{info_one_type_each, info_one_use_each, info_types_in_range, info_no_struct_values, kinds_one_each};
 
     ghost function_info = { λ _ f m _ _ _. plain_info f m };
 
-    ghost expression_stages = { λ _ _ _ _ _ _ _ _. Ok all_stages };
+    ghost expression_stages = { λ _ _ _ _ _ _ _ _. Ok ALL_STAGES };
 
     ghost mesh_analysis = { λ plain _ _. plain.analysis };
 
@@ -96,7 +97,7 @@ impl Below for Plain {
         _mod_info: &ModuleInfo,
         _kinds: &ExpressionKindTracker,
     ) -> Result<ShaderStages, Refusal<ExpressionError>> {
-        Ok(ShaderStages(0x1ff))
+        Ok(ShaderStages::ALL)
     }
 
     fn analyze_mesh_shader_info(

@@ -2,7 +2,6 @@
 use Rattle.std.proofs.Common.{◌≡◌, ◌≤◌, ℕ, List, [], ◌∷◌, ◌++◌, Bool, true, false, Option, Some, None, refl, ap, sym, subst, ◌∙◌, codes, cond, inl, inr, ◌⊎◌}
 use Rattle.std.proofs.Common.{drop, take, length, ◌-◌, Bor, arith, length-drop}
 use Rattle.std.proofs.lemmas.List.{drop-map, take_all}
-use Rattle.naga_check.proofs.Reading.Head.{texts}
 use Rattle.std.specs.Prelude.{option_and_then}
 use Rattle.std.specs.Str.{bytes_eq}
 use Rattle.std.specs.Cmp.Lexicographic.{same_text}
@@ -11,14 +10,16 @@ use Rattle.naga_check.specs.declared.bench.Bench.{Bench}
 use Rattle.naga_check.specs.declared.bench.Bench.TheVariants as bench
 use Rattle.naga_check.specs.declared.notation.token.Token.{Token}
 use Rattle.naga_check.specs.Bench.{bench_word, bench_of}
+use Rattle.naga_check.specs.Notation.Blocks.{block_of}
 use Rattle.naga_check.specs.Notation.Case.{Case, Say, Reads}
 use Rattle.naga_check.specs.Notation.Grammar.{Spells, depth}
 use Rattle.naga_check.specs.Notation.Head.{AreOptions}
 use Rattle.naga_check.specs.Notation.Lookup.{options_of, take_option}
 use Rattle.naga_check.specs.Notation.Reading.{reading_of}
 use Rattle.naga_check.specs.Notation.Text.{AreTextsOf}
-use Rattle.naga_check.specs.Notation.Words.{words_of}
+use Rattle.naga_check.specs.Notation.Words.{texts, words_of}
 use Rattle.naga_check.proofs.Reading.Complete.{reads_complete}
+use Rattle.naga_check.proofs.Reading.Trees.{body_of, same_tree}
 use Rattle.naga_check.proofs.Reading.Tokens.{one_list}
 
 -- the bench's word
@@ -198,7 +199,8 @@ one_case ws a c x y =
     let head = say_head ws (bench_word a.bench) (x.options ++ codes ":" ∷ x.rest) a.bench a.expressions a.blocks x.rest x.in_order (bench_is a.bench) (options_is a.expressions a.blocks x.options x.rest x.are_options) c y in
     let texts_too : AreTextsOf a.bench y.tokens x.rest = subst (AreTextsOf a.bench y.tokens) head.3 (subst (λ b. AreTextsOf b y.tokens y.rest) head.0 y.are_tokens) in
     let tokens : y.tokens ≡ x.tokens = one_list a.bench y.tokens x.tokens x.rest texts_too x.are_tokens in
-    let bodies : c.body ≡ a.body = some_some _ _ (sym (reads_complete c.body y.tokens y.spelled y.shallow) ∙ ap reading_of tokens ∙ reads_complete a.body x.tokens x.spelled x.shallow) in
+    let blocks : block_of c.body ≡ block_of a.body = some_some _ _ (sym (reads_complete c.body y.tokens y.spelled y.shallow) ∙ ap reading_of tokens ∙ reads_complete a.body x.tokens x.spelled x.shallow) in
+    let bodies : c.body ≡ a.body = sym (same_tree c.body y.tokens y.spelled) ∙ ap body_of blocks ∙ same_tree a.body x.tokens x.spelled in
     sym (λ i. record { bench = head.0 i; expressions = head.1 i; blocks = head.2 i; body = bodies i })
 
 pub one_input : (input : List ℕ) (a c : Case) → Reads input a → Reads input c → a ≡ c

@@ -1,11 +1,12 @@
 -- A case, and the inputs that read as it.
-use Rattle.std.specs.Prelude.{◌≡◌, ◌≤◌, ℕ, Bool, List, [], ◌∷◌, ◌++◌, length, codes}
+use Rattle.std.specs.Prelude.{◌≡◌, ◌≤◌, ℕ, Bool, List, ◌∷◌, ◌++◌, length, codes}
 use Rattle.naga_below.specs.Tree.{Body}
-use Rattle.naga_below.specs.View.{body_of}
+use Rattle.naga_below.specs.View.{body_of, no_operands}
 use Rattle.naga_check.specs.declared.bench.Bench.{Bench}
 use Rattle.naga_check.specs.declared.notation.Case as declared
 use Rattle.naga_check.specs.declared.notation.token.Token.{Token}
 use Rattle.naga_check.specs.Bench.{bench_word}
+use Rattle.naga_check.specs.Notation.Blocks.{block_of}
 use Rattle.naga_check.specs.Notation.Words.{IsPrintable, words_of}
 use Rattle.naga_check.specs.Notation.Text.{AreTextsOf}
 use Rattle.naga_check.specs.Notation.Grammar.{Spells, depth}
@@ -20,7 +21,11 @@ pub record Case : Type 0 where
 
 -- the case that a value of the program stands for
 abbrev pub case_of : declared.Case → Case
-case_of c = record { bench = c.bench; expressions = c.expressions; blocks = c.blocks; body = body_of (λ _. []) c.body }
+case_of c = record { bench = c.bench; expressions = c.expressions; blocks = c.blocks; body = body_of no_operands c.body }
+
+-- the value's block is that of its case's body
+abbrev pub HoldsBlock : declared.Case → Type 0
+HoldsBlock c = c.body ≡ block_of (case_of c).body
 
 -- The words say the case: they are the bench's, the options, `:` and the texts of tokens, and those spell the body, in
 -- which at most 256 braces are open at once.

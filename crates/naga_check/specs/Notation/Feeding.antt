@@ -14,8 +14,8 @@ Steps to (Ok u) s = to ≡ Some s
 Steps to (Err Unreadable) s = to ≡ None
 Steps to (Err Memory) s = Unit {0}
 
--- what a call answers, seen by `view`, against what is to come
-abbrev pub Ends : {X Y : Type 0} → (X → Y) → Option Y → Result X ReadError → Type 0
-Ends view to (Ok x) = to ≡ Some (view x)
-Ends view to (Err Unreadable) = to ≡ None
-Ends view to (Err Memory) = Unit {0}
+-- what a call answers, against what is to come
+abbrev pub Ends : {X : Type 0} → Option X → Result X ReadError → Type 0
+Ends to (Ok x) = to ≡ Some x
+Ends to (Err Unreadable) = to ≡ None
+Ends to (Err Memory) = Unit {0}

@@ -1,9 +1,11 @@
 -- Which tokens spell which statements.
 use Rattle.std.specs.Prelude.{◌≡◌, ◌≤◌, ◌+◌, ◌⊎◌, ℕ, suc, Bool, true, false, List, [], ◌∷◌, ◌++◌, Option, Some, None, max}
 use Rattle.naga_below.specs.declared.span.Span.{Span}
+use Rattle.naga_below.specs.declared.ir.statements.Statement.{Statement}
 use Rattle.naga_below.specs.declared.ir.statements.Statement as statement
 use Rattle.naga_below.specs.Tree.{Stmt, Leaf, Block, Branch, Switch, Loop, Break, Continue, Return, Kill, Body, Done, Then, Cases, NoCase, OneCase}
-use Rattle.naga_below.specs.View.{tree_of}
+use Rattle.naga_below.specs.View.{tree_of, no_operands}
+use Rattle.naga_check.specs.EmptySets.{NO_MEMORY}
 use Rattle.naga_check.specs.declared.notation.token.Token.{Token}
 use Rattle.naga_check.specs.declared.notation.token.Token.TheVariants as token
 
@@ -11,9 +13,17 @@ use Rattle.naga_check.specs.declared.notation.token.Token.TheVariants as token
 abbrev pub no_span : Span
 no_span = record { start = 0; end = 0 }
 
+-- the tree of a statement that is read
+abbrev pub tree_at : Statement → Stmt
+tree_at x = tree_of no_operands x no_span
+
 -- the Emit of the expressions from `first` to `last`, both included
+abbrev pub emitting : ℕ → ℕ → Statement
+emitting first last = statement.Emit (record { start = first; end = last + 1 })
+
+-- its tree
 abbrev pub emission : ℕ → ℕ → Stmt
-emission first last = tree_of (λ _. []) (statement.Emit (record { start = first; end = last + 1 })) no_span
+emission first last = tree_at (emitting first last)
 
 -- one expression, or a range of them
 abbrev pub SpellsEmit : ℕ → ℕ → List Token → Type 0
@@ -22,16 +32,28 @@ SpellsEmit first last ts =
     ⊎ ((first ≤ last) × (ts ≡ token.Emit ∷ token.Name first ∷ token.To ∷ token.Name last ∷ []))
 
 -- the call of `f`, the first function of the module, without arguments
+abbrev pub call_of : Option ℕ → Statement
+call_of result = statement.Call 0 [] result
+
+-- its tree
 abbrev pub calling : Option ℕ → Stmt
-calling result = tree_of (λ _. []) (statement.Call 0 [] result) no_span
+calling result = tree_at (call_of result)
 
 -- the store of a value where a pointer points
+abbrev pub store_of : ℕ → ℕ → Statement
+store_of pointer value = statement.Store pointer value
+
+-- its tree
 abbrev pub storing : ℕ → ℕ → Stmt
-storing pointer value = tree_of (λ _. []) (statement.Store pointer value) no_span
+storing pointer value = tree_at (store_of pointer value)
 
 -- the control barrier that names no memory
+abbrev pub control_barrier : Statement
+control_barrier = statement.ControlBarrier NO_MEMORY
+
+-- its tree
 abbrev pub waiting : Stmt
-waiting = tree_of (λ _. []) (statement.ControlBarrier (record { 0 = 0 })) no_span
+waiting = tree_at control_barrier
 
 abbrev pub arrow_if_any : Option ℕ → List Token
 arrow_if_any None = []
@@ -65,7 +87,8 @@ unfoldable mutual
   SpellsStatement (Leaf acts x span) ts =
       ((first : ℕ) × (last : ℕ) × (Leaf acts x span ≡ emission first last) × SpellsEmit first last ts)
       ⊎ (((result : Option ℕ) × (Leaf acts x span ≡ calling result) × (ts ≡ token.Call ∷ token.Callee ∷ arrow_if_any result))
-      ⊎ (((pointer : ℕ) × (value : ℕ) × (Leaf acts x span ≡ storing pointer value) × (ts ≡ token.Store ∷ token.Name pointer ∷ token.Name value ∷ []))
+      ⊎ (((pointer : ℕ) × (value : ℕ) × (Leaf acts x span ≡ storing pointer value)
+      × (ts ≡ token.Store ∷ token.Name pointer ∷ token.Name value ∷ []))
       ⊎ ((Leaf acts x span ≡ waiting) × (ts ≡ token.Barrier ∷ []))))
   SpellsStatement (Block body) ts = (inner : List Token) × Spells body inner × (ts ≡ token.Block ∷ in_braces inner)
   SpellsStatement (Branch condition accept reject) ts =

@@ -6,4 +6,6 @@ abbrev pub AreOptions : (expressions blocks : Bool) → List (List ℕ) → Type
 AreOptions true true ws = ws ≡ []
 AreOptions false true ws = ws ≡ codes "-expressions" ∷ []
 AreOptions true false ws = ws ≡ codes "-blocks" ∷ []
-AreOptions false false ws = (ws ≡ codes "-expressions" ∷ codes "-blocks" ∷ []) ⊎ (ws ≡ codes "-blocks" ∷ codes "-expressions" ∷ [])
+AreOptions false false ws =
+    (ws ≡ codes "-expressions" ∷ codes "-blocks" ∷ [])
+    ⊎ (ws ≡ codes "-blocks" ∷ codes "-expressions" ∷ [])

@@ -11,18 +11,18 @@ abbrev pub lookup : {X : Type 0} → List (List ℕ × X) → List ℕ → Optio
 lookup [] w = None
 lookup ((text, x) ∷ rest) w = if bytes_eq w text then Some x else lookup rest w
 
--- the tokens that have one text each
--- in a case of any bench
+-- the tokens that have one text each, and the text of each, in a case of any bench
 abbrev pub keywords : List (List ℕ × Token)
 keywords =
     (codes "emit", token.Emit) ∷ (codes "..", token.To) ∷ (codes "block", token.Block) ∷ (codes "if", token.If)
     ∷ (codes "switch", token.Switch) ∷ (codes "fall", token.Fall) ∷ (codes "loop", token.Loop)
     ∷ (codes "break_if", token.BreakIf) ∷ (codes "break", token.Break) ∷ (codes "continue", token.Continue)
-    ∷ (codes "return", token.Return) ∷ (codes "kill", token.Kill) ∷ (codes "store", token.Store) ∷ (codes "barrier", token.Barrier)
+    ∷ (codes "return", token.Return) ∷ (codes "kill", token.Kill) ∷ (codes "store", token.Store)
+    ∷ (codes "barrier", token.Barrier)
     ∷ (codes "{", token.Open) ∷ (codes "}", token.Close)
     ∷ []
 
--- in a case of a bench that has a function to call
+-- those in a case of a bench that has a function to call
 abbrev pub call_keywords : List (List ℕ × Token)
 call_keywords = (codes "call", token.Call) ∷ (codes "f", token.Callee) ∷ (codes "->", token.Arrow) ∷ keywords
 

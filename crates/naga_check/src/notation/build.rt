@@ -1,11 +1,12 @@
 //! Statements and blocks of the IR, as the reader makes them. Each statement has the same span, which tells nothing.
 
 ghost use Rattle.std.specs.Prelude.{◌≡◌, ◌++◌, ◌∷◌, [], OnOk};
-ghost use Rattle.naga_below.specs.Tree.{Branch, Loop, Switch};
-ghost use Rattle.naga_check.specs.Notation.Grammar.{emission, calling, storing, waiting};
-ghost use Rattle.naga_check.specs.Notation.Reading.{Clause, body_from, cases_from};
-ghost use Rattle.naga_check.specs.Notation.Views.{body_of, stmt_of, list_of, clause_of, clauses_of};
+ghost use Rattle.naga_below.specs.declared.ir.statements.Statement as ir;
+ghost use Rattle.naga_below.specs.declared.ir.statements.SwitchCase.{SwitchCase'};
+ghost use Rattle.naga_check.specs.Notation.Blocks.{block_from, placed};
+ghost use Rattle.naga_check.specs.Notation.Grammar.{emitting, call_of, store_of, control_barrier};
 
+use bitflags::Flags;
 use naga_below::arena::handle::Handle;
 use naga_below::arena::range::Range;
 use naga_below::arena::tag;
@@ -23,8 +24,8 @@ pub fn expression(index: u8) -> Handle<tag::Expression>
 }
 
 /// Puts a statement behind the others.
-pub fn push(list: &mut Vec<Located>, statement: Statement) -> Result<(), AllocError>
-    ensures { OnOk result (list_of list.new.items ≡ list_of list.old.items ++ stmt_of statement ∷ []) }
+pub fn push(list: &mut Sequence<Located>, statement: Statement) -> Result<(), AllocError>
+    ensures { OnOk result (list.new ≡ list.old ++ placed statement ∷ []) }
 {
     let span = Span { start: 0, end: 0 };
     list.push(Located { statement, span })?;
@@ -32,15 +33,16 @@ pub fn push(list: &mut Vec<Located>, statement: Statement) -> Result<(), AllocEr
 }
 
 /// A block of these statements.
-pub fn block_of(list: Vec<Located>) -> Block
-    ensures { body_of result ≡ body_from (list_of list.items) }
+#[tactic(auto, unfolding(crate::specs::Notation::Blocks::block_from))]
+pub fn block_of(list: Sequence<Located>) -> Block
+    ensures { result ≡ block_from list }
 {
     Block { list }
 }
 
 /// An Emit of the expressions from `first` to `last`, both included.
 pub fn emission(first: u8, last: u8) -> Statement
-    ensures { stmt_of result ≡ emission first last }
+    ensures { result ≡ emitting first last }
 {
     Statement::Emit(Range {
         start: first as u32,
@@ -50,7 +52,7 @@ pub fn emission(first: u8, last: u8) -> Statement
 
 /// A store of a value where a pointer points.
 pub fn storing(pointer: u8, value: u8) -> Statement
-    ensures { stmt_of result ≡ storing pointer value }
+    ensures { result ≡ store_of pointer value }
 {
     Statement::Store {
         pointer: expression(pointer),
@@ -60,14 +62,14 @@ pub fn storing(pointer: u8, value: u8) -> Statement
 
 /// The control barrier that names no memory.
 pub fn waiting() -> Statement
-    ensures { stmt_of result ≡ waiting }
+    ensures { result ≡ control_barrier }
 {
-    Statement::ControlBarrier(Barrier(0))
+    Statement::ControlBarrier(Barrier::empty())
 }
 
 /// A call of `f` with this result.
 pub fn calling(alloc: Global, answer: Option<u8>) -> Statement
-    ensures { stmt_of result ≡ calling answer }
+    ensures { result ≡ call_of answer }
 {
     Statement::Call {
         function: Handle::new(0),
@@ -81,7 +83,7 @@ pub fn calling(alloc: Global, answer: Option<u8>) -> Statement
 
 /// A case of a Switch.
 pub fn case_of(value: SwitchValue, body: Block, fall_through: bool) -> SwitchCase
-    ensures { clause_of result ≡ record { value = value; falls = fall_through; body = body_of body } }
+    ensures { result ≡ SwitchCase' value body fall_through }
 {
     SwitchCase {
         value,
@@ -92,7 +94,7 @@ pub fn case_of(value: SwitchValue, body: Block, fall_through: bool) -> SwitchCas
 
 /// A choice between two blocks.
 pub fn choice(condition: u8, accept: Block, reject: Block) -> Statement
-    ensures { stmt_of result ≡ Branch condition (body_of accept) (body_of reject) }
+    ensures { result ≡ ir.If condition accept reject }
 {
     Statement::If {
         condition: expression(condition),
@@ -103,7 +105,7 @@ pub fn choice(condition: u8, accept: Block, reject: Block) -> Statement
 
 /// A loop over two blocks, left where `break_if` holds, if it names an expression.
 pub fn repetition(body: Block, continuing: Block, break_if: Option<u8>) -> Statement
-    ensures { stmt_of result ≡ Loop (body_of body) (body_of continuing) break_if }
+    ensures { result ≡ ir.Loop body continuing break_if }
 {
     let break_if = match break_if {
         Some(name) => Some(expression(name)),
@@ -117,8 +119,8 @@ pub fn repetition(body: Block, continuing: Block, break_if: Option<u8>) -> State
 }
 
 /// A choice among cases.
-pub fn switch(selector: u8, cases: Vec<SwitchCase>) -> Statement
-    ensures { stmt_of result ≡ Switch selector (cases_from (clauses_of cases.items)) }
+pub fn switch(selector: u8, cases: Sequence<SwitchCase>) -> Statement
+    ensures { result ≡ ir.Switch selector cases }
 {
     Statement::Switch {
         selector: expression(selector),

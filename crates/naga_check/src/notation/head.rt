@@ -1,7 +1,8 @@
 //! The options of a case.
 
-ghost use Rattle.std.specs.Prelude.{◌≡◌, ◌≤◌, length, drop, map, true, MatchOption, None, Some};
+ghost use Rattle.std.specs.Prelude.{◌≡◌, ◌≤◌, length, drop, true, MatchOption, None, Some};
 ghost use Rattle.naga_check.specs.Notation.Lookup.{options_of, take_option};
+ghost use Rattle.naga_check.specs.Notation.Words.{texts};
 
 /// Which flags the options leave on.
 #[derive(Clone, Copy, PartialEq, Eq, Debug)]
@@ -44,8 +45,9 @@ fn take_option(flags: Flags, option: &[u8]) -> Option<Flags>
 /// The flags that the options at the front of these words leave on, and how many words they are, the `:` behind them
 /// included.
 pub fn options_of(words: &[&[u8]]) -> Option<(Flags, usize)>
-    ensures { MatchOption result (options_of true true (map (λ w. w.now) words.now) ≡ None)
-        (λ o. (options_of true true (map (λ w. w.now) words.now) ≡ Some (o.0.expressions, o.0.blocks, drop o.1 (map (λ w. w.now) words.now))) × (o.1 ≤ length words.now)) }
+    ensures { MatchOption result (options_of true true (texts words.now) ≡ None)
+        (λ o. (options_of true true (texts words.now) ≡ Some (o.0.expressions, o.0.blocks, drop o.1 (texts words.now)))
+        × (o.1 ≤ length words.now)) }
 {
     let mut flags = Flags {
         expressions: true,

@@ -1,127 +1,27 @@
 //! Reads the statements of a body, a token at a time, with a stack of the parts that are open.
 
-ghost use Rattle.std.specs.Prelude.{◌≡◌, ◌≤◌, ◌++◌, ◌∷◌, [], option_and_then, IfOk, IsErrOf};
+ghost use Rattle.std.specs.Prelude.{◌≡◌, ◌≤◌, option_and_then, IfOk, IsErrOf};
 ghost use Rattle.naga_below.specs.Tree.{Body};
+ghost use Rattle.naga_below.specs.View.{body_of, no_operands};
+ghost use Rattle.naga_check.specs.Notation.Blocks.{block_of};
 ghost use Rattle.naga_check.specs.Notation.Grammar.{Spells, depth};
 ghost use Rattle.naga_check.specs.Notation.Feeding.{Ends};
 ghost use Rattle.naga_check.specs.Notation.Reading.{reading_of};
-ghost use Rattle.naga_check.specs.Notation.Views.{body_of};
+
+mod closing;
+pub mod parts;
+mod stack;
 
 use crate::notation::ReadError;
-use crate::notation::build::{
-    block_of, calling, case_of, choice, emission, expression, push, repetition, storing, switch,
-    waiting,
-};
+use crate::notation::build::{block_of, calling, emission, expression, storing, waiting};
+use crate::notation::reader::parts::{Brace, Frame, Naming, Tail, Wants};
 use crate::notation::token::Token;
-use naga_below::ir::statements::{Block, Located, Statement, SwitchCase, SwitchValue};
+use naga_below::ir::statements::{Block, Located, Statement};
+use naga_below::sequence::Sequence;
 use std::alloc::Global;
-use std::mem;
 
 /// How many braces may be open at once.
 pub const MOST_OPEN: usize = 256;
-
-/// What the newest statement may still get.
-#[derive(Clone, Copy, Debug)]
-pub enum Tail {
-    Nothing,
-    /// `..` and the last name of the range that begins here.
-    Emit(u8),
-    /// A value.
-    Return,
-    /// `break_if` and a name.
-    Loop,
-    /// `->` and a name.
-    Call,
-}
-
-/// What a name stands for.
-#[derive(Clone, Copy, Debug)]
-pub enum Naming {
-    /// The first emitted expression.
-    First,
-    /// The last emitted expression, behind this first one.
-    Last(u8),
-    Condition,
-    Selector,
-    BreakIf,
-    /// The result of a call.
-    Result,
-    /// Where a store points.
-    Pointer,
-    /// What is stored, behind this pointer.
-    Stored(u8),
-}
-
-/// What a brace opens.
-#[derive(Clone, Copy, Debug)]
-pub enum Brace {
-    Block,
-    Accept(u8),
-    Reject,
-    Cases(u8),
-    Case {
-        value: SwitchValue,
-        fall_through: bool,
-    },
-    /// The body of a Loop.
-    Turn,
-    Continuing,
-}
-
-/// Which token is wanted next.
-#[derive(Clone, Copy, Debug)]
-pub enum Wants {
-    /// The tail of the newest statement, a new statement, or the end of the list.
-    Statement(Tail),
-    Name(Naming),
-    /// The function that is called.
-    Callee,
-    Open(Brace),
-    /// The value of a case, or the end of the Switch.
-    CaseValue,
-    /// `fall`, or the brace of the case's body.
-    CaseRest(SwitchValue),
-}
-
-/// A part that is open, with the statements that stood before its own statement.
-#[derive(Drop)]
-pub enum Frame {
-    Block {
-        outer: Vec<Located>,
-    },
-    Accept {
-        condition: u8,
-        outer: Vec<Located>,
-    },
-    Reject {
-        condition: u8,
-        accept: Block,
-        outer: Vec<Located>,
-    },
-    Cases {
-        selector: u8,
-        cases: Vec<SwitchCase>,
-        outer: Vec<Located>,
-    },
-    /// A case of the Switch whose frame lies below.
-    Case {
-        value: SwitchValue,
-        fall_through: bool,
-    },
-    Turn {
-        outer: Vec<Located>,
-    },
-    Continuing {
-        turn: Block,
-        outer: Vec<Located>,
-    },
-    /// A Loop whose lists are both closed: no brace of it is open.
-    Looped {
-        turn: Block,
-        continuing: Block,
-        outer: Vec<Located>,
-    },
-}
 
 /// What has been read so far. After an `Err` it isn't used again, and may hold anything.
 #[derive(Drop)]
@@ -130,30 +30,30 @@ pub struct Reader {
     /// The open parts, the newest last.
     pub opened: Vec<Frame>,
     /// The statements of the newest open part.
-    pub list: Vec<Located>,
+    pub list: Sequence<Located>,
     pub wants: Wants,
 }
 
 impl Reader {
     ghost use Rattle.naga_check.specs.Notation.Feeding.{Steps};
-    ghost use Rattle.naga_check.specs.Notation.Reading.{Clause, State, begun, step, go_on, settle, begin, begin_at, take_name, open_brace, enter, close, add_case, close_switch, end_loop, ready, wanting, finish};
-    ghost use Rattle.naga_check.specs.Notation.Views.{state_of, stmt_of, list_of, part_of, clause_of};
+    ghost use Rattle.naga_check.specs.Notation.Reading.{State, begun, step, go_on, settle, begin, begin_at, take_name, open_brace, finish};
+    ghost use Rattle.naga_check.specs.Notation.Views.{Moves, state_of};
 
     /// A reader that has read nothing.
-    #[tactic(auto, using(crate::proofs::Reading::Rows::views))]
+    #[tactic(auto, using(crate::proofs::Reading::Stack::stacks))]
     pub fn new(alloc: Global) -> Self
         ensures { state_of result ≡ begun }
     {
         Reader {
             alloc,
             opened: Vec::new(alloc),
-            list: Vec::new(alloc),
+            list: Sequence::new(alloc),
             wants: Wants::Statement(Tail::Nothing),
         }
     }
 
     /// Takes the next token.
-    #[tactic(auto, using(crate::proofs::Reading::Rows::views), unfolding(crate::specs::Notation::Reading::next))]
+    #[tactic(auto, using(crate::proofs::Reading::Stack::stacks), unfolding(crate::specs::Notation::Reading::next))]
     pub fn step(&mut self, token: Token) -> Result<(), ReadError>
         ensures { Steps (step (state_of self.old) token) result (state_of self.new) }
     {
@@ -190,18 +90,10 @@ impl Reader {
         }
     }
 
-    /// Says what is wanted next.
-    fn want(&mut self, wants: Wants) -> Result<(), ReadError>
-        ensures { Steps (wanting (state_of self.old).opened (state_of self.old).list wants) result (state_of self.new) }
-    {
-        self.wants = wants;
-        Ok(())
-    }
-
     /// A tail of the newest statement, or a token where a statement may begin.
-    #[tactic(auto, using(crate::proofs::Reading::Rows::views), unfolding(crate::specs::Notation::Reading::go_on))]
+    #[tactic(auto, using(crate::proofs::Reading::Stack::stacks), unfolding(crate::specs::Notation::Reading::go_on))]
     fn go_on(&mut self, tail: Tail, token: Token) -> Result<(), ReadError>
-        ensures { Steps (go_on (state_of self.old).opened (state_of self.old).list tail token) result (state_of self.new) }
+        ensures { Moves (λ opened list. go_on opened list tail token) self.old result self.new }
     {
         match tail {
             Tail::Nothing => self.begin_behind(tail, token),
@@ -228,16 +120,16 @@ impl Reader {
 
     /// A token where a statement may begin, the newest one having no tail.
     fn begin_behind(&mut self, tail: Tail, token: Token) -> Result<(), ReadError>
-        ensures { Steps (option_and_then (begin_at token) (settle (state_of self.old).opened (state_of self.old).list tail)) result (state_of self.new) }
+        ensures { Moves (λ opened list. option_and_then (begin_at token) (settle opened list tail)) self.old result self.new }
     {
         self.settle(tail)?;
         self.begin(token)
     }
 
     /// Ends the newest statement with no tail.
-    #[tactic(auto, using(crate::proofs::Reading::Rows::views), unfolding(crate::specs::Notation::Reading::settle))]
+    #[tactic(auto, using(crate::proofs::Reading::Stack::stacks), unfolding(crate::specs::Notation::Reading::settle))]
     fn settle(&mut self, tail: Tail) -> Result<(), ReadError>
-        ensures { Steps (settle (state_of self.old).opened (state_of self.old).list tail) result (state_of self.new) }
+        ensures { Moves (λ opened list. settle opened list tail) self.old result self.new }
     {
         match tail {
             Tail::Nothing => self.want(Wants::Statement(Tail::Nothing)),
@@ -252,9 +144,9 @@ impl Reader {
     }
 
     /// A token where a statement may begin.
-    #[tactic(auto, using(crate::proofs::Reading::Rows::views), unfolding(crate::specs::Notation::Reading::begin))]
+    #[tactic(auto, using(crate::proofs::Reading::Stack::stacks), unfolding(crate::specs::Notation::Reading::begin))]
     fn begin(&mut self, token: Token) -> Result<(), ReadError>
-        ensures { Steps (begin (state_of self.old).opened (state_of self.old).list token) result (state_of self.new) }
+        ensures { Moves (λ opened list. begin opened list token) self.old result self.new }
     {
         match token {
             Token::Emit => self.want(Wants::Name(Naming::First)),
@@ -275,9 +167,9 @@ impl Reader {
     }
 
     /// A name.
-    #[tactic(auto, using(crate::proofs::Reading::Rows::views), unfolding(crate::specs::Notation::Reading::take_name))]
+    #[tactic(auto, using(crate::proofs::Reading::Stack::stacks), unfolding(crate::specs::Notation::Reading::take_name))]
     fn take_name(&mut self, naming: Naming, name: u8) -> Result<(), ReadError>
-        ensures { Steps (take_name (state_of self.old).opened (state_of self.old).list naming name) result (state_of self.new) }
+        ensures { Moves (λ opened list. take_name opened list naming name) self.old result self.new }
     {
         match naming {
             Naming::First => self.want(Wants::Statement(Tail::Emit(name))),
@@ -300,9 +192,9 @@ impl Reader {
     }
 
     /// An open brace.
-    #[tactic(auto, using(crate::proofs::Reading::Rows::views), unfolding(crate::specs::Notation::Reading::open_brace, crate::specs::Notation::Views::part_of))]
+    #[tactic(auto, using(crate::proofs::Reading::Stack::stacks), unfolding(crate::specs::Notation::Reading::open_brace))]
     fn open(&mut self, brace: Brace) -> Result<(), ReadError>
-        ensures { Steps (open_brace (state_of self.old).opened (state_of self.old).list brace) result (state_of self.new) }
+        ensures { Moves (λ opened list. open_brace opened list brace) self.old result self.new }
     {
         let statement = Wants::Statement(Tail::Nothing);
         match brace {
@@ -317,7 +209,7 @@ impl Reader {
             }
             Brace::Cases(selector) => {
                 let outer = self.take_list();
-                let cases = Vec::new(self.alloc);
+                let cases = Sequence::new(self.alloc);
                 let frame = Frame::Cases {
                     selector,
                     cases,
@@ -342,161 +234,10 @@ impl Reader {
         }
     }
 
-    /// Takes the list at hand, and leaves an empty one.
-    fn take_list(&mut self) -> Vec<Located>
-        ensures list { list_of result.items ≡ (state_of self.old).list }
-        ensures rest { state_of self.new ≡ record (state_of self.old) { list = [] } }
-    {
-        mem::replace(&mut self.list, Vec::new(self.alloc))
-    }
-
-    /// Opens one part more, with an empty list.
-    #[tactic(auto, using(crate::proofs::Reading::Rows::views))]
-    fn enter(&mut self, frame: Frame, wants: Wants) -> Result<(), ReadError>
-        ensures { Steps (enter (state_of self.old).opened (part_of frame) wants) result (state_of self.new) }
-    {
-        if self.opened.len() >= MOST_OPEN {
-            return Err(ReadError::Unreadable);
-        }
-        self.list = Vec::new(self.alloc);
-        self.opened.push(frame)?;
-        self.want(wants)
-    }
-
-    /// Puts a whole statement behind the others.
-    fn put(&mut self, statement: Statement) -> Result<(), ReadError>
-        ensures { Steps (ready (state_of self.old).opened ((state_of self.old).list ++ stmt_of statement ∷ [])) result (state_of self.new) }
-    {
-        push(&mut self.list, statement)?;
-        self.want(Wants::Statement(Tail::Nothing))
-    }
-
-    /// Puts a whole statement behind those that stood before it.
-    fn put_behind(&mut self, outer: Vec<Located>, statement: Statement) -> Result<(), ReadError>
-        ensures { Steps (ready (state_of self.old).opened (list_of outer.items ++ stmt_of statement ∷ [])) result (state_of self.new) }
-    {
-        self.list = outer;
-        self.put(statement)
-    }
-
-    /// Opens a frame in place of one that was closed, with an empty list.
-    #[tactic(auto, using(crate::proofs::Reading::Rows::views))]
-    fn go_over(&mut self, frame: Frame, wants: Wants) -> Result<(), ReadError>
-        ensures { Steps (wanting (part_of frame ∷ (state_of self.old).opened) [] wants) result (state_of self.new) }
-    {
-        self.list = Vec::new(self.alloc);
-        self.opened.push(frame)?;
-        self.want(wants)
-    }
-
-    /// Closes the list at hand.
-    #[tactic(auto, using(crate::proofs::Reading::Rows::views), unfolding(crate::specs::Notation::Reading::close, crate::specs::Notation::Views::part_of))]
-    fn close(&mut self) -> Result<(), ReadError>
-        ensures { Steps (close (state_of self.old).opened (state_of self.old).list) result (state_of self.new) }
-    {
-        let Some(frame) = self.opened.pop() else {
-            return Err(ReadError::Unreadable);
-        };
-        let list = block_of(self.take_list());
-        match frame {
-            Frame::Block { outer } => self.put_behind(outer, Statement::Block(list)),
-            Frame::Accept { condition, outer } => {
-                let frame = Frame::Reject {
-                    condition,
-                    accept: list,
-                    outer,
-                };
-                self.go_over(frame, Wants::Open(Brace::Reject))
-            }
-            Frame::Reject {
-                condition,
-                accept,
-                outer,
-            } => self.put_behind(outer, choice(condition, accept, list)),
-            Frame::Case {
-                value,
-                fall_through,
-            } => self.add_case(case_of(value, list, fall_through)),
-            Frame::Turn { outer } => {
-                let frame = Frame::Continuing { turn: list, outer };
-                self.go_over(frame, Wants::Open(Brace::Continuing))
-            }
-            Frame::Continuing { turn, outer } => {
-                let frame = Frame::Looped {
-                    turn,
-                    continuing: list,
-                    outer,
-                };
-                self.go_over(frame, Wants::Statement(Tail::Loop))
-            }
-            Frame::Cases { .. } | Frame::Looped { .. } => Err(ReadError::Unreadable),
-        }
-    }
-
-    /// Puts a case behind the others of the Switch at hand.
-    #[tactic(auto, using(crate::proofs::Reading::Rows::views), unfolding(crate::specs::Notation::Reading::add_case, crate::specs::Notation::Views::part_of))]
-    fn add_case(&mut self, case: SwitchCase) -> Result<(), ReadError>
-        ensures { Steps (add_case (state_of self.old).opened (clause_of case)) result (state_of self.new) }
-    {
-        let Some(
-            Frame::Cases {
-                selector,
-                mut cases,
-                outer,
-            },
-        ) = self.opened.pop()
-        else {
-            return Err(ReadError::Unreadable);
-        };
-        cases.push(case)?;
-        let frame = Frame::Cases {
-            selector,
-            cases,
-            outer,
-        };
-        self.go_over(frame, Wants::CaseValue)
-    }
-
-    /// Closes the Switch at hand.
-    #[tactic(auto, using(crate::proofs::Reading::Rows::views), unfolding(crate::specs::Notation::Reading::close_switch, crate::specs::Notation::Views::part_of))]
-    fn close_switch(&mut self) -> Result<(), ReadError>
-        ensures { Steps (close_switch (state_of self.old).opened) result (state_of self.new) }
-    {
-        let Some(
-            Frame::Cases {
-                selector,
-                cases,
-                outer,
-            },
-        ) = self.opened.pop()
-        else {
-            return Err(ReadError::Unreadable);
-        };
-        self.put_behind(outer, switch(selector, cases))
-    }
-
-    /// Ends the Loop at hand.
-    #[tactic(auto, using(crate::proofs::Reading::Rows::views), unfolding(crate::specs::Notation::Reading::end_loop, crate::specs::Notation::Views::part_of))]
-    fn end_loop(&mut self, break_if: Option<u8>) -> Result<(), ReadError>
-        ensures { Steps (end_loop (state_of self.old).opened break_if) result (state_of self.new) }
-    {
-        let Some(
-            Frame::Looped {
-                turn,
-                continuing,
-                outer,
-            },
-        ) = self.opened.pop()
-        else {
-            return Err(ReadError::Unreadable);
-        };
-        self.put_behind(outer, repetition(turn, continuing, break_if))
-    }
-
     /// The body, where it is whole.
-    #[tactic(auto, using(crate::proofs::Reading::Rows::views), unfolding(crate::specs::Notation::Reading::end_at, crate::specs::Notation::Reading::whole))]
+    #[tactic(auto, using(crate::proofs::Reading::Stack::stacks), unfolding(crate::specs::Notation::Reading::end_at))]
     pub fn finish(mut self) -> Result<Block, ReadError>
-        ensures { Ends (λ b. body_of b) (finish (state_of self)) result }
+        ensures { Ends (finish (state_of self)) result }
     {
         let Wants::Statement(tail) = self.wants else {
             return Err(ReadError::Unreadable);
@@ -517,7 +258,7 @@ impl Reader {
 
 /// The body that the tokens say.
 fn body_of_tokens(alloc: Global, tokens: &[Token]) -> Result<Block, ReadError>
-    ensures { Ends (λ b. body_of b) (reading_of tokens.now) result }
+    ensures { Ends (reading_of tokens.now) result }
 {
     let mut reader = Reader::new(alloc);
     for token in tokens {
@@ -527,9 +268,10 @@ fn body_of_tokens(alloc: Global, tokens: &[Token]) -> Result<Block, ReadError>
 }
 
 /// The body that the tokens spell.
-#[tactic(auto, using(crate::proofs::Reading::Sound::reads_sound, crate::proofs::Reading::Complete::reads_complete))]
+#[tactic(auto, using(crate::proofs::Reading::Made::readings))]
 pub fn read_body(alloc: Global, tokens: &[Token]) -> Result<Block, ReadError>
-    ensures found { IfOk result (λ b. Spells (body_of b) tokens.now × (depth (body_of b) ≤ 256)) }
+    ensures found { IfOk result (λ b. Spells (body_of no_operands b) tokens.now × (depth (body_of no_operands b) ≤ 256)) }
+    ensures made { IfOk result (λ b. b ≡ block_of (body_of no_operands b)) }
     ensures none { IsErrOf result ReadError.Unreadable → (b : Body) → Spells b tokens.now → depth b ≤ 256 → ⊥ }
 {
     body_of_tokens(alloc, tokens)

@@ -1,9 +1,10 @@
 //! The tokens of the notation.
 
-ghost use Rattle.std.specs.Prelude.{◌≡◌, IfSome, IfNone, IfOk, IsErrOf, List, map};
+ghost use Rattle.std.specs.Prelude.{◌≡◌, IfSome, IfNone, IfOk, IsErrOf, List};
 ghost use Rattle.naga_check.specs.declared.notation.token.Token as declared;
 ghost use Rattle.naga_check.specs.Notation.Lookup.{lookup, keywords, keyword_of};
 ghost use Rattle.naga_check.specs.Notation.Text.{IsTextOf, AreTextsOf};
+ghost use Rattle.naga_check.specs.Notation.Words.{texts};
 
 use crate::bench::Bench;
 use crate::notation::ReadError;
@@ -120,8 +121,8 @@ fn token_of(bench: Bench, word: &[u8]) -> Option<Token>
 
 /// What these words mean in a case of the bench, in order.
 pub fn tokens_of(alloc: Global, bench: Bench, words: &[&[u8]]) -> Result<Vec<Token>, ReadError>
-    ensures found { IfOk result (λ v. AreTextsOf bench v.items (map (λ w. w.now) words.now)) }
-    ensures none { IsErrOf result ReadError.Unreadable → (ts : List declared.Token) → AreTextsOf bench ts (map (λ w. w.now) words.now) → ⊥ }
+    ensures found { IfOk result (λ v. AreTextsOf bench v.items (texts words.now)) }
+    ensures none { IsErrOf result ReadError.Unreadable → (ts : List declared.Token) → AreTextsOf bench ts (texts words.now) → ⊥ }
 {
     let mut tokens = Vec::new(alloc);
     for word in words {

@@ -1,7 +1,7 @@
 //! The words of an input.
 
-ghost use Rattle.std.specs.Prelude.{◌≡◌, ◌↔◌, IsTrue, IfOk, map};
-ghost use Rattle.naga_check.specs.Notation.Words.{is_space, is_visible, is_word, IsPrintable, words_of};
+ghost use Rattle.std.specs.Prelude.{◌≡◌, ◌↔◌, IsTrue, IfOk};
+ghost use Rattle.naga_check.specs.Notation.Words.{is_space, is_visible, is_word, IsPrintable, texts, words_of};
 
 use std::alloc::{AllocError, Global};
 
@@ -30,7 +30,7 @@ pub fn is_printable(input: &[u8]) -> bool
 
 /// The words of an input, in order.
 pub fn words_of(alloc: Global, input: &[u8]) -> Result<Vec<&[u8]>, AllocError>
-    ensures { IfOk result (λ v. map (λ w. w.now) v.items ≡ words_of input.now) }
+    ensures { IfOk result (λ v. texts v.items ≡ words_of input.now) }
 {
     input
         .split(|byte| is_space(*byte))

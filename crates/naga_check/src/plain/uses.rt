@@ -3,6 +3,7 @@
 ghost use Rattle.std.specs.Prelude.{◌≡◌, IfOk};
 ghost use Rattle.naga_check.specs.Plain.Uses.{uses_of};
 
+use bitflags::Flags;
 use naga_below::ir::expressions::Expression;
 use naga_below::ir::functions::Function;
 use naga_below::ir::module::Module;
@@ -19,7 +20,7 @@ pub fn uses_of(
 ) -> Result<Sequence<GlobalUse>, AllocError>
     ensures { IfOk result (λ uses. uses ≡ uses_of «module».now fun.now) }
 {
-    let mut uses = vec![in alloc; GlobalUse(0); module.global_variables.len()]?;
+    let mut uses = vec![in alloc; GlobalUse::empty(); module.global_variables.len()]?;
     for expression in fun.expressions.as_slice() {
         if let Expression::GlobalVariable(handle) = expression {
             if let Some(global_use) = uses.get_mut(handle.index()) {

@@ -4,6 +4,7 @@ use crate::tests::bodies::{
     Answer, EVERYTHING, HERE, NOWHERE, Target, add, add_type, expect, function_of, judge,
     module_of, no_infos, validator_for,
 };
+use bitflags::Flags;
 use naga_below::arena::Arena;
 use naga_below::arena::handle::Handle;
 use naga_below::arena::unique_arena::UniqueArena;
@@ -23,7 +24,7 @@ use std::alloc::{AllocError, Global};
 use std::process::Abort;
 use std::test::Fail;
 
-const EVERYWHERE: ShaderStages = ShaderStages(0x1ff);
+const EVERYWHERE: ShaderStages = ShaderStages::ALL;
 
 /// The negation of expression 1.
 fn negation(alloc: Global) -> Result<Expression, AllocError> {
@@ -73,12 +74,12 @@ fn module(rt: &(impl Abort + AllocGlobal), scalar: Scalar) -> Result<Module, All
     let mut globals = Arena::new(alloc);
     let place = GlobalVariable {
         space: AddressSpace::Storage {
-            access: StorageAccess(3),
+            access: StorageAccess::LOAD.union(StorageAccess::STORE),
         },
         binding: None,
         ty: Handle::new(0),
         init: None,
-        memory_decorations: MemoryDecorations(0),
+        memory_decorations: MemoryDecorations::empty(),
     };
     globals.append(place, NOWHERE)?;
     let types = types_of(rt, scalar)?;
@@ -90,7 +91,7 @@ fn function(
     alloc: Global,
     scalar: Scalar,
     mark: Option<bool>,
-    list: Vec<Located>,
+    list: Sequence<Located>,
 ) -> Result<Function, AllocError> {
     let expressions = expressions_of(alloc, scalar, mark)?;
     Ok(function_of(alloc, Arena::new(alloc), expressions, list))
@@ -102,7 +103,7 @@ fn gets(
     capabilities: Capabilities,
     scalar: Scalar,
     mark: Option<bool>,
-    list: Vec<Located>,
+    list: Sequence<Located>,
     place: Option<Span>,
     expected: Answer,
 ) -> Result<(), AllocError> {
@@ -146,9 +147,9 @@ fn addition_gets(
     place: Option<Span>,
     expected: Answer,
 ) -> Result<(), AllocError> {
-    let mut list = Vec::new(rt.alloc());
+    let mut list = Sequence::new(rt.alloc());
     add(&mut list, atomic(&AtomicFunction::Add, has_result), HERE)?;
-    let none = Capabilities(0);
+    let none = Capabilities::empty();
     gets(rt, none, Scalar::U32, Some(mark), list, place, expected)
 }
 
@@ -165,11 +166,11 @@ fn an_atomic_result_is_filled(rt: HostRuntime) -> Result<(), Fail> {
 
 #[test]
 fn an_atomic_result_is_filled_once(rt: HostRuntime) -> Result<(), Fail> {
-    let mut list = Vec::new(rt.alloc());
+    let mut list = Sequence::new(rt.alloc());
     add(&mut list, atomic(&AtomicFunction::Add, true), NOWHERE)?;
     add(&mut list, atomic(&AtomicFunction::Add, true), HERE)?;
     let twice = refused(AtomicError::ResultAlreadyPopulated(Handle::new(2)));
-    let none = Capabilities(0);
+    let none = Capabilities::empty();
     gets(&rt, none, Scalar::U32, Some(false), list, Some(HERE), twice)?;
     Ok(())
 }
@@ -182,14 +183,14 @@ fn operation_gets(
     fun: &AtomicFunction,
     expected: Answer,
 ) -> Result<(), AllocError> {
-    let mut list = Vec::new(rt.alloc());
+    let mut list = Sequence::new(rt.alloc());
     add(&mut list, atomic(fun, false), HERE)?;
     gets(rt, capabilities, scalar, None, list, Some(HERE), expected)
 }
 
 #[test]
 fn an_exchange_without_a_result_compares(rt: HostRuntime) -> Result<(), Fail> {
-    let none = Capabilities(0);
+    let none = Capabilities::empty();
     let plain = AtomicFunction::Exchange { compare: None };
     let missing = refused(AtomicError::MissingReturnValue);
     operation_gets(&rt, none, Scalar::U32, &plain, missing)?;
@@ -215,7 +216,7 @@ fn atomics_need_capabilities(rt: HostRuntime) -> Result<(), Fail> {
 #[test]
 fn a_result_of_64_bits_needs_all_operations(rt: HostRuntime) -> Result<(), Fail> {
     let weaker = Capabilities::SHADER_INT64_ATOMIC_MIN_MAX;
-    let mut list = Vec::new(rt.alloc());
+    let mut list = Sequence::new(rt.alloc());
     add(&mut list, atomic(&AtomicFunction::Min, true), HERE)?;
     let all = Capabilities::SHADER_INT64_ATOMIC_ALL_OPS;
     let missing = refused(AtomicError::MissingCapability(all));

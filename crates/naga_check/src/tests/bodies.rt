@@ -3,6 +3,7 @@
 
 use crate::case::plain;
 use crate::plain::Plain;
+use bitflags::Flags;
 use naga_below::arena::Arena;
 use naga_below::arena::unique_arena::UniqueArena;
 use naga_below::fits::function::fits_function;
@@ -30,9 +31,9 @@ pub const HERE: Span = Span { start: 3, end: 7 };
 
 /// All capabilities, all stages and all groups of operations.
 pub const EVERYTHING: Target = Target {
-    capabilities: Capabilities(268435455),
-    stages: ShaderStages(0x1ff),
-    operations: SubgroupOperationSet(0x7f),
+    capabilities: Capabilities::ALL,
+    stages: ShaderStages::ALL,
+    operations: SubgroupOperationSet::ALL,
 };
 
 /// What the target can do.
@@ -78,7 +79,7 @@ pub fn function_of(
     alloc: Global,
     local_variables: Arena<LocalVariable>,
     expressions: Arena<Expression>,
-    list: Vec<Located>,
+    list: Sequence<Located>,
 ) -> Function {
     Function {
         arguments: Sequence::new(alloc),
@@ -90,7 +91,11 @@ pub fn function_of(
 }
 
 /// Puts a statement last.
-pub fn add(list: &mut Vec<Located>, statement: Statement, span: Span) -> Result<(), AllocError> {
+pub fn add(
+    list: &mut Sequence<Located>,
+    statement: Statement,
+    span: Span,
+) -> Result<(), AllocError> {
     list.push(Located { statement, span })?;
     Ok(())
 }
@@ -106,7 +111,7 @@ pub fn no_infos(alloc: Global) -> ModuleInfo {
 
 /// A validator with all flags for this target.
 pub fn validator_for(target: Target) -> Validator<Plain> {
-    let flags = ValidationFlags(0xf);
+    let flags = ValidationFlags::all();
     let mut validator = Validator::new(plain(), flags, target.capabilities);
     validator.subgroup_stages(target.stages);
     validator.subgroup_operations(target.operations);

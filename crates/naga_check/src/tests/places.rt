@@ -10,6 +10,7 @@ use naga_below::ir::expressions::{Expression, Literal};
 use naga_below::ir::functions::Function;
 use naga_below::ir::statements::{Block, Located, Statement, SwitchCase, SwitchValue};
 use naga_below::ir::types::Scalar;
+use naga_below::sequence::Sequence;
 use naga_below::span::Span;
 use naga_rules::function::FunctionError;
 use std::alloc::{AllocError, Global};
@@ -27,9 +28,9 @@ fn function(alloc: Global, statement: Statement) -> Result<Function, AllocError>
         bits: 7,
     };
     expressions.append(Expression::Literal(literal), NOWHERE)?;
-    let mut inner = Vec::new(alloc);
+    let mut inner = Sequence::new(alloc);
     add(&mut inner, statement, HERE)?;
-    let mut list = Vec::new(alloc);
+    let mut list = Sequence::new(alloc);
     add(&mut list, Statement::Block(Block { list: inner }), AROUND)?;
     Ok(function_of(alloc, Arena::new(alloc), expressions, list))
 }
@@ -51,7 +52,7 @@ fn gets(
 /// A body without statements.
 fn empty(alloc: Global) -> Block {
     Block {
-        list: Vec::new(alloc),
+        list: Sequence::new(alloc),
     }
 }
 
@@ -72,7 +73,7 @@ fn a_break_condition_is_at_its_loop(rt: HostRuntime) -> Result<(), Fail> {
 
 /// A Switch over the literal with these values.
 fn switch(alloc: Global, values: &[SwitchValue]) -> Result<Statement, AllocError> {
-    let mut cases = Vec::new(alloc);
+    let mut cases = Sequence::new(alloc);
     for value in values {
         cases.push(SwitchCase {
             value: *value,

@@ -6,6 +6,7 @@ use crate::case::plain;
 use crate::tests::bodies::{
     Answer, EVERYTHING, HERE, add, expect, function_of, judge, module_of, no_infos, validator_for,
 };
+use bitflags::Flags;
 use naga_below::arena::Arena;
 use naga_below::arena::handle::Handle;
 use naga_below::arena::unique_arena::UniqueArena;
@@ -31,7 +32,7 @@ use std::test::Fail;
 
 /// The module of bench P, whose types are 0 bool, 1 u32 and 2 i32.
 fn module_p(alloc: Global) -> Result<Module, AllocError> {
-    let list = Vec::new(alloc);
+    let list = Sequence::new(alloc);
     bench_module(alloc, Bench::P, Block { list })
 }
 
@@ -41,9 +42,9 @@ const LITERAL: Expression = Expression::Literal(Literal {
 });
 
 /// A body that returns the literal where it returns something.
-fn body_of(alloc: Global, returns: bool) -> Result<Vec<Located>, AllocError> {
+fn body_of(alloc: Global, returns: bool) -> Result<Sequence<Located>, AllocError> {
     let value = if returns { Some(Handle::new(0)) } else { None };
-    let mut list = Vec::new(alloc);
+    let mut list = Sequence::new(alloc);
     add(&mut list, Statement::Return { value }, HERE)?;
     Ok(list)
 }
@@ -86,7 +87,7 @@ fn expect_of(
 #[test]
 fn a_returned_literal_has_the_declared_type(rt: HostRuntime) -> Result<(), Fail> {
     let fun = function(rt.alloc(), LITERAL, Some(1))?;
-    expect_of(&rt, &fun, None, Ok(ShaderStages(0x1ff)))?;
+    expect_of(&rt, &fun, None, Ok(ShaderStages::ALL))?;
     Ok(())
 }
 
@@ -119,8 +120,8 @@ fn a_splat_has_no_type(rt: HostRuntime) -> Result<(), Fail> {
 /// What the plain layer answers to a function, with no other before it.
 fn info_of(alloc: Global, fun: &Function, module: &Module) -> Option<FunctionInfo> {
     let infos = no_infos(alloc);
-    let flags = ValidationFlags(0);
-    let found = plain().process_function(alloc, fun, module, &infos, flags, Capabilities(0));
+    let flags = ValidationFlags::empty();
+    let found = plain().process_function(alloc, fun, module, &infos, flags, Capabilities::empty());
     match found {
         Ok(info) => Some(info),
         Err(_) => None,
@@ -200,7 +201,7 @@ fn global_u32() -> GlobalVariable {
         binding: None,
         ty: Handle::new(1),
         init: None,
-        memory_decorations: MemoryDecorations(0),
+        memory_decorations: MemoryDecorations::empty(),
     }
 }
 
@@ -229,7 +230,7 @@ fn a_global_is_read_and_stands_for_a_pointer(rt: HostRuntime) -> Result<(), Fail
     };
     assert_eq!(rt;
         info.global_uses.as_slice(),
-        [GlobalUse(0), GlobalUse::READ].as_slice()
+        [GlobalUse::empty(), GlobalUse::READ].as_slice()
     );
     let pointer = TypeResolution::Value(TypeInner::Pointer {
         base: Handle::new(1),

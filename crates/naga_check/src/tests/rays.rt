@@ -4,6 +4,7 @@ use crate::tests::bodies::{
     Answer, EVERYTHING, NOWHERE, add, add_type, expect, function_of, judge, module_of, no_infos,
     validator_for,
 };
+use bitflags::Flags;
 use naga_below::arena::Arena;
 use naga_below::arena::handle::Handle;
 use naga_below::arena::unique_arena::UniqueArena;
@@ -63,7 +64,7 @@ fn add_global(
         binding: None,
         ty: Handle::new(ty),
         init: None,
-        memory_decorations: MemoryDecorations(0),
+        memory_decorations: MemoryDecorations::empty(),
     };
     globals.append(global, NOWHERE)?;
     Ok(())
@@ -81,7 +82,12 @@ fn globals_of(rt: &(impl Abort + AllocGlobal)) -> Result<Arena<GlobalVariable>, 
 
 /// A function that gives a u32, with an empty body.
 fn callee(alloc: Global) -> Function {
-    let mut fun = function_of(alloc, Arena::new(alloc), Arena::new(alloc), Vec::new(alloc));
+    let mut fun = function_of(
+        alloc,
+        Arena::new(alloc),
+        Arena::new(alloc),
+        Sequence::new(alloc),
+    );
     fun.result = Some(FunctionResult {
         ty: Handle::new(0),
         binding: None,
@@ -108,7 +114,7 @@ fn infos_of(alloc: Global) -> Result<ModuleInfo, AllocError> {
     functions.push(FunctionInfo {
         expression_types: Sequence::new(alloc),
         global_uses: Sequence::new(alloc),
-        available_stages: ShaderStages(0x1ff),
+        available_stages: ShaderStages::ALL,
         dual_source_blending: false,
     })?;
     let mut infos = no_infos(alloc);
@@ -155,7 +161,7 @@ fn unary(alloc: Global) -> Result<Expression, AllocError> {
 fn function(
     rt: &(impl Abort + AllocGlobal),
     last: Expression,
-    list: Vec<Located>,
+    list: Sequence<Located>,
 ) -> Result<Function, AllocError> {
     let locals = locals_of(rt.alloc())?;
     let mut expressions = expressions_of(rt.alloc())?;
@@ -200,7 +206,7 @@ fn proceed_gets(
     query: u32,
     expected: Answer,
 ) -> Result<(), AllocError> {
-    let mut list = Vec::new(rt.alloc());
+    let mut list = Sequence::new(rt.alloc());
     add(&mut list, proceed(query), at(1))?;
     let last = unary(rt.alloc())?;
     let fun = function(rt, last, list)?;
@@ -210,7 +216,7 @@ fn proceed_gets(
 
 #[test]
 fn a_query_is_a_local_and_its_result_of_any_kind(rt: HostRuntime) -> Result<(), Fail> {
-    proceed_gets(&rt, 6, Ok(ShaderStages(0x1ff)))?;
+    proceed_gets(&rt, 6, Ok(ShaderStages::ALL))?;
     let no_local = FunctionError::InvalidRayQueryExpression(Handle::new(5));
     proceed_gets(&rt, 5, Err(no_local))?;
     Ok(())
@@ -218,15 +224,15 @@ fn a_query_is_a_local_and_its_result_of_any_kind(rt: HostRuntime) -> Result<(), 
 
 /// A Block of a Proceed whose result is a call's.
 fn block(alloc: Global) -> Result<Statement, AllocError> {
-    let mut list = Vec::new(alloc);
+    let mut list = Sequence::new(alloc);
     add(&mut list, proceed(6), at(1))?;
     Ok(Statement::Block(Block { list }))
 }
 
 /// That Block, and behind it the call.
-fn proceed_and_call(alloc: Global) -> Result<Vec<Located>, AllocError> {
+fn proceed_and_call(alloc: Global) -> Result<Sequence<Located>, AllocError> {
     let block = block(alloc)?;
-    let mut list = Vec::new(alloc);
+    let mut list = Sequence::new(alloc);
     add(&mut list, block, at(2))?;
     let call = Statement::Call {
         function: Handle::new(0),
@@ -241,7 +247,7 @@ fn proceed_and_call(alloc: Global) -> Result<Vec<Located>, AllocError> {
 fn a_proceed_fills_no_result_of_a_call(rt: HostRuntime) -> Result<(), Fail> {
     let list = proceed_and_call(rt.alloc())?;
     let fun = function(&rt, Expression::CallResult(Handle::new(0)), list)?;
-    expect_of(&rt, &fun, at(3), Ok(ShaderStages(0x1ff)))?;
+    expect_of(&rt, &fun, at(3), Ok(ShaderStages::ALL))?;
     Ok(())
 }
 
@@ -255,7 +261,7 @@ struct Ray {
 
 /// A function that traces these rays, whose places are counted from 0.
 fn traces(rt: &(impl Abort + AllocGlobal), rays: &[Ray]) -> Result<Function, AllocError> {
-    let mut list = Vec::new(rt.alloc());
+    let mut list = Sequence::new(rt.alloc());
     for (place, ray) in rays.iter().enumerate() {
         assert!(rt; place < 16);
         let trace = RayPipelineFunction::TraceRay {
@@ -291,7 +297,7 @@ fn a_structure_without_the_flag_stays_in_the_trace_state(rt: HostRuntime) -> Res
         ..GOOD
     };
     let fun = traces(&rt, [GOOD, without, GOOD].as_slice())?;
-    let trace = expect_of(&rt, &fun, NOWHERE, Ok(ShaderStages(0x1ff)))?;
+    let trace = expect_of(&rt, &fun, NOWHERE, Ok(ShaderStages::ALL))?;
     assert!(rt; trace.vertex_return == TraceRayVertexReturnState::NoVertexReturn(at(1)));
     Ok(())
 }
@@ -310,7 +316,7 @@ fn after_a_refusal(
     let descriptor = FunctionError::InvalidRayDescriptor(Handle::new(5));
     expect(rt, first, Err(descriptor));
     let second = judge(rt, &mut validator, fun, &module, &infos, None);
-    expect(rt, second, Ok(ShaderStages(0x1ff)));
+    expect(rt, second, Ok(ShaderStages::ALL));
     Ok(validator.trace_state())
 }
 

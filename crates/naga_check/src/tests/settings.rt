@@ -4,12 +4,14 @@ use crate::case::plain;
 use crate::tests::bodies::{
     EVERYTHING, HERE, add, expect, function_of, judge, module_of, no_infos, validator_for,
 };
+use bitflags::Flags;
 use naga_below::arena::Arena;
 use naga_below::arena::unique_arena::UniqueArena;
 use naga_below::ir::flags::Barrier;
 use naga_below::ir::functions::Function;
 use naga_below::ir::module::Module;
 use naga_below::ir::statements::Statement;
+use naga_below::sequence::Sequence;
 use naga_below::valid::flags::{ShaderStages, SubgroupOperationSet, TypeFlags, ValidationFlags};
 use naga_below::valid::types::TypeInfo;
 use naga_rules::function::{FunctionError, SubgroupError};
@@ -26,7 +28,7 @@ fn empty_module(alloc: Global) -> Module {
 
 /// A function of a subgroup barrier.
 fn function(alloc: Global) -> Result<Function, AllocError> {
-    let mut list = Vec::new(alloc);
+    let mut list = Sequence::new(alloc);
     add(
         &mut list,
         Statement::ControlBarrier(Barrier::SUB_GROUP),
@@ -40,7 +42,7 @@ fn settings_let_subgroups_be_used(rt: HostRuntime) -> Result<(), Fail> {
     let fun = function(rt.alloc())?;
     let module = empty_module(rt.alloc());
     let infos = no_infos(rt.alloc());
-    let flags = ValidationFlags(0xf);
+    let flags = ValidationFlags::all();
     let mut validator = Validator::new(plain(), flags, EVERYTHING.capabilities);
     let basic = SubgroupOperationSet::BASIC;
     let error = SubgroupError::UnsupportedOperation(basic);

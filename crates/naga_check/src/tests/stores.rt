@@ -3,6 +3,7 @@
 use crate::tests::bodies::{
     Answer, EVERYTHING, HERE, NOWHERE, add, add_type, answer_for, expect, function_of, module_of,
 };
+use bitflags::Flags;
 use naga_below::arena::Arena;
 use naga_below::arena::handle::Handle;
 use naga_below::arena::unique_arena::UniqueArena;
@@ -15,6 +16,7 @@ use naga_below::ir::statements::Statement;
 use naga_below::ir::types::{
     AddressSpace, ImageClass, ImageDimension, Scalar, StorageFormat, Type, TypeInner, VectorSize,
 };
+use naga_below::sequence::Sequence;
 use naga_below::valid::expression_error::ExpressionError;
 use naga_below::valid::flags::ShaderStages;
 use naga_rules::function::FunctionError;
@@ -28,14 +30,11 @@ fn vector(size: VectorSize, scalar: Scalar) -> TypeInner {
 }
 
 /// An image type of storage.
-fn image(format: StorageFormat, access: u8) -> TypeInner {
+fn image(format: StorageFormat, access: StorageAccess) -> TypeInner {
     TypeInner::Image {
         dim: ImageDimension::D2,
         arrayed: false,
-        class: ImageClass::Storage {
-            format,
-            access: StorageAccess(access),
-        },
+        class: ImageClass::Storage { format, access },
     }
 }
 
@@ -52,8 +51,10 @@ fn types_of(rt: &(impl Abort + AllocGlobal)) -> Result<UniqueArena<Type>, AllocE
     add_type(rt, &mut types, vector(VectorSize::Bi, Scalar::I32))?;
     add_type(rt, &mut types, vector(VectorSize::Quad, Scalar::U32))?;
     add_type(rt, &mut types, vector(VectorSize::Quad, Scalar::F32))?;
-    add_type(rt, &mut types, image(StorageFormat::R32Uint, 3))?;
-    add_type(rt, &mut types, image(StorageFormat::R32Float, 7))?;
+    let both = StorageAccess::LOAD.union(StorageAccess::STORE);
+    add_type(rt, &mut types, image(StorageFormat::R32Uint, both))?;
+    let all = both.union(StorageAccess::ATOMIC);
+    add_type(rt, &mut types, image(StorageFormat::R32Float, all))?;
     Ok(types)
 }
 
@@ -65,7 +66,7 @@ fn globals_of(alloc: Global) -> Result<Arena<GlobalVariable>, AllocError> {
         binding: None,
         ty: Handle::new(0),
         init: None,
-        memory_decorations: MemoryDecorations(0),
+        memory_decorations: MemoryDecorations::empty(),
     };
     globals.append(shared, NOWHERE)?;
     let image = GlobalVariable {
@@ -73,7 +74,7 @@ fn globals_of(alloc: Global) -> Result<Arena<GlobalVariable>, AllocError> {
         binding: None,
         ty: Handle::new(6),
         init: None,
-        memory_decorations: MemoryDecorations(0),
+        memory_decorations: MemoryDecorations::empty(),
     };
     globals.append(image, NOWHERE)?;
     let floats = GlobalVariable {
@@ -81,7 +82,7 @@ fn globals_of(alloc: Global) -> Result<Arena<GlobalVariable>, AllocError> {
         binding: None,
         ty: Handle::new(7),
         init: None,
-        memory_decorations: MemoryDecorations(0),
+        memory_decorations: MemoryDecorations::empty(),
     };
     globals.append(floats, NOWHERE)?;
     Ok(globals)
@@ -131,7 +132,7 @@ fn expressions_of(alloc: Global) -> Result<Arena<Expression>, AllocError> {
 
 /// A function of these expressions with one statement.
 fn function(alloc: Global, statement: Statement) -> Result<Function, AllocError> {
-    let mut list = Vec::new(alloc);
+    let mut list = Sequence::new(alloc);
     add(&mut list, statement, HERE)?;
     let locals = locals_of(alloc)?;
     let expressions = expressions_of(alloc)?;
@@ -169,7 +170,7 @@ fn load(pointer: u32) -> Statement {
 
 #[test]
 fn uniform_loads_run_in_stages_with_work_groups(rt: HostRuntime) -> Result<(), Fail> {
-    gets(&rt, load(0), Ok(ShaderStages(0x1c)))?;
+    gets(&rt, load(0), Ok(ShaderStages::COMPUTE_LIKE))?;
     let local = FunctionError::WorkgroupUniformLoadInvalidPointer(Handle::new(3));
     gets(&rt, load(3), Err(local))?;
     Ok(())
@@ -188,7 +189,7 @@ fn cooperative_store(target: u32) -> Statement {
 
 #[test]
 fn cooperative_stores_run_in_compute(rt: HostRuntime) -> Result<(), Fail> {
-    gets(&rt, cooperative_store(2), Ok(ShaderStages(0x4)))?;
+    gets(&rt, cooperative_store(2), Ok(ShaderStages::COMPUTE))?;
     let no_matrix = FunctionError::InvalidCooperativeStoreTarget(Handle::new(10));
     gets(&rt, cooperative_store(10), Err(no_matrix))?;
     Ok(())
@@ -216,7 +217,7 @@ fn refused_store(error: ExpressionError) -> Answer {
 
 #[test]
 fn an_image_takes_what_its_format_holds(rt: HostRuntime) -> Result<(), Fail> {
-    gets(&rt, image_store(5, false, 6), Ok(ShaderStages(0x1ff)))?;
+    gets(&rt, image_store(5, false, 6), Ok(ShaderStages::ALL))?;
     let floats = FunctionError::InvalidStoreValue {
         actual: Handle::new(7),
         actual_ty: vector(VectorSize::Quad, Scalar::F32),
@@ -253,7 +254,8 @@ fn refused_atomic(error: ExpressionError) -> Answer {
 
 #[test]
 fn image_atomics_need_access_and_integers(rt: HostRuntime) -> Result<(), Fail> {
-    let access = ExpressionError::InvalidImageStorageAccess(StorageAccess(3));
+    let both = StorageAccess::LOAD.union(StorageAccess::STORE);
+    let access = ExpressionError::InvalidImageStorageAccess(both);
     gets(&rt, image_add(4), refused_atomic(access))?;
     let floats = ExpressionError::InvalidImageFormat(StorageFormat::R32Float);
     gets(&rt, image_add(9), refused_atomic(floats))?;

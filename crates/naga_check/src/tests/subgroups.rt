@@ -4,6 +4,7 @@ use crate::tests::bodies::{
     Answer, EVERYTHING, HERE, NOWHERE, Target, add, add_type, answer_for, expect, function_of,
     module_of,
 };
+use bitflags::Flags;
 use naga_below::arena::Arena;
 use naga_below::arena::handle::Handle;
 use naga_below::arena::range::Range;
@@ -15,6 +16,7 @@ use naga_below::ir::module::Module;
 use naga_below::ir::operations::{CollectiveOperation, GatherMode, SubgroupOperation};
 use naga_below::ir::statements::Statement;
 use naga_below::ir::types::{Scalar, Type, TypeInner, VectorSize};
+use naga_below::sequence::Sequence;
 use naga_below::valid::capabilities::Capabilities;
 use naga_below::valid::flags::{ShaderStages, SubgroupOperationSet};
 use naga_rules::function::{FunctionError, SubgroupError};
@@ -82,7 +84,7 @@ fn expressions_of(alloc: Global) -> Result<Arena<Expression>, AllocError> {
 
 /// A function of these expressions that emits the load, and then has this statement.
 fn function(alloc: Global, statement: Statement) -> Result<Function, AllocError> {
-    let mut list = Vec::new(alloc);
+    let mut list = Sequence::new(alloc);
     add(
         &mut list,
         Statement::Emit(Range { start: 5, end: 6 }),
@@ -123,9 +125,9 @@ fn refused(error: SubgroupError) -> Answer {
 }
 
 /// A target that lacks some groups of operations.
-fn without(operations: u8) -> Target {
+fn without(operations: SubgroupOperationSet) -> Target {
     Target {
-        operations: SubgroupOperationSet(0x7f ^ operations),
+        operations: SubgroupOperationSet::ALL.difference(operations),
         ..EVERYTHING
     }
 }
@@ -141,12 +143,17 @@ fn ballot() -> Statement {
 #[test]
 fn a_ballot_runs_at_the_stages_of_subgroups(rt: HostRuntime) -> Result<(), Fail> {
     let target = Target {
-        stages: ShaderStages(0x1c),
+        stages: ShaderStages::COMPUTE_LIKE,
         ..EVERYTHING
     };
-    gets(&rt, target, ballot(), Ok(ShaderStages(0x1c)))?;
+    gets(&rt, target, ballot(), Ok(ShaderStages::COMPUTE_LIKE))?;
     let error = SubgroupError::UnsupportedOperation(SubgroupOperationSet::BALLOT);
-    gets(&rt, without(0x8), ballot(), refused(error))?;
+    gets(
+        &rt,
+        without(SubgroupOperationSet::BALLOT),
+        ballot(),
+        refused(error),
+    )?;
     Ok(())
 }
 
@@ -169,7 +176,7 @@ fn collective(
 fn bits_are_combined_over_all_invocations_alone(rt: HostRuntime) -> Result<(), Fail> {
     let and = SubgroupOperation::And;
     let all = collective(and, CollectiveOperation::Reduce, 0, 6);
-    gets(&rt, EVERYTHING, all, Ok(ShaderStages(0x1ff)))?;
+    gets(&rt, EVERYTHING, all, Ok(ShaderStages::ALL))?;
     let scan = collective(and, CollectiveOperation::InclusiveScan, 0, 6);
     gets(
         &rt,
@@ -187,8 +194,9 @@ fn votes_are_of_one_bool(rt: HostRuntime) -> Result<(), Fail> {
     let vector = SubgroupError::InvalidOperand(Handle::new(3));
     gets(&rt, EVERYTHING, bools, refused(vector))?;
     let vote = collective(all, CollectiveOperation::Reduce, 2, 8);
-    let error = SubgroupError::UnsupportedOperation(SubgroupOperationSet::VOTE);
-    gets(&rt, without(0x2), vote, refused(error))?;
+    let group = SubgroupOperationSet::VOTE;
+    let error = SubgroupError::UnsupportedOperation(group);
+    gets(&rt, without(group), vote, refused(error))?;
     Ok(())
 }
 
@@ -203,7 +211,7 @@ fn broadcast(index: u32, argument: u32, gathered: u32) -> Statement {
 
 #[test]
 fn a_broadcast_is_from_a_constant_index(rt: HostRuntime) -> Result<(), Fail> {
-    gets(&rt, EVERYTHING, broadcast(0, 1, 7), Ok(ShaderStages(0x1ff)))?;
+    gets(&rt, EVERYTHING, broadcast(0, 1, 7), Ok(ShaderStages::ALL))?;
     let loaded = SubgroupError::InvalidInvocationIdExprType(Handle::new(5));
     gets(&rt, EVERYTHING, broadcast(5, 1, 7), refused(loaded))?;
     let signed = SubgroupError::InvalidOperand(Handle::new(0));
@@ -214,11 +222,11 @@ fn a_broadcast_is_from_a_constant_index(rt: HostRuntime) -> Result<(), Fail> {
 #[test]
 fn barriers_run_in_stages_with_work_groups(rt: HostRuntime) -> Result<(), Fail> {
     let none = Target {
-        capabilities: Capabilities(0),
+        capabilities: Capabilities::empty(),
         ..EVERYTHING
     };
     let barrier = Statement::ControlBarrier(Barrier::WORK_GROUP);
-    gets(&rt, none, barrier, Ok(ShaderStages(0x1c)))?;
+    gets(&rt, none, barrier, Ok(ShaderStages::COMPUTE_LIKE))?;
     Ok(())
 }
 
@@ -229,7 +237,8 @@ fn a_subgroup_barrier_needs_both_capabilities(rt: HostRuntime) -> Result<(), Fai
         ..EVERYTHING
     };
     let barrier = Statement::MemoryBarrier(Barrier::SUB_GROUP);
-    let both = FunctionError::MissingCapability(Capabilities(0x1800000));
+    let both = Capabilities::SUBGROUP.union(Capabilities::SUBGROUP_BARRIER);
+    let both = FunctionError::MissingCapability(both);
     gets(&rt, subgroups, barrier, Err(both))?;
     Ok(())
 }

@@ -1,14 +1,19 @@
-use Rattle.naga_check.specs.Notation.Case.{case_of}
+use Rattle.std.proofs.Common.{sym, subst}
+use Rattle.naga_below.specs.Each.{EachAt}
+use Rattle.naga_below.specs.Fits.{FitsTypes}
+use Rattle.naga_check.specs.Ready.{IsReady}
 use Rattle.naga_check.proofs.Benches.{types_fit, functions_ready}
-use Rattle.naga_check.proofs.Cases.{judges}
+use Rattle.naga_check.proofs.Cases.{judged_as}
 use Rattle.naga_check.proofs.case.judge.Goals as goal
 
 pub judge_functions-requires-clause-types : goal.judge_functions-requires-clause-types
-judge_functions-requires-clause-types c = types_fit c.args.case.bench _ c.in_ok-module.module c.in_ok-module.ensures
+judge_functions-requires-clause-types c =
+    subst FitsTypes (sym c.in_ok-module.ensures) (types_fit c.args.case.bench c.args.case.body)
 
 pub judge_functions-requires-clause-functions : goal.judge_functions-requires-clause-functions
-judge_functions-requires-clause-functions c = functions_ready (case_of c.args.case) c.in_ok-module.module c.in_ok-module.ensures c.requires
+judge_functions-requires-clause-functions c =
+    subst (λ m. EachAt (IsReady m) m.functions) (sym c.in_ok-module.ensures) (functions_ready c.args.case.bench c.args.case.body c.requires.sayable)
 
 pub returns : goal.returns
 returns c =
-    judges (case_of c.args.case) c.in_ok-module.module c.judge_functions.result c.in_ok-module.ensures (rw c.flags_of-flags.ensures at c.judge_functions.ensures)
+    rw (judged_as c.args.case c.in_ok-module.module c.requires.block c.in_ok-module.ensures) (rw c.flags_of-flags.ensures at c.judge_functions.ensures)

@@ -7,7 +7,7 @@ use Rattle.naga_check.specs.declared.notation.ReadError.TheVariants.{Unreadable,
 use Rattle.naga_check.specs.declared.notation.token.Token.{Token}
 use Rattle.naga_check.specs.Notation.Feeding.{feeds, Steps, Ends}
 use Rattle.naga_check.specs.Notation.Reading.{State, begun, step, finish}
-use Rattle.naga_check.specs.Notation.Views.{body_of, state_of}
+use Rattle.naga_check.specs.Notation.Views.{state_of}
 use Rattle.naga_check.proofs.Reading.Turns.{one_more, refused, read_all}
 use Rattle.naga_check.proofs.notation.reader.body_of_tokens.Goals as goal
 
@@ -15,7 +15,7 @@ pub loop-token-preserved : goal.loop-token-preserved
 loop-token-preserved c =
     one_more step _ _ _ _ _ _ (omega arith) c.in_ok-step.ensures c.loop-token.invariant
 
-failed : (ts : List Token) (i : ℕ) (d : Token) (s t : State) → i < length ts → (e : ReadError) → Steps (step s (get_or ts i d)) (Err e) t → feeds step (Some s) (drop i ts) ≡ feeds step (Some begun) ts → Ends (λ (b : Block). body_of b) (option_and_then finish (feeds step (Some begun) ts)) (Err e)
+failed : (ts : List Token) (i : ℕ) (d : Token) (s t : State) → i < length ts → (e : ReadError) → Steps (step s (get_or ts i d)) (Err e) t → feeds step (Some s) (drop i ts) ≡ feeds step (Some begun) ts → Ends {X = Block} (option_and_then finish (feeds step (Some begun) ts)) (Err e)
 failed ts i d s t lt Memory steps h = tt
 failed ts i d s t lt Unreadable steps h =
     ap (option_and_then finish) (refused step (Some begun) ts i d s lt steps h)

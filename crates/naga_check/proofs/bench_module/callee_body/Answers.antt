@@ -1,9 +1,0 @@
-use Rattle.std.proofs.Common.{refl, ◌∙◌}
-use Rattle.naga_check.specs.Notation.Reading.{body_from}
-use Rattle.naga_check.proofs.Reading.Rows.{block_body}
-use Rattle.naga_check.proofs.bench_module.callee_body.Goals as goal
-
-pub returns : goal.returns
-unfolding body_from
-returns c =
-    block_body c.push.new.self ∙ rw (c.in_ok-push.ensures.items, c.new-list.ensures.items, c.new.ensures) refl
