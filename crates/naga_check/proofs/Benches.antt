@@ -24,6 +24,8 @@ use Rattle.naga_below.specs.declared.ir.types.Type.{«Type» as IrType}
 use Rattle.naga_check.specs.Bench.{names_of, callees_of}
 use Rattle.naga_check.specs.BenchModule.{bench_types, shared_expressions, bench_expressions, bench_locals, bench_function, bench_functions, bench_module, callee_block, callee_function}
 use Rattle.naga_check.specs.Notation.Blocks.{list_of}
+use Rattle.naga_valid.specs.Parts.{NamesTypes, AreInfosOf}
+use Rattle.naga_check.specs.Judged.{bench_infos}
 use Rattle.naga_check.specs.Ready.{IsReady}
 use Rattle.naga_check.specs.Notation.Sayable.{is_sayable, is_sayable_statement, are_sayable_cases, is_below_if_any, is_sayable_leaf, is_empty}
 use Rattle.naga_check.specs.declared.bench.Bench.{Bench}
@@ -171,3 +173,8 @@ functions_ready P block sayable =
     (each_from (IsReady (bench_module P block)) (bench_functions P block)).1 (function_fits block P (λ g lt. absurd (omega arith)) sayable, tt)
 functions_ready C block sayable =
     (each_from (IsReady (bench_module C block)) (bench_functions C block)).1 (callee_fits block, (function_fits block C (callee_there block) sayable, tt))
+
+-- there is an info for each type of a bench
+pub infos_fit : (bench : Bench) (block : Block) → AreInfosOf (bench_module bench block) bench_infos
+infos_fit bench block =
+    record { one_each = refl; named = All-from_recursion (NamesTypes 3) bench_infos ((tt, tt), ((tt, tt), ((tt, tt), tt))) }

@@ -1,6 +1,6 @@
 -- The judgement of a case: that of the validator of functions over the bench's module, with the plain lower layer.
-use Rattle.std.specs.Prelude.{◌+◌, ℕ, Bool, List, [], ◌∷◌, ◌++◌, Result, Ok, Err, if◌then◌else◌}
-use Rattle.naga_below.specs.Bits.{STRUCT_LAYOUTS, BINDINGS, EXPRESSIONS, BLOCKS, ALL_STAGES, ALL_OPERATIONS, ALL_CAPABILITIES}
+use Rattle.std.specs.Prelude.{◌+◌, ℕ, Bool, false, List, [], ◌∷◌, Result, Ok, if◌then◌else◌}
+use Rattle.naga_below.specs.Bits.{STRUCT_LAYOUTS, BINDINGS, EXPRESSIONS, BLOCKS, ALL_STAGES, ALL_OPERATIONS, ALL_CAPABILITIES, ALL_TYPE_FLAGS}
 use Rattle.naga_below.specs.declared.ir.functions.Function.{Function}
 use Rattle.naga_below.specs.declared.ir.module.Module.{Module}
 use Rattle.naga_below.specs.declared.valid.flags.ShaderStages.{ShaderStages}
@@ -8,16 +8,18 @@ use Rattle.naga_below.specs.declared.valid.flags.ValidationFlags.{ValidationFlag
 use Rattle.naga_below.specs.declared.valid.info.FunctionInfo.{FunctionInfo}
 use Rattle.naga_below.specs.declared.valid.info.ModuleInfo.{ModuleInfo}
 use Rattle.naga_below.specs.declared.valid.settings.Settings.{Settings}
+use Rattle.naga_below.specs.declared.valid.types.TypeInfo.{TypeInfo}
 use Rattle.naga_rules.specs.declared.function.FunctionError.{FunctionError}
 use Rattle.naga_valid.specs.Judged.{FunctionOutcome, function_judgement}
-use Rattle.naga_valid.specs.Parts.{first_settings, no_traces}
+use Rattle.naga_valid.specs.InOrder.{infos_from}
+use Rattle.naga_valid.specs.Parts.{Parts, first_settings, no_traces}
 use Rattle.naga_valid.specs.declared.trace.TraceState.{TraceState}
 use Rattle.naga_check.specs.EmptySets.{NO_STAGE}
 use Rattle.naga_check.specs.BenchModule.{bench_module}
 use Rattle.naga_check.specs.Notation.Blocks.{block_of}
 use Rattle.naga_check.specs.Notation.Case.{Case}
-use Rattle.naga_check.specs.Plain.Infos.{plain_info}
-use Rattle.naga_check.specs.Plain.Kinds.{kinds_from}
+use Rattle.naga_check.specs.Plain.Meaning.{plain_meaning, plain_layer}
+use Rattle.naga_check.specs.declared.plain.Plain.{Plain}
 
 -- the bits of these flags, where they are on
 abbrev pub bits_if : Bool → ValidationFlags → ℕ
@@ -40,30 +42,32 @@ settings_of c = settings_with (flags_of c.expressions c.blocks)
 abbrev pub no_infos : ModuleInfo
 no_infos = record { functions = []; entry_points = []; global_types = [] }
 
-abbrev pub with_info : ModuleInfo → FunctionInfo → ModuleInfo
-with_info infos info = record infos { functions = infos.functions ++ info ∷ [] }
+-- what is known of a type that can be used for everything, and whose layouts are good
+abbrev pub good_info : TypeInfo
+good_info =
+    record { flags = ALL_TYPE_FLAGS; storage_layout = Ok 4; uniform_layout = Ok 4; immediates_compatibility = Ok tt }
 
--- what the validator of functions says of a function over the plain layer, where these are the infos of those before it,
--- and this is left of their ray traces
+-- such an info for each type of a bench
+abbrev pub bench_infos : List TypeInfo
+bench_infos = good_info ∷ good_info ∷ good_info ∷ []
+
+-- a validator over the plain layer with these settings and these infos, where ray traces left this
+abbrev pub parts_with : Settings → TraceState → Parts Plain
+parts_with settings trace = record { below = plain_layer; settings = settings; types = bench_infos; trace = trace }
+
+-- what it says of a function, where these are the infos of those before it
 unfoldable pub plain_judgement : Settings → TraceState → Module → ModuleInfo → Function
     → Result FunctionOutcome FunctionError
 plain_judgement settings trace m infos f =
-    function_judgement settings trace m infos f (kinds_from [] f.expressions) (plain_info f m)
+    function_judgement (plain_meaning plain_layer) settings bench_infos trace m infos f false
 
-abbrev pub and_then : {A B : Type 0} → (A → Result B FunctionError) → Result A FunctionError → Result B FunctionError
-and_then next (Ok x) = next x
-and_then next (Err fault) = Err fault
-
--- the infos of functions behind those before them, each judged with the infos before it and what ray traces left; or the
--- first fault
-unfoldable pub infos_from : Settings → TraceState → Module → ModuleInfo → List Function → Result ModuleInfo FunctionError
-infos_from settings trace m infos [] = Ok infos
-infos_from settings trace m infos (f ∷ fs) =
-    and_then (λ left. infos_from settings left.trace m (with_info infos left.info) fs) (plain_judgement settings trace m infos f)
+-- the infos of functions behind those before them
+abbrev pub plain_infos_from : Settings → TraceState → Module → ModuleInfo → List Function → Result ModuleInfo FunctionError
+plain_infos_from settings trace m infos fs = infos_from (plain_meaning plain_layer) settings bench_infos trace m infos fs
 
 -- the infos of a module's functions, from the first on, with these settings
 abbrev pub module_judgement : Settings → Module → Result ModuleInfo FunctionError
-module_judgement settings m = infos_from settings no_traces m no_infos m.functions
+module_judgement settings m = plain_infos_from settings no_traces m no_infos m.functions
 
 -- the bench's module with the case's body
 abbrev pub module_of : Case → Module

@@ -5,8 +5,9 @@ ghost use Rattle.naga_below.specs.Each.{EachAt};
 ghost use Rattle.naga_below.specs.Fits.{FitsTypes};
 ghost use Rattle.naga_rules.specs.Answers.{Answers};
 ghost use Rattle.naga_valid.specs.Judged.{AnswersTracing};
-ghost use Rattle.naga_valid.specs.Parts.{no_traces};
-ghost use Rattle.naga_check.specs.Judged.{flags_of, settings_with, plain_judgement, no_infos, judgement_of, module_judgement, stages_of_last};
+ghost use Rattle.naga_valid.specs.Parts.{AreInfosOf, no_traces};
+ghost use Rattle.naga_check.specs.Judged.{flags_of, settings_with, bench_infos, parts_with, plain_judgement, no_infos, judgement_of, module_judgement, stages_of_last};
+ghost use Rattle.naga_check.specs.Plain.Meaning.{plain_layer};
 ghost use Rattle.naga_check.specs.Ready.{IsReady};
 ghost use Rattle.naga_check.specs.Line.{Replies, Writes};
 ghost use Rattle.naga_check.specs.Notation.Case.{HoldsBlock, case_of};
@@ -23,8 +24,9 @@ use naga_below::ir::module::{MeshOutputTopology, MeshStageInfo, Module};
 use naga_below::sequence::Sequence;
 use naga_below::span::Refusal;
 use naga_below::valid::capabilities::Capabilities;
-use naga_below::valid::flags::{ShaderStages, SubgroupOperationSet, ValidationFlags};
+use naga_below::valid::flags::{ShaderStages, SubgroupOperationSet, TypeFlags, ValidationFlags};
 use naga_below::valid::info::{FunctionInfo, ModuleInfo};
+use naga_below::valid::types::TypeInfo;
 use naga_rules::function::FunctionError;
 use naga_rules::mesh::MeshAnalysis;
 use naga_valid::validator::Validator;
@@ -47,7 +49,9 @@ fn flags_of(expressions: bool, blocks: bool) -> ValidationFlags
 }
 
 /// The plain layer. No bench has a mesh shader, so its analysis is one of nothing.
-pub fn plain() -> Plain {
+pub fn plain() -> Plain
+    ensures { result ≡ plain_layer }
+{
     Plain {
         analysis: MeshAnalysis {
             implied: MeshStageInfo {
@@ -66,16 +70,24 @@ pub fn plain() -> Plain {
     }
 }
 
-/// A validator over the plain layer with these flags, for a target with every capability, and with subgroup operations
-/// of all groups in all stages.
-fn validator_with(alloc: Global, flags: ValidationFlags) -> Validator<Plain>
-    ensures settings { result.settings ≡ settings_with flags }
-    ensures trace { result.trace ≡ no_traces }
+/// What is known of a type that can be used for everything, and whose layouts are good.
+pub const GOOD: TypeInfo = TypeInfo {
+    flags: TypeFlags::ALL,
+    storage_layout: Ok(4),
+    uniform_layout: Ok(4),
+    immediates_compatibility: Ok(()),
+};
+
+/// A validator over the plain layer with these flags and an info for each type of a bench, for a target with every
+/// capability, and with subgroup operations of all groups in all stages.
+fn validator_with(alloc: Global, flags: ValidationFlags) -> Result<Validator<Plain>, AllocError>
+    ensures { IfOk result (λ made. made ≡ parts_with (settings_with flags) no_traces) }
 {
-    let mut validator = Validator::new(plain(), flags, Capabilities::ALL);
+    let infos = vec![in alloc; GOOD, GOOD, GOOD]?;
+    let mut validator = Validator::new(plain(), flags, Capabilities::ALL).with_types(infos);
     validator.subgroup_stages(ShaderStages::ALL);
     validator.subgroup_operations(SubgroupOperationSet::ALL);
-    validator
+    Ok(validator)
 }
 
 /// No infos, with the allocator for those to come.
@@ -100,13 +112,15 @@ fn judge_function(
     infos: &ModuleInfo,
 ) -> Result<FunctionInfo, Refusal<FunctionError>>
     requires types { FitsTypes «module».now }
+    requires infos { AreInfosOf «module».now bench_infos }
+    requires parts { validator.old ≡ parts_with validator.old.settings validator.old.trace }
     requires ready { IsReady «module».now (length infos.now.functions) fun.now }
     ensures judged { AnswersTracing
         (plain_judgement validator.old.settings validator.old.trace «module».now infos.now fun.now)
         validator.new.trace result }
     ensures kept { validator.new ≡ record validator.old { trace = validator.new.trace } }
 {
-    validator.validate_body(alloc, fun, module, infos)
+    validator.validate_function(alloc, fun, module, infos, false)
 }
 
 /// The judgement of the functions of a module, in order.
@@ -116,11 +130,12 @@ fn judge_functions(
     module: &Module,
 ) -> Result<ModuleInfo, Refusal<FunctionError>>
     requires types { FitsTypes «module».now }
+    requires infos { AreInfosOf «module».now bench_infos }
     requires functions { EachAt (λ k f. IsReady «module».now k f) «module».now.functions }
     ensures { Answers (module_judgement (settings_with flags) «module».now) result }
 {
     let mut infos = no_infos(alloc);
-    let mut validator = validator_with(alloc, flags);
+    let mut validator = validator_with(alloc, flags)?;
     for fun in module.functions.as_slice() {
         let info = judge_function(alloc, &mut validator, fun, module, &infos)?;
         infos.functions.push(info)?;

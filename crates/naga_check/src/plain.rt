@@ -57,22 +57,10 @@ fn info_of(
 }
 
 impl Below for Plain {
-    ghost use Rattle.std.specs.Prelude.{Ok, []};
-    ghost use Rattle.naga_check.specs.Plain.Infos.{plain_info};
-    ghost use Rattle.naga_below.specs.Bits.{ALL_STAGES};
-    ghost use Rattle.naga_check.specs.Plain.Kinds.{kinds_from};
-    ghost use Rattle.naga_check.specs.Plain.Sizes.{size_at};
+    ghost use Rattle.naga_check.specs.Plain.Meaning.{plain_meaning};
     ghost use Rattle.naga_check.specs.Plain.Laws.{info_one_type_each, info_one_use_each, info_types_in_range, info_no_struct_values, kinds_one_each};
 
-    ghost function_info = { λ _ f m _ _ _. plain_info f m };
-
-    ghost expression_stages = { λ _ _ _ _ _ _ _ _. Ok ALL_STAGES };
-
-    ghost mesh_analysis = { λ plain _ _. plain.analysis };
-
-    ghost kinds_of = { λ _ es. kinds_from [] es };
-
-    ghost size_of = { λ _ m t. size_at m t };
+    ghost meaning = { plain_meaning };
 
     fn process_function(
         &self,

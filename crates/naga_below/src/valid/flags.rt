@@ -104,6 +104,9 @@ impl Flags for TypeFlags {
 }
 
 impl TypeFlags {
+    /// Every flag.
+    pub const ALL: TypeFlags = TypeFlags(0xff);
+
     ghost use Rattle.naga_below.specs.Bits.{contains};
 
     /// Whether it has all of these.

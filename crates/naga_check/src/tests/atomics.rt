@@ -110,10 +110,11 @@ fn gets(
     let fun = function(rt.alloc(), scalar, mark, list)?;
     let module = module(rt, scalar)?;
     let infos = no_infos(rt.alloc());
-    let mut validator = validator_for(Target {
+    let target = Target {
         capabilities,
         ..EVERYTHING
-    });
+    };
+    let mut validator = validator_for(rt, target, &module);
     let answer = judge(rt, &mut validator, &fun, &module, &infos, place);
     expect(rt, answer, expected);
     Ok(())

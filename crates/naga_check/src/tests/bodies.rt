@@ -1,7 +1,7 @@
 //! What the tests of statements share: a module and a function from their parts, and what the validator answers to them
 //! over the plain layer.
 
-use crate::case::plain;
+use crate::case::{GOOD, plain};
 use crate::plain::Plain;
 use bitflags::Flags;
 use naga_below::arena::Arena;
@@ -109,10 +109,17 @@ pub fn no_infos(alloc: Global) -> ModuleInfo {
     }
 }
 
-/// A validator with all flags for this target.
-pub fn validator_for(target: Target) -> Validator<Plain> {
+/// A validator with all flags for this target, and with a good info for each type of a module.
+pub fn validator_for(
+    rt: &(impl Abort + AllocGlobal),
+    target: Target,
+    module: &Module,
+) -> Validator<Plain> {
     let flags = ValidationFlags::all();
-    let mut validator = Validator::new(plain(), flags, target.capabilities);
+    let Ok(infos) = vec![in rt.alloc(); GOOD; module.types.len()] else {
+        panic!(rt; "no memory");
+    };
+    let mut validator = Validator::new(plain(), flags, target.capabilities).with_types(infos);
     validator.subgroup_stages(target.stages);
     validator.subgroup_operations(target.operations);
     validator
@@ -130,9 +137,10 @@ pub fn judge(
     infos: &ModuleInfo,
     place: Option<Span>,
 ) -> Answer {
+    assert!(rt; validator.has_types_of(module));
     assert!(rt; fits_types(module));
     assert!(rt; fits_function(fun, module, infos.functions.len()));
-    match validator.validate_body(rt.alloc(), fun, module, infos) {
+    match validator.validate_function(rt.alloc(), fun, module, infos, false) {
         Ok(info) => Ok(info.available_stages),
         Err(Refusal::Fault(fault)) => {
             match place {
@@ -153,7 +161,7 @@ pub fn answer_for(
     module: &Module,
 ) -> Answer {
     let infos = no_infos(rt.alloc());
-    let mut validator = validator_for(target);
+    let mut validator = validator_for(rt, target, module);
     judge(rt, &mut validator, fun, module, &infos, Some(HERE))
 }
 

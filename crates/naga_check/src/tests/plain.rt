@@ -78,7 +78,7 @@ fn expect_of(
 ) -> Result<(), AllocError> {
     let module = module_p(rt.alloc())?;
     let infos = no_infos(rt.alloc());
-    let mut validator = validator_for(EVERYTHING);
+    let mut validator = validator_for(rt, EVERYTHING, &module);
     let answer = judge(rt, &mut validator, fun, &module, &infos, place);
     expect(rt, answer, expected);
     Ok(())

@@ -179,7 +179,7 @@ fn expect_of(
 ) -> Result<TraceState, AllocError> {
     let module = module(rt)?;
     let infos = infos_of(rt.alloc())?;
-    let mut validator = validator_for(EVERYTHING);
+    let mut validator = validator_for(rt, EVERYTHING, &module);
     let answer = judge(rt, &mut validator, fun, &module, &infos, Some(place));
     expect(rt, answer, expected);
     Ok(validator.trace_state())
@@ -311,7 +311,7 @@ fn after_a_refusal(
 ) -> Result<TraceState, AllocError> {
     let module = module(rt)?;
     let infos = infos_of(rt.alloc())?;
-    let mut validator = validator_for(EVERYTHING);
+    let mut validator = validator_for(rt, EVERYTHING, &module);
     let first = judge(rt, &mut validator, refused, &module, &infos, Some(at(0)));
     let descriptor = FunctionError::InvalidRayDescriptor(Handle::new(5));
     expect(rt, first, Err(descriptor));

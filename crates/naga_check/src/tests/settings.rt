@@ -62,8 +62,8 @@ fn settings_let_subgroups_be_used(rt: HostRuntime) -> Result<(), Fail> {
 
 #[test]
 fn there_is_one_info_for_each_type(rt: HostRuntime) -> Result<(), Fail> {
-    let validator = validator_for(EVERYTHING);
     let module = empty_module(rt.alloc());
+    let validator = validator_for(&rt, EVERYTHING, &module);
     assert!(rt; validator.has_types_of(&module));
     let info = TypeInfo {
         flags: TypeFlags::DATA,
