@@ -247,7 +247,3 @@ ALL_OPERATIONS = record { 0 = 0x7f }
 
 abbrev pub ALL_CAPABILITIES : Capabilities
 ALL_CAPABILITIES = record { 0 = 0xfffffff }
-
--- every flag of a type
-abbrev pub ALL_TYPE_FLAGS : TypeFlags
-ALL_TYPE_FLAGS = record { 0 = 0xff }

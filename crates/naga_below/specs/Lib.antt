@@ -1,6 +1,7 @@
 pub mod Tree
 pub mod Points
 pub mod Bits
+pub mod WholeSets
 pub mod View
 pub mod Types
 pub mod Formats

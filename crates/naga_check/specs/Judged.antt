@@ -1,6 +1,7 @@
 -- The judgement of a case: that of the validator of functions over the bench's module, with the plain lower layer.
 use Rattle.std.specs.Prelude.{◌+◌, ℕ, Bool, false, List, [], ◌∷◌, Result, Ok, if◌then◌else◌}
-use Rattle.naga_below.specs.Bits.{STRUCT_LAYOUTS, BINDINGS, EXPRESSIONS, BLOCKS, ALL_STAGES, ALL_OPERATIONS, ALL_CAPABILITIES, ALL_TYPE_FLAGS}
+use Rattle.naga_below.specs.Bits.{STRUCT_LAYOUTS, BINDINGS, EXPRESSIONS, BLOCKS, ALL_STAGES, ALL_OPERATIONS, ALL_CAPABILITIES}
+use Rattle.naga_below.specs.WholeSets.{ALL_TYPE_FLAGS}
 use Rattle.naga_below.specs.declared.ir.functions.Function.{Function}
 use Rattle.naga_below.specs.declared.ir.module.Module.{Module}
 use Rattle.naga_below.specs.declared.valid.flags.ShaderStages.{ShaderStages}
