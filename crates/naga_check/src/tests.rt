@@ -2,6 +2,7 @@
 
 mod atomics;
 mod bodies;
+mod declarations;
 mod places;
 mod plain;
 mod rays;

@@ -137,10 +137,23 @@ pub fn judge(
     infos: &ModuleInfo,
     place: Option<Span>,
 ) -> Answer {
+    judge_as(rt, validator, fun, module, infos, place, false)
+}
+
+/// The same of a function that is an entry point's, or not.
+pub fn judge_as(
+    rt: &(impl Abort + AllocGlobal),
+    validator: &mut Validator<Plain>,
+    fun: &Function,
+    module: &Module,
+    infos: &ModuleInfo,
+    place: Option<Span>,
+    entry_point: bool,
+) -> Answer {
     assert!(rt; validator.has_types_of(module));
     assert!(rt; fits_types(module));
     assert!(rt; fits_function(fun, module, infos.functions.len()));
-    match validator.validate_function(rt.alloc(), fun, module, infos, false) {
+    match validator.validate_function(rt.alloc(), fun, module, infos, entry_point) {
         Ok(info) => Ok(info.available_stages),
         Err(Refusal::Fault(fault)) => {
             match place {
