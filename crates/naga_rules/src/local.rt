@@ -37,7 +37,10 @@ pub fn check_local(
     requires resolved { All (ResolutionFits (length types.now)) fun_info.now.expression_types }
     ensures { result_err result ≡ first_fault (local_points types.now infos.now fun_info.now.expression_types kinds.now var.now) }
 {
-    if !infos[var.ty.index()].flags.contains(TypeFlags::CONSTRUCTIBLE) {
+    if !infos[var.ty.index()]
+        .flags
+        .contains(TypeFlags::CONSTRUCTIBLE)
+    {
         return Err(LocalVariableError::InvalidType(var.ty));
     }
     match var.init {

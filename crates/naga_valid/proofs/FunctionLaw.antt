@@ -123,7 +123,7 @@ stages_are_met below settings infos trace program earlier fun entry_point outcom
     let body = accepted_stages_are_met (context_with below settings infos trace program earlier fun entry_point (with_stages k.info k.stages)) outcome k.of some in
     let asked = expressions_are_met below (context_with below settings infos trace program earlier fun entry_point k.info) some k.stages k.expressions in
     let P : FunctionInfo → Type 0 = λ (i : FunctionInfo).
-        AreAmong some outcome.info.available_stages ↔ (AreAmong some i.available_stages × AllByRecursion (AreAmong some) (expression_masks below (context_with below settings infos trace program earlier fun entry_point i)) × AllByRecursion (AreOfStatement settings.subgroup_stages earlier some) (nodes_of (body_of fun))) in
+    AreAmong some outcome.info.available_stages ↔ (AreAmong some i.available_stages × AllByRecursion (AreAmong some) (expression_masks below (context_with below settings infos trace program earlier fun entry_point i)) × AllByRecursion (AreOfStatement settings.subgroup_stages earlier some) (nodes_of (body_of fun))) in
     subst P same (
       λ p. let q = body.0 p in let a = asked.0 q.0 in (a.0, a.1, q.1),
       λ p. body.1 (asked.1 (p.0, p.1), p.2),

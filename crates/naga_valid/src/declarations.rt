@@ -83,7 +83,13 @@ fn check_variable(
     requires init { IfSome var.now.init (λ h. h < length (context_of context.now).fun.expressions) }
     ensures { AnswersPoints (variable_points (context_of context.now) infos.now handle var.now) result }
 {
-    match check_local(var, &context.program.types, infos, context.info, context.kinds) {
+    match check_local(
+        var,
+        &context.program.types,
+        infos,
+        context.info,
+        context.kinds,
+    ) {
         Ok(()) => Ok(()),
         Err(source) => {
             let name = name_or_empty(alloc, &var.name)?;
@@ -144,7 +150,10 @@ fn check_argument(
             return Err(Refusal::Fault(WithSpan::new(alloc, fault)));
         }
     }
-    if !infos[argument.ty.index()].flags.contains(TypeFlags::ARGUMENT) {
+    if !infos[argument.ty.index()]
+        .flags
+        .contains(TypeFlags::ARGUMENT)
+    {
         let name = name_or_empty(alloc, &argument.name)?;
         let fault = FunctionError::InvalidArgumentType { index, name };
         return Err(Refusal::Fault(WithSpan::new(alloc, fault)));
@@ -169,7 +178,10 @@ fn check_result(
     let Some(declared) = declared else {
         return Ok(());
     };
-    if !infos[declared.ty.index()].flags.contains(TypeFlags::CONSTRUCTIBLE) {
+    if !infos[declared.ty.index()]
+        .flags
+        .contains(TypeFlags::CONSTRUCTIBLE)
+    {
         return Err(FunctionError::NonConstructibleReturnType);
     }
     if !entry_point && declared.binding.is_some() {

@@ -5,10 +5,9 @@ use crate::tests::bodies::{
     EVERYTHING, NOWHERE, add_type, expect, function_of, judge, judge_as, module_of, no_infos,
     validator_for,
 };
-use naga_below::arena::Arena;
 use naga_below::arena::handle::Handle;
-use naga_below::arena::tag;
 use naga_below::arena::unique_arena::UniqueArena;
+use naga_below::arena::{Arena, tag};
 use naga_below::ir::expressions::{Expression, Literal};
 use naga_below::ir::functions::{Function, FunctionArgument, FunctionResult, LocalVariable};
 use naga_below::ir::module::Module;
@@ -69,12 +68,13 @@ fn with_variable(
 }
 
 /// A function without expressions or statements with an argument of a type.
-fn with_argument(
-    alloc: Global,
-    ty: u32,
-    binding: Option<Binding>,
-) -> Result<Function, AllocError> {
-    let mut fun = function_of(alloc, Arena::new(alloc), Arena::new(alloc), Sequence::new(alloc));
+fn with_argument(alloc: Global, ty: u32, binding: Option<Binding>) -> Result<Function, AllocError> {
+    let mut fun = function_of(
+        alloc,
+        Arena::new(alloc),
+        Arena::new(alloc),
+        Sequence::new(alloc),
+    );
     fun.arguments.push(FunctionArgument {
         name: None,
         ty: Handle::new(ty),
@@ -174,7 +174,12 @@ fn a_function_with_a_result_need_not_return(rt: HostRuntime) -> Result<(), Fail>
     let alloc = rt.alloc();
     let module = module(&rt)?;
     let infos = no_infos(alloc);
-    let mut fun = function_of(alloc, Arena::new(alloc), Arena::new(alloc), Sequence::new(alloc));
+    let mut fun = function_of(
+        alloc,
+        Arena::new(alloc),
+        Arena::new(alloc),
+        Sequence::new(alloc),
+    );
     fun.result = Some(FunctionResult {
         ty: Handle::new(0),
         binding: None,

@@ -59,7 +59,9 @@ impl<B: Below> Validator<B> {
         for index in 0..count {
             let handle = Handle::new(index);
             let settings = self.settings;
-            let asked = self.below.validate_expression(alloc, settings, handle, fun, module, info, mod_info, kinds);
+            let asked = self.below.validate_expression(
+                alloc, settings, handle, fun, module, info, mod_info, kinds,
+            );
             let mask = of_expression(handle, asked)?;
             info.available_stages = info.available_stages.intersection(mask);
         }
