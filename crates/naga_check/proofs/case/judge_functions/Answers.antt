@@ -23,7 +23,7 @@ judge_function-requires-clause-parts c =
 pub returns-in_err-info : goal.returns-in_err-info
 returns-in_err-info c =
     let m = c.args.module.now in
-    let p = err_from_is_err_and c.from_residual.result c.from_residual.ensures.1 in
+    let p = err_from_is_err_and c.from_residual-in_err-info.result c.from_residual-in_err-info.ensures.1 in
     let settings = settings_with c.args.flags in
     let refused = refused_here settings c.loop-fun.validator.trace m c.loop-fun.infos m.functions c.loop-fun.fun-index c.fun-item.result (rw c.as_slice-fun-items.ensures at c.loop-fun-test.true) (rw c.as_slice-fun-items.ensures at c.fun-item.is) c.in_err-info.field-0.0 (subst (λ (v : Parts Plain). Refuses (plain_judgement v.settings c.loop-fun.validator.trace m c.loop-fun.infos c.fun-item.result) c.in_err-info.field-0.0) c.loop-fun.invariant.parts c.in_err-info.ensures.judged) in
     rw (p.1, p.2) (rw c.loop-fun.invariant.rest at refused)
