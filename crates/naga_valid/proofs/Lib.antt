@@ -23,6 +23,7 @@ pub mod Own
 pub mod PreEmitted
 pub mod Judged
 pub mod Accepted
+pub mod Shapes
 pub mod Guarded
 pub mod FunctionLaw
 pub mod FunctionSteps

@@ -34,6 +34,7 @@ pub mod Seen
 pub mod Judged
 pub mod Parts
 pub mod Accepted
+pub mod Shapes
 pub mod FunctionLaw
 pub mod InOrder
 pub mod Declarations
