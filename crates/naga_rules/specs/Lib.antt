@@ -4,3 +4,5 @@ pub mod Meaning
 pub mod TypeInfos
 pub mod Locals
 pub use Rattle.naga_below.specs.Types
+pub mod Spaces
+pub mod Globals

@@ -38,3 +38,4 @@ pub mod FunctionLaw
 pub mod InOrder
 pub mod Declarations
 pub mod Expressions
+pub mod GlobalPoints
