@@ -5,6 +5,7 @@
 pub mod analyzer;
 pub mod below;
 pub mod function;
+pub mod global;
 pub mod interface;
 pub mod local;
 pub mod mesh;

@@ -54,3 +54,4 @@ pub use Rattle.naga_valid.specs.Judged.{FunctionOutcome, AnswersTracing}
 pub use Rattle.naga_valid.specs.Parts.{AreInfosOf}
 pub use Rattle.naga_valid.specs.WhatIsChecked.{checks_blocks, checks_expressions}
 unfoldable pub use Rattle.naga_valid.specs.Judged.{function_judgement}
+pub mod GlobalPoints
