@@ -17,6 +17,7 @@ pub use crate::below::Below;
 pub use crate::function::{
     AtomicError, CallError, FunctionError, LocalVariableError, SubgroupError,
 };
+pub use crate::global::check_global;
 pub use crate::interface::{GlobalVariableError, VaryingError};
 pub use crate::local::check_local;
 pub use crate::mesh::{MeshAnalysis, MeshFault};
