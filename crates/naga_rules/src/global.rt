@@ -323,8 +323,9 @@ fn check_variable(
 ) -> Result<(), GlobalVariableError>
     ensures { result_err result ≡ first_fault (variable_points flags capabilities size var.now) }
 {
-    let is_bound_well = is_resource_space(var.space) == var.binding.is_some();
-    if flags.contains(ValidationFlags::BINDINGS) && !is_bound_well {
+    if flags.contains(ValidationFlags::BINDINGS)
+        && is_resource_space(var.space) != var.binding.is_some()
+    {
         return Err(GlobalVariableError::InvalidBinding);
     }
     if var.space == AddressSpace::TaskPayload && size == Some(0) {
