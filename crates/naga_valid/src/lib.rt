@@ -7,6 +7,7 @@ mod context;
 mod declarations;
 mod function;
 mod handle_set;
+pub mod interface;
 pub mod laws;
 mod outcome;
 mod stages;
