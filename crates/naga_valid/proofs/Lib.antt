@@ -28,3 +28,4 @@ pub mod FunctionLaw
 pub mod FunctionSteps
 pub mod Each
 pub mod ExpressionSteps
+pub mod EntrySteps

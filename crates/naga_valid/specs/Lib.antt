@@ -38,3 +38,7 @@ pub mod FunctionLaw
 pub mod InOrder
 pub mod Declarations
 pub mod Expressions
+pub mod EntryPoints
+pub mod EntryStart
+pub mod EntryUses
+pub mod EntryGlobals

@@ -4,7 +4,9 @@ ghost use Rattle.std.specs.Prelude.{◌≡◌};
 ghost use Rattle.naga_valid.specs.declared.interface.EntryPointError.TheVariants as fault;
 
 mod clones;
+mod start;
 mod texts;
+mod uses;
 
 use naga_below::arena::handle::Handle;
 use naga_below::arena::tag;
