@@ -3,4 +3,9 @@ pub mod Lawful
 pub mod Meaning
 pub mod TypeInfos
 pub mod Locals
+pub mod BuiltIns
+pub mod Seen
+pub mod Locations
+pub mod VaryingFaults
+pub mod Varyings
 pub use Rattle.naga_below.specs.Types
