@@ -4,4 +4,9 @@ pub mod Meaning
 pub mod TypeInfos
 pub mod Locals
 pub mod AllowedUses
+pub mod BuiltIns
+pub mod Seen
+pub mod Locations
+pub mod VaryingFaults
+pub mod Varyings
 pub use Rattle.naga_below.specs.Types

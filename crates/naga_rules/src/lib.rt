@@ -10,3 +10,4 @@ pub mod local;
 pub mod mesh;
 #[cfg(test)]
 mod tests;
+pub mod varying;
