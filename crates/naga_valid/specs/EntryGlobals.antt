@@ -112,13 +112,16 @@ allowed_points types at h g uses = (is_within (allowed_use g.space (access_in ty
 
 -- of a lower layer that means this
 module _ (below : Meaning) (flags : ValidationFlags) (program : Module) (ep : EntryPoint) (uses : List GlobalUse) where
-  -- a global that is used so
-  abbrev pub used_points : ℕ → GlobalVariable → GlobalUse → EntryPoints
-  used_points h g given =
+  -- how a global is used
+  abbrev pub use_points : ℕ → GlobalVariable → GlobalUse → EntryPoints
+  use_points h g given =
       used_payload_points ep.task_payload (below.size_of program g.ty) h g.space
       ++ (ray_points ep.stage g.space
-      ++ (allowed_points program.types ep.stage h g given
-      ++ binding_points flags uses program.global_variables h g.binding))
+      ++ allowed_points program.types ep.stage h g given)
+
+  -- a global that is used so: how, and its binding
+  abbrev pub used_points : ℕ → GlobalVariable → GlobalUse → EntryPoints
+  used_points h g given = use_points h g given ++ binding_points flags uses program.global_variables h g.binding
 
   -- a global, where it is used
   abbrev pub points_if_used : ℕ → GlobalVariable → Option GlobalUse → EntryPoints

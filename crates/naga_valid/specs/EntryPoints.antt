@@ -17,8 +17,3 @@ IsForFirst points Memory = ⊤
 abbrev pub Meets : {T : Type 0} → EntryPoints → Result T (Refusal EntryPointError) → Type 0
 Meets points (Ok t) = first_fault points ≡ None
 Meets points (Err refused) = IsForFirst points refused
-
--- the fault is the right one; or there was no memory, and none of these points, which take none, fails
-abbrev pub RefusesBehind : {A : Type 0} → EntryPoints → Result A EntryPointError → Refusal EntryPointError → Type 0
-RefusesBehind first right (Fault e) = right ≡ Err e
-RefusesBehind first right Memory = first_fault first ≡ None

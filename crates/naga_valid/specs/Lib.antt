@@ -42,3 +42,8 @@ pub mod EntryPoints
 pub mod EntryStart
 pub mod EntryUses
 pub mod EntryGlobals
+pub mod CodeBindings
+pub mod EntryFaults
+pub mod EntryVaryings
+pub mod EntryMesh
+pub mod EntryJudged

@@ -3,7 +3,9 @@
 ghost use Rattle.std.specs.Prelude.{◌≡◌};
 ghost use Rattle.naga_valid.specs.declared.interface.EntryPointError.TheVariants as fault;
 
+mod bindings;
 mod clones;
+mod globals;
 mod start;
 mod texts;
 mod uses;
