@@ -11,6 +11,7 @@ pub mod local;
 pub mod mesh;
 #[cfg(test)]
 mod tests;
+pub mod varying;
 
 pub use crate::analyzer::{UniformityDisruptor, UniformityRequirements};
 pub use crate::below::Below;
