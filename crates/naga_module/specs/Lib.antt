@@ -1,2 +1,4 @@
 pub mod EmptySets
 pub mod Plain
+pub mod ModuleJudgement
+pub mod CodeModule
