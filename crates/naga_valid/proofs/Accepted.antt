@@ -114,7 +114,7 @@ module _ (context : Context) (some : ShaderStages) where
       )
 
 -- the nodes of the visits are what stands at the positions
-nodes_are : (pre : Handles) (b : Body) (ps : List Position) → map (λ v. v.node) (map (visit_at pre b) ps) ≡ map (node_at b) ps
+pub nodes_are : (pre : Handles) (b : Body) (ps : List Position) → map (λ v. v.node) (map (visit_at pre b) ps) ≡ map (node_at b) ps
 nodes_are pre b [] = refl
 nodes_are pre b (p ∷ ps) = ap (λ l. node_at b p ∷ l) (nodes_are pre b ps)
 

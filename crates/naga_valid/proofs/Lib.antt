@@ -29,3 +29,4 @@ pub mod FunctionLaw
 pub mod FunctionSteps
 pub mod Each
 pub mod ExpressionSteps
+pub mod Chains

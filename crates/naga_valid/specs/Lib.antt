@@ -39,3 +39,4 @@ pub mod FunctionLaw
 pub mod InOrder
 pub mod Declarations
 pub mod Expressions
+pub mod Chains

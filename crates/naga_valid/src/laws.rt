@@ -1,5 +1,6 @@
 //! Laws of accepted functions: they compute nothing; whoever rests on them calls them to cite them.
 
+ghost use Rattle.naga_valid.specs.Chains.{ChainsAreKept, NoneIsVetted, OneMoreIsVetted, CallsOfFittingAreBelow};
 ghost use Rattle.naga_valid.specs.FunctionLaw.{AcceptedIsSound, AcceptedFillsOnce, AcceptedIsOfAllStages, AcceptedHasNoReturnInContinuing, AcceptedHasWholeSwitches, AcceptedKeepsInfo, AcceptedStagesAreMet};
 
 /// Of each function that the judgement accepts, where bodies are looked at: all runs of its body are sound; with
@@ -15,4 +16,15 @@ pub fn function_law()
     ensures switches { AcceptedHasWholeSwitches }
     ensures info { AcceptedKeepsInfo }
     ensures met { AcceptedStagesAreMet }
+{}
+
+/// Where bodies are looked at, a function that the judgement accepts with vetted infos keeps to each of its stages through all
+/// chains of calls: each stage is one of every statement of its body and of the bodies that it reaches, and of every
+/// expression that is looked at. Infos are vetted where there are none yet, and behind each function that fits and is judged
+/// with vetted ones; and a function that fits calls functions before it alone.
+pub fn chains_law()
+    ensures kept { ChainsAreKept }
+    ensures none { NoneIsVetted }
+    ensures more { OneMoreIsVetted }
+    ensures calls { CallsOfFittingAreBelow }
 {}
