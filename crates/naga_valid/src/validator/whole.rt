@@ -59,7 +59,8 @@ impl<B: Below> Validator<B> {
 
         // Where bodies were looked at, each Switch of an accepted one has exactly one default, no value twice, values of the
         // sign that its selector's type in the info has, and a last case that doesn't fall through.
-        ensures switches { IfOk result (λ info. checks_blocks self.old.settings.flags ≡ true → HasWholeSwitches «module».now info (body_of fun.now)) }
+        ensures switches { IfOk result (λ info. checks_blocks self.old.settings.flags ≡ true
+            → HasWholeSwitches «module».now info (body_of fun.now)) }
 
         // Nothing but what ray traces leave may differ, and that only where the function is accepted.
         ensures kept { self.new ≡ record self.old { trace = self.new.trace } }
