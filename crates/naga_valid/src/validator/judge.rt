@@ -65,7 +65,8 @@ impl<B: Below> Validator<B> {
         requires infos { AreInfosOf «module».now self.now.types }
         requires context { ContextFits (asked_by self.now «module».now mod_info.now fun.now kinds.now info) }
         ensures { Answers
-            (known_by self.now (B.meaning self.now.below) entry_point (asked_by self.now «module».now mod_info.now fun.now kinds.now info))
+            (known_by self.now (B.meaning self.now.below) entry_point
+            (asked_by self.now «module».now mod_info.now fun.now kinds.now info))
             result }
     {
         let context = BlockContext {
