@@ -30,3 +30,4 @@ pub mod FunctionSteps
 pub mod Each
 pub mod ExpressionSteps
 pub mod Chains
+pub mod GlobalFits
