@@ -11,3 +11,13 @@ pub mod local;
 pub mod mesh;
 #[cfg(test)]
 mod tests;
+
+pub use crate::analyzer::{UniformityDisruptor, UniformityRequirements};
+pub use crate::below::Below;
+pub use crate::function::{
+    AtomicError, CallError, FunctionError, LocalVariableError, SubgroupError,
+};
+pub use crate::global::check_global;
+pub use crate::interface::{GlobalVariableError, VaryingError};
+pub use crate::local::check_local;
+pub use crate::mesh::{MeshAnalysis, MeshFault};
