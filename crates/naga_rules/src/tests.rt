@@ -2,5 +2,6 @@
 
 mod bools;
 mod clones;
+mod globals;
 mod laws;
 mod names;
