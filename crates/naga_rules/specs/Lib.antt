@@ -4,6 +4,7 @@ pub mod Meaning
 pub mod TypeInfos
 pub mod Locals
 pub mod BuiltIns
+pub mod CodeBuiltIns
 pub mod Seen
 pub mod Locations
 pub mod VaryingFaults
