@@ -1,2 +1,3 @@
 pub mod Seeing
 pub mod RuleColumns
+pub mod Kept

@@ -9,4 +9,5 @@ pub mod Seen
 pub mod Locations
 pub mod VaryingFaults
 pub mod Varyings
+pub mod CodeVaryings
 pub use Rattle.naga_below.specs.Types

@@ -95,7 +95,11 @@ fn is_visible(built_in: BuiltIn, place: &VaryingPlace) -> bool
         }
         BuiltIn::InstanceIndex => is_input(
             place,
-            &[ShaderStage::Vertex, ShaderStage::AnyHit, ShaderStage::ClosestHit],
+            &[
+                ShaderStage::Vertex,
+                ShaderStage::AnyHit,
+                ShaderStage::ClosestHit,
+            ],
         ),
         BuiltIn::DrawIndex => {
             is_input(place, &[ShaderStage::Vertex, ShaderStage::Task])
@@ -114,13 +118,22 @@ fn is_visible(built_in: BuiltIn, place: &VaryingPlace) -> bool
         }
         BuiltIn::ViewIndex => is_input(
             place,
-            &[ShaderStage::Vertex, ShaderStage::Fragment, ShaderStage::Task, ShaderStage::Mesh],
+            &[
+                ShaderStage::Vertex,
+                ShaderStage::Fragment,
+                ShaderStage::Task,
+                ShaderStage::Mesh,
+            ],
         ),
         BuiltIn::FragDepth => is_output(place, &[ShaderStage::Fragment]),
         BuiltIn::PrimitiveIndex => {
             is_input(
                 place,
-                &[ShaderStage::Fragment, ShaderStage::AnyHit, ShaderStage::ClosestHit],
+                &[
+                    ShaderStage::Fragment,
+                    ShaderStage::AnyHit,
+                    ShaderStage::ClosestHit,
+                ],
             ) || is_output(place, &[ShaderStage::Mesh]) && is_primitive_output(place)
         }
         BuiltIn::SampleMask => is_at(place, &[ShaderStage::Fragment]),
@@ -158,21 +171,20 @@ fn is_visible(built_in: BuiltIn, place: &VaryingPlace) -> bool
         | BuiltIn::ObjectRayOrigin
         | BuiltIn::ObjectRayDirection
         | BuiltIn::ObjectToWorld
-        | BuiltIn::WorldToObject => is_at(
-            place,
-            &[ShaderStage::AnyHit, ShaderStage::ClosestHit],
-        ),
+        | BuiltIn::WorldToObject => is_at(place, &[ShaderStage::AnyHit, ShaderStage::ClosestHit]),
         BuiltIn::WorldRayOrigin
         | BuiltIn::WorldRayDirection
         | BuiltIn::RayTmin
         | BuiltIn::RayTCurrentMax => is_at(
             place,
-            &[ShaderStage::AnyHit, ShaderStage::ClosestHit, ShaderStage::Miss],
+            &[
+                ShaderStage::AnyHit,
+                ShaderStage::ClosestHit,
+                ShaderStage::Miss,
+            ],
         ),
-        BuiltIn::VertexCount
-        | BuiltIn::PrimitiveCount
-        | BuiltIn::Vertices
-        | BuiltIn::Primitives => false,
+        BuiltIn::VertexCount | BuiltIn::PrimitiveCount | BuiltIn::Vertices | BuiltIn::Primitives =>
+            false,
     }
 }
 
@@ -231,10 +243,8 @@ fn type_of(built_in: BuiltIn) -> BuiltInType
         | BuiltIn::GeometryIndex
         | BuiltIn::HitKind => scalar(Scalar::U32),
         BuiltIn::ClipDistances | BuiltIn::CullDistance => BuiltInType::Distances,
-        BuiltIn::PointSize
-        | BuiltIn::FragDepth
-        | BuiltIn::RayTmin
-        | BuiltIn::RayTCurrentMax => scalar(Scalar::F32),
+        BuiltIn::PointSize | BuiltIn::FragDepth | BuiltIn::RayTmin | BuiltIn::RayTCurrentMax =>
+            scalar(Scalar::F32),
         BuiltIn::PointCoord => vector(VectorSize::Bi, Scalar::F32),
         BuiltIn::Position { .. } => vector(VectorSize::Quad, Scalar::F32),
         BuiltIn::FrontFacing | BuiltIn::CullPrimitive => scalar(Scalar::BOOL),
@@ -260,10 +270,8 @@ fn type_of(built_in: BuiltIn) -> BuiltInType
                 scalar: Scalar::F32,
             })
         }
-        BuiltIn::VertexCount
-        | BuiltIn::PrimitiveCount
-        | BuiltIn::Vertices
-        | BuiltIn::Primitives => BuiltInType::Any,
+        BuiltIn::VertexCount | BuiltIn::PrimitiveCount | BuiltIn::Vertices | BuiltIn::Primitives =>
+            BuiltInType::Any,
     }
 }
 
