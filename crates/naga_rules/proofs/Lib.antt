@@ -1,3 +1,4 @@
 pub mod Seeing
 pub mod RuleColumns
 pub mod Kept
+pub mod TypesAt

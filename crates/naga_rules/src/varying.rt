@@ -1,6 +1,8 @@
 //! What a stage takes in and puts out, its arguments, its result and the outputs of a mesh: naga 30.0.1's
 //! `VaryingContext`.
 
+mod built_in;
+mod context;
 pub mod laws;
 pub mod rule;
 
