@@ -2,3 +2,4 @@ pub mod Seeing
 pub mod RuleColumns
 pub mod Kept
 pub mod TypesAt
+pub mod Behind

@@ -3,6 +3,7 @@
 
 mod built_in;
 mod context;
+mod location;
 pub mod laws;
 pub mod rule;
 
