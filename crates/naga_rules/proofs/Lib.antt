@@ -3,3 +3,4 @@ pub mod RuleColumns
 pub mod Kept
 pub mod TypesAt
 pub mod Behind
+pub mod PlainFaults

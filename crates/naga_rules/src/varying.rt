@@ -3,6 +3,7 @@
 
 mod built_in;
 mod context;
+pub mod item;
 mod location;
 pub mod laws;
 pub mod rule;
@@ -10,7 +11,7 @@ pub mod rule;
 ghost use Rattle.std.specs.Prelude.{◌≡◌, ◌||◌, ◌&&◌, not, [], ◌∷◌, OnOk, OnErr};
 ghost use Rattle.std.specs.BTreeSet.{contains as set_contains};
 ghost use Rattle.naga_rules.specs.BuiltIns.{canonical};
-ghost use Rattle.naga_rules.specs.CodeVaryings.{is_taken, seen_less, seen_more};
+ghost use Rattle.naga_rules.specs.CodeVaryings.{is_taken, seen_less, seen_more, with_location};
 ghost use Rattle.naga_rules.specs.Varyings.{seen_in, nothing_seen, without_built_ins};
 
 use naga_below::ir::built_in::BuiltIn;
@@ -81,6 +82,14 @@ impl VaryingState {
         ensures { seen_in self.new ≡ without_built_ins (seen_in self.old) }
     {
         self.built_ins.clear();
+    }
+
+    /// Takes a location. A refused call leaves the state as it was.
+    pub(crate) fn put_location(&mut self, location: u32) -> Result<(), AllocError>
+        ensures put { OnOk result (seen_in self.new ≡ with_location (seen_in self.old) location) }
+        ensures err { OnErr result (seen_in self.new ≡ seen_in self.old) }
+    {
+        insert(&mut self.locations, location)
     }
 
     /// Whether what is bound is there.
