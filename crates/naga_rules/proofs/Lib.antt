@@ -4,3 +4,4 @@ pub mod Kept
 pub mod TypesAt
 pub mod Behind
 pub mod PlainFaults
+pub mod Members
