@@ -1,10 +1,9 @@
 -- What a state has seen, as the code changes it.
-use Rattle.std.proofs.Common.{◌≡◌, ℕ, ◌+◌, ◌<◌, ◌==◌, Bool, true, false, not, ◌&&◌, ◌||◌, List, [], ◌∷◌, ◌++◌, Result, Ok, Err, length, take, get_or, refl, sym, ap, ◌∙◌, arith}
+use Rattle.std.proofs.Common.{◌≡◌, ℕ, ◌+◌, ◌<◌, Bool, true, false, not, ◌&&◌, ◌||◌, List, [], ◌∷◌, ◌++◌, Result, Ok, Err, length, take, get_or, refl, sym, ap, ◌∙◌, arith}
 use Rattle.std.proofs.Math.Bool.{or_assoc}
 use Rattle.std.proofs.lemmas.Bool.Decides.{nat_tests}
 use Rattle.std.proofs.lemmas.List.{take_more}
 use Rattle.std.proofs.lemmas.List.Folds.{list_any-append}
-use Rattle.std.specs.List.{list_any}
 use Rattle.naga_below.specs.EqualBuiltIns.{built_in_same}
 use Rattle.naga_below.specs.declared.ir.types.Binding.{Binding}
 use Rattle.naga_rules.specs.Seen.{Seen}
@@ -120,17 +119,17 @@ module _ (s : Seen) (added : List Binding) (given : Binding) where
     push_less =
         seen_same _ _
         (λ l. ap (λ b. s.locations l && not b) (list_any-append (is_bound_at l) added (given ∷ []))
-            ∙ pushed_bool (s.locations l) _ (is_bound_at l given) (λ at. taken_at s given l at ∙ new))
+        ∙ pushed_bool (s.locations l) _ (is_bound_at l given) (λ at. taken_at s given l at ∙ new))
         (λ b. ap (λ x. s.built_ins b && not x) (list_any-append (is_bound_to b) added (given ∷ []))
-            ∙ pushed_bool (s.built_ins b) _ (is_bound_to b given) (λ to. taken_to s given b to ∙ new))
+        ∙ pushed_bool (s.built_ins b) _ (is_bound_to b given) (λ to. taken_to s given b to ∙ new))
 
     pub put_less : seen_less (seen_more s given) (added ++ given ∷ []) ≡ seen_less s added
     put_less =
         seen_same _ _
         (λ l. ap (λ b. (s.locations l || is_bound_at l given) && not b) (list_any-append (is_bound_at l) added (given ∷ []))
-            ∙ put_bool (s.locations l) _ (is_bound_at l given) (λ at. taken_at s given l at ∙ new))
+        ∙ put_bool (s.locations l) _ (is_bound_at l given) (λ at. taken_at s given l at ∙ new))
         (λ b. ap (λ x. (s.built_ins b || is_bound_to b given) && not x) (list_any-append (is_bound_to b) added (given ∷ []))
-            ∙ put_bool (s.built_ins b) _ (is_bound_to b given) (λ to. taken_to s given b to ∙ new))
+        ∙ put_bool (s.built_ins b) _ (is_bound_to b given) (λ to. taken_to s given b to ∙ new))
 
 -- one more is taken back
 pub less_turn : (s now then : Seen) (bs : List Binding) (i : ℕ) (d : Binding) → i < length bs →

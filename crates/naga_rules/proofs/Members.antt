@@ -1,5 +1,5 @@
 -- The members of a struct, one by one.
-use Rattle.std.proofs.Common.{◌≡◌, ℕ, suc, ◌+◌, ◌<◌, ◌≤◌, List, [], ◌∷◌, ◌++◌, Option, None, Some, Result, Ok, Err, length, take, drop, get_or, refl, sym, ap, ◌∙◌, arith, take_all}
+use Rattle.std.proofs.Common.{◌≡◌, ℕ, suc, ◌+◌, ◌<◌, ◌≤◌, List, [], ◌∷◌, ◌++◌, Option, None, Result, Ok, Err, length, take, drop, get_or, sym, ap, ◌∙◌, arith}
 use Rattle.std.specs.Prelude.{IsErr}
 use Rattle.std.specs.Option.{option_or}
 use Rattle.std.proofs.lemmas.List.{append-nil, at_drop_all, at_drop_more, length-take-le, take_more}
@@ -16,7 +16,6 @@ use Rattle.naga_rules.specs.Varyings.{Part, member_part, member_parts, part_poin
 use Rattle.naga_rules.specs.declared.interface.VaryingError.{VaryingError}
 use Rattle.naga_rules.specs.declared.varying.VaryingPlace.{VaryingPlace}
 use Rattle.naga_rules.proofs.Kept.{seen_with-append, seen_with_none}
-
 
 member_parts-push : (k : ℕ) (xs : List StructMember) (m : StructMember) →
     member_parts k (xs ++ m ∷ []) ≡ member_parts k xs ++ member_part (k + length xs) m.ty m.binding ∷ []

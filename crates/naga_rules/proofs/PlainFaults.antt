@@ -19,7 +19,7 @@ use Rattle.naga_below.specs.declared.span.Refusal.{Refusal}
 use Rattle.naga_below.specs.declared.span.Refusal.TheVariants.{Fault, Memory}
 use Rattle.naga_below.specs.declared.valid.types.TypeInfo.{TypeInfo}
 use Rattle.naga_rules.specs.Answers.{AnswersPoints}
-use Rattle.naga_rules.specs.Locations.{carried_type, combination_points, interpolation_points, is_interpolated, is_per_vertex, kind_points, location_points, per_vertex_points, sharing_points}
+use Rattle.naga_rules.specs.Locations.{carried_type, combination_points, interpolation_points, is_interpolated, is_per_vertex, kind_points, per_vertex_points, sharing_points}
 use Rattle.naga_rules.specs.Seen.{Seen}
 use Rattle.naga_rules.specs.VaryingFaults.{AnswersVaryings, Plain, fault_of}
 use Rattle.naga_rules.specs.Varyings.{bound_points, built_in_points}
@@ -67,7 +67,7 @@ bound_plain place types infos seen ty (binding.Location location i s blend_src p
     let sharing = sharing_points place infos seen carried location blend_src per_primitive in
     let interpolation = interpolation_points place types carried i s per_primitive in
     let behind : ArePlain (sharing ++ interpolation) =
-        both_plain sharing interpolation (refl, (refl, (refl, (refl, (refl, tt))))) (interpolation_plain place types carried i s per_primitive) in
+    both_plain sharing interpolation (refl, (refl, (refl, (refl, (refl, tt))))) (interpolation_plain place types carried i s per_primitive) in
     (refl, both_plain (per_vertex_points place types ty i s) (sharing ++ interpolation) (refl, (refl, (refl, (refl, tt)))) behind)
 
 first_plain : (ps : List (Point VaryingError)) (e : VaryingError) → ArePlain ps → first_fault ps ≡ Some e → Plain e ≡ fault_of e

@@ -1,9 +1,8 @@
 -- The table of built-ins, read row by row, says of each built-in what its columns say.
 use Rattle.std.proofs.Common.{◌≡◌, refl}
-use Rattle.std.specs.List.{list_any}
 use Rattle.naga_below.specs.declared.ir.built_in.BuiltIn.{BuiltIn}
 use Rattle.naga_below.specs.declared.ir.built_in.BuiltIn.TheVariants.{BaseInstance, BaseVertex, VertexIndex, InstanceIndex, DrawIndex, ClipDistances, CullDistance, PointSize, PointCoord, Position, ViewIndex, FragDepth, FrontFacing, PrimitiveIndex, Barycentric, SampleIndex, SampleMask, LocalInvocationIndex, GlobalInvocationId, LocalInvocationId, WorkGroupId, WorkGroupSize, NumWorkGroups, NumSubgroups, SubgroupId, SubgroupSize, SubgroupInvocationId, CullPrimitive, PointIndex, LineIndices, TriangleIndices, MeshTaskSize, RayInvocationId, NumRayInvocations, InstanceCustomData, GeometryIndex, HitKind, WorldRayOrigin, WorldRayDirection, ObjectRayOrigin, ObjectRayDirection, RayTmin, RayTCurrentMax, ObjectToWorld, WorldToObject, VertexCount, PrimitiveCount, Vertices, Primitives}
-use Rattle.naga_rules.specs.BuiltIns.{built_in_rule, is_there, required_at}
+use Rattle.naga_rules.specs.BuiltIns.{built_in_rule}
 use Rattle.naga_rules.specs.CodeBuiltIns.{required_of, is_of_mesh_shaders, is_visible, type_of}
 use Rattle.naga_rules.specs.declared.varying.VaryingPlace.{VaryingPlace}
 use Rattle.naga_rules.specs.declared.varying.rule.BuiltInRule.{BuiltInRule}

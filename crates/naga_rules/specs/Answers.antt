@@ -1,5 +1,5 @@
 -- What a call that may find no memory answers, against what is right.
-use Rattle.std.specs.Prelude.{◌≡◌, List, Option, None, Some, Result, Ok, Err, ⊤}
+use Rattle.std.specs.Prelude.{◌≡◌, List, None, Some, Result, Ok, Err, ⊤}
 use Rattle.naga_below.specs.Points.{Point, first_fault}
 use Rattle.naga_below.specs.declared.span.Refusal.{Refusal}
 use Rattle.naga_below.specs.declared.span.Refusal.TheVariants.{Fault, Memory}

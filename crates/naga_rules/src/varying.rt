@@ -4,8 +4,8 @@
 mod built_in;
 mod context;
 pub mod item;
-mod location;
 pub mod laws;
+mod location;
 pub mod rule;
 
 ghost use Rattle.std.specs.Prelude.{◌≡◌, ◌||◌, ◌&&◌, not, [], ◌∷◌, OnOk, OnErr};

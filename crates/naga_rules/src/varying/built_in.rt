@@ -62,7 +62,11 @@ fn missing(capabilities: Capabilities, required: Option<Capabilities>) -> Option
     ensures { result ≡ (if has_required capabilities required then None else required) }
 {
     match required {
-        Some(required) => if capabilities.contains(required) { None } else { Some(required) },
+        Some(required) => if capabilities.contains(required) {
+            None
+        } else {
+            Some(required)
+        },
         None => None,
     }
 }

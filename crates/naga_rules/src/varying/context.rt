@@ -2,6 +2,8 @@
 
 ghost use Rattle.std.specs.Prelude.{◌≡◌, ◌<◌, length};
 ghost use Rattle.std.specs.Prelude.{Some};
+ghost use Rattle.naga_below.specs.Bits.{IO_SHAREABLE};
+ghost use Rattle.naga_rules.specs.TypeInfos.{type_has};
 ghost use Rattle.naga_below.specs.Types.{NamesTypesBelow, NameEachOther, inner_at};
 
 use crate::interface::VaryingError;
@@ -11,10 +13,12 @@ use naga_below::arena::tag;
 use naga_below::arena::unique_arena::UniqueArena;
 use naga_below::ir::types::{Type, TypeInner};
 use naga_below::span::{Refusal, WithSpan};
+use naga_below::valid::flags::TypeFlags;
 use naga_below::valid::types::TypeInfo;
 use std::alloc::Global;
 
 /// The place of an item, the types of the module, and their infos.
+#[derive(Drop)]
 pub(crate) struct VaryingContext<'a> {
     pub(crate) alloc: Global,
     pub(crate) place: &'a VaryingPlace,
@@ -32,6 +36,17 @@ impl<'a> VaryingContext<'a> {
         ensures named { NamesTypesBelow (length self.now.types.now) result.now }
     {
         &self.types[ty].inner
+    }
+
+    /// Whether a type of the module is shared between stages.
+    pub(crate) fn is_shareable(&self, ty: Handle<tag::Type>) -> bool
+        requires ty { ty < length self.now.types.now }
+        requires infos { length self.now.infos.now ≡ length self.now.types.now }
+        ensures { result ≡ type_has self.now.infos.now ty IO_SHAREABLE }
+    {
+        self.infos[ty.index()]
+            .flags
+            .contains(TypeFlags::IO_SHAREABLE)
     }
 
     /// The refusal for a fault.

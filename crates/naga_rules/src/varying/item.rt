@@ -1,14 +1,15 @@
 //! The check of an item: naga 30.0.1's `VaryingContext::validate`.
 
-ghost use Rattle.std.specs.Prelude.{◌≡◌, ◌<◌, ℕ, All, Some, [], ◌∷◌, OnOk, OnErr, length};
+ghost use Rattle.std.specs.Prelude.{◌≡◌, ◌<◌, All, None, [], ◌∷◌, OnOk, OnErr, length, not};
 ghost use Rattle.naga_below.specs.Fits.{MemberCountFits};
 ghost use Rattle.naga_below.specs.FitsBody.{FitsCount};
-ghost use Rattle.naga_below.specs.Types.{NameEachOther, inner_at};
+ghost use Rattle.naga_below.specs.Types.{NameEachOther};
 ghost use Rattle.naga_rules.specs.Answers.{AnswersPoints};
-ghost use Rattle.naga_rules.specs.CodeVaryings.{seen_less, with_location};
-ghost use Rattle.naga_rules.specs.TypeInfos.{type_has};
-ghost use Rattle.naga_rules.specs.VaryingFaults.{AnswersVaryings};
-ghost use Rattle.naga_rules.specs.Varyings.{Bound, BlendSources, bound_points, blend_points, member_part, member_parts, part_points, parts_of, points_behind, points_from, seen_in, seen_with, unbound_parts};
+ghost use Rattle.naga_rules.specs.CodeVaryings.{seen_less, seen_more, with_location};
+ghost use Rattle.naga_rules.specs.Locations.{checks_bindings};
+ghost use Rattle.naga_rules.specs.declared.interface.VaryingError.TheVariants.{MissingBinding};
+ghost use Rattle.naga_rules.specs.VaryingFaults.{AnswersVaryings, Plain};
+ghost use Rattle.naga_rules.specs.Varyings.{Bound, bound_points, blend_points, member_part, member_parts, part_points, parts_of, points_behind, points_from, seen_in, seen_with};
 
 use crate::interface::VaryingError;
 use crate::varying::built_in::check_built_in;
@@ -21,9 +22,108 @@ use naga_below::arena::unique_arena::UniqueArena;
 use naga_below::ir::module::ShaderStage;
 use naga_below::ir::types::{Binding, StructMember, Type, TypeInner};
 use naga_below::span::Refusal;
-use naga_below::valid::flags::{TypeFlags, ValidationFlags};
+use naga_below::valid::flags::ValidationFlags;
 use naga_below::valid::types::TypeInfo;
 use std::alloc::{AllocError, Global};
+
+/// Checks an argument, a result or an output of a mesh, an item, at its place: itself where it has a binding; its members
+/// where it is a struct without one; as the two sources of a blend where such a struct is shared between stages. The fault
+/// is that of the first of its parts that fails, where `state` has what the items of the group so far have taken. What the
+/// item takes goes into the state. A refused call, for want of memory too, leaves the state as it was. `infos` is indexed by
+/// the types of the module.
+///
+/// - A built-in: `DuplicateBuiltIn`, `UnsupportedCapability`, `InvalidMultiDimensionalSubgroupBuiltIn`,
+///   `InvalidBuiltInStage`, `InvalidBuiltInType`, which carries the part's own type and so may find no memory.
+/// - A location: `UnsupportedCapability`, `InvalidInterpolationInStage`, `InvalidPerVertexSampling`,
+///   `PerVertexNotArrayOfThree`, `NotIOShareableType`, `MissingPerPrimitive`, `InvalidPerPrimitive`,
+///   `BlendSrcNotOnStructMember`, `BindingCollision`, `InvalidInterpolationSamplingCombination`, `InvalidType`,
+///   `MissingInterpolation`, `InvalidInterpolationForInteger`.
+/// - The sources of a blend: `InvalidAttributeInStage`, `InvalidInputAttributeInStage`, `BindingCollision`.
+/// - Nothing that is bound: `MissingBinding`, `MemberMissingBinding`.
+pub fn check_varying_item(
+    alloc: Global,
+    place: &VaryingPlace,
+    state: &mut VaryingState,
+    types: &UniqueArena<Type>,
+    infos: &[TypeInfo],
+    ty: Handle<tag::Type>,
+    binding: Option<Binding>,
+) -> Result<(), Refusal<VaryingError>>
+    requires ty { ty < length types.now }
+    requires one_info_each { length infos.now ≡ length types.now }
+    requires types { NameEachOther types.now }
+    requires counts { All (λ t. MemberCountFits t.inner) types.now }
+    ensures fault { AnswersVaryings (points_from place.now types.now infos.now (seen_in state.old) ty binding) result }
+    ensures seen { OnOk result (seen_in state.new ≡ seen_with (seen_in state.old) (parts_of types.now infos.now ty binding)) }
+    ensures refused { OnErr result (seen_in state.new ≡ seen_in state.old) }
+{
+    let context = VaryingContext {
+        alloc,
+        place,
+        types,
+        infos,
+    };
+    match binding {
+        Some(binding) => check_bound_item(&context, state, ty, binding),
+        None => check_unbound_item(&context, state, ty),
+    }
+}
+
+/// An item with a binding. A refused call leaves the state as it was.
+fn check_bound_item(
+    context: &VaryingContext,
+    state: &mut VaryingState,
+    ty: Handle<tag::Type>,
+    binding: Binding,
+) -> Result<(), Refusal<VaryingError>>
+    requires ty { ty < length context.now.types.now }
+    requires infos { length context.now.infos.now ≡ length context.now.types.now }
+    requires types { NameEachOther context.now.types.now }
+    ensures fault { AnswersVaryings (part_points context.now.place.now context.now.types.now context.now.infos.now (seen_in state.old)
+        (Bound ty binding)) result }
+    ensures seen { OnOk result (seen_in state.new ≡ seen_more (seen_in state.old) binding) }
+    ensures refused { OnErr result (seen_in state.new ≡ seen_in state.old) }
+{
+    check_bound(context, state, ty, binding)?;
+    state.put(binding)?;
+    Ok(())
+}
+
+/// An item without binding. A refused call leaves the state as it was.
+fn check_unbound_item(
+    context: &VaryingContext,
+    state: &mut VaryingState,
+    ty: Handle<tag::Type>,
+) -> Result<(), Refusal<VaryingError>>
+    requires ty { ty < length context.now.types.now }
+    requires infos { length context.now.infos.now ≡ length context.now.types.now }
+    requires types { NameEachOther context.now.types.now }
+    requires counts { All (λ t. MemberCountFits t.inner) context.now.types.now }
+    ensures fault { AnswersVaryings (points_from context.now.place.now context.now.types.now context.now.infos.now (seen_in state.old)
+        ty None) result }
+    ensures seen { OnOk result
+        (seen_in state.new ≡ seen_with (seen_in state.old) (parts_of context.now.types.now context.now.infos.now ty None)) }
+    ensures refused { OnErr result (seen_in state.new ≡ seen_in state.old) }
+{
+    let TypeInner::Struct { members, .. } = context.inner(ty) else {
+        return check_unbound(context);
+    };
+    if context.is_shareable(ty) {
+        check_blend_sources(context, state)
+    } else {
+        check_struct(context, state, members.as_slice())
+    }
+}
+
+/// An item without binding that is no struct.
+fn check_unbound(context: &VaryingContext) -> Result<(), Refusal<VaryingError>>
+    ensures { AnswersVaryings ((not (checks_bindings context.now.place.now.flags), Plain MissingBinding) ∷ []) result }
+{
+    if context.place.flags.contains(ValidationFlags::BINDINGS) {
+        return Err(context.refusal(VaryingError::MissingBinding));
+    }
+    Ok(())
+}
 
 /// What is bound, where the state has seen these.
 fn check_bound(

@@ -5,7 +5,6 @@ ghost use Rattle.std.specs.Result.{result_err};
 ghost use Rattle.naga_below.specs.Points.{first_fault};
 ghost use Rattle.naga_below.specs.Types.{NameEachOther, inner_at};
 ghost use Rattle.naga_rules.specs.Locations.{carried_type, checks_bindings, combination_points, go_together, interpolation_points, is_array_of_three, is_fragment_input, is_interpolated, kind_points, location_points, may_take, per_vertex_points, sharing_points};
-ghost use Rattle.naga_rules.specs.TypeInfos.{type_has};
 ghost use Rattle.naga_rules.specs.Varyings.{seen_in};
 
 use crate::interface::VaryingError;
@@ -17,7 +16,7 @@ use naga_below::arena::tag;
 use naga_below::ir::module::ShaderStage;
 use naga_below::ir::types::{ArraySize, Interpolation, Sampling, ScalarKind, TypeInner};
 use naga_below::valid::capabilities::Capabilities;
-use naga_below::valid::flags::{TypeFlags, ValidationFlags};
+use naga_below::valid::flags::ValidationFlags;
 
 /// What a binding says of a location.
 #[derive(Clone, Copy)]
@@ -47,7 +46,12 @@ pub(crate) fn check_location(
         return Err(VaryingError::UnsupportedCapability(Capabilities::MESH_SHADER));
     }
     check_per_vertex(context, ty, at.interpolation, at.sampling)?;
-    check_carried(context, state, carried_type(context, ty, at.interpolation), at)
+    check_carried(
+        context,
+        state,
+        carried_type(context, ty, at.interpolation),
+        at,
+    )
 }
 
 /// What is given for each vertex: at the fragment stage alone, with the capability, at the center, and of an array of 3.
@@ -148,10 +152,7 @@ fn check_sharing(
         (sharing_points context.now.place.now context.now.infos.now (seen_in state.now) ty at.location at.blend_src at.per_primitive) }
 {
     let place = context.place;
-    if !context.infos[ty.index()]
-        .flags
-        .contains(TypeFlags::IO_SHAREABLE)
-    {
+    if !context.is_shareable(ty) {
         return Err(VaryingError::NotIOShareableType(ty));
     }
     if place.mesh_output == MeshOutputType::PrimitiveOutput {
@@ -207,7 +208,9 @@ fn check_interpolation(
         });
     }
     if at.sampling == Some(Sampling::Sample)
-        && !place.capabilities.contains(Capabilities::MULTISAMPLED_SHADING)
+        && !place
+            .capabilities
+            .contains(Capabilities::MULTISAMPLED_SHADING)
     {
         return Err(VaryingError::UnsupportedCapability(Capabilities::MULTISAMPLED_SHADING));
     }
@@ -215,7 +218,12 @@ fn check_interpolation(
         return Ok(());
     }
     let interpolated = is_interpolated(place, at.per_primitive);
-    check_kind(interpolated, at.interpolation, ty, context.inner(ty).scalar_kind())
+    check_kind(
+        interpolated,
+        at.interpolation,
+        ty,
+        context.inner(ty).scalar_kind(),
+    )
 }
 
 /// Whether an interpolation goes with a sampling: none does for what is given for each vertex.
@@ -224,7 +232,10 @@ fn go_together(interpolation: Interpolation, sampling: Sampling) -> bool
 {
     match interpolation {
         Interpolation::Perspective | Interpolation::Linear => {
-            matches!(sampling, Sampling::Center | Sampling::Centroid | Sampling::Sample)
+            matches!(
+                sampling,
+                Sampling::Center | Sampling::Centroid | Sampling::Sample
+            )
         }
         Interpolation::Flat => matches!(sampling, Sampling::First | Sampling::Either),
         Interpolation::PerVertex => false,

@@ -1,5 +1,4 @@
-use Rattle.std.proofs.Common.{rules, ◌+◌, [], sym, ◌∙◌, drop, take}
-use Rattle.naga_below.specs.Points.{first_fault}
+use Rattle.std.proofs.Common.{rules, [], sym, ◌∙◌}
 use Rattle.naga_rules.specs.Varyings.{member_part, member_parts, part_points, points_behind, seen_in}
 use Rattle.naga_rules.proofs.Members.{next, passed_at, refused_at, rest_turns, seen_turns}
 use Rattle.naga_rules.proofs.varying.item.check_members.Goals as goal
