@@ -5,6 +5,7 @@
 pub mod analyzer;
 pub mod below;
 pub mod function;
+pub mod global;
 pub mod interface;
 pub mod local;
 pub mod mesh;
@@ -16,6 +17,7 @@ pub use crate::below::Below;
 pub use crate::function::{
     AtomicError, CallError, FunctionError, LocalVariableError, SubgroupError,
 };
+pub use crate::global::check_global;
 pub use crate::interface::{GlobalVariableError, VaryingError};
 pub use crate::local::check_local;
 pub use crate::mesh::{MeshAnalysis, MeshFault};
