@@ -3,4 +3,4 @@
 mod bools;
 mod clones;
 mod laws;
-mod names;
+mod texts;
