@@ -3,6 +3,9 @@ pub mod Points
 pub mod Bits
 pub mod WholeSets
 pub mod View
+pub mod Blocks
+pub mod Empty
+pub mod Limits
 pub mod Types
 pub mod Formats
 pub mod Operands
@@ -17,3 +20,6 @@ pub mod EqualBuiltIns
 pub mod EqualTypes
 pub mod TypeTests
 pub mod formers
+pub use Rattle.naga_below.specs.Fits.{FitsTypes, FitsGlobals, FitsFunction, FitsEntry}
+pub use Rattle.naga_below.specs.Points.{Point, first_fault}
+pub use Rattle.naga_below.specs.TypeTests.{is_same_type}

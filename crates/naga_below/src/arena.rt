@@ -1,6 +1,7 @@
 //! Arenas: lists of values that are read by handles.
 
 ghost use Rattle.std.specs.Prelude.{◌≡◌, ◌↔◌, ◌<◌, ◌≤◌, ◌++◌, ◌∷◌, [], IsTrue, IfOk, OnOk, OnErr, Some, length, slice_get};
+ghost use Rattle.naga_below.specs.Limits.{max_len};
 
 pub mod handle;
 pub mod range;
@@ -14,7 +15,10 @@ use std::alloc::{AllocError, Global};
 use std::marker::Model;
 use std::ops::Index;
 
-/// A list of at most 4294967295 values, each with its span. A handle is the place of a value, and contracts see
+/// How many values an arena can hold: so many that 32 bits count them, and each has a handle.
+pub const MAX_LEN: usize = 4294967295;
+
+/// A list of at most `MAX_LEN` values, each with its span. A handle is the place of a value, and contracts see
 /// the list of the values.
 #[derive(Drop)]
 pub struct Arena<T: Tagged> {
@@ -24,12 +28,13 @@ pub struct Arena<T: Tagged> {
 
 impl<T: Tagged> Model for Arena<T> {
     ghost use Rattle.std.specs.Prelude.{◌≡◌, ◌≤◌, List, length};
+    ghost use Rattle.naga_below.specs.Limits.{max_len};
 
     ghost Value = { List T };
 
     ghost view = { λ a. a.values.items };
 
-    ghost invariant = { (λ a. (length a.values.items ≡ length a.spans.items) × (length a.values.items ≤ 4294967295)) };
+    ghost invariant = { (λ a. (length a.values.items ≡ length a.spans.items) × (length a.values.items ≤ max_len)) };
 }
 
 impl<T: Tagged + Drop> Arena<T> {
@@ -46,7 +51,7 @@ impl<T: Tagged + Drop> Arena<T> {
     /// How many values there are; a handle of the arena has a lower index.
     pub fn len(&self) -> usize
         ensures len { result ≡ length self.now }
-        ensures small { result ≤ 4294967295 }
+        ensures small { result ≤ max_len }
     {
         self.values.len()
     }
@@ -58,9 +63,16 @@ impl<T: Tagged + Drop> Arena<T> {
         self.values.is_empty()
     }
 
-    /// Puts a value last.
+    /// Whether no further value can be put in.
+    pub fn is_full(&self) -> bool
+        ensures { IsTrue result ↔ (max_len ≤ length self.now) }
+    {
+        self.len() >= MAX_LEN
+    }
+
+    /// Puts a value last. The arena must not be full; a refused call leaves it as it was.
     pub fn append(&mut self, value: T, span: Span) -> Result<Handle<T::Tag>, AllocError>
-        requires { length self.old < 4294967295 }
+        requires { length self.old < max_len }
         ensures appended { OnOk result (self.new ≡ self.old ++ value ∷ []) }
         ensures place { IfOk result (λ h. h ≡ length self.old) }
         ensures err { OnErr result (self.new ≡ self.old) }

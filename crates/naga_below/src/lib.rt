@@ -9,6 +9,7 @@ pub mod fits;
 pub mod ir;
 pub mod proc;
 pub mod sequence;
+mod set_text;
 pub mod span;
 #[cfg(test)]
 mod tests;

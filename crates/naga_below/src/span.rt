@@ -4,6 +4,8 @@ ghost use Rattle.std.specs.Prelude.{◌≡◌, IfOk};
 ghost use Rattle.naga_below.specs.declared.span.Refusal.TheVariants.{Memory};
 
 use std::alloc::{AllocError, AllocFailed, Global};
+use std::error::Error;
+use std::fmt;
 use std::marker::Model;
 
 /// A stretch of the source: two byte offsets, `end` excluded.
@@ -11,6 +13,11 @@ use std::marker::Model;
 pub struct Span {
     pub start: u32,
     pub end: u32,
+}
+
+impl Span {
+    /// The span of what stood nowhere: 0..0.
+    pub const UNDEFINED: Span = Span { start: 0, end: 0 };
 }
 
 /// A fault and the places that it is about. Contracts see the fault alone, and `==` compares it alone.
@@ -101,6 +108,17 @@ impl<E: PartialEq> PartialEq for WithSpan<E> {
     }
 }
 
+/// Writes what the fault writes, without its places.
+impl<E: fmt::Display> fmt::Display for WithSpan<E> {
+    ghost output = { λ w. E.output w };
+
+    fn fmt<W: fmt::Write>(&self, f: &mut fmt::Formatter<W>) -> fmt::Result {
+        self.inner.fmt(f)
+    }
+}
+
+impl<E: Error> Error for WithSpan<E> {}
+
 /// Why a call didn't do what it was asked for: a fault in its input, or want of memory.
 #[derive(PartialEq, Debug, Drop)]
 pub enum Refusal<E> {
@@ -123,3 +141,15 @@ impl<E, T: Drop> From<AllocFailed<T>> for Refusal<E> {
         Refusal::Memory
     }
 }
+
+/// Writes what the fault writes, or `Memory`.
+impl<E: fmt::Display> fmt::Display for Refusal<E> {
+    fn fmt<W: fmt::Write>(&self, f: &mut fmt::Formatter<W>) -> fmt::Result {
+        match self {
+            Refusal::Fault(fault) => fault.fmt(f),
+            Refusal::Memory => f.write_str("Memory"),
+        }
+    }
+}
+
+impl<E: Error> Error for Refusal<E> {}

@@ -9,6 +9,7 @@ pub mod global;
 pub mod interface;
 pub mod local;
 pub mod mesh;
+pub mod sentences;
 #[cfg(test)]
 mod tests;
 pub mod varying;
@@ -22,3 +23,4 @@ pub use crate::global::check_global;
 pub use crate::interface::{GlobalVariableError, VaryingError};
 pub use crate::local::check_local;
 pub use crate::mesh::{MeshAnalysis, MeshFault};
+pub use crate::sentences::Explain;

@@ -5,4 +5,4 @@ mod built_ins;
 mod clones;
 mod globals;
 mod laws;
-mod names;
+mod texts;

@@ -20,3 +20,5 @@ pub mod StatementActs
 pub mod WorkedPlaces
 pub mod WorkedRuns
 pub mod WorkedJudgements
+pub use Rattle.naga_runs.specs.Machine.{run}
+pub use Rattle.naga_runs.specs.Soundness.{RunsAreSound, RunsAreSure}

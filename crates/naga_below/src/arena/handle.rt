@@ -1,11 +1,12 @@
 //! Handles: typed indices into arenas.
 
-ghost use Rattle.std.specs.Prelude.{◌≡◌, ◌^◌, ◌<◌};
+ghost use Rattle.std.specs.Prelude.{◌≡◌, ◌^◌, ◌<◌, ◌++◌, Some, codes, decimal};
 
+use std::fmt;
 use std::marker::{Model, PhantomData};
 
 /// The index of a value in the arena of the values of the tag `T`: 32 bits, from 0. Contracts see the index.
-#[derive_where(Clone, Copy, PartialEq, Eq, PartialOrd, Ord, Hash, Debug)]
+#[derive_where(Clone, Copy, PartialEq, Eq, PartialOrd, Ord, Hash)]
 pub struct Handle<T> {
     index: u32,
     tag: PhantomData<T>,
@@ -43,5 +44,15 @@ impl<T> Handle<T> {
         ensures bound { result < 2 ^ 32 }
     {
         self.index as usize
+    }
+}
+
+/// Writes the index in brackets, as `[6]`.
+impl<T> fmt::Debug for Handle<T> {
+    ghost debug_output = { λ h. Some (codes "[" ++ decimal h ++ codes "]") };
+
+    fn fmt<W: fmt::Write>(&self, f: &mut fmt::Formatter<W>) -> fmt::Result {
+        let index = self.index;
+        write!(f, "[{index}]")
     }
 }

@@ -1,8 +1,10 @@
 //! Arenas that hold no value twice.
 
 ghost use Rattle.std.specs.Prelude.{◌≡◌, ◌↔◌, ◌<◌, ◌≤◌, ◌++◌, ◌∷◌, [], true, Contains, IsTrue, IfOk, OnOk, OnErr, Some, length, slice_get};
+ghost use Rattle.naga_below.specs.Limits.{max_len};
 ghost use Rattle.naga_below.specs.Unique.{AreDistinct};
 
+use crate::arena::MAX_LEN;
 use crate::arena::handle::{Handle, Tagged};
 use crate::ir::types::Type;
 use crate::span::Span;
@@ -17,7 +19,7 @@ pub trait Identical: Eq {
     ghost identical: { (a b : Self) → Self.PartialEq.eq a b ≡ true → a ≡ b };
 }
 
-/// A list of at most 4294967295 values of which no two are equal, each with the span of its first insertion.
+/// A list of at most `MAX_LEN` values of which no two are equal, each with the span of its first insertion.
 /// Contracts see the list of the values.
 #[derive(Drop)]
 pub struct UniqueArena<T: Tagged + Eq + Hash> {
@@ -28,12 +30,13 @@ pub struct UniqueArena<T: Tagged + Eq + Hash> {
 impl<T: Tagged + Eq + Hash> Model for UniqueArena<T> {
     ghost use Rattle.std.specs.Prelude.{◌≡◌, ◌≤◌, List, length};
     ghost use Rattle.indexmap.specs.IndexSet.{index_set_len};
+    ghost use Rattle.naga_below.specs.Limits.{max_len};
 
     ghost Value = { List T };
 
     ghost view = { λ a. a.set.keys };
 
-    ghost invariant = { (λ a. (index_set_len a.set ≡ length a.spans.items) × (length a.set.keys ≤ 4294967295)) };
+    ghost invariant = { (λ a. (index_set_len a.set ≡ length a.spans.items) × (length a.set.keys ≤ max_len)) };
 }
 
 impl<T: Tagged + Eq + Hash + Drop> UniqueArena<T> {
@@ -50,7 +53,7 @@ impl<T: Tagged + Eq + Hash + Drop> UniqueArena<T> {
     /// How many values there are; a handle of the arena has a lower index.
     pub fn len(&self) -> usize
         ensures len { result ≡ length self.now }
-        ensures small { result ≤ 4294967295 }
+        ensures small { result ≤ max_len }
     {
         self.set.len()
     }
@@ -60,6 +63,13 @@ impl<T: Tagged + Eq + Hash + Drop> UniqueArena<T> {
         ensures { IsTrue result ↔ (self.now ≡ []) }
     {
         self.set.len() == 0
+    }
+
+    /// Whether no further value can be put in.
+    pub fn is_full(&self) -> bool
+        ensures { IsTrue result ↔ (max_len ≤ length self.now) }
+    {
+        self.len() >= MAX_LEN
     }
 
     /// The span of the value's first insertion.
@@ -72,9 +82,9 @@ impl<T: Tagged + Eq + Hash + Drop> UniqueArena<T> {
 
 impl<T: Tagged + Identical + Hash + Drop> UniqueArena<T> {
     /// The place of the equal value, if there is one; else puts this value last. The span of a value that is there
-    /// stays as it was.
+    /// stays as it was. The arena must not be full; a refused call leaves it as it was.
     pub fn insert(&mut self, value: T, span: Span) -> Result<Handle<T::Tag>, AllocError>
-        requires { length self.old < 4294967295 }
+        requires { length self.old < max_len }
         ensures place { IfOk result (λ h. slice_get self.new h ≡ Some value) }
         ensures found { Contains self.old value → OnOk result (self.new ≡ self.old) }
         ensures added { ¬ Contains self.old value → OnOk result (self.new ≡ self.old ++ value ∷ []) }

@@ -2,10 +2,12 @@
 
 ghost use Rattle.std.specs.Prelude.{◌≡◌, ⊤, [], ◌∷◌, codes};
 
+use crate::set_text::write_set;
 use bitflags::{Flag, Flags, bitflag_items};
+use std::fmt;
 
 /// What may be done with storage: bit 0 load, bit 1 store, bit 2 atomic operations.
-#[derive(Clone, Copy, PartialEq, Eq, PartialOrd, Ord, Hash, Debug)]
+#[derive(Clone, Copy, PartialEq, Eq, PartialOrd, Ord, Hash)]
 pub struct StorageAccess(pub u8);
 
 bitflag_items! {
@@ -13,6 +15,12 @@ bitflag_items! {
         const LOAD = 0x1;
         const STORE = 0x2;
         const ATOMIC = 0x4;
+    }
+}
+
+impl fmt::Debug for StorageAccess {
+    fn fmt<W: fmt::Write>(&self, f: &mut fmt::Formatter<W>) -> fmt::Result {
+        write_set("StorageAccess", self, f)
     }
 }
 
@@ -54,7 +62,7 @@ impl StorageAccess {
 }
 
 /// Which memory a barrier orders: bit 0 storage, bit 1 work group, bit 2 subgroup, bit 3 textures.
-#[derive(Clone, Copy, PartialEq, Eq, PartialOrd, Ord, Hash, Debug)]
+#[derive(Clone, Copy, PartialEq, Eq, PartialOrd, Ord, Hash)]
 pub struct Barrier(pub u8);
 
 bitflag_items! {
@@ -63,6 +71,12 @@ bitflag_items! {
         const WORK_GROUP = 0x2;
         const SUB_GROUP = 0x4;
         const TEXTURE = 0x8;
+    }
+}
+
+impl fmt::Debug for Barrier {
+    fn fmt<W: fmt::Write>(&self, f: &mut fmt::Formatter<W>) -> fmt::Result {
+        write_set("Barrier", self, f)
     }
 }
 
@@ -105,13 +119,19 @@ impl Barrier {
 }
 
 /// How a global is decorated in SPIR-V's terms: bit 0 `Coherent`, bit 1 `Volatile`.
-#[derive(Clone, Copy, PartialEq, Eq, PartialOrd, Ord, Hash, Debug)]
+#[derive(Clone, Copy, PartialEq, Eq, PartialOrd, Ord, Hash)]
 pub struct MemoryDecorations(pub u8);
 
 bitflag_items! {
     impl MemoryDecorations: u8 {
         const COHERENT = 0x1;
         const VOLATILE = 0x2;
+    }
+}
+
+impl fmt::Debug for MemoryDecorations {
+    fn fmt<W: fmt::Write>(&self, f: &mut fmt::Formatter<W>) -> fmt::Result {
+        write_set("MemoryDecorations", self, f)
     }
 }
 

@@ -1,6 +1,7 @@
 //! Functions.
 
 ghost use Rattle.std.specs.Prelude.{◌≡◌, IfOk};
+ghost use Rattle.naga_below.specs.Empty.{empty_function};
 
 use crate::arena::handle::{Handle, Tagged};
 use crate::arena::{Arena, tag};
@@ -97,6 +98,19 @@ impl Duplicate for FunctionArgument {
 }
 
 impl Function {
+    /// A function without arguments, result, variables, expressions and statements, which keeps the allocator.
+    pub fn new(alloc: Global) -> Self
+        ensures { result ≡ empty_function }
+    {
+        Function {
+            arguments: Sequence::new(alloc),
+            result: None,
+            local_variables: Arena::new(alloc),
+            expressions: Arena::new(alloc),
+            body: Block::new(alloc),
+        }
+    }
+
     /// An equal function.
     pub fn clone(&self, alloc: Global) -> Result<Self, AllocError>
         ensures { IfOk result (λ made. made ≡ self.now) }

@@ -1,6 +1,7 @@
 //! Globals, entry points and modules.
 
 ghost use Rattle.std.specs.Prelude.{◌≡◌, IfOk};
+ghost use Rattle.naga_below.specs.Empty.{empty_module};
 
 use crate::arena::handle::{Handle, Tagged};
 use crate::arena::unique_arena::{Identical, UniqueArena};
@@ -182,6 +183,22 @@ impl Duplicate for EntryPoint {
 }
 
 impl Module {
+    /// A module of which every list is empty, and which keeps the allocator.
+    pub fn new(alloc: Global) -> Self
+        ensures { result ≡ empty_module }
+    {
+        Module {
+            types: UniqueArena::new(alloc),
+            special_types: SpecialTypes { ray_desc: None },
+            constants: Arena::new(alloc),
+            overrides: Arena::new(alloc),
+            global_variables: Arena::new(alloc),
+            global_expressions: Arena::new(alloc),
+            functions: Arena::new(alloc),
+            entry_points: Sequence::new(alloc),
+        }
+    }
+
     /// An equal module.
     pub fn clone(&self, alloc: Global) -> Result<Self, AllocError>
         ensures { IfOk result (λ made. made ≡ self.now) }

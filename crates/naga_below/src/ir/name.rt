@@ -3,11 +3,12 @@
 ghost use Rattle.std.specs.Prelude.{◌≡◌, IfOk, string_bytes};
 
 use std::alloc::{AllocError, Global};
+use std::fmt;
 use std::hash::{Hash, Hasher};
 use std::marker::Model;
 
 /// A text that contracts see as its bytes in UTF-8.
-#[derive(Debug, Drop)]
+#[derive(Drop)]
 pub struct Name {
     text: String,
 }
@@ -59,6 +60,13 @@ impl From<String> for Name {
 
     fn from(text: String) -> Self {
         Name { text }
+    }
+}
+
+/// Writes the text in quotes.
+impl fmt::Debug for Name {
+    fn fmt<W: fmt::Write>(&self, f: &mut fmt::Formatter<W>) -> fmt::Result {
+        self.as_str().fmt(f)
     }
 }
 

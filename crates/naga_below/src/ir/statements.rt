@@ -1,6 +1,7 @@
 //! Statements and blocks.
 
-ghost use Rattle.std.specs.Prelude.{◌≡◌, IfOk};
+ghost use Rattle.std.specs.Prelude.{◌≡◌, IfOk, OnOk, OnErr};
+ghost use Rattle.naga_below.specs.Blocks.{block_of, empty_block, with_last};
 
 use crate::arena::handle::Handle;
 use crate::arena::range::Range;
@@ -136,6 +137,23 @@ pub enum Statement {
 }
 
 impl Block {
+    /// A block without statements, which keeps the allocator.
+    pub fn new(alloc: Global) -> Self
+        ensures { result ≡ empty_block }
+    {
+        Block {
+            list: Sequence::new(alloc),
+        }
+    }
+
+    /// Puts a statement last. A refused call leaves the block as it was.
+    pub fn push(&mut self, statement: Statement, span: Span) -> Result<(), AllocError>
+        ensures pushed { OnOk result (self.new ≡ with_last self.old statement span) }
+        ensures err { OnErr result (self.new ≡ self.old) }
+    {
+        self.list.push(Located { statement, span })
+    }
+
     /// An equal block.
     #[cycle(clone)]
     pub fn clone(&self, alloc: Global) -> Result<Self, AllocError>
@@ -143,6 +161,17 @@ impl Block {
     {
         let list = clone_list(alloc, self.list.as_slice())?;
         Ok(Block { list })
+    }
+}
+
+/// The block of these statements, in the memory that they had.
+impl From<Vec<Located>> for Block {
+    ghost from_gives = { λ list block. block ≡ block_of list.items };
+
+    fn from(list: Vec<Located>) -> Self {
+        Block {
+            list: Sequence::from(list),
+        }
     }
 }
 

@@ -44,6 +44,14 @@ impl PartialEq for ExpressionKindTracker {
     }
 }
 
+impl From<Vec<ExpressionKind>> for ExpressionKindTracker {
+    ghost from_gives = { λ kinds tracker. tracker ≡ kinds.items };
+
+    fn from(kinds: Vec<ExpressionKind>) -> Self {
+        ExpressionKindTracker { kinds }
+    }
+}
+
 impl ExpressionKindTracker {
     /// No kinds, with the allocator for those to come.
     pub fn new(alloc: Global) -> Self

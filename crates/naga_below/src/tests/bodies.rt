@@ -9,15 +9,16 @@ use crate::ir::functions::Function;
 use crate::ir::module::Module;
 use crate::ir::statements::Statement;
 use crate::sequence::Sequence;
-use crate::tests::{NOWHERE, arena_of, block_of, empty_function, empty_module};
+use crate::span::Span;
+use crate::tests::{arena_of, block_of};
 use std::alloc::{AllocError, Global};
 use std::test::Fail;
 
 /// A function with one expression, an argument, and one statement.
 fn function_of(alloc: Global, statement: Statement) -> Result<Function, AllocError> {
     let body = block_of(alloc, statement)?;
-    let expressions = arena_of(alloc, NOWHERE, Expression::FunctionArgument(9))?;
-    let mut fun = empty_function(alloc);
+    let expressions = arena_of(alloc, Span::UNDEFINED, Expression::FunctionArgument(9))?;
+    let mut fun = Function::new(alloc);
     fun.expressions = expressions;
     fun.body = body;
     Ok(fun)
@@ -26,7 +27,7 @@ fn function_of(alloc: Global, statement: Statement) -> Result<Function, AllocErr
 /// Whether that function fits an empty module.
 fn fits_alone(alloc: Global, statement: Statement) -> Result<bool, AllocError> {
     let fun = function_of(alloc, statement)?;
-    Ok(fits_function(&fun, &empty_module(alloc), 0))
+    Ok(fits_function(&fun, &Module::new(alloc), 0))
 }
 
 #[test]
@@ -37,10 +38,10 @@ fn an_expression_names_only_earlier_ones(rt: HostRuntime) -> Result<(), Fail> {
         operands,
         detail: 0,
     };
-    let expressions = arena_of(rt.alloc(), NOWHERE, own)?;
-    let mut fun = empty_function(rt.alloc());
+    let expressions = arena_of(rt.alloc(), Span::UNDEFINED, own)?;
+    let mut fun = Function::new(rt.alloc());
     fun.expressions = expressions;
-    assert!(rt; !fits_function(&fun, &empty_module(rt.alloc()), 0));
+    assert!(rt; !fits_function(&fun, &Module::new(rt.alloc()), 0));
     Ok(())
 }
 
@@ -84,9 +85,9 @@ fn handles_are_looked_for_at_any_depth(rt: HostRuntime) -> Result<(), Fail> {
 /// A module of two empty functions.
 fn module_of_two(alloc: Global) -> Result<Module, AllocError> {
     let mut functions = Arena::new(alloc);
-    functions.append(empty_function(alloc), NOWHERE)?;
-    functions.append(empty_function(alloc), NOWHERE)?;
-    let mut module = empty_module(alloc);
+    functions.append(Function::new(alloc), Span::UNDEFINED)?;
+    functions.append(Function::new(alloc), Span::UNDEFINED)?;
+    let mut module = Module::new(alloc);
     module.functions = functions;
     Ok(module)
 }

@@ -14,7 +14,7 @@ use crate::ir::types::{AddressSpace, Scalar, StructMember, Type, TypeInner};
 use crate::proc::typifier::TypeResolution;
 use crate::sequence::Sequence;
 use crate::span::Span;
-use crate::tests::{NOWHERE, arena_of, block_of, empty_module, scalar_type};
+use crate::tests::{arena_of, block_of, scalar_type};
 use bitflags::Flags;
 use std::alloc::{AllocError, Global};
 use std::process::Abort;
@@ -108,14 +108,14 @@ fn expressions(rt: HostRuntime) -> Result<(), Fail> {
 fn an_arena_with_spans(rt: HostRuntime) -> Result<(), Fail> {
     let mut constants = Arena::new(rt.alloc());
     constants.append(Constant { ty: Handle::new(7) }, SPAN)?;
-    constants.append(Constant { ty: Handle::new(3) }, NOWHERE)?;
+    constants.append(Constant { ty: Handle::new(3) }, Span::UNDEFINED)?;
     let copy = constants.clone(rt.alloc())?;
     assert!(rt; copy.len() == 2);
     let (first, second) = (Handle::new(0), Handle::new(1));
     assert_eq!(rt; (copy[first].ty.index(), copy[second].ty.index()), (7, 3));
     assert_eq!(rt;
         (copy.get_span(first), copy.get_span(second)),
-        (SPAN, NOWHERE)
+        (SPAN, Span::UNDEFINED)
     );
     Ok(())
 }
@@ -124,7 +124,7 @@ fn an_arena_with_spans(rt: HostRuntime) -> Result<(), Fail> {
 fn two_types(alloc: Global) -> Result<UniqueArena<Type>, AllocError> {
     let mut types = UniqueArena::new(alloc);
     types.insert(scalar_type(Scalar::U32), SPAN)?;
-    types.insert(scalar_type(Scalar::I32), NOWHERE)?;
+    types.insert(scalar_type(Scalar::I32), Span::UNDEFINED)?;
     Ok(types)
 }
 
@@ -139,7 +139,7 @@ fn a_unique_arena_with_spans(rt: HostRuntime) -> Result<(), Fail> {
     assert_eq!(rt; copy[second].inner, TypeInner::Scalar(Scalar::I32));
     assert_eq!(rt;
         (copy.get_span(first), copy.get_span(second)),
-        (SPAN, NOWHERE)
+        (SPAN, Span::UNDEFINED)
     );
     let again = copy.insert(scalar_type(Scalar::I32), SPAN)?;
     assert_eq!(rt; (again.index(), copy.len()), (1, 2));
@@ -219,7 +219,7 @@ fn globals_of_each(alloc: Global) -> Result<Module, AllocError> {
     let overrides = arena_of(alloc, SPAN, Override { ty: Handle::new(8) })?;
     let globals = arena_of(alloc, SPAN, global)?;
     let expressions = arena_of(alloc, SPAN, Expression::ZeroValue(Handle::new(9)))?;
-    let mut module = empty_module(alloc);
+    let mut module = Module::new(alloc);
     module.constants = constants;
     module.overrides = overrides;
     module.global_variables = globals;

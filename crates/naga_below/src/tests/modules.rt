@@ -8,6 +8,7 @@ use crate::fits::globals::fits_globals;
 use crate::fits::types::fits_types;
 use crate::ir::expressions::Expression;
 use crate::ir::flags::MemoryDecorations;
+use crate::ir::functions::Function;
 use crate::ir::module::{
     Constant, EntryPoint, GlobalVariable, MeshOutputTopology, MeshStageInfo, Module, Override,
     ShaderStage,
@@ -17,7 +18,8 @@ use crate::ir::types::{
 };
 use crate::proc::typifier::TypeResolution;
 use crate::sequence::Sequence;
-use crate::tests::{NOWHERE, arena_of, empty_function, empty_module, scalar_type, unnamed};
+use crate::span::Span;
+use crate::tests::{arena_of, scalar_type, unnamed};
 use crate::valid::info::ModuleInfo;
 use bitflags::Flags;
 use std::alloc::{AllocError, Global};
@@ -49,8 +51,8 @@ fn global_in(space: AddressSpace, ty: u32) -> GlobalVariable {
 /// Whether a module of one type fits, with a type of ray descriptors or without.
 fn type_fits(alloc: Global, inner: TypeInner, ray_desc: Option<u32>) -> Result<bool, AllocError> {
     let mut types = UniqueArena::new(alloc);
-    types.insert(unnamed(inner), NOWHERE)?;
-    let mut module = empty_module(alloc);
+    types.insert(unnamed(inner), Span::UNDEFINED)?;
+    let mut module = Module::new(alloc);
     module.types = types;
     if let Some(ty) = ray_desc {
         module.special_types.ray_desc = Some(Handle::new(ty));
@@ -89,13 +91,16 @@ fn module_naming(
         offset: 0,
     })?;
     let mut types = UniqueArena::new(alloc);
-    types.insert(scalar_type(Scalar::U32), NOWHERE)?;
-    types.insert(unnamed(TypeInner::Struct { members, span: 4 }), NOWHERE)?;
+    types.insert(scalar_type(Scalar::U32), Span::UNDEFINED)?;
+    types.insert(
+        unnamed(TypeInner::Struct { members, span: 4 }),
+        Span::UNDEFINED,
+    )?;
     let ty = Handle::new(constant);
-    let constants = arena_of(alloc, NOWHERE, Constant { ty })?;
+    let constants = arena_of(alloc, Span::UNDEFINED, Constant { ty })?;
     let ty = Handle::new(of_override);
-    let overrides = arena_of(alloc, NOWHERE, Override { ty })?;
-    let mut module = empty_module(alloc);
+    let overrides = arena_of(alloc, Span::UNDEFINED, Override { ty })?;
+    let mut module = Module::new(alloc);
     module.types = types;
     module.constants = constants;
     module.overrides = overrides;
@@ -125,21 +130,25 @@ fn types_of_images(alloc: Global) -> Result<UniqueArena<Type>, AllocError> {
         arrayed: false,
         class: ImageClass::External,
     };
-    types.insert(unnamed(image), NOWHERE)?;
+    types.insert(unnamed(image), Span::UNDEFINED)?;
     let images = TypeInner::BindingArray {
         base: Handle::new(0),
         size: ArraySize::Dynamic,
     };
-    types.insert(unnamed(images), NOWHERE)?;
+    types.insert(unnamed(images), Span::UNDEFINED)?;
     Ok(types)
 }
 
 /// A module with a global of the images in a space, and an expression of type 0.
 fn module_of_images(alloc: Global, space: AddressSpace) -> Result<Module, AllocError> {
     let types = types_of_images(alloc)?;
-    let globals = arena_of(alloc, NOWHERE, global_in(space, 1))?;
-    let expressions = arena_of(alloc, NOWHERE, Expression::ZeroValue(Handle::new(0)))?;
-    let mut module = empty_module(alloc);
+    let globals = arena_of(alloc, Span::UNDEFINED, global_in(space, 1))?;
+    let expressions = arena_of(
+        alloc,
+        Span::UNDEFINED,
+        Expression::ZeroValue(Handle::new(0)),
+    )?;
+    let mut module = Module::new(alloc);
     module.types = types;
     module.global_variables = globals;
     module.global_expressions = expressions;
@@ -172,14 +181,14 @@ fn payload_fits(
     space: AddressSpace,
     task_payload: Option<Handle<tag::GlobalVariable>>,
 ) -> Result<bool, AllocError> {
-    let globals = arena_of(alloc, NOWHERE, global_in(space, 0))?;
-    let mut module = empty_module(alloc);
+    let globals = arena_of(alloc, Span::UNDEFINED, global_in(space, 0))?;
+    let mut module = Module::new(alloc);
     module.global_variables = globals;
     let ep = EntryPoint {
         stage: ShaderStage::Task,
         early_depth_test: None,
         workgroup_size: [1, 1, 1],
-        function: empty_function(alloc),
+        function: Function::new(alloc),
         mesh_info: None,
         task_payload,
     };
@@ -203,10 +212,14 @@ fn an_entry_point_names_globals_of_its_module(rt: HostRuntime) -> Result<(), Fai
 /// A module of one type, one global expression and one global.
 fn module_of_one(alloc: Global) -> Result<Module, AllocError> {
     let mut types = UniqueArena::new(alloc);
-    let ty = types.insert(scalar_type(Scalar::U32), NOWHERE)?;
-    let expressions = arena_of(alloc, NOWHERE, Expression::ZeroValue(ty))?;
-    let globals = arena_of(alloc, NOWHERE, global_in(AddressSpace::WorkGroup, 0))?;
-    let mut module = empty_module(alloc);
+    let ty = types.insert(scalar_type(Scalar::U32), Span::UNDEFINED)?;
+    let expressions = arena_of(alloc, Span::UNDEFINED, Expression::ZeroValue(ty))?;
+    let globals = arena_of(
+        alloc,
+        Span::UNDEFINED,
+        global_in(AddressSpace::WorkGroup, 0),
+    )?;
+    let mut module = Module::new(alloc);
     module.types = types;
     module.global_expressions = expressions;
     module.global_variables = globals;
@@ -220,7 +233,7 @@ fn mesh_fits(alloc: Global, info: MeshStageInfo) -> Result<bool, AllocError> {
         stage: ShaderStage::Mesh,
         early_depth_test: None,
         workgroup_size: [1, 1, 1],
-        function: empty_function(alloc),
+        function: Function::new(alloc),
         mesh_info: Some(info),
         task_payload: None,
     };

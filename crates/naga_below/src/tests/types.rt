@@ -5,6 +5,7 @@ use crate::arena::unique_arena::UniqueArena;
 use crate::fits::types::{fits_types, names_types_below};
 use crate::ir::expressions::Expression;
 use crate::ir::flags::StorageAccess;
+use crate::ir::module::Module;
 use crate::ir::name::Name;
 use crate::ir::operations::{GatherMode, SubgroupOperation};
 use crate::ir::types::{
@@ -15,7 +16,8 @@ use crate::proc::expression_kinds::{ExpressionKind, ExpressionKindTracker};
 use crate::proc::type_methods::compare_types;
 use crate::proc::typifier::TypeResolution;
 use crate::sequence::Sequence;
-use crate::tests::{NOWHERE, empty_module, scalar_type};
+use crate::span::Span;
+use crate::tests::scalar_type;
 use crate::valid::flags::SubgroupOperationSet;
 use bitflags::Flags;
 use std::alloc::{AllocError, Global};
@@ -24,7 +26,7 @@ use std::test::Fail;
 /// The type u32 alone.
 fn types_of_u32(alloc: Global) -> Result<UniqueArena<Type>, AllocError> {
     let mut types = UniqueArena::new(alloc);
-    types.insert(scalar_type(Scalar::U32), NOWHERE)?;
+    types.insert(scalar_type(Scalar::U32), Span::UNDEFINED)?;
     Ok(types)
 }
 
@@ -66,8 +68,10 @@ fn a_pointer_to_a_scalar_is_a_value_pointer(rt: HostRuntime) -> Result<(), Fail>
 #[test]
 #[tactic(auto, using(crate::proofs::Callers::types_name_each_other))]
 fn resolutions_are_compared(rt: HostRuntime) -> Result<(), Fail> {
-    let mut module = empty_module(rt.alloc());
-    let base = module.types.insert(scalar_type(Scalar::U32), NOWHERE)?;
+    let mut module = Module::new(rt.alloc());
+    let base = module
+        .types
+        .insert(scalar_type(Scalar::U32), Span::UNDEFINED)?;
     assert!(rt; base.index() < module.types.len());
     let first = TypeResolution::Value(TypeInner::Pointer {
         base,
@@ -155,8 +159,8 @@ fn member(alloc: Global, name: &str, ty: u32) -> Result<StructMember, AllocError
 /// The types i32 and bool.
 fn types_of_exchange(alloc: Global) -> Result<UniqueArena<Type>, AllocError> {
     let mut types = UniqueArena::new(alloc);
-    types.insert(scalar_type(Scalar::I32), NOWHERE)?;
-    types.insert(scalar_type(Scalar::BOOL), NOWHERE)?;
+    types.insert(scalar_type(Scalar::I32), Span::UNDEFINED)?;
+    types.insert(scalar_type(Scalar::BOOL), Span::UNDEFINED)?;
     Ok(types)
 }
 

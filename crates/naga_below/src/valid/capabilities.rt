@@ -2,10 +2,12 @@
 
 ghost use Rattle.std.specs.Prelude.{◌≡◌, ⊤, [], ◌∷◌, codes};
 
+use crate::set_text::write_set;
 use bitflags::{Flag, Flags, bitflag_items};
+use std::fmt;
 
 /// What the target can do beyond the common ground: bit k for the k-th name, from 0, in alphabetical order.
-#[derive(Clone, Copy, PartialEq, Eq, PartialOrd, Ord, Hash, Debug)]
+#[derive(Clone, Copy, PartialEq, Eq, PartialOrd, Ord, Hash)]
 pub struct Capabilities(pub u32);
 
 bitflag_items! {
@@ -38,6 +40,12 @@ bitflag_items! {
         const TEXTURE_AND_SAMPLER_BINDING_ARRAY = 0x2000000;
         const TEXTURE_ATOMIC = 0x4000000;
         const TEXTURE_INT64_ATOMIC = 0x8000000;
+    }
+}
+
+impl fmt::Debug for Capabilities {
+    fn fmt<W: fmt::Write>(&self, f: &mut fmt::Formatter<W>) -> fmt::Result {
+        write_set("Capabilities", self, f)
     }
 }
 

@@ -6,20 +6,30 @@ use crate::ir::flags::StorageAccess;
 use crate::ir::types::{ImageClass, ImageDimension, StorageFormat};
 use std::fmt;
 
-/// What is wrong with an expression, or with an operand of a statement. `Lower` is an error of the lower layer's
-/// own, by its number.
+/// What is wrong with an expression, or with an operand of a statement.
 #[derive(Clone, Copy, PartialEq, Eq, Hash, Debug)]
 pub enum ExpressionError {
+    /// It is not in scope where it is used.
     NotInScope,
+    /// It is no global variable, and no element of one.
     ExpectedGlobalVariable,
+    /// What it is an element of is of this type, which is no binding array.
     ExpectedBindingArrayType(Handle<tag::Type>),
+    /// The global is of this type, which is no image.
     ExpectedImageType(Handle<tag::Type>),
+    /// This isn't done on images of this class.
     InvalidImageClass(ImageClass),
+    /// The coordinate doesn't fit an image of this dimension.
     InvalidImageCoordinateType(ImageDimension, Handle<tag::Expression>),
+    /// There is an array index, and the image isn't arrayed, or the other way round.
     InvalidImageArrayIndex,
+    /// The array index is no integer scalar.
     InvalidImageArrayIndexType(Handle<tag::Expression>),
+    /// The access of the image, which is this, doesn't allow it.
     InvalidImageStorageAccess(StorageAccess),
+    /// This isn't done on texels of this format.
     InvalidImageFormat(StorageFormat),
+    /// The lower layer refuses it, for a reason of its own, which has this number.
     Lower(u32),
 }
 

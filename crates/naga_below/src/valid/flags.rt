@@ -2,10 +2,12 @@
 
 ghost use Rattle.std.specs.Prelude.{◌≡◌, ⊤, [], ◌∷◌, codes};
 
+use crate::set_text::write_set;
 use bitflags::{Flag, Flags, bitflag_items};
+use std::fmt;
 
 /// Which checks are made, bit k for the k-th name from 0.
-#[derive(Clone, Copy, PartialEq, Eq, PartialOrd, Ord, Hash, Debug)]
+#[derive(Clone, Copy, PartialEq, Eq, PartialOrd, Ord, Hash)]
 pub struct ValidationFlags(pub u8);
 
 bitflag_items! {
@@ -14,6 +16,12 @@ bitflag_items! {
         const BLOCKS = 0x2;
         const STRUCT_LAYOUTS = 0x4;
         const BINDINGS = 0x8;
+    }
+}
+
+impl fmt::Debug for ValidationFlags {
+    fn fmt<W: fmt::Write>(&self, f: &mut fmt::Formatter<W>) -> fmt::Result {
+        write_set("ValidationFlags", self, f)
     }
 }
 
@@ -56,7 +64,7 @@ impl ValidationFlags {
 }
 
 /// What a type can be used for, bit k for the k-th name from 0.
-#[derive(Clone, Copy, PartialEq, Eq, PartialOrd, Ord, Hash, Debug)]
+#[derive(Clone, Copy, PartialEq, Eq, PartialOrd, Ord, Hash)]
 pub struct TypeFlags(pub u8);
 
 bitflag_items! {
@@ -69,6 +77,12 @@ bitflag_items! {
         const CREATION_RESOLVED = 0x20;
         const ARGUMENT = 0x40;
         const CONSTRUCTIBLE = 0x80;
+    }
+}
+
+impl fmt::Debug for TypeFlags {
+    fn fmt<W: fmt::Write>(&self, f: &mut fmt::Formatter<W>) -> fmt::Result {
+        write_set("TypeFlags", self, f)
     }
 }
 
@@ -118,7 +132,7 @@ impl TypeFlags {
 }
 
 /// How a function uses a global, bit k for the k-th name from 0.
-#[derive(Clone, Copy, PartialEq, Eq, PartialOrd, Ord, Hash, Debug)]
+#[derive(Clone, Copy, PartialEq, Eq, PartialOrd, Ord, Hash)]
 pub struct GlobalUse(pub u8);
 
 bitflag_items! {
@@ -127,6 +141,12 @@ bitflag_items! {
         const WRITE = 0x2;
         const QUERY = 0x4;
         const ATOMIC = 0x8;
+    }
+}
+
+impl fmt::Debug for GlobalUse {
+    fn fmt<W: fmt::Write>(&self, f: &mut fmt::Formatter<W>) -> fmt::Result {
+        write_set("GlobalUse", self, f)
     }
 }
 
@@ -169,7 +189,7 @@ impl GlobalUse {
 }
 
 /// The groups of subgroup operations that a target has, bit k for the k-th name from 0.
-#[derive(Clone, Copy, PartialEq, Eq, PartialOrd, Ord, Hash, Debug)]
+#[derive(Clone, Copy, PartialEq, Eq, PartialOrd, Ord, Hash)]
 pub struct SubgroupOperationSet(pub u8);
 
 bitflag_items! {
@@ -181,6 +201,12 @@ bitflag_items! {
         const SHUFFLE = 0x10;
         const SHUFFLE_RELATIVE = 0x20;
         const QUAD = 0x40;
+    }
+}
+
+impl fmt::Debug for SubgroupOperationSet {
+    fn fmt<W: fmt::Write>(&self, f: &mut fmt::Formatter<W>) -> fmt::Result {
+        write_set("SubgroupOperationSet", self, f)
     }
 }
 
@@ -229,7 +255,7 @@ impl SubgroupOperationSet {
 }
 
 /// The stages that a function may run in, bit k for the k-th stage from 0; COMPUTE_LIKE are compute, mesh and task.
-#[derive(Clone, Copy, PartialEq, Eq, PartialOrd, Ord, Hash, Debug)]
+#[derive(Clone, Copy, PartialEq, Eq, PartialOrd, Ord, Hash)]
 pub struct ShaderStages(pub u16);
 
 bitflag_items! {
@@ -244,6 +270,12 @@ bitflag_items! {
         const CLOSEST_HIT = 0x80;
         const MISS = 0x100;
         const COMPUTE_LIKE = 0x1c;
+    }
+}
+
+impl fmt::Debug for ShaderStages {
+    fn fmt<W: fmt::Write>(&self, f: &mut fmt::Formatter<W>) -> fmt::Result {
+        write_set("ShaderStages", self, f)
     }
 }
 

@@ -8,6 +8,7 @@ use crate::proc::typifier::TypeResolution;
 use crate::sequence::Sequence;
 use crate::valid::flags::{GlobalUse, ShaderStages};
 use bitflags::Flags;
+use std::alloc::Global;
 
 /// What is known of a function: `expression_types` is indexed by the handles of its expressions, `global_uses` by those
 /// of the module's globals. In the info of a function that passed, each has as many items.
@@ -42,4 +43,19 @@ pub struct ModuleInfo {
     pub functions: Sequence<FunctionInfo>,
     pub entry_points: Sequence<FunctionInfo>,
     pub global_types: Sequence<TypeResolution>,
+}
+
+impl ModuleInfo {
+    ghost use Rattle.naga_below.specs.Empty.{empty_info};
+
+    /// The infos where nothing is known of any function, entry point or global expression; they keep the allocator.
+    pub fn new(alloc: Global) -> Self
+        ensures { result ≡ empty_info }
+    {
+        ModuleInfo {
+            functions: Sequence::new(alloc),
+            entry_points: Sequence::new(alloc),
+            global_types: Sequence::new(alloc),
+        }
+    }
 }

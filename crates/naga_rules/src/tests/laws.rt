@@ -12,11 +12,9 @@ use naga_below::arena::{Arena, tag};
 use naga_below::ir::expressions::{Expression, Literal};
 use naga_below::ir::flags::MemoryDecorations;
 use naga_below::ir::functions::Function;
-use naga_below::ir::module::{GlobalVariable, Module, SpecialTypes};
-use naga_below::ir::statements::Block;
+use naga_below::ir::module::{GlobalVariable, Module};
 use naga_below::ir::types::{AddressSpace, Scalar, Type, TypeInner};
 use naga_below::proc::typifier::TypeResolution;
-use naga_below::sequence::Sequence;
 use naga_below::span::{Refusal, Span};
 use naga_below::valid::capabilities::Capabilities;
 use naga_below::valid::expression_error::ExpressionError;
@@ -26,8 +24,6 @@ use naga_below::valid::settings::Settings;
 use std::alloc::{AllocError, Global};
 use std::process::Abort;
 use std::test::Fail;
-
-const NOWHERE: Span = Span { start: 0, end: 0 };
 
 /// No check, and a target that can do nothing.
 fn settings() -> Settings {
@@ -122,7 +118,7 @@ fn output_size<B: Below>(
 fn module_of_bool(alloc: Global) -> Result<Module, AllocError> {
     let mut types = UniqueArena::new(alloc);
     let inner = TypeInner::Scalar(Scalar::BOOL);
-    let ty = types.insert(Type { name: None, inner }, NOWHERE)?;
+    let ty = types.insert(Type { name: None, inner }, Span::UNDEFINED)?;
     let mut global_variables = Arena::new(alloc);
     let global = GlobalVariable {
         space: AddressSpace::Private,
@@ -131,17 +127,11 @@ fn module_of_bool(alloc: Global) -> Result<Module, AllocError> {
         init: None,
         memory_decorations: MemoryDecorations::empty(),
     };
-    global_variables.append(global, NOWHERE)?;
-    Ok(Module {
-        types,
-        special_types: SpecialTypes { ray_desc: None },
-        constants: Arena::new(alloc),
-        overrides: Arena::new(alloc),
-        global_variables,
-        global_expressions: Arena::new(alloc),
-        functions: Arena::new(alloc),
-        entry_points: Sequence::new(alloc),
-    })
+    global_variables.append(global, Span::UNDEFINED)?;
+    let mut module = Module::new(alloc);
+    module.types = types;
+    module.global_variables = global_variables;
+    Ok(module)
 }
 
 /// A function of a literal.
@@ -151,16 +141,10 @@ fn function_of_bool(alloc: Global) -> Result<Function, AllocError> {
         scalar: Scalar::BOOL,
         bits: 1,
     };
-    expressions.append(Expression::Literal(literal), NOWHERE)?;
-    Ok(Function {
-        arguments: Sequence::new(alloc),
-        result: None,
-        local_variables: Arena::new(alloc),
-        expressions,
-        body: Block {
-            list: Sequence::new(alloc),
-        },
-    })
+    expressions.append(Expression::Literal(literal), Span::UNDEFINED)?;
+    let mut fun = Function::new(alloc);
+    fun.expressions = expressions;
+    Ok(fun)
 }
 
 /// Asks the small layer of the first expression and the first global.
@@ -196,10 +180,6 @@ fn a_lawful_layer_answers(rt: HostRuntime) -> Result<(), Fail> {
     let alloc = rt.alloc();
     let module = module_of_bool(alloc)?;
     let fun = function_of_bool(alloc)?;
-    let mod_info = ModuleInfo {
-        functions: Sequence::new(alloc),
-        entry_points: Sequence::new(alloc),
-        global_types: Sequence::new(alloc),
-    };
+    let mod_info = ModuleInfo::new(alloc);
     assert_answers(&rt, &fun, &module, &mod_info)
 }
