@@ -1,6 +1,7 @@
 //! The judgement of a whole module.
 
 mod functions;
+mod globals;
 
 use naga_below::arena::handle::Handle;
 use naga_below::arena::tag;

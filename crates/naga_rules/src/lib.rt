@@ -24,3 +24,4 @@ pub use crate::interface::{GlobalVariableError, VaryingError};
 pub use crate::local::check_local;
 pub use crate::mesh::{MeshAnalysis, MeshFault};
 pub use crate::sentences::Explain;
+pub use crate::varying::{MeshOutputType, VaryingPlace, VaryingState};
