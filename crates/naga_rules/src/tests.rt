@@ -6,3 +6,4 @@ mod clones;
 mod globals;
 mod laws;
 mod texts;
+mod varyings;
