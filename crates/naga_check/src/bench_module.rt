@@ -10,15 +10,12 @@ use naga_below::arena::handle::Handle;
 use naga_below::arena::unique_arena::UniqueArena;
 use naga_below::ir::expressions::{Expression, Literal};
 use naga_below::ir::functions::{Function, FunctionResult, LocalVariable};
-use naga_below::ir::module::{Module, SpecialTypes};
-use naga_below::ir::statements::{Block, Located, Statement};
+use naga_below::ir::module::Module;
+use naga_below::ir::statements::{Block, Statement};
 use naga_below::ir::types::{Scalar, Type, TypeInner};
 use naga_below::sequence::Sequence;
 use naga_below::span::Span;
 use std::alloc::{AllocError, Global};
-
-/// The span of all that a bench brings.
-const NO_SPAN: Span = Span { start: 0, end: 0 };
 
 /// A type without a name.
 fn type_of(scalar: Scalar) -> Type
@@ -35,9 +32,9 @@ fn bench_types(alloc: Global) -> Result<UniqueArena<Type>, AllocError>
     ensures { IfOk result (λ types. types ≡ bench_types) }
 {
     let mut types = UniqueArena::new(alloc);
-    types.insert(type_of(Scalar::BOOL), NO_SPAN)?;
-    types.insert(type_of(Scalar::U32), NO_SPAN)?;
-    types.insert(type_of(Scalar::I32), NO_SPAN)?;
+    types.insert(type_of(Scalar::BOOL), Span::UNDEFINED)?;
+    types.insert(type_of(Scalar::U32), Span::UNDEFINED)?;
+    types.insert(type_of(Scalar::I32), Span::UNDEFINED)?;
     Ok(types)
 }
 
@@ -51,7 +48,7 @@ fn bench_locals(alloc: Global) -> Result<Arena<LocalVariable>, AllocError>
         ty: Handle::new(1),
         init: None,
     };
-    locals.append(variable, NO_SPAN)?;
+    locals.append(variable, Span::UNDEFINED)?;
     Ok(locals)
 }
 
@@ -67,9 +64,9 @@ fn shared_expressions(alloc: Global) -> Result<Arena<Expression>, AllocError>
     ensures { IfOk result (λ expressions. expressions ≡ shared_expressions) }
 {
     let mut expressions = Arena::new(alloc);
-    expressions.append(literal(Scalar::BOOL, 1), NO_SPAN)?;
-    expressions.append(literal(Scalar::U32, 0), NO_SPAN)?;
-    expressions.append(literal(Scalar::I32, 0), NO_SPAN)?;
+    expressions.append(literal(Scalar::BOOL, 1), Span::UNDEFINED)?;
+    expressions.append(literal(Scalar::U32, 0), Span::UNDEFINED)?;
+    expressions.append(literal(Scalar::I32, 0), Span::UNDEFINED)?;
     let mut operands = Sequence::new(alloc);
     operands.push(Handle::new(0))?;
     expressions.append(
@@ -77,14 +74,14 @@ fn shared_expressions(alloc: Global) -> Result<Arena<Expression>, AllocError>
             operands,
             detail: 0,
         },
-        NO_SPAN,
+        Span::UNDEFINED,
     )?;
-    expressions.append(Expression::LocalVariable(Handle::new(0)), NO_SPAN)?;
+    expressions.append(Expression::LocalVariable(Handle::new(0)), Span::UNDEFINED)?;
     expressions.append(
         Expression::Load {
             pointer: Handle::new(4),
         },
-        NO_SPAN,
+        Span::UNDEFINED,
     )?;
     Ok(expressions)
 }
@@ -97,7 +94,7 @@ fn bench_expressions(alloc: Global, bench: Bench) -> Result<Arena<Expression>, A
     match bench {
         Bench::P => Ok(expressions),
         Bench::C => {
-            expressions.append(Expression::CallResult(Handle::new(0)), NO_SPAN)?;
+            expressions.append(Expression::CallResult(Handle::new(0)), Span::UNDEFINED)?;
             Ok(expressions)
         }
     }
@@ -107,15 +104,11 @@ fn bench_expressions(alloc: Global, bench: Bench) -> Result<Arena<Expression>, A
 fn bench_function(alloc: Global, bench: Bench, body: Block) -> Result<Function, AllocError>
     ensures { IfOk result (λ f. f ≡ bench_function bench body) }
 {
-    let local_variables = bench_locals(alloc)?;
-    let expressions = bench_expressions(alloc, bench)?;
-    Ok(Function {
-        arguments: Sequence::new(alloc),
-        result: None,
-        local_variables,
-        expressions,
-        body,
-    })
+    let mut fun = Function::new(alloc);
+    fun.local_variables = bench_locals(alloc)?;
+    fun.expressions = bench_expressions(alloc, bench)?;
+    fun.body = body;
+    Ok(fun)
 }
 
 /// The statements of `f`: it returns its literal.
@@ -123,33 +116,27 @@ fn bench_function(alloc: Global, bench: Bench, body: Block) -> Result<Function, 
 fn callee_body(alloc: Global) -> Result<Block, AllocError>
     ensures { IfOk result (λ b. b ≡ callee_block) }
 {
-    let mut list = Sequence::new(alloc);
-    list.push(Located {
-        statement: Statement::Return {
-            value: Some(Handle::new(0)),
-        },
-        span: NO_SPAN,
-    })?;
-    Ok(Block { list })
+    let mut body = Block::new(alloc);
+    let returned = Statement::Return {
+        value: Some(Handle::new(0)),
+    };
+    body.push(returned, Span::UNDEFINED)?;
+    Ok(body)
 }
 
 /// The function to call.
 fn callee(alloc: Global) -> Result<Function, AllocError>
     ensures { IfOk result (λ f. f ≡ callee_function) }
 {
-    let mut expressions = Arena::new(alloc);
-    expressions.append(literal(Scalar::U32, 0), NO_SPAN)?;
-    let body = callee_body(alloc)?;
-    Ok(Function {
-        arguments: Sequence::new(alloc),
-        result: Some(FunctionResult {
-            ty: Handle::new(1),
-            binding: None,
-        }),
-        local_variables: Arena::new(alloc),
-        expressions,
-        body,
-    })
+    let mut fun = Function::new(alloc);
+    fun.result = Some(FunctionResult {
+        ty: Handle::new(1),
+        binding: None,
+    });
+    fun.expressions
+        .append(literal(Scalar::U32, 0), Span::UNDEFINED)?;
+    fun.body = callee_body(alloc)?;
+    Ok(fun)
 }
 
 /// The functions of the bench's module.
@@ -159,12 +146,12 @@ fn bench_functions(alloc: Global, bench: Bench, body: Block) -> Result<Arena<Fun
     let mut functions = Arena::new(alloc);
     match bench {
         Bench::P => {
-            functions.append(bench_function(alloc, bench, body)?, NO_SPAN)?;
+            functions.append(bench_function(alloc, bench, body)?, Span::UNDEFINED)?;
             Ok(functions)
         }
         Bench::C => {
-            functions.append(callee(alloc)?, NO_SPAN)?;
-            functions.append(bench_function(alloc, bench, body)?, NO_SPAN)?;
+            functions.append(callee(alloc)?, Span::UNDEFINED)?;
+            functions.append(bench_function(alloc, bench, body)?, Span::UNDEFINED)?;
             Ok(functions)
         }
     }
@@ -174,16 +161,8 @@ fn bench_functions(alloc: Global, bench: Bench, body: Block) -> Result<Arena<Fun
 pub fn bench_module(alloc: Global, bench: Bench, body: Block) -> Result<Module, AllocError>
     ensures { IfOk result (λ m. m ≡ bench_module bench body) }
 {
-    let types = bench_types(alloc)?;
-    let functions = bench_functions(alloc, bench, body)?;
-    Ok(Module {
-        types,
-        special_types: SpecialTypes { ray_desc: None },
-        constants: Arena::new(alloc),
-        overrides: Arena::new(alloc),
-        global_variables: Arena::new(alloc),
-        global_expressions: Arena::new(alloc),
-        functions,
-        entry_points: Sequence::new(alloc),
-    })
+    let mut made = Module::new(alloc);
+    made.types = bench_types(alloc)?;
+    made.functions = bench_functions(alloc, bench, body)?;
+    Ok(made)
 }

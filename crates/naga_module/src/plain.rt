@@ -40,6 +40,13 @@ pub struct Plain {
 }
 
 impl Plain {
+    /// The plain layer that answers this about the output of every mesh shader.
+    pub fn new(analysis: MeshAnalysis) -> Plain
+        ensures { result ≡ record { analysis = analysis } }
+    {
+        Plain { analysis }
+    }
+
     /// The plain layer for modules without mesh shaders: its analysis is one of nothing.
     pub fn without_mesh_shaders() -> Plain
         ensures { result ≡ plain_layer }
@@ -54,13 +61,11 @@ impl Plain {
             primitive_output_type: Handle::new(0),
             output_variable: Handle::new(0),
         };
-        Plain {
-            analysis: MeshAnalysis {
-                implied,
-                overrides: [None, None],
-                fault: None,
-            },
-        }
+        Plain::new(MeshAnalysis {
+            implied,
+            overrides: [None, None],
+            fault: None,
+        })
     }
 }
 

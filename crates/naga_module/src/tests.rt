@@ -1,4 +1,4 @@
-//! The plain layer by itself, and the validator over it.
+//! The plain layer by itself, the validator over it, and what is told of refusals.
 
 mod atomics;
 mod bodies;
@@ -7,6 +7,7 @@ mod globals;
 mod places;
 mod plain;
 mod rays;
+mod report;
 mod settings;
 mod stores;
 mod subgroups;
