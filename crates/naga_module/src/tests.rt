@@ -1,4 +1,4 @@
-//! The plain layer by itself, and the validator over it.
+//! The lower layers by themselves, and the validator over the plain one.
 
 mod atomics;
 mod bodies;
@@ -6,6 +6,7 @@ mod declarations;
 mod places;
 mod plain;
 mod rays;
+mod recorded;
 mod settings;
 mod stores;
 mod subgroups;
