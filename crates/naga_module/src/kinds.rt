@@ -1,7 +1,7 @@
-//! When values are known.
+//! When values are known, by the expressions alone.
 
 ghost use Rattle.std.specs.Prelude.{◌≡◌, [], IfOk};
-ghost use Rattle.naga_module.specs.Plain.Kinds.{kind_at, later_of, latest_of, kind_of, kinds_from};
+ghost use Rattle.naga_module.specs.Kinds.{kind_at, later_of, latest_of, kind_of, kinds_from};
 ghost use Rattle.naga_below.specs.declared.proc.expression_kinds.ExpressionKind.TheVariants.{Const};
 
 use naga_below::arena::handle::Handle;
@@ -11,7 +11,7 @@ use naga_below::proc::expression_kinds::{ExpressionKind, ExpressionKindTracker};
 use std::alloc::{AllocError, Global};
 
 /// The kind of each expression.
-#[tactic(auto, unfolding(crate::specs::Plain::Kinds::kinds_from))]
+#[tactic(auto, unfolding(crate::specs::Kinds::kinds_from))]
 pub fn kinds_of(
     alloc: Global,
     expressions: &Arena<Expression>,
@@ -44,7 +44,7 @@ fn kind_of(earlier: &ExpressionKindTracker, expression: &Expression) -> Expressi
 }
 
 /// The latest of the operands' kinds; `Const` where there are none.
-#[tactic(auto, unfolding(crate::specs::Plain::Kinds::latest_of))]
+#[tactic(auto, unfolding(crate::specs::Kinds::latest_of))]
 fn latest_of(
     earlier: &ExpressionKindTracker,
     operands: &[Handle<tag::Expression>],

@@ -1,6 +1,6 @@
 use Rattle.std.proofs.Common.{◌≡◌, drop, []}
-use Rattle.naga_module.specs.Plain.Kinds.{kinds_from}
-use Rattle.naga_module.proofs.plain.kinds.kinds_of.Given as goal
+use Rattle.naga_module.specs.Kinds.{kinds_from}
+use Rattle.naga_module.proofs.kinds.kinds_of.Given as goal
 
 abbrev pub invariant-loop-expression : goal.invariant-loop-expression
 invariant-loop-expression l =

@@ -1,7 +1,7 @@
 use Rattle.std.proofs.Common.{◌≡◌, drop}
 use Rattle.naga_below.specs.declared.proc.expression_kinds.ExpressionKind.TheVariants.{Const}
-use Rattle.naga_module.specs.Plain.Kinds.{latest_of}
-use Rattle.naga_module.proofs.plain.kinds.latest_of.Given as goal
+use Rattle.naga_module.specs.Kinds.{latest_of}
+use Rattle.naga_module.proofs.kinds.latest_of.Given as goal
 
 abbrev pub invariant-loop-handle : goal.invariant-loop-handle
 invariant-loop-handle l =
