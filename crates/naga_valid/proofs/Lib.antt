@@ -32,3 +32,4 @@ pub mod ExpressionSteps
 pub mod Chains
 pub mod GlobalFits
 pub mod EntrySteps
+pub mod EntryLaw
