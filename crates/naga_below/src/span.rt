@@ -82,6 +82,16 @@ impl<E> WithSpan<E> {
         }
     }
 
+    /// The fault as one of another kind, at the same places.
+    pub fn into_other<T: From<E>>(self) -> WithSpan<T>
+        ensures { T.from_gives self result }
+    {
+        WithSpan {
+            inner: T::from(self.inner),
+            spans: self.spans,
+        }
+    }
+
     /// The places, in the order in which they were added.
     pub fn spans(&self) -> &[Span] {
         self.spans.as_slice()

@@ -1,2 +1,6 @@
 pub mod EmptySets
+pub mod Kinds
 pub mod Plain
+pub mod ModuleJudgement
+pub mod CodeModule
+pub mod Recorded

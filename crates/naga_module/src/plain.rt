@@ -5,12 +5,11 @@ ghost use Rattle.naga_rules.specs.Answers.{Answers};
 ghost use Rattle.naga_module.specs.Plain.Infos.{plain_info};
 ghost use Rattle.naga_module.specs.Plain.Meaning.{plain_layer};
 
-mod kinds;
 mod sizes;
 mod types;
 mod uses;
 
-use crate::plain::kinds::kinds_of;
+use crate::kinds::kinds_of;
 use crate::plain::sizes::size_of;
 use crate::plain::types::types_of;
 use crate::plain::uses::uses_of;

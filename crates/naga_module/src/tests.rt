@@ -1,11 +1,13 @@
-//! The plain layer by itself, the validator over it, and what is told of refusals.
+//! The lower layers by themselves, the validator over the plain one, and what is told of refusals.
 
 mod atomics;
 mod bodies;
 mod declarations;
+mod globals;
 mod places;
 mod plain;
 mod rays;
+mod recorded;
 mod report;
 mod settings;
 mod stores;

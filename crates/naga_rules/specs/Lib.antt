@@ -3,6 +3,14 @@ pub mod Lawful
 pub mod Meaning
 pub mod TypeInfos
 pub mod Locals
+pub mod AllowedUses
+pub mod BuiltIns
+pub mod CodeBuiltIns
+pub mod Seen
+pub mod Locations
+pub mod VaryingFaults
+pub mod Varyings
+pub mod CodeVaryings
 pub use Rattle.naga_below.specs.Types
 pub use Rattle.naga_rules.specs.Answers.{Refuses}
 pub use Rattle.naga_rules.specs.Locals.{local_points}

@@ -1,6 +1,7 @@
 //! What can be wrong with a global variable, and with what a stage takes in and puts out: errors of naga 30.0.1's
 //! `valid::interface`, with its variants and fields.
 
+pub mod allowed;
 mod clones;
 mod texts;
 

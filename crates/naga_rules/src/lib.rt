@@ -12,6 +12,7 @@ pub mod mesh;
 pub mod sentences;
 #[cfg(test)]
 mod tests;
+pub mod varying;
 
 pub use crate::analyzer::{UniformityDisruptor, UniformityRequirements};
 pub use crate::below::Below;
@@ -23,3 +24,4 @@ pub use crate::interface::{GlobalVariableError, VaryingError};
 pub use crate::local::check_local;
 pub use crate::mesh::{MeshAnalysis, MeshFault};
 pub use crate::sentences::Explain;
+pub use crate::varying::{MeshOutputType, VaryingPlace, VaryingState};

@@ -32,7 +32,7 @@ use Rattle.naga_runs.specs.VisitOrder.{positions}
 use Rattle.naga_runs.specs.Visits.{Place, Visit, at_begin}
 use Rattle.naga_valid.specs.Accepted.{nodes_of, AreAmong, AreOfStatement}
 use Rattle.naga_valid.specs.Blocks.{body_of, emitted_operands}
-use Rattle.naga_valid.specs.Chains.{Reaches, Calls, Through, CallsBelow, infos_below, IsVettedInfo, AreVetted, masks_of, KeepsTo, ChainsKeepTo, ChainsAreKept, NoneIsVetted, OneMoreIsVetted, CallsOfFittingAreBelow}
+use Rattle.naga_valid.specs.Chains.{Reaches, Calls, Through, CallsBelow, infos_below, IsVettedInfo, AreVetted, masks_of, KeepsTo, ChainsAreKept, NoneIsVetted, OneMoreIsVetted, CallsOfFittingAreBelow}
 use Rattle.naga_valid.specs.Context.{Context}
 use Rattle.naga_valid.specs.Expressions.{mask_at, mask_and, masks_from}
 use Rattle.naga_valid.specs.InOrder.{callee_of, callees_of, called_by, with_info}

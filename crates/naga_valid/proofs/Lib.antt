@@ -31,3 +31,4 @@ pub mod Each
 pub mod ExpressionSteps
 pub mod Chains
 pub mod GlobalFits
+pub mod EntrySteps

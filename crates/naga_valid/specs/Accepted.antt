@@ -41,8 +41,10 @@ atomics_filling r (node ∷ nodes) = atomic_filling r node + atomics_filling r n
 -- each CallResult is named by exactly one Call, which is of its function, and by no Atomic; each AtomicResult by
 -- exactly one Atomic and by no Call
 pub record AreFilledOnce (fun : Function) (nodes : List Node) : Type 0 where
-  pub calls : (r f : ℕ) → slice_get fun.expressions r ≡ Some (e.CallResult f) → (callees_filling r nodes ≡ f ∷ []) × (atomics_filling r nodes ≡ 0)
-  pub atomics : (r ty : ℕ) (comparison : Bool) → slice_get fun.expressions r ≡ Some (e.AtomicResult ty comparison) → (callees_filling r nodes ≡ []) × (atomics_filling r nodes ≡ 1)
+  pub calls : (r f : ℕ) → slice_get fun.expressions r ≡ Some (e.CallResult f) →
+      (callees_filling r nodes ≡ f ∷ []) × (atomics_filling r nodes ≡ 0)
+  pub atomics : (r ty : ℕ) (comparison : Bool) → slice_get fun.expressions r ≡ Some (e.AtomicResult ty comparison) →
+      (callees_filling r nodes ≡ []) × (atomics_filling r nodes ≡ 1)
 
 -- so it is of a function and the statements of its body, at any depth
 abbrev pub ResultsAreFilledOnce : Function → Type 0
@@ -59,7 +61,8 @@ AreOfStatement subgroups earlier stages _ = ⊤
 
 -- the stages are among those that the info of a called function records
 abbrev pub AreOfCallee : ModuleInfo → ShaderStages → Node → Type 0
-AreOfCallee earlier stages (StatementNode (Leaf acts (ir.Call f arguments result) span)) = AreAmong stages (callee_stages earlier f)
+AreOfCallee earlier stages (StatementNode (Leaf acts (ir.Call f arguments result) span)) =
+    AreAmong stages (callee_stages earlier f)
 AreOfCallee earlier stages _ = ⊤
 
 -- the stages are among those of each statement of a body, at any depth, where subgroups are in the first ones, and of

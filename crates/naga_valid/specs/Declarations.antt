@@ -22,7 +22,13 @@ name_or_empty name = unwrap_or name []
 -- a local variable, with its handle
 abbrev pub variable_points : Context → List TypeInfo → ℕ → Variable → Points
 variable_points context infos h var =
-    within (λ source. LocalVariable h (name_or_empty var.name) source) (local_points context.program.types infos context.info.expression_types context.kinds var)
+    within
+    (λ source. LocalVariable h (name_or_empty var.name) source)
+    (local_points context.program.types infos context.info.expression_types context.kinds var)
+
+-- the local variables, in order
+abbrev pub variables_points : Context → List TypeInfo → Points
+variables_points context infos = points_of_each (variable_points context infos) context.fun.local_variables
 
 -- the spaces that an argument may point into
 abbrev pub takes_arguments : AddressSpace → Bool
@@ -35,13 +41,22 @@ abbrev pub pointer_points : ℕ → List ℕ → Option AddressSpace → Points
 pointer_points index name None = []
 pointer_points index name (Some p) = (takes_arguments p, InvalidArgumentPointerSpace index name p) ∷ []
 
+-- the space that an argument points into, where it is a pointer
+abbrev pub space_of_argument : Context → FunctionArgument → Option AddressSpace
+space_of_argument context argument = option_and_then pointer_space_of (inner_at context.program.types argument.ty)
+
 -- an argument, with its index: where it is a pointer its space; its type; and a binding only where it is an entry point's
 abbrev pub argument_points : Context → List TypeInfo → Bool → ℕ → FunctionArgument → Points
 argument_points context infos entry_point index argument =
-    pointer_points index (name_or_empty argument.name) (option_and_then pointer_space_of (inner_at context.program.types argument.ty))
+    pointer_points index (name_or_empty argument.name) (space_of_argument context argument)
     ++ ((type_has infos argument.ty ARGUMENT, InvalidArgumentType index (name_or_empty argument.name))
     ∷ (entry_point || is_none argument.binding, PipelineInputRegularFunction (name_or_empty argument.name))
     ∷ [])
+
+-- the arguments, in order
+abbrev pub arguments_points : Context → List TypeInfo → Bool → Points
+arguments_points context infos entry_point =
+    points_of_each (argument_points context infos entry_point) context.fun.arguments
 
 -- the result, if there is one: its type; and a binding only where it is an entry point's
 abbrev pub result_points : List TypeInfo → Bool → Option FunctionResult → Points
@@ -54,6 +69,6 @@ result_points infos entry_point (Some declared) =
 -- the local variables, the arguments, and the result
 abbrev pub declaration_points : Context → List TypeInfo → Bool → Points
 declaration_points context infos entry_point =
-    points_of_each (variable_points context infos) context.fun.local_variables
-    ++ (points_of_each (argument_points context infos entry_point) context.fun.arguments
+    variables_points context infos
+    ++ (arguments_points context infos entry_point
     ++ result_points infos entry_point context.fun.result)

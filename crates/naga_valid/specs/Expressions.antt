@@ -24,7 +24,8 @@ module _ (below : Meaning) (context : Context) where
   -- the mask of an expression: the stages that it may run in, where those before it leave these to the function
   abbrev pub mask_at : ShaderStages → ℕ → Result ShaderStages FunctionError
   mask_at stages h =
-      of_expression h (below.expression_stages context.settings h context.fun context.program (with_stages context.info stages) context.earlier context.kinds)
+      let known = with_stages context.info stages in
+      of_expression h (below.expression_stages context.settings h context.fun context.program known context.earlier context.kinds)
 
   -- the stages that n expressions from h on leave of these: the mask of each is met in before the next is asked
   unfoldable pub stages_from : ShaderStages → ℕ → ℕ → Result ShaderStages FunctionError

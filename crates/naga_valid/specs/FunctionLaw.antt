@@ -23,8 +23,10 @@ use Rattle.naga_valid.specs.declared.trace.TraceState.{TraceState}
 -- known of it
 abbrev pub OfAcceptedIn : (Module → Settings → ModuleInfo → Function → FunctionOutcome → Type 0) → Type 0
 OfAcceptedIn Holds =
-    (below : Meaning) (settings : Settings) (infos : List TypeInfo) (trace : TraceState) (program : Module) (earlier : ModuleInfo) (fun : Function) (entry_point : Bool) (outcome : FunctionOutcome) →
-    function_judgement below settings infos trace program earlier fun entry_point ≡ Ok outcome → checks_blocks settings.flags ≡ true →
+    (below : Meaning) (settings : Settings) (infos : List TypeInfo) (trace : TraceState) (program : Module)
+    (earlier : ModuleInfo) (fun : Function) (entry_point : Bool) (outcome : FunctionOutcome) →
+    function_judgement below settings infos trace program earlier fun entry_point ≡ Ok outcome →
+    checks_blocks settings.flags ≡ true →
     Holds program settings earlier fun outcome
 
 -- something that is not of the module
@@ -43,7 +45,8 @@ AcceptedFillsOnce =
 -- its stages are stages of each statement and of each function that it calls
 abbrev pub AcceptedIsOfAllStages : Type 0
 AcceptedIsOfAllStages =
-    OfAccepted (λ settings earlier fun outcome. StagesAreOfAll settings.subgroup_stages earlier (body_of fun) outcome.info.available_stages)
+    OfAccepted (λ settings earlier fun outcome.
+    StagesAreOfAll settings.subgroup_stages earlier (body_of fun) outcome.info.available_stages)
 
 -- no Return stands in a continuing part of its body, at any depth
 abbrev pub AcceptedHasNoReturnInContinuing : Type 0
@@ -58,8 +61,10 @@ AcceptedHasWholeSwitches =
 -- its info is the lower layer's but for its stages
 abbrev pub AcceptedKeepsInfo : Type 0
 AcceptedKeepsInfo =
-    (below : Meaning) (settings : Settings) (infos : List TypeInfo) (trace : TraceState) (program : Module) (earlier : ModuleInfo) (fun : Function) (entry_point : Bool) (outcome : FunctionOutcome) (info : FunctionInfo) →
-    function_judgement below settings infos trace program earlier fun entry_point ≡ Ok outcome → checks_blocks settings.flags ≡ true →
+    (below : Meaning) (settings : Settings) (infos : List TypeInfo) (trace : TraceState) (program : Module)
+    (earlier : ModuleInfo) (fun : Function) (entry_point : Bool) (outcome : FunctionOutcome) (info : FunctionInfo) →
+    function_judgement below settings infos trace program earlier fun entry_point ≡ Ok outcome →
+    checks_blocks settings.flags ≡ true →
     lower_step below settings infos trace program earlier fun entry_point ≡ Ok info →
     outcome.info ≡ with_stages info outcome.info.available_stages
 
@@ -67,10 +72,13 @@ AcceptedKeepsInfo =
 -- at, and so may every statement at any depth.
 abbrev pub AcceptedStagesAreMet : Type 0
 AcceptedStagesAreMet =
-    (below : Meaning) (settings : Settings) (infos : List TypeInfo) (trace : TraceState) (program : Module) (earlier : ModuleInfo) (fun : Function) (entry_point : Bool) (outcome : FunctionOutcome) (info : FunctionInfo) →
-    function_judgement below settings infos trace program earlier fun entry_point ≡ Ok outcome → checks_blocks settings.flags ≡ true →
+    (below : Meaning) (settings : Settings) (infos : List TypeInfo) (trace : TraceState) (program : Module)
+    (earlier : ModuleInfo) (fun : Function) (entry_point : Bool) (outcome : FunctionOutcome) (info : FunctionInfo) →
+    function_judgement below settings infos trace program earlier fun entry_point ≡ Ok outcome →
+    checks_blocks settings.flags ≡ true →
     lower_step below settings infos trace program earlier fun entry_point ≡ Ok info → (some : ShaderStages) →
     AreAmong some outcome.info.available_stages
     ↔ (AreAmong some info.available_stages
-    × AllByRecursion (AreAmong some) (expression_masks below (context_with below settings infos trace program earlier fun entry_point info))
+    × AllByRecursion (AreAmong some)
+    (expression_masks below (context_with below settings infos trace program earlier fun entry_point info))
     × AllByRecursion (AreOfStatement settings.subgroup_stages earlier some) (nodes_of (body_of fun)))

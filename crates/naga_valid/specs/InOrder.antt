@@ -20,12 +20,15 @@ use Rattle.naga_valid.specs.declared.trace.TraceState.{TraceState}
 abbrev pub with_info : ModuleInfo → FunctionInfo → ModuleInfo
 with_info infos info = record infos { functions = infos.functions ++ info ∷ [] }
 
--- the infos of functions behind those before them, where these are the infos of the types, each judged with the infos before it and what ray traces left; or the
--- first fault
-unfoldable pub infos_from : Meaning → Settings → List TypeInfo → TraceState → Module → ModuleInfo → List Function → Result ModuleInfo FunctionError
+-- the infos of functions behind those before them, where these are the infos of the types, each judged with the infos
+-- before it and what ray traces left; or the first fault
+unfoldable pub infos_from : Meaning → Settings → List TypeInfo → TraceState → Module → ModuleInfo → List Function →
+    Result ModuleInfo FunctionError
 infos_from below settings types trace program infos [] = Ok infos
 infos_from below settings types trace program infos (f ∷ fs) =
-    and_then (function_judgement below settings types trace program infos f false) (λ left. infos_from below settings types left.trace program (with_info infos left.info) fs)
+    and_then
+    (function_judgement below settings types trace program infos f false)
+    (λ left. infos_from below settings types left.trace program (with_info infos left.info) fs)
 
 -- the function that a statement calls
 abbrev pub callee_of : Node → List ℕ

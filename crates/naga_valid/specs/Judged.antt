@@ -65,7 +65,8 @@ expressions_known below context = and_then (expressions_step below context) (λ 
 
 -- of a lower layer that means this, where these are the infos of the module's types, and ray traces left this before the
 -- function, which is an entry point's or not
-module _ (below : Meaning) (settings : Settings) (infos : List TypeInfo) (trace : TraceState) (program : Module) (earlier : ModuleInfo) (fun : Function) (entry_point : Bool) where
+module _ (below : Meaning) (settings : Settings) (infos : List TypeInfo) (trace : TraceState) (program : Module)
+    (earlier : ModuleInfo) (fun : Function) (entry_point : Bool) where
   -- what the check lists read, where this is known of the function
   abbrev pub context_with : FunctionInfo → Context
   context_with info =
@@ -94,6 +95,7 @@ module _ (below : Meaning) (settings : Settings) (infos : List TypeInfo) (trace 
       and_then (expressions_known below (context_with info)) (λ info. judged_with (context_with info))))
 
 -- an answer with what is left of ray traces: the judgement, or there was no memory
-abbrev pub AnswersTracing : {Fault : Type 0} → Result FunctionOutcome Fault → TraceState → Result FunctionInfo (Refusal Fault) → Type 0
+abbrev pub AnswersTracing : {Fault : Type 0} → Result FunctionOutcome Fault → TraceState →
+    Result FunctionInfo (Refusal Fault) → Type 0
 AnswersTracing right trace (Ok info) = right ≡ Ok (record { info = info; trace = trace })
 AnswersTracing right trace (Err refused) = Refuses right refused

@@ -132,9 +132,13 @@ stages_of subgroups earlier Break = bit.ALL_STAGES
 stages_of subgroups earlier Continue = bit.ALL_STAGES
 stages_of subgroups earlier (Return value) = bit.ALL_STAGES
 
+-- those of a statement of a function that is judged in this context
+abbrev pub stages_in : Context → Stmt → ShaderStages
+stages_in context x = stages_of context.settings.subgroup_stages context.earlier x
+
 -- the stages that are left behind a statement. A break condition takes none
 abbrev pub stages_behind : Context → ShaderStages → Node → ShaderStages
-stages_behind context stages (StatementNode x) = meet stages (stages_of context.settings.subgroup_stages context.earlier x)
+stages_behind context stages (StatementNode x) = meet stages (stages_in context x)
 stages_behind context stages (BreakIfNode h) = stages
 stages_behind context stages NoNode = stages
 

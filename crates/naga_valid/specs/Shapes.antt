@@ -44,9 +44,11 @@ pub record AreWhole (kind : Option ScalarKind) (cases : Cases) : Type 0 where
 
 -- the scalar kind of an expression's type, as an info has it
 abbrev pub kind_in : Module → FunctionInfo → ℕ → Option ScalarKind
-kind_in program info h = option_and_then scalar_kind_of (option_and_then (resolved program.types) (slice_get info.expression_types h))
+kind_in program info h =
+    option_and_then scalar_kind_of (option_and_then (resolved program.types) (slice_get info.expression_types h))
 
 -- each Switch of a body, at any depth, has whole cases, where the info has the types of the selectors
 abbrev pub HasWholeSwitches : Module → FunctionInfo → Body → Type 0
 HasWholeSwitches program info b =
-    (p : Position) (selector : ℕ) (cases : Cases) → StandsAt b p (Switch selector cases) → AreWhole (kind_in program info selector) cases
+    (p : Position) (selector : ℕ) (cases : Cases) → StandsAt b p (Switch selector cases) →
+    AreWhole (kind_in program info selector) cases

@@ -2,10 +2,10 @@
 
 ghost use Rattle.std.specs.Prelude.{◌≡◌, ◌<◌, IfOk, IfSome, Some, List, ℕ, length};
 ghost use Rattle.std.specs.Result.{result_err};
-ghost use Rattle.naga_below.specs.Points.{first_fault, points_of_each};
+ghost use Rattle.naga_below.specs.Points.{first_fault};
 ghost use Rattle.naga_valid.specs.CodeAnswers.{AnswersPoints};
 ghost use Rattle.naga_valid.specs.Context.{ContextFits};
-ghost use Rattle.naga_valid.specs.Declarations.{name_or_empty, variable_points, takes_arguments, pointer_points, argument_points, result_points, declaration_points};
+ghost use Rattle.naga_valid.specs.Declarations.{name_or_empty, variable_points, variables_points, takes_arguments, pointer_points, argument_points, arguments_points, result_points, declaration_points};
 ghost use Rattle.naga_valid.specs.Seen.{context_of};
 
 use crate::context::BlockContext;
@@ -58,7 +58,7 @@ fn check_locals(
 ) -> Result<(), Refusal<FunctionError>>
     requires context { ContextFits (context_of context.now) }
     requires one_info_each { length infos.now ≡ length (context_of context.now).program.types }
-    ensures { AnswersPoints (points_of_each (variable_points (context_of context.now) infos.now) (context_of context.now).fun.local_variables) result }
+    ensures { AnswersPoints (variables_points (context_of context.now) infos.now) result }
 {
     let count = context.fun.local_variables.len() as u32;
     for index in 0..count {
@@ -112,7 +112,7 @@ fn check_arguments(
 ) -> Result<(), Refusal<FunctionError>>
     requires context { ContextFits (context_of context.now) }
     requires one_info_each { length infos.now ≡ length (context_of context.now).program.types }
-    ensures { AnswersPoints (points_of_each (argument_points (context_of context.now) infos.now entry_point) (context_of context.now).fun.arguments) result }
+    ensures { AnswersPoints (arguments_points (context_of context.now) infos.now entry_point) result }
 {
     let arguments = context.fun.arguments.as_slice();
     for index in 0..arguments.len() {

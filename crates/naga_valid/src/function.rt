@@ -98,7 +98,9 @@ fn validate_parts(
 ) -> Result<(), Refusal<FunctionError>>
     requires context { ContextFits (context_of context.now) }
     requires ready { IsStatementReady (context_of context.now) (tree_of (context_of context.now) located.now) }
-    ensures fault { AnswersLeaving (parts_answer (context_of context.now) state.old abilities scope.old (tree_of (context_of context.now) located.now)) state.new result }
+    ensures fault { AnswersLeaving
+        (parts_answer (context_of context.now) state.old abilities scope.old (tree_of (context_of context.now) located.now))
+        state.new result }
     ensures scope { OnOk result (scope.new ≡ scope.old) }
 {
     match &located.statement {
@@ -138,7 +140,9 @@ fn validate_statements(
 ) -> Result<(), Refusal<FunctionError>>
     requires context { ContextFits (context_of context.now) }
     requires ready { IsBodyReady (context_of context.now) (block_of (context_of context.now) block.now) }
-    ensures fault { AnswersLeaving (body_answer (context_of context.now) state.old abilities scope.old (block_of (context_of context.now) block.now)) state.new result }
+    ensures fault { AnswersLeaving
+        (body_answer (context_of context.now) state.old abilities scope.old (block_of (context_of context.now) block.now))
+        state.new result }
     ensures scope { OnOk result (scope.new ≡ scope.old ++ body_puts (block_of (context_of context.now) block.now)) }
 {
     for located in block.list.as_slice() {
@@ -158,7 +162,9 @@ fn validate_statement(
 ) -> Result<(), Refusal<FunctionError>>
     requires context { ContextFits (context_of context.now) }
     requires ready { IsStatementReady (context_of context.now) (tree_of (context_of context.now) located.now) }
-    ensures fault { AnswersLeaving (stmt_answer (context_of context.now) state.old abilities scope.old (tree_of (context_of context.now) located.now)) state.new result }
+    ensures fault { AnswersLeaving
+        (stmt_answer (context_of context.now) state.old abilities scope.old (tree_of (context_of context.now) located.now))
+        state.new result }
     ensures scope { OnOk result (scope.new ≡ scope.old ++ puts (tree_of (context_of context.now) located.now)) }
 {
     check_points(scope, state, context, abilities, located)?;
@@ -177,7 +183,9 @@ fn validate_block(
 ) -> Result<(), Refusal<FunctionError>>
     requires context { ContextFits (context_of context.now) }
     requires ready { IsBodyReady (context_of context.now) (block_of (context_of context.now) block.now) }
-    ensures fault { AnswersLeaving (body_answer (context_of context.now) state.old abilities scope.old (block_of (context_of context.now) block.now)) state.new result }
+    ensures fault { AnswersLeaving
+        (body_answer (context_of context.now) state.old abilities scope.old (block_of (context_of context.now) block.now))
+        state.new result }
     ensures scope { OnOk result (scope.new ≡ scope.old) }
 {
     let mark = scope.len();
@@ -197,7 +205,9 @@ fn validate_cases(
 ) -> Result<(), Refusal<FunctionError>>
     requires context { ContextFits (context_of context.now) }
     requires ready { AreCasesReady (context_of context.now) (cases_of (context_of context.now) cases.now) }
-    ensures fault { AnswersLeaving (cases_answer (context_of context.now) state.old abilities scope.old (cases_of (context_of context.now) cases.now)) state.new result }
+    ensures fault { AnswersLeaving
+        (cases_answer (context_of context.now) state.old abilities scope.old (cases_of (context_of context.now) cases.now))
+        state.new result }
     ensures scope { OnOk result (scope.new ≡ scope.old) }
 {
     for case in cases {

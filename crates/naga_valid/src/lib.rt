@@ -7,6 +7,7 @@ mod context;
 mod declarations;
 mod function;
 mod handle_set;
+pub mod interface;
 pub mod laws;
 mod outcome;
 mod stages;
@@ -14,6 +15,7 @@ mod state;
 pub mod trace;
 pub mod validator;
 
-pub use crate::laws::function_law;
+pub use crate::interface::EntryPointError;
+pub use crate::laws::{chains_law, function_law};
 pub use crate::trace::{TraceRayVertexReturnState, TraceState};
 pub use crate::validator::Validator;

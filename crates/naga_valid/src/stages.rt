@@ -2,7 +2,7 @@
 
 ghost use Rattle.std.specs.Prelude.{◌≡◌};
 ghost use Rattle.naga_valid.specs.Blocks.{tree_of};
-ghost use Rattle.naga_valid.specs.Rules.{callee_stages, stages_of};
+ghost use Rattle.naga_valid.specs.Rules.{callee_stages, stages_in};
 ghost use Rattle.naga_valid.specs.Seen.{context_of};
 
 use crate::context::BlockContext;
@@ -13,7 +13,7 @@ use naga_below::valid::flags::ShaderStages;
 
 /// The stages that a statement may run in.
 pub fn stages_of(context: &BlockContext, located: &Located) -> ShaderStages
-    ensures { result ≡ stages_of (context_of context.now).settings.subgroup_stages (context_of context.now).earlier (tree_of (context_of context.now) located.now) }
+    ensures { result ≡ stages_in (context_of context.now) (tree_of (context_of context.now) located.now) }
 {
     match &located.statement {
         Statement::Kill => ShaderStages::FRAGMENT,

@@ -43,7 +43,8 @@ pub struct BodyOutcome {
 
 /// The result that a Call or an Atomic names.
 fn result_of(located: &Located) -> Option<Handle<tag::Expression>>
-    ensures { (operands : ℕ → List ℕ) → result ≡ result_of (StatementNode (tree_of operands located.now.statement located.now.span)) }
+    ensures { (operands : ℕ → List ℕ) →
+        result ≡ result_of (StatementNode (tree_of operands located.now.statement located.now.span)) }
 {
     match &located.statement {
         Statement::Call { result, .. } | Statement::Atomic { result, .. } => *result,
@@ -57,8 +58,11 @@ pub fn advance(
     context: &BlockContext,
     located: &Located,
 ) -> Result<(), AllocError>
-    requires { IfSome (result_of (StatementNode (in_context.tree_of (context_of context.now) located.now))) (λ r. in_scope state.old.filled r ≡ false) }
-    ensures { OnOk result (state.new ≡ with_statement (context_of context.now) state.old (in_context.tree_of (context_of context.now) located.now)) }
+    requires { IfSome
+        (result_of (StatementNode (in_context.tree_of (context_of context.now) located.now)))
+        (λ r. in_scope state.old.filled r ≡ false) }
+    ensures { OnOk result (state.new
+        ≡ with_statement (context_of context.now) state.old (in_context.tree_of (context_of context.now) located.now)) }
 {
     if let Some(handle) = result_of(located) {
         state.filled.put(handle)?;

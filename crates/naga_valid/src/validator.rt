@@ -91,6 +91,13 @@ impl<B: Below> Validator<B> {
         self.settings.subgroup_operations = set;
     }
 
+    /// The lower layer that the validator stands on.
+    pub fn below(&self) -> &B
+        ensures { result.now ≡ self.now.below }
+    {
+        &self.below
+    }
+
     /// What the ray traces of the functions validated so far leave: the type that a payload must have, and how vertices
     /// are returned. No payload and `NoTraceRays` at first.
     pub fn trace_state(&self) -> TraceState

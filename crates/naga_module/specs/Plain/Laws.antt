@@ -33,7 +33,7 @@ use Rattle.naga_rules.specs.declared.function.FunctionError.TheVariants.{Express
 use Rattle.naga_below.specs.declared.valid.expression_error.ExpressionError.TheVariants.{Lower}
 use Rattle.naga_module.specs.EmptySets.{NO_USE}
 use Rattle.naga_module.specs.Plain.Infos.{plain_info, info_of, with_types}
-use Rattle.naga_module.specs.Plain.Kinds.{kinds_from, kind_of}
+use Rattle.naga_module.specs.Kinds.{kinds_from, kind_of}
 use Rattle.naga_module.specs.Plain.Types.{type_at, pointer_to, global_type, known_type, loaded_type, own_type, type_of, or_refuse, types_from}
 use Rattle.naga_module.specs.Plain.Uses.{with_all_named}
 

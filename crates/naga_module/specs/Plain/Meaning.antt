@@ -4,7 +4,7 @@ use Rattle.naga_below.specs.Bits.{ALL_STAGES}
 use Rattle.naga_below.specs.declared.ir.module.MeshOutputTopology.TheVariants.{Points}
 use Rattle.naga_rules.specs.Meaning.{Meaning}
 use Rattle.naga_module.specs.Plain.Infos.{plain_info}
-use Rattle.naga_module.specs.Plain.Kinds.{kinds_from}
+use Rattle.naga_module.specs.Kinds.{kinds_from}
 use Rattle.naga_module.specs.Plain.Sizes.{size_at}
 use Rattle.naga_module.specs.declared.plain.Plain.{Plain}
 

@@ -80,7 +80,8 @@ fn check_changed_image(
     value: Handle<tag::Expression>,
 ) -> Result<(), FunctionError>
     ensures { Finds
-        (changed_points (context_of context.now) (place_at scope.now) dim arrayed texel.coordinate texel.array_index class fun.now value)
+        (changed_points (context_of context.now) (place_at scope.now) dim arrayed texel.coordinate texel.array_index
+        class fun.now value)
         result }
 {
     check_texel(ImageStatement::Atomic, scope, context, dim, arrayed, texel)?;

@@ -135,7 +135,8 @@ fn check_initialize(
     descriptor: Handle<tag::Expression>,
 ) -> Result<(), FunctionError>
     ensures { Finds
-        (query_function_points (context_of context.now) (place_at scope.now) query vertex_return (Initialize structure descriptor))
+        (query_function_points (context_of context.now) (place_at scope.now) query vertex_return
+        (Initialize structure descriptor))
         result }
 {
     check_use(scope, structure)?;

@@ -36,7 +36,8 @@ pub fn check_points(
     requires context { ContextFits (context_of context.now) }
     requires statement { IsStatementReady (context_of context.now) (tree_of (context_of context.now) located.now) }
     ensures fault { AnswersPoints
-        (statement_points (context_of context.now) (seen state.now) (place abilities scope.old) (tree_of (context_of context.now) located.now))
+        (statement_points (context_of context.now) (seen state.now) (place abilities scope.old)
+        (tree_of (context_of context.now) located.now))
         result }
     ensures scope { OnOk result (scope.new ≡ scope.old ++ puts (tree_of (context_of context.now) located.now)) }
 {

@@ -1,12 +1,12 @@
 //! The checks of a function's expressions, each by the lower layer.
 
-ghost use Rattle.std.specs.Prelude.{◌≡◌, OnOk, Result, length};
+ghost use Rattle.std.specs.Prelude.{◌≡◌, OnOk, Result};
 ghost use Rattle.naga_below.specs.declared.valid.expression_error.ExpressionError.{ExpressionError as Source};
 ghost use Rattle.naga_below.specs.declared.valid.flags.ShaderStages.{ShaderStages as Mask};
 ghost use Rattle.naga_rules.specs.Answers.{Answers};
 ghost use Rattle.naga_valid.specs.CodeAnswers.{AnswersLeaving};
-ghost use Rattle.naga_valid.specs.Expressions.{with_stages, of_expression, stages_from};
-ghost use Rattle.naga_valid.specs.Seen.{asked_context};
+ghost use Rattle.naga_valid.specs.Expressions.{with_stages, of_expression};
+ghost use Rattle.naga_valid.specs.Seen.{asked_by, stages_of_all};
 
 use crate::validator::Validator;
 use bitflags::Flags;
@@ -52,7 +52,9 @@ impl<B: Below> Validator<B> {
         kinds: &ExpressionKindTracker,
         info: &mut FunctionInfo,
     ) -> Result<(), Refusal<FunctionError>>
-        ensures fault { AnswersLeaving (stages_from (B.meaning self.now.below) (asked_context self.now.settings self.now.trace «module».now mod_info.now fun.now kinds.now info.old) info.old.available_stages 0 (length fun.now.expressions)) info.new.available_stages result }
+        ensures fault { AnswersLeaving
+            (stages_of_all (B.meaning self.now.below) (asked_by self.now «module».now mod_info.now fun.now kinds.now info.old))
+            info.new.available_stages result }
         ensures kept { info.new ≡ with_stages info.old info.new.available_stages }
     {
         let count = fun.expressions.len() as u32;

@@ -5,9 +5,9 @@ ghost use Rattle.naga_below.specs.Fits.{FitsTypes, FitsFunction};
 ghost use Rattle.naga_below.specs.Points.{and_then};
 ghost use Rattle.naga_rules.specs.Answers.{Answers};
 ghost use Rattle.naga_valid.specs.Context.{ContextFits};
-ghost use Rattle.naga_valid.specs.Judged.{function_judgement, judged_with};
+ghost use Rattle.naga_valid.specs.Judged.{judged_with};
 ghost use Rattle.naga_valid.specs.Parts.{AreInfosOf};
-ghost use Rattle.naga_valid.specs.Seen.{asked_context, known_behind};
+ghost use Rattle.naga_valid.specs.Seen.{asked_by, known_by, judgement_by};
 
 use crate::context::BlockContext;
 use crate::declarations::check_declarations;
@@ -37,7 +37,9 @@ impl<B: Below> Validator<B> {
         requires infos { AreInfosOf «module».now self.now.types }
         requires types { FitsTypes «module».now }
         requires function { FitsFunction fun.now «module».now (length mod_info.now.functions) }
-        ensures { Answers (function_judgement (B.meaning self.now.below) self.now.settings self.now.types self.now.trace «module».now mod_info.now fun.now entry_point) result }
+        ensures { Answers
+            (judgement_by self.now (B.meaning self.now.below) «module».now mod_info.now fun.now entry_point)
+            result }
     {
         let flags = self.settings.flags;
         let capabilities = self.settings.capabilities;
@@ -61,8 +63,11 @@ impl<B: Below> Validator<B> {
         entry_point: bool,
     ) -> Result<FunctionInfo, Refusal<FunctionError>>
         requires infos { AreInfosOf «module».now self.now.types }
-        requires context { ContextFits (asked_context self.now.settings self.now.trace «module».now mod_info.now fun.now kinds.now info) }
-        ensures { Answers (known_behind (B.meaning self.now.below) self.now.types entry_point (asked_context self.now.settings self.now.trace «module».now mod_info.now fun.now kinds.now info)) result }
+        requires context { ContextFits (asked_by self.now «module».now mod_info.now fun.now kinds.now info) }
+        ensures { Answers
+            (known_by self.now (B.meaning self.now.below) entry_point
+            (asked_by self.now «module».now mod_info.now fun.now kinds.now info))
+            result }
     {
         let context = BlockContext {
             program: module,
@@ -91,8 +96,8 @@ impl<B: Below> Validator<B> {
         kinds: &ExpressionKindTracker,
         info: FunctionInfo,
     ) -> Result<FunctionOutcome, Refusal<FunctionError>>
-        requires context { ContextFits (asked_context self.now.settings self.now.trace «module».now mod_info.now fun.now kinds.now info) }
-        ensures { Answers (judged_with (asked_context self.now.settings self.now.trace «module».now mod_info.now fun.now kinds.now info)) result }
+        requires context { ContextFits (asked_by self.now «module».now mod_info.now fun.now kinds.now info) }
+        ensures { Answers (judged_with (asked_by self.now «module».now mod_info.now fun.now kinds.now info)) result }
     {
         let mut info = info;
         let mut trace = self.trace;

@@ -40,26 +40,33 @@ impl<B: Below> Validator<B> {
         requires function { FitsFunction fun.now «module».now (length mod_info.now.functions) }
 
         // The answer is the judgement's, or there was no memory.
-        ensures judged { AnswersTracing (function_judgement (B.meaning self.old.below) self.old.settings self.old.types self.old.trace «module».now mod_info.now fun.now entry_point) self.new.trace result }
+        ensures judged { AnswersTracing
+            (function_judgement (B.meaning self.old.below) self.old.settings self.old.types self.old.trace
+            «module».now mod_info.now fun.now entry_point)
+            self.new.trace result }
 
         // In every run of an accepted body that was looked at, what is used is live or was skipped by a Continue, no
         // live handle is put, and jumps have targets.
-        ensures sound { OnOk result (checks_blocks self.old.settings.flags ≡ true → RunsAreSound (pre_emitted_of fun.now) (body_of fun.now)) }
+        ensures sound { OnOk result (checks_blocks self.old.settings.flags ≡ true
+            → RunsAreSound (pre_emitted_of fun.now) (body_of fun.now)) }
 
         // Where bodies and expressions were looked at, each CallResult of an accepted body is filled by one Call, which
         // is of its function, and by no Atomic; each AtomicResult by one Atomic and by no Call.
-        ensures filled { OnOk result (checks_blocks self.old.settings.flags ≡ true → checks_expressions self.old.settings.flags ≡ true → ResultsAreFilledOnce fun.now) }
+        ensures filled { OnOk result (checks_blocks self.old.settings.flags ≡ true
+            → checks_expressions self.old.settings.flags ≡ true → ResultsAreFilledOnce fun.now) }
 
         // Where bodies were looked at, the stages of an accepted one are stages of each of its statements and of each
         // function that it calls.
-        ensures stages { IfOk result (λ info. checks_blocks self.old.settings.flags ≡ true → StagesAreOfAll self.old.settings.subgroup_stages mod_info.now (body_of fun.now) info.available_stages) }
+        ensures stages { IfOk result (λ info. checks_blocks self.old.settings.flags ≡ true
+            → StagesAreOfAll self.old.settings.subgroup_stages mod_info.now (body_of fun.now) info.available_stages) }
 
         // Where bodies were looked at, no Return of an accepted one stands in a continuing part, at any depth.
         ensures returns { OnOk result (checks_blocks self.old.settings.flags ≡ true → HasNoReturnInContinuing (body_of fun.now)) }
 
         // Where bodies were looked at, each Switch of an accepted one has exactly one default, no value twice, values of the
         // sign that its selector's type in the info has, and a last case that doesn't fall through.
-        ensures switches { IfOk result (λ info. checks_blocks self.old.settings.flags ≡ true → HasWholeSwitches «module».now info (body_of fun.now)) }
+        ensures switches { IfOk result (λ info. checks_blocks self.old.settings.flags ≡ true
+            → HasWholeSwitches «module».now info (body_of fun.now)) }
 
         // Nothing but what ray traces leave may differ, and that only where the function is accepted.
         ensures kept { self.new ≡ record self.old { trace = self.new.trace } }

@@ -1,0 +1,31 @@
+-- Lemma-level words for the code of `check_module`: how an answer behind a part of a module's functions is one about all.
+use Rattle.std.specs.Prelude.{◌≡◌, ◌⊎◌, List, Err}
+use Rattle.naga_below.specs.declared.ir.functions.Function.{Function}
+use Rattle.naga_below.specs.declared.ir.module.EntryPoint.{EntryPoint}
+use Rattle.naga_below.specs.declared.ir.module.Module.{Module}
+use Rattle.naga_below.specs.declared.valid.info.ModuleInfo.{ModuleInfo}
+use Rattle.naga_below.specs.declared.valid.settings.Settings.{Settings}
+use Rattle.naga_below.specs.declared.valid.types.TypeInfo.{TypeInfo}
+use Rattle.naga_rules.specs.Meaning.{Meaning}
+use Rattle.naga_valid.specs.declared.trace.TraceState.{TraceState}
+use Rattle.naga_module.specs.ModuleJudgement.{Answer, FunctionsAnswer, EntriesAnswer}
+use Rattle.naga_module.specs.declared.check.ModuleFault.{ModuleFault}
+use Rattle.naga_module.specs.declared.check.ModuleFault.TheVariants as fault
+
+module _ (below : Meaning) (settings : Settings) (types : List TypeInfo) (m : Module) where
+  -- what is right behind these functions, infos and traces is right of those
+  abbrev pub Leads : TraceState → ModuleInfo → List Function → TraceState → ModuleInfo → List Function → Type 0
+  Leads trace infos fs left more rest =
+      (r : Answer) → FunctionsAnswer below settings types m left more rest r → FunctionsAnswer below settings types m trace infos fs r
+
+  -- a fault is right of these functions, or there was no memory
+  abbrev pub Stops : TraceState → ModuleInfo → List Function → ModuleFault → Type 0
+  Stops trace infos fs told = (told ≡ fault.Memory) ⊎ FunctionsAnswer below settings types m trace infos fs (Err told)
+
+  -- the same of entry points
+  abbrev pub EntriesLead : TraceState → ModuleInfo → List EntryPoint → TraceState → ModuleInfo → List EntryPoint → Type 0
+  EntriesLead trace infos ps left more rest =
+      (r : Answer) → EntriesAnswer below settings types m left more rest r → EntriesAnswer below settings types m trace infos ps r
+
+  abbrev pub EntriesStop : TraceState → ModuleInfo → List EntryPoint → ModuleFault → Type 0
+  EntriesStop trace infos ps told = (told ≡ fault.Memory) ⊎ EntriesAnswer below settings types m trace infos ps (Err told)

@@ -1,0 +1,76 @@
+//! The functions of a module, in order.
+
+ghost use Rattle.std.specs.Prelude.{◌≡◌, ◌<◌, ◌+◌, [], OnOk, IfErr, length, drop};
+ghost use Rattle.naga_below.specs.Fits.{FitsTypes};
+ghost use Rattle.naga_module.specs.CodeModule.{Leads, Stops};
+ghost use Rattle.naga_valid.specs.Parts.{AreInfosOf};
+
+use crate::check::ModuleFault;
+use naga_below::arena::handle::Handle;
+use naga_below::arena::tag;
+use naga_below::fits::function::fits_function;
+use naga_below::ir::module::Module;
+use naga_below::span::Refusal;
+use naga_below::valid::info::ModuleInfo;
+use naga_rules::below::Below;
+use naga_valid::validator::Validator;
+use std::alloc::Global;
+
+/// Judges the next function of a module, with the infos of those before it, and puts its info last.
+pub fn judge_function<B: Below>(
+    alloc: Global,
+    validator: &mut Validator<B>,
+    module: &Module,
+    infos: &mut ModuleInfo,
+    handle: Handle<tag::Function>,
+) -> Result<(), ModuleFault>
+    requires infos { AreInfosOf «module».now validator.old.types }
+    requires types { FitsTypes «module».now }
+    requires next { handle ≡ length infos.old.functions }
+    requires there { handle < length «module».now.functions }
+    ensures judged { OnOk result (Leads (B.meaning validator.old.below) validator.old.settings validator.old.types «module».now
+        validator.old.trace infos.old (drop handle «module».now.functions)
+        validator.new.trace infos.new (drop (handle + 1) «module».now.functions)) }
+    ensures place { OnOk result (length infos.new.functions ≡ handle + 1) }
+    ensures refused { IfErr result (λ told. Stops (B.meaning validator.old.below) validator.old.settings validator.old.types «module».now
+        validator.old.trace infos.old (drop handle «module».now.functions) told) }
+    ensures kept { validator.new ≡ record validator.old { trace = validator.new.trace } }
+{
+    let fun = &module.functions[handle];
+    if !fits_function(fun, module, infos.functions.len()) {
+        return Err(ModuleFault::NotFit);
+    }
+    let answer = validator.validate_function(alloc, fun, module, infos, false);
+    match answer {
+        Ok(info) => {
+            infos.functions.push(info)?;
+            Ok(())
+        }
+        Err(Refusal::Fault(fault)) => Err(ModuleFault::Function(handle, fault)),
+        Err(Refusal::Memory) => Err(ModuleFault::Memory),
+    }
+}
+
+/// Judges the functions of a module, in order, and puts their infos.
+pub fn judge_functions<B: Below>(
+    alloc: Global,
+    validator: &mut Validator<B>,
+    module: &Module,
+    infos: &mut ModuleInfo,
+) -> Result<(), ModuleFault>
+    requires infos { AreInfosOf «module».now validator.old.types }
+    requires types { FitsTypes «module».now }
+    requires first { infos.old.functions ≡ [] }
+    ensures judged { OnOk result (Leads (B.meaning validator.old.below) validator.old.settings validator.old.types «module».now
+        validator.old.trace infos.old «module».now.functions
+        validator.new.trace infos.new []) }
+    ensures refused { IfErr result (λ told. Stops (B.meaning validator.old.below) validator.old.settings validator.old.types «module».now
+        validator.old.trace infos.old «module».now.functions told) }
+    ensures kept { validator.new ≡ record validator.old { trace = validator.new.trace } }
+{
+    let count = module.functions.len() as u32;
+    for index in 0..count {
+        judge_function(alloc, validator, module, infos, Handle::new(index))?;
+    }
+    Ok(())
+}

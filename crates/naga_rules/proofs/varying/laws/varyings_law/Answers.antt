@@ -1,0 +1,11 @@
+use Rattle.naga_rules.proofs.Seeing.{leaves_the_next, points_are_by_position, sees_locations_alone}
+use Rattle.naga_rules.proofs.varying.laws.varyings_law.Goals as goal
+
+pub returns-clause-points : goal.returns-clause-points
+returns-clause-points c = points_are_by_position
+
+pub returns-clause-next : goal.returns-clause-next
+returns-clause-next c = leaves_the_next
+
+pub returns-clause-other : goal.returns-clause-other
+returns-clause-other c = sees_locations_alone

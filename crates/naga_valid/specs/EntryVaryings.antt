@@ -1,0 +1,136 @@
+-- The inputs and outputs of an entry point: its arguments are one group, its result is one, and the two outputs of a mesh are
+-- one together.
+use Rattle.std.specs.Prelude.{ℕ, ◌+◌, Bool, true, false, ◌&&◌, ◌==◌, List, [], ◌∷◌, ◌++◌, Option, None, Some, is_some, is_none, map, if◌then◌else◌}
+use Rattle.std.specs.List.{list_any}
+use Rattle.naga_below.specs.Bits.{IO_SHAREABLE}
+use Rattle.naga_below.specs.Points.{Point, within}
+use Rattle.naga_below.specs.TypeTests.{is_same_inner, it_is}
+use Rattle.naga_below.specs.Types.{inner_at}
+use Rattle.naga_below.specs.declared.ir.built_in.BuiltIn.{BuiltIn}
+use Rattle.naga_below.specs.declared.ir.built_in.BuiltIn.TheVariants.{Position, PointIndex, LineIndices, TriangleIndices}
+use Rattle.naga_below.specs.declared.ir.functions.FunctionArgument.{FunctionArgument}
+use Rattle.naga_below.specs.declared.ir.functions.FunctionResult.{FunctionResult}
+use Rattle.naga_below.specs.declared.ir.module.EntryPoint.{EntryPoint}
+use Rattle.naga_below.specs.declared.ir.module.ShaderStage.{ShaderStage}
+use Rattle.naga_below.specs.declared.ir.module.ShaderStage.TheVariants as stage
+use Rattle.naga_below.specs.declared.ir.types.ScalarKind.TheVariants as kind
+use Rattle.naga_below.specs.declared.ir.types.Type.{«Type» as IrType}
+use Rattle.naga_below.specs.declared.ir.types.TypeInner.{TypeInner}
+use Rattle.naga_below.specs.declared.ir.types.TypeInner.TheVariants as inner
+use Rattle.naga_below.specs.declared.ir.types.VectorSize.TheVariants.{Tri}
+use Rattle.naga_below.specs.declared.valid.info.FunctionInfo.{FunctionInfo}
+use Rattle.naga_below.specs.declared.valid.settings.Settings.{Settings}
+use Rattle.naga_below.specs.declared.valid.types.TypeInfo.{TypeInfo}
+use Rattle.naga_rules.specs.TypeInfos.{type_has}
+use Rattle.naga_rules.specs.VaryingFaults.{VaryingFault}
+use Rattle.naga_rules.specs.Varyings.{Item, Part, Placed, is_built_in, item_points, group_points, placed_parts, parts_of}
+use Rattle.naga_rules.specs.declared.varying.MeshOutputType.{MeshOutputType}
+use Rattle.naga_rules.specs.declared.varying.MeshOutputType.TheVariants.{Neither, VertexOutput, PrimitiveOutput}
+use Rattle.naga_rules.specs.declared.varying.VaryingPlace.{VaryingPlace}
+use Rattle.naga_valid.specs.EntryFaults.{EntryFault, OfArgument, OfResult, Other}
+use Rattle.naga_valid.specs.declared.interface.EntryPointError.TheVariants as fault
+
+-- a struct
+abbrev pub is_struct : TypeInner → Bool
+is_struct (inner.Struct members span) = true
+is_struct _ = false
+
+-- a vector of three u32
+abbrev pub is_three_counts : TypeInner → Bool
+is_three_counts i = is_same_inner i (inner.Vector Tri (record { kind = kind.Uint; width = 4 }))
+
+-- one of these parts is this built-in
+abbrev pub has_built_in : BuiltIn → List Part → Bool
+has_built_in b parts = list_any (is_built_in b) parts
+
+abbrev pub one_if : Bool → ℕ
+one_if b = if b then 1 else 0
+
+-- exactly one of the three built-ins of indices
+abbrev pub has_one_of_indices : List Part → Bool
+has_one_of_indices parts =
+    (one_if (has_built_in PointIndex parts) + (one_if (has_built_in LineIndices parts) + one_if (has_built_in TriangleIndices parts))) == 1
+
+-- what has to be among the outputs of a stage, where these are the parts of the result, if there is one
+abbrev pub returned_points : List IrType → ShaderStage → List Part → Option FunctionResult → List (Point EntryFault)
+returned_points types stage.Vertex parts declared = (has_built_in (Position false) parts, Other fault.MissingVertexOutputPosition) ∷ []
+returned_points types stage.Mesh parts declared = (is_none declared, Other fault.UnexpectedMeshShaderEntryResult) ∷ []
+returned_points types stage.Task parts None = (false, Other fault.WrongTaskShaderEntryResult) ∷ []
+returned_points types stage.Task parts (Some declared) =
+    (it_is is_three_counts (inner_at types declared.ty), Other fault.WrongTaskShaderEntryResult) ∷ []
+returned_points types _ parts declared = []
+
+module _ (settings : Settings) (types : List IrType) (infos : List TypeInfo) (ep : EntryPoint) where
+  -- where an input or an output of the entry point stands
+  abbrev pub place_of : Bool → MeshOutputType → VaryingPlace
+  place_of output mesh_output =
+      record {
+        stage = ep.stage;
+        output = output;
+        mesh_output = mesh_output;
+        has_task_payload = is_some ep.task_payload;
+        workgroup_size = ep.workgroup_size;
+        capabilities = settings.capabilities;
+        flags = settings.flags;
+      }
+
+  -- The arguments.
+
+  abbrev pub argument_item : FunctionArgument → Item
+  argument_item argument = record { place = place_of false Neither; ty = argument.ty; binding = argument.binding }
+
+  abbrev pub argument_points : List (Point EntryFault)
+  argument_points = group_points types infos OfArgument (map argument_item ep.function.arguments)
+
+  -- The result.
+
+  abbrev pub result_item : FunctionResult → Item
+  result_item declared = record { place = place_of true Neither; ty = declared.ty; binding = declared.binding }
+
+  abbrev pub result_items : Option FunctionResult → List Item
+  result_items None = []
+  result_items (Some declared) = result_item declared ∷ []
+
+  abbrev pub result_parts : Option FunctionResult → List Part
+  result_parts None = []
+  result_parts (Some declared) = parts_of types infos declared.ty declared.binding
+
+  abbrev pub result_points : List (Point EntryFault)
+  result_points =
+      group_points types infos (λ _ f. OfResult f) (result_items ep.function.result)
+      ++ returned_points types ep.stage (result_parts ep.function.result) ep.function.result
+
+  -- the two sources of a blend: a struct without binding that is shared between stages
+  abbrev pub are_blend_sources : Option FunctionResult → Bool
+  are_blend_sources None = false
+  are_blend_sources (Some declared) =
+      is_none declared.binding && (type_has infos declared.ty IO_SHAREABLE && it_is is_struct (inner_at types declared.ty))
+
+  -- an info that says so, where the result is that
+  abbrev pub with_blending : FunctionInfo → FunctionInfo
+  with_blending info = if are_blend_sources ep.function.result then record info { dual_source_blending = true } else info
+
+  -- The outputs of a mesh.
+
+  abbrev pub output_item : MeshOutputType → ℕ → Item
+  output_item which ty = record { place = place_of true which; ty = ty; binding = None }
+
+  -- an output behind these parts of its group: a struct, whose members may be put out, and something of all of them
+  abbrev pub output_points : MeshOutputType → List Placed → ℕ → List (Point EntryFault) → List (Point EntryFault)
+  output_points which earlier ty last =
+      (it_is is_struct (inner_at types ty), Other fault.InvalidMeshOutputType)
+      ∷ (within OfResult (item_points types infos earlier (output_item which ty)) ++ last)
+
+  -- the output of each vertex has a position
+  abbrev pub position_points : ℕ → List (Point EntryFault)
+  position_points ty = (has_built_in (Position false) (parts_of types infos ty None), Other fault.MissingVertexOutputPosition) ∷ []
+
+  -- that of each primitive has one built-in of indices
+  abbrev pub indices_points : ℕ → List (Point EntryFault)
+  indices_points ty = (has_one_of_indices (parts_of types infos ty None), Other fault.InvalidMeshPrimitiveOutputType) ∷ []
+
+  -- the vertex output, and then the primitive output; the two share locations
+  abbrev pub outputs_points : ℕ → ℕ → List (Point EntryFault)
+  outputs_points vertex primitive =
+      output_points VertexOutput [] vertex (position_points vertex)
+      ++ output_points PrimitiveOutput (placed_parts types infos (output_item VertexOutput vertex)) primitive (indices_points primitive)
