@@ -9,7 +9,7 @@ use naga_below::fits::function::fits_function;
 use naga_below::fits::types::fits_types;
 use naga_below::ir::expressions::Expression;
 use naga_below::ir::functions::{Function, LocalVariable};
-use naga_below::ir::module::{GlobalVariable, Module, SpecialTypes};
+use naga_below::ir::module::{GlobalVariable, Module};
 use naga_below::ir::statements::{Block, Located, Statement};
 use naga_below::ir::types::{Type, TypeInner};
 use naga_below::sequence::Sequence;
@@ -24,7 +24,7 @@ use std::alloc::{AllocError, Global};
 use std::process::Abort;
 
 /// Where nothing is.
-pub const NOWHERE: Span = Span { start: 0, end: 0 };
+pub const NOWHERE: Span = Span::UNDEFINED;
 
 /// Where statements are.
 pub const HERE: Span = Span { start: 3, end: 7 };
@@ -70,16 +70,11 @@ pub fn module_of(
     global_variables: Arena<GlobalVariable>,
     functions: Arena<Function>,
 ) -> Module {
-    Module {
-        types,
-        special_types: SpecialTypes { ray_desc: None },
-        constants: Arena::new(alloc),
-        overrides: Arena::new(alloc),
-        global_variables,
-        global_expressions: Arena::new(alloc),
-        functions,
-        entry_points: Sequence::new(alloc),
-    }
+    let mut module = Module::new(alloc);
+    module.types = types;
+    module.global_variables = global_variables;
+    module.functions = functions;
+    module
 }
 
 /// A function of these locals and expressions with this body, without arguments or result.
@@ -89,13 +84,11 @@ pub fn function_of(
     expressions: Arena<Expression>,
     list: Sequence<Located>,
 ) -> Function {
-    Function {
-        arguments: Sequence::new(alloc),
-        result: None,
-        local_variables,
-        expressions,
-        body: Block { list },
-    }
+    let mut fun = Function::new(alloc);
+    fun.local_variables = local_variables;
+    fun.expressions = expressions;
+    fun.body = Block { list };
+    fun
 }
 
 /// Puts a statement last.
@@ -110,11 +103,7 @@ pub fn add(
 
 /// No function and no global of a module is known.
 pub fn no_infos(alloc: Global) -> ModuleInfo {
-    ModuleInfo {
-        functions: Sequence::new(alloc),
-        entry_points: Sequence::new(alloc),
-        global_types: Sequence::new(alloc),
-    }
+    ModuleInfo::new(alloc)
 }
 
 /// A validator with all flags for this target, and with a good info for each type of a module.

@@ -49,18 +49,11 @@ fn gets(
     Ok(())
 }
 
-/// A body without statements.
-fn empty(alloc: Global) -> Block {
-    Block {
-        list: Sequence::new(alloc),
-    }
-}
-
 #[test]
 fn a_break_condition_is_at_its_loop(rt: HostRuntime) -> Result<(), Fail> {
     let around = Statement::Loop {
-        body: empty(rt.alloc()),
-        continuing: empty(rt.alloc()),
+        body: Block::new(rt.alloc()),
+        continuing: Block::new(rt.alloc()),
         break_if: Some(Handle::new(0)),
     };
     gets(
@@ -77,7 +70,7 @@ fn switch(alloc: Global, values: &[SwitchValue]) -> Result<Statement, AllocError
     for value in values {
         cases.push(SwitchCase {
             value: *value,
-            body: empty(alloc),
+            body: Block::new(alloc),
             fall_through: false,
         })?;
     }
