@@ -34,13 +34,13 @@ capability_points capabilities None = []
 capability_points capabilities (Some needed) = (has_capability capabilities needed, UnsupportedCapability needed) ∷ []
 
 -- what a binding array has
-abbrev pub array_base : Option TypeInner → Option ℕ
-array_base (Some (BindingArray base size)) = Some base
-array_base _ = None
+abbrev pub element_of : Option TypeInner → Option ℕ
+element_of (Some (BindingArray base size)) = Some base
+element_of _ = None
 
 -- the type that a space is asked about: what a binding array has, any other type itself
 abbrev pub asked_type : List IrType → ℕ → ℕ
-asked_type types ty = unwrap_or (array_base (inner_at types ty)) ty
+asked_type types ty = unwrap_or (element_of (inner_at types ty)) ty
 
 -- a binding array, with what it has
 abbrev pub array_points : Capabilities → List IrType → AddressSpace → Option ℕ → GlobalPoints
@@ -104,7 +104,7 @@ space_points flags capabilities space ty info =
 -- the type of a variable: whether it is a binding array that may lie in the space; then the type that the space is asked about
 abbrev pub type_points : List IrType → List TypeInfo → ValidationFlags → Capabilities → AddressSpace → ℕ → GlobalPoints
 type_points types infos flags capabilities space ty =
-    array_points capabilities types space (array_base (inner_at types ty))
+    array_points capabilities types space (element_of (inner_at types ty))
     ++ space_points flags capabilities space (inner_at types (asked_type types ty)) (slice_get infos (asked_type types ty))
 
 -- a binding is there exactly where it has to be
