@@ -5,7 +5,7 @@ ghost use Rattle.std.specs.Result.{result_err};
 ghost use Rattle.naga_below.specs.Points.{first_fault};
 ghost use Rattle.naga_below.specs.Types.{NameEachOther, ResolutionFits, inner_at};
 ghost use Rattle.naga_rules.specs.Globals.{global_points, array_points, element_of, asked_type, capability_points, good_layout_points, immediate_points, resource_points, place_points, space_points, type_points, decoration_points, variable_points, global_initializer_points};
-ghost use Rattle.naga_rules.specs.Spaces.{row_of, resource_array_needs, format_needs, is_resource, is_16bit_norm};
+ghost use Rattle.naga_rules.specs.Spaces.{row_of, resource_array_needs, is_16bit_norm};
 
 use crate::interface::GlobalVariableError;
 use bitflags::Flags;
