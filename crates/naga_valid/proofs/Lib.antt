@@ -32,4 +32,4 @@ pub mod ExpressionSteps
 pub mod Chains
 pub mod GlobalFits
 pub mod EntrySteps
-pub mod EntryLaw
+pub mod EntryChains

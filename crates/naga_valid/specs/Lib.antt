@@ -64,4 +64,4 @@ pub mod EntryFaults
 pub mod EntryVaryings
 pub mod EntryMesh
 pub mod EntryJudged
-pub mod EntryLaw
+pub mod EntryChains

@@ -1,4 +1,4 @@
--- What is known of every entry point that the judgement accepts: its function is accepted, and may run at its stage.
+-- What an accepted entry point keeps to through chains of calls: its stage; and that runs of its body are sound.
 use Rattle.std.specs.Prelude.{◌≡◌, true, List, Ok}
 use Rattle.naga_below.specs.declared.ir.module.EntryPoint.{EntryPoint}
 use Rattle.naga_below.specs.declared.ir.module.Module.{Module}

@@ -23,7 +23,7 @@ use Rattle.naga_rules.specs.declared.function.FunctionError.{FunctionError}
 use Rattle.naga_valid.specs.Accepted.{AreAmong}
 use Rattle.naga_valid.specs.EntryFaults.{EntryFault, fault_of}
 use Rattle.naga_valid.specs.EntryJudged.{of_function, used_points, interface_points, outcome_of, interface_step, entry_judgement}
-use Rattle.naga_valid.specs.EntryLaw.{AcceptedEntryIsSound, AcceptedEntryKeepsItsStage}
+use Rattle.naga_valid.specs.EntryChains.{AcceptedEntryIsSound, AcceptedEntryKeepsItsStage}
 use Rattle.naga_valid.specs.EntryGlobals.{globals_points}
 use Rattle.naga_valid.specs.EntryMesh.{mesh_points}
 use Rattle.naga_valid.specs.EntryStart.{start_points}
