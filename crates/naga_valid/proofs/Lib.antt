@@ -29,3 +29,4 @@ pub mod FunctionSteps
 pub mod Each
 pub mod ExpressionSteps
 pub mod EntrySteps
+pub mod EntryGlobals
