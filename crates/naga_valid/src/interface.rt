@@ -7,6 +7,7 @@ pub(crate) mod answers;
 pub(crate) mod bindings;
 mod clones;
 pub(crate) mod globals;
+pub(crate) mod mesh;
 pub(crate) mod start;
 mod texts;
 pub(crate) mod uses;

@@ -6,6 +6,7 @@ ghost use Rattle.naga_valid.specs.Parts.{Parts, infos_given, first_settings, no_
 mod expressions;
 mod globals;
 mod judge;
+mod mesh;
 mod whole;
 
 use crate::trace::{TraceRayVertexReturnState, TraceState};
