@@ -89,31 +89,31 @@ u32 = record { kind = kind.Uint; width = 4 }
 abbrev pub f32 : Scalar
 f32 = record { kind = kind.Float; width = 4 }
 
-abbrev bool : BuiltInType
+abbrev pub bool : BuiltInType
 bool = Inner (inner.Scalar (record { kind = kind.Bool; width = 1 }))
 
-abbrev uint : BuiltInType
+abbrev pub uint : BuiltInType
 uint = Inner (inner.Scalar u32)
 
-abbrev uint2 : BuiltInType
+abbrev pub uint2 : BuiltInType
 uint2 = Inner (inner.Vector Bi u32)
 
-abbrev uint3 : BuiltInType
+abbrev pub uint3 : BuiltInType
 uint3 = Inner (inner.Vector Tri u32)
 
-abbrev float : BuiltInType
+abbrev pub float : BuiltInType
 float = Inner (inner.Scalar f32)
 
-abbrev float2 : BuiltInType
+abbrev pub float2 : BuiltInType
 float2 = Inner (inner.Vector Bi f32)
 
-abbrev float3 : BuiltInType
+abbrev pub float3 : BuiltInType
 float3 = Inner (inner.Vector Tri f32)
 
-abbrev float4 : BuiltInType
+abbrev pub float4 : BuiltInType
 float4 = Inner (inner.Vector Quad f32)
 
-abbrev float4x3 : BuiltInType
+abbrev pub float4x3 : BuiltInType
 float4x3 = Inner (inner.Matrix Quad Tri f32)
 
 -- the 49 built-ins, with `invariant` and `perspective` cleared

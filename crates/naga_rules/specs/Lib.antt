@@ -5,8 +5,10 @@ pub mod TypeInfos
 pub mod Locals
 pub mod AllowedUses
 pub mod BuiltIns
+pub mod CodeBuiltIns
 pub mod Seen
 pub mod Locations
 pub mod VaryingFaults
 pub mod Varyings
+pub mod CodeVaryings
 pub use Rattle.naga_below.specs.Types

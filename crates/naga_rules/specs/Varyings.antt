@@ -80,15 +80,25 @@ abbrev pub parts_of : List IrType → List TypeInfo → ℕ → Option Binding �
 parts_of types infos ty (Some given) = Bound ty given ∷ []
 parts_of types infos ty None = unbound_parts (type_has infos ty IO_SHAREABLE) (inner_at types ty)
 
+-- what is bound has this location
+abbrev pub is_bound_at : ℕ → Binding → Bool
+is_bound_at location (binding.BuiltIn b) = false
+is_bound_at location (binding.Location l interpolation sampling blend_src per_primitive) = location == l
+
+-- what is bound is this built-in, once `invariant` and `perspective` are cleared
+abbrev pub is_bound_to : BuiltIn → Binding → Bool
+is_bound_to b (binding.BuiltIn given) = is_same_built_in b (canonical given)
+is_bound_to b (binding.Location l interpolation sampling blend_src per_primitive) = false
+
 -- a part has this location
 abbrev pub is_at : ℕ → Part → Bool
-is_at location (Bound ty (binding.Location l interpolation sampling blend_src per_primitive)) = location == l
+is_at location (Bound ty given) = is_bound_at location given
 is_at location BlendSources = location == 0
 is_at location _ = false
 
--- a part is this built-in, once `invariant` and `perspective` are cleared
+-- a part is this built-in
 abbrev pub is_built_in : BuiltIn → Part → Bool
-is_built_in b (Bound ty (binding.BuiltIn given)) = is_same_built_in b (canonical given)
+is_built_in b (Bound ty given) = is_bound_to b given
 is_built_in b _ = false
 
 -- SubgroupId and SubgroupInvocationId are for work groups of one dimension
@@ -214,6 +224,9 @@ module _ (types : List IrType) (infos : List TypeInfo) where
 
 -- The judgement from a state.
 
+abbrev pub nothing_seen : Seen
+nothing_seen = record { locations = λ location. false; built_ins = λ b. false }
+
 -- what a state has seen
 abbrev pub seen_in : VaryingState → Seen
 seen_in state =
@@ -249,7 +262,7 @@ module _ (place : VaryingPlace) (types : List IrType) (infos : List TypeInfo) wh
 
 -- nothing is seen behind no part
 abbrev pub StartsEmpty : Type 0
-StartsEmpty = (place : VaryingPlace) → seen_at place [] ≡ record { locations = λ location. false; built_ins = λ b. false }
+StartsEmpty = (place : VaryingPlace) → seen_at place [] ≡ nothing_seen
 
 -- behind a state that has seen what is seen by position, the points are those by position
 abbrev pub PointsAreByPosition : Type 0
