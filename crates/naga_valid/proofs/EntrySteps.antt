@@ -7,9 +7,13 @@ use Rattle.naga_below.proofs.Points.{first_of_both, first_within, first_turn, fi
 use Rattle.naga_below.specs.Points.{Point, first_fault, points_from, within}
 use Rattle.naga_below.specs.declared.span.Refusal.{Refusal}
 use Rattle.naga_below.specs.declared.span.Refusal.TheVariants as refusal
-use Rattle.naga_valid.specs.EntryFaults.{EntryFault, fault_of, Judges}
+use Rattle.naga_rules.specs.VaryingFaults.{VaryingFault}
+use Rattle.naga_rules.specs.VaryingFaults as varying
+use Rattle.naga_rules.specs.declared.interface.VaryingError.{VaryingError}
+use Rattle.naga_valid.specs.EntryFaults.{EntryFault, OfArgument, OfResult, fault_of, Judges}
 use Rattle.naga_valid.specs.EntryPoints.{EntryPoints, Meets, IsForFirst}
 use Rattle.naga_valid.specs.declared.interface.EntryPointError.{EntryPointError}
+use Rattle.naga_valid.specs.declared.interface.EntryPointError.TheVariants as fault
 use Rattle.naga_valid.proofs.Refusals.{fault_first, fault_second}
 
 pub ruleset finding = (fault_first, fault_second)
@@ -68,3 +72,12 @@ module _ {A : Type 0} (points : ℕ → A → EntryPoints) (xs : List A) (i : �
   pub each_has_ended : length xs ≤ i → first_fault (points_from points i (drop i xs)) ≡ first_fault (points_from points 0 xs) →
       first_fault (points_from points 0 xs) ≡ None
   each_has_ended le left = sym left ∙ first_end points xs i le
+
+-- a fault of an input or an output, as one of the entry point
+pub argument_fault : (index : ℕ) (points : List (Point VaryingFault)) (error : VaryingError) → first_fault points ≡ Some (varying.fault_of error) →
+    first_fault (within (OfArgument index) points) ≡ Some (fault_of (fault.Argument index error))
+argument_fault index points error h = first_within (OfArgument index) points ∙ ap (option_map (OfArgument index)) h
+
+pub result_fault : (points : List (Point VaryingFault)) (error : VaryingError) → first_fault points ≡ Some (varying.fault_of error) →
+    first_fault (within OfResult points) ≡ Some (fault_of (fault.Result error))
+result_fault points error h = first_within OfResult points ∙ ap (option_map OfResult) h

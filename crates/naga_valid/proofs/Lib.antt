@@ -30,3 +30,7 @@ pub mod Each
 pub mod ExpressionSteps
 pub mod EntrySteps
 pub mod EntryGlobals
+pub mod EntryUses
+pub mod EntryJudgement
+pub mod Groups
+pub mod EntryAccepted

@@ -43,6 +43,7 @@ pub mod EntryStart
 pub mod EntryUses
 pub mod EntryGlobals
 pub mod CodeBindings
+pub mod CodeGroups
 pub mod EntryFaults
 pub mod EntryVaryings
 pub mod EntryMesh

@@ -11,6 +11,7 @@ pub(crate) mod mesh;
 pub(crate) mod start;
 mod texts;
 pub(crate) mod uses;
+pub(crate) mod varyings;
 
 use naga_below::arena::handle::Handle;
 use naga_below::arena::tag;
