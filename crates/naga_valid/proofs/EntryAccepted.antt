@@ -1,5 +1,5 @@
 -- What is known of an accepted entry point.
-use Rattle.std.proofs.Common.{◌≡◌, ℕ, Bool, true, false, List, Option, None, Some, Result, Ok, Err, refl, sym, ap, ◌∙◌, subst}
+use Rattle.std.proofs.Common.{◌≡◌, ℕ, Bool, true, false, List, Option, None, Some, Result, Ok, Err, refl, ◌∙◌}
 use Rattle.std.specs.Prelude.{if◌then◌else◌}
 use Rattle.naga_below.specs.Bits.{READ, WRITE}
 use Rattle.naga_below.specs.Points.{first_fault, answer, and_then, within}
@@ -9,7 +9,6 @@ use Rattle.naga_below.specs.declared.ir.module.Module.{Module}
 use Rattle.naga_below.specs.declared.ir.module.ShaderStage.{ShaderStage}
 use Rattle.naga_below.specs.declared.ir.module.ShaderStage.TheVariants as stage
 use Rattle.naga_below.specs.declared.valid.flags.GlobalUse.{GlobalUse}
-use Rattle.naga_below.specs.declared.valid.flags.ShaderStages.{ShaderStages}
 use Rattle.naga_below.specs.declared.valid.info.FunctionInfo.{FunctionInfo}
 use Rattle.naga_below.specs.declared.valid.info.ModuleInfo.{ModuleInfo}
 use Rattle.naga_below.specs.declared.valid.settings.Settings.{Settings}
@@ -21,7 +20,7 @@ use Rattle.naga_valid.specs.EntryFaults.{EntryFault, fault_of}
 use Rattle.naga_valid.specs.EntryJudged.{entry_judgement, of_function, interface_points, interface_step, outcome_of}
 use Rattle.naga_valid.specs.EntryStart.{start_points}
 use Rattle.naga_valid.specs.EntryUses.{with_use_of, output_variable_of, with_own_uses, with_uses_at}
-use Rattle.naga_valid.specs.EntryVaryings.{are_blend_sources, with_blending}
+use Rattle.naga_valid.specs.EntryVaryings.{are_blend_sources}
 use Rattle.naga_valid.specs.Judged.{FunctionOutcome, function_judgement}
 use Rattle.naga_valid.specs.declared.trace.TraceState.{TraceState}
 

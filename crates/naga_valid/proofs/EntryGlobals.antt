@@ -1,5 +1,5 @@
 -- The points of a global that is used, as the code checks them.
-use Rattle.std.proofs.Common.{◌≡◌, ℕ, ◌==◌, Bool, false, List, [], Option, None, Some, Ok, Err, Result, slice_get, sym, ap, ◌∙◌}
+use Rattle.std.proofs.Common.{◌≡◌, ℕ, ◌==◌, false, List, [], None, Some, Result, slice_get, sym, ap, ◌∙◌}
 use Rattle.std.specs.Prelude.{IsErr, if◌then◌else◌}
 use Rattle.std.specs.Result.{result_err}
 use Rattle.naga_below.specs.Points.{first_fault}

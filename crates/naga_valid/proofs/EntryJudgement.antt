@@ -1,9 +1,9 @@
 -- The steps of an entry point's judgement, as the code takes them.
-use Rattle.std.proofs.Common.{◌≡◌, Bool, true, List, Option, None, Some, Result, Ok, Err, ◌++◌, refl, sym, ap, ◌∙◌, subst}
+use Rattle.std.proofs.Common.{◌≡◌, true, List, None, Some, Result, Ok, Err, sym, ap, ◌∙◌}
 use Rattle.std.specs.Option.{option_map}
 use Rattle.std.specs.Prelude.{IsErr}
 use Rattle.naga_below.proofs.Points.{first_within}
-use Rattle.naga_below.specs.Points.{Point, first_fault, answer, and_then, within}
+use Rattle.naga_below.specs.Points.{Point, first_fault, answer, and_then}
 use Rattle.naga_below.specs.declared.ir.module.EntryPoint.{EntryPoint}
 use Rattle.naga_below.specs.declared.ir.module.Module.{Module}
 use Rattle.naga_below.specs.declared.span.Refusal.{Refusal}

@@ -1,8 +1,7 @@
 -- What an answer says of an entry point's points that stand one behind another.
-use Rattle.std.proofs.Common.{◌≡◌, ℕ, ◌+◌, ◌<◌, ◌≤◌, List, Option, None, Some, Ok, Err, Result, ◌++◌, length, drop, get_or, sym, ap, ◌∙◌}
+use Rattle.std.proofs.Common.{◌≡◌, ℕ, ◌+◌, ◌<◌, ◌≤◌, List, None, Some, Ok, Err, Result, ◌++◌, length, drop, get_or, sym, ap, ◌∙◌}
 use Rattle.std.specs.Prelude.{IsErr}
 use Rattle.std.specs.Option.{option_map, option_or}
-use Rattle.std.specs.Result.{result_err}
 use Rattle.naga_below.proofs.Points.{first_of_both, first_within, first_turn, first_end}
 use Rattle.naga_below.specs.Points.{Point, first_fault, points_from, within}
 use Rattle.naga_below.specs.declared.span.Refusal.{Refusal}
@@ -11,7 +10,7 @@ use Rattle.naga_rules.specs.VaryingFaults.{VaryingFault}
 use Rattle.naga_rules.specs.VaryingFaults as varying
 use Rattle.naga_rules.specs.declared.interface.VaryingError.{VaryingError}
 use Rattle.naga_valid.specs.EntryFaults.{EntryFault, OfArgument, OfResult, fault_of, Judges}
-use Rattle.naga_valid.specs.EntryPoints.{EntryPoints, Meets, IsForFirst}
+use Rattle.naga_valid.specs.EntryPoints.{EntryPoints, Meets}
 use Rattle.naga_valid.specs.declared.interface.EntryPointError.{EntryPointError}
 use Rattle.naga_valid.specs.declared.interface.EntryPointError.TheVariants as fault
 use Rattle.naga_valid.proofs.Refusals.{fault_first, fault_second}

@@ -1,6 +1,5 @@
 -- What is known of an accepted function has one use for each global of the module.
-use Rattle.std.proofs.Common.{◌≡◌, Bool, true, false, List, [], Option, None, Some, Result, Ok, Err, length, refl, sym, ap, ◌∙◌}
-use Rattle.std.specs.Prelude.{if◌then◌else◌}
+use Rattle.std.proofs.Common.{◌≡◌, Bool, List, Option, None, Some, Result, Ok, Err, length, refl, sym, ap, ◌∙◌}
 use Rattle.naga_below.specs.Points.{first_fault, answer, and_then}
 use Rattle.naga_below.specs.declared.ir.functions.Function.{Function}
 use Rattle.naga_below.specs.declared.ir.module.Module.{Module}

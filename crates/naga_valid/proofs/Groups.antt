@@ -1,5 +1,5 @@
 -- The points of a group, item by item.
-use Rattle.std.proofs.Common.{◌≡◌, ℕ, suc, ◌+◌, ◌<◌, ◌≤◌, List, [], ◌∷◌, ◌++◌, Option, None, Some, Result, Ok, Err, length, take, drop, get_or, refl, sym, ap, ◌∙◌, arith, append-nil, append_assoc}
+use Rattle.std.proofs.Common.{◌≡◌, ℕ, suc, ◌+◌, ◌<◌, ◌≤◌, List, [], ◌∷◌, ◌++◌, Option, None, Some, Result, Ok, Err, length, take, drop, get_or, sym, ap, ◌∙◌, arith, append-nil, append_assoc}
 use Rattle.std.proofs.lemmas.List.{at_drop_more, at_drop_all, take_more}
 use Rattle.std.specs.Option.{option_map, option_or}
 use Rattle.std.specs.Prelude.{Bool, true, false, IsErr, if◌then◌else◌}
@@ -22,7 +22,7 @@ use Rattle.naga_rules.specs.declared.varying.MeshOutputType.{MeshOutputType}
 use Rattle.naga_rules.specs.declared.varying.VaryingPlace.{VaryingPlace}
 use Rattle.naga_valid.specs.CodeGroups.{parts_of_all}
 use Rattle.naga_valid.specs.EntryFaults.{EntryFault, OfResult, Other, Judges}
-use Rattle.naga_valid.specs.EntryVaryings.{is_struct, output_item, output_points, place_of}
+use Rattle.naga_valid.specs.EntryVaryings.{is_struct, output_points, place_of}
 use Rattle.naga_valid.specs.declared.interface.EntryPointError.{EntryPointError}
 use Rattle.naga_valid.specs.declared.interface.EntryPointError.TheVariants as fault
 

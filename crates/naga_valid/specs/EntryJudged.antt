@@ -1,5 +1,5 @@
 -- The judgement of an entry point: a chain of steps, of which that of its function is one.
-use Rattle.std.specs.Prelude.{◌≡◌, Bool, true, List, ◌++◌, Result, Ok, Err, None, All, IsSome}
+use Rattle.std.specs.Prelude.{◌≡◌, true, List, ◌++◌, Result, Ok, Err, None, All, IsSome}
 use Rattle.naga_below.specs.Points.{Point, first_fault, answer, and_then, within}
 use Rattle.naga_below.specs.declared.ir.module.EntryPoint.{EntryPoint}
 use Rattle.naga_below.specs.declared.ir.module.Module.{Module}

@@ -1,6 +1,6 @@
 -- The inputs and outputs of an entry point: its arguments are one group, its result is one, and the two outputs of a mesh are
 -- one together.
-use Rattle.std.specs.Prelude.{ℕ, ◌+◌, Bool, true, false, ◌&&◌, ◌==◌, List, [], ◌∷◌, ◌++◌, Option, None, Some, is_some, is_none, map, if◌then◌else◌}
+use Rattle.std.specs.Prelude.{ℕ, Bool, true, false, ◌&&◌, List, [], ◌∷◌, ◌++◌, Option, None, Some, is_some, is_none, map, if◌then◌else◌}
 use Rattle.std.specs.List.{list_any}
 use Rattle.naga_below.specs.Bits.{IO_SHAREABLE}
 use Rattle.naga_below.specs.Points.{Point, within}
@@ -22,7 +22,6 @@ use Rattle.naga_below.specs.declared.valid.info.FunctionInfo.{FunctionInfo}
 use Rattle.naga_below.specs.declared.valid.settings.Settings.{Settings}
 use Rattle.naga_below.specs.declared.valid.types.TypeInfo.{TypeInfo}
 use Rattle.naga_rules.specs.TypeInfos.{type_has}
-use Rattle.naga_rules.specs.VaryingFaults.{VaryingFault}
 use Rattle.naga_rules.specs.Varyings.{Item, Part, Placed, is_built_in, item_points, group_points, placed_parts, parts_of}
 use Rattle.naga_rules.specs.declared.varying.MeshOutputType.{MeshOutputType}
 use Rattle.naga_rules.specs.declared.varying.MeshOutputType.TheVariants.{Neither, VertexOutput, PrimitiveOutput}

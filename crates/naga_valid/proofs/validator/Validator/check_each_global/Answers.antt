@@ -1,4 +1,4 @@
-use Rattle.std.proofs.Common.{rules, ◌≡◌, get_or, subst, None}
+use Rattle.std.proofs.Common.{rules, ◌≡◌, subst, None}
 use Rattle.naga_below.specs.Points.{first_fault, points_of_each}
 use Rattle.naga_valid.specs.EntryGlobals.{global_points}
 use Rattle.naga_valid.specs.EntryPoints.{Meets}

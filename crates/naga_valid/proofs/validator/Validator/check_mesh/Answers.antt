@@ -1,4 +1,4 @@
-use Rattle.std.proofs.Common.{rules, Some, ◌++◌, sym, subst}
+use Rattle.std.proofs.Common.{rules, ◌++◌, sym, subst}
 use Rattle.naga_below.specs.Points.{within}
 use Rattle.naga_valid.specs.EntryFaults.{fault_of, Judges}
 use Rattle.naga_valid.specs.EntryMesh.{variable_points, said_points, mesh_points}

@@ -1,4 +1,4 @@
-use Rattle.std.proofs.Common.{rules, ◌≡◌, ◌∙◌, false, Bool, subst}
+use Rattle.std.proofs.Common.{rules, ◌∙◌, false, Bool, subst}
 use Rattle.naga_below.specs.Points.{within}
 use Rattle.naga_below.specs.declared.ir.built_in.BuiltIn.TheVariants.{Position}
 use Rattle.naga_valid.specs.CodeAnswers.{Finds}
