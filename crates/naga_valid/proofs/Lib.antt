@@ -23,6 +23,7 @@ pub mod Own
 pub mod PreEmitted
 pub mod Judged
 pub mod Accepted
+pub mod Shapes
 pub mod Guarded
 pub mod FunctionLaw
 pub mod FunctionSteps
@@ -34,3 +35,5 @@ pub mod EntryUses
 pub mod EntryJudgement
 pub mod Groups
 pub mod EntryAccepted
+pub mod Chains
+pub mod GlobalFits

@@ -7,6 +7,7 @@ mod entry;
 mod entry_point;
 mod expressions;
 mod globals;
+mod global;
 mod judge;
 mod mesh;
 mod varyings;
