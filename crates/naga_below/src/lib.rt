@@ -13,3 +13,44 @@ pub mod span;
 #[cfg(test)]
 mod tests;
 pub mod valid;
+
+pub use crate::arena::handle::{Handle, Tagged};
+pub use crate::arena::range::Range;
+pub use crate::arena::unique_arena::{Identical, UniqueArena};
+pub use crate::arena::{Arena, tag};
+pub use crate::duplicate::Duplicate;
+pub use crate::fits::entry::fits_entry;
+pub use crate::fits::function::fits_function;
+pub use crate::fits::globals::fits_globals;
+pub use crate::fits::types::fits_types;
+pub use crate::ir::built_in::BuiltIn;
+pub use crate::ir::expressions::{Expression, Literal, Operands};
+pub use crate::ir::flags::{Barrier, MemoryDecorations, StorageAccess};
+pub use crate::ir::functions::{Function, FunctionArgument, FunctionResult, LocalVariable};
+pub use crate::ir::module::{
+    Constant, EarlyDepthTest, EntryPoint, GlobalVariable, MeshOutputTopology, MeshStageInfo,
+    Module, Override, ResourceBinding, ShaderStage, SpecialTypes,
+};
+pub use crate::ir::name::{Name, clone_name};
+pub use crate::ir::operations::{
+    AtomicFunction, CollectiveOperation, CooperativeData, GatherMode, RayPipelineFunction,
+    RayQueryFunction, SubgroupOperation,
+};
+pub use crate::ir::statements::{Block, Located, Statement, SwitchCase, SwitchValue};
+pub use crate::ir::types::{
+    AddressSpace, ArraySize, Binding, ImageClass, ImageDimension, Interpolation, Members, Sampling,
+    Scalar, ScalarKind, StorageFormat, StructMember, Type, TypeInner, VectorSize,
+};
+pub use crate::proc::expression_kinds::{ExpressionKind, ExpressionKindTracker};
+pub use crate::proc::type_methods::{compare_types, type_tests_law};
+pub use crate::proc::typifier::TypeResolution;
+pub use crate::sequence::Sequence;
+pub use crate::span::{Refusal, Span, WithSpan};
+pub use crate::valid::capabilities::Capabilities;
+pub use crate::valid::expression_error::ExpressionError;
+pub use crate::valid::flags::{
+    GlobalUse, ShaderStages, SubgroupOperationSet, TypeFlags, ValidationFlags,
+};
+pub use crate::valid::info::{FunctionInfo, ModuleInfo};
+pub use crate::valid::settings::Settings;
+pub use crate::valid::types::{Disalignment, ImmediateError, TypeInfo};

@@ -1,15 +1,10 @@
 -- The empty sets of bits that this crate speaks of.
 use Rattle.naga_below.specs.declared.ir.flags.Barrier.{Barrier}
-use Rattle.naga_below.specs.declared.valid.flags.GlobalUse.{GlobalUse}
 use Rattle.naga_below.specs.declared.valid.flags.ShaderStages.{ShaderStages}
 
 -- no memory is ordered
 abbrev pub NO_MEMORY : Barrier
 NO_MEMORY = record { 0 = 0 }
-
--- a global is not used
-abbrev pub NO_USE : GlobalUse
-NO_USE = record { 0 = 0 }
 
 -- no stage
 abbrev pub NO_STAGE : ShaderStages

@@ -19,8 +19,8 @@ use Rattle.naga_check.specs.EmptySets.{NO_STAGE}
 use Rattle.naga_check.specs.BenchModule.{bench_module}
 use Rattle.naga_check.specs.Notation.Blocks.{block_of}
 use Rattle.naga_check.specs.Notation.Case.{Case}
-use Rattle.naga_check.specs.Plain.Meaning.{plain_meaning, plain_layer}
-use Rattle.naga_check.specs.declared.plain.Plain.{Plain}
+use Rattle.naga_module.specs.Plain.Meaning.{plain_meaning, plain_layer}
+use Rattle.naga_module.specs.declared.plain.Plain.{Plain}
 
 -- the bits of these flags, where they are on
 abbrev pub bits_if : Bool → ValidationFlags → ℕ

@@ -2,7 +2,6 @@ pub mod EmptySets
 pub mod Bench
 pub mod BenchModule
 pub mod Notation
-pub mod Plain
 pub mod Judged
 pub mod Ready
 pub mod Faults

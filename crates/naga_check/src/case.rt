@@ -7,7 +7,6 @@ ghost use Rattle.naga_rules.specs.Answers.{Answers};
 ghost use Rattle.naga_valid.specs.Judged.{AnswersTracing};
 ghost use Rattle.naga_valid.specs.Parts.{AreInfosOf, no_traces};
 ghost use Rattle.naga_check.specs.Judged.{flags_of, settings_with, bench_infos, parts_with, plain_judgement, no_infos, judgement_of, module_judgement, stages_of_last};
-ghost use Rattle.naga_check.specs.Plain.Meaning.{plain_layer};
 ghost use Rattle.naga_check.specs.Ready.{IsReady};
 ghost use Rattle.naga_check.specs.Line.{Replies, Writes};
 ghost use Rattle.naga_check.specs.Notation.Case.{HoldsBlock, case_of};
@@ -16,19 +15,17 @@ ghost use Rattle.naga_check.specs.Notation.Sayable.{IsSayable};
 use crate::bench_module::bench_module;
 use crate::line::Reply;
 use crate::notation::{Case, MOST_BYTES, ReadError, read_case};
-use crate::plain::Plain;
 use bitflags::Flags;
-use naga_below::arena::handle::Handle;
 use naga_below::ir::functions::Function;
-use naga_below::ir::module::{MeshOutputTopology, MeshStageInfo, Module};
+use naga_below::ir::module::Module;
 use naga_below::sequence::Sequence;
 use naga_below::span::Refusal;
 use naga_below::valid::capabilities::Capabilities;
 use naga_below::valid::flags::{ShaderStages, SubgroupOperationSet, TypeFlags, ValidationFlags};
 use naga_below::valid::info::{FunctionInfo, ModuleInfo};
 use naga_below::valid::types::TypeInfo;
+use naga_module::plain::Plain;
 use naga_rules::function::FunctionError;
-use naga_rules::mesh::MeshAnalysis;
 use naga_valid::validator::Validator;
 use std::alloc::{AllocError, Global};
 use std::io;
@@ -48,30 +45,8 @@ fn flags_of(expressions: bool, blocks: bool) -> ValidationFlags
     flags
 }
 
-/// The plain layer. No bench has a mesh shader, so its analysis is one of nothing.
-pub fn plain() -> Plain
-    ensures { result ≡ plain_layer }
-{
-    Plain {
-        analysis: MeshAnalysis {
-            implied: MeshStageInfo {
-                topology: MeshOutputTopology::Points,
-                max_vertices: 0,
-                max_vertices_override: None,
-                max_primitives: 0,
-                max_primitives_override: None,
-                vertex_output_type: Handle::new(0),
-                primitive_output_type: Handle::new(0),
-                output_variable: Handle::new(0),
-            },
-            overrides: [None, None],
-            fault: None,
-        },
-    }
-}
-
 /// What is known of a type that can be used for everything, and whose layouts are good.
-pub const GOOD: TypeInfo = TypeInfo {
+const GOOD: TypeInfo = TypeInfo {
     flags: TypeFlags::ALL,
     storage_layout: Ok(4),
     uniform_layout: Ok(4),
@@ -84,7 +59,11 @@ fn validator_with(alloc: Global, flags: ValidationFlags) -> Result<Validator<Pla
     ensures { IfOk result (λ made. made ≡ parts_with (settings_with flags) no_traces) }
 {
     let infos = vec![in alloc; GOOD, GOOD, GOOD]?;
-    let mut validator = Validator::new(plain(), flags, Capabilities::ALL).with_types(infos);
+    let mut validator = Validator::new(
+        Plain::without_mesh_shaders(),
+        flags,
+        Capabilities::ALL,
+    ).with_types(infos);
     validator.subgroup_stages(ShaderStages::ALL);
     validator.subgroup_operations(SubgroupOperationSet::ALL);
     Ok(validator)

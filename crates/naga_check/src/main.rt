@@ -7,7 +7,6 @@ mod case;
 mod faults;
 mod line;
 mod notation;
-mod plain;
 #[cfg(test)]
 mod tests;
 

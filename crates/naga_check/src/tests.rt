@@ -1,15 +1,5 @@
 //! Whole runs of the program.
 
-mod atomics;
-mod bodies;
-mod declarations;
-mod places;
-mod plain;
-mod rays;
-mod settings;
-mod stores;
-mod subgroups;
-
 use crate::case::run_case;
 use std::alloc::Global;
 use std::io;

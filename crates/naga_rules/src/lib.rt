@@ -5,9 +5,24 @@
 pub mod analyzer;
 pub mod below;
 pub mod function;
+pub mod global;
 pub mod interface;
 pub mod local;
 pub mod mesh;
 #[cfg(test)]
 mod tests;
 pub mod varying;
+
+pub use crate::analyzer::{UniformityDisruptor, UniformityRequirements};
+pub use crate::below::Below;
+pub use crate::function::{
+    AtomicError, CallError, FunctionError, LocalVariableError, SubgroupError,
+};
+pub use crate::global::check_global;
+pub use crate::interface::{GlobalVariableError, VaryingError};
+pub use crate::local::check_local;
+pub use crate::mesh::{MeshAnalysis, MeshFault};
+pub use crate::varying::item::check_varying_item;
+pub use crate::varying::laws::varyings_law;
+pub use crate::varying::rule::{BuiltInRule, BuiltInType, builtin_rule};
+pub use crate::varying::{MeshOutputType, VaryingPlace, VaryingState};

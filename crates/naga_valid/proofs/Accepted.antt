@@ -114,7 +114,7 @@ module _ (context : Context) (some : ShaderStages) where
       )
 
 -- the nodes of the visits are what stands at the positions
-nodes_are : (pre : Handles) (b : Body) (ps : List Position) → map (λ v. v.node) (map (visit_at pre b) ps) ≡ map (node_at b) ps
+pub nodes_are : (pre : Handles) (b : Body) (ps : List Position) → map (λ v. v.node) (map (visit_at pre b) ps) ≡ map (node_at b) ps
 nodes_are pre b [] = refl
 nodes_are pre b (p ∷ ps) = ap (λ l. node_at b p ∷ l) (nodes_are pre b ps)
 
@@ -268,7 +268,7 @@ must_be true false p q = cc
 must_be false b p q = cc
 
 module _ (context : Context) (visits : List Visit) (is : body_judgement context ≡ Ok visits) where
-  all_visits : visits ≡ visits_of (pre_emitted context) (body_of context.fun)
+  pub all_visits : visits ≡ visits_of (pre_emitted context) (body_of context.fun)
   unfolding body_judgement
   all_visits =
       earlier_is_all (λ earlier v. points_at context (past_of context earlier) v.place v.node) visits (pre_emitted context) (body_of context.fun) is
@@ -286,7 +286,7 @@ module _ (context : Context) (visits : List Visit) (is : body_judgement context 
         callees = callees_of_all context stages (nodes_of (body_of context.fun)) statements;
       }
 
-  walked : judge_visits (kept_rules context) (begin_state context) visits ≡ Ok (state_left context visits)
+  pub walked : judge_visits (kept_rules context) (begin_state context) visits ≡ Ok (state_left context visits)
   walked =
       ap (judge_visits (kept_rules context) (begin_state context)) all_visits
       ∙ sym (judgement_is_visits (kept_rules context) (begin_state context) (pre_emitted context) (body_of context.fun))

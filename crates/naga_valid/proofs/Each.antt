@@ -1,5 +1,5 @@
 -- What an answer says of the points of each item of a list, item by item.
-use Rattle.std.proofs.Common.{◌≡◌, ℕ, ◌<◌, ◌≤◌, ◌+◌, ◌++◌, List, Option, None, Some, Ok, Err, Result, length, drop, get_or, refl, sym, ap, ◌∙◌}
+use Rattle.std.proofs.Common.{◌≡◌, ℕ, ◌<◌, ◌≤◌, ◌+◌, ◌++◌, List, Option, None, Ok, Err, Result, length, drop, get_or, sym, ap, ◌∙◌}
 use Rattle.std.specs.Option.{option_or}
 use Rattle.std.specs.Prelude.{IsErr}
 use Rattle.naga_below.proofs.Points.{first_turn, first_end, first_of_both}

@@ -1,5 +1,5 @@
 -- The laws of accepted functions, from what holds of their visits.
-use Rattle.std.proofs.Common.{◌≡◌, ◌↔◌, ℕ, zero, suc, Bool, true, false, List, [], ◌∷◌, Option, None, Some, Result, Ok, Err, length, refl, sym, ap, ◌∙◌, subst}
+use Rattle.std.proofs.Common.{◌≡◌, ◌↔◌, ℕ, zero, suc, Bool, true, false, List, [], Option, None, Some, Result, Ok, Err, length, refl, sym, ap, ◌∙◌, subst}
 use Rattle.std.specs.List.{AllByRecursion}
 use Rattle.std.specs.Prelude.{if◌then◌else◌}
 use Rattle.naga_below.specs.Points.{first_fault, answer, and_then}
@@ -19,13 +19,15 @@ use Rattle.naga_valid.specs.Context.{Context}
 use Rattle.naga_valid.specs.Declarations.{declaration_points}
 use Rattle.naga_valid.specs.Expressions.{with_stages, mask_at, mask_and, stages_from, masks_from, expressions_step, expression_masks}
 use Rattle.naga_valid.specs.WhatIsChecked.{checks_blocks, checks_expressions}
-use Rattle.naga_valid.specs.FunctionLaw.{AcceptedIsSound, AcceptedFillsOnce, AcceptedIsOfAllStages, AcceptedStagesAreMet}
+use Rattle.naga_valid.specs.FunctionLaw.{AcceptedIsSound, AcceptedFillsOnce, AcceptedIsOfAllStages, AcceptedHasNoReturnInContinuing, AcceptedHasWholeSwitches, AcceptedKeepsInfo, AcceptedStagesAreMet}
 use Rattle.naga_valid.specs.Judged.{FunctionOutcome, context_with, judged_with, declarations_step, expressions_known, lower_step, function_judgement}
+use Rattle.naga_valid.specs.Shapes.{HasWholeSwitches}
 use Rattle.naga_valid.specs.Stages.{meet}
 use Rattle.naga_valid.specs.State.{state_left}
 use Rattle.naga_valid.specs.declared.trace.TraceState.{TraceState}
 use Rattle.naga_valid.proofs.Accepted.{IsAccepted, accepted, accepted_fills_once, accepted_stages_of_all, accepted_stages_are_met, among_all, among_meet, meet_among_first, meet_among_second}
 use Rattle.naga_valid.proofs.Guarded.{accepted_is_sound}
+use Rattle.naga_valid.proofs.Shapes.{no_return_in_continuing, whole_switches}
 
 -- what expressions leave
 module _ (below : Meaning) (context : Context) (some : ShaderStages) where
@@ -115,6 +117,25 @@ pub is_of_all_stages : AcceptedIsOfAllStages
 is_of_all_stages below settings infos trace program earlier fun entry_point outcome e on =
     let k = known below settings infos trace program earlier fun entry_point outcome e on in
     accepted_stages_of_all (context_with below settings infos trace program earlier fun entry_point (with_stages k.info k.stages)) outcome k.of
+
+pub has_no_return_in_continuing : AcceptedHasNoReturnInContinuing
+has_no_return_in_continuing below settings infos trace program earlier fun entry_point outcome e on =
+    let k = known below settings infos trace program earlier fun entry_point outcome e on in
+    no_return_in_continuing (context_with below settings infos trace program earlier fun entry_point (with_stages k.info k.stages)) k.of.visits k.of.judged
+
+pub has_whole_switches : AcceptedHasWholeSwitches
+has_whole_switches below settings infos trace program earlier fun entry_point outcome e on =
+    let k = known below settings infos trace program earlier fun entry_point outcome e on in
+    let context = context_with below settings infos trace program earlier fun entry_point (with_stages k.info k.stages) in
+    subst (λ (l : FunctionOutcome). HasWholeSwitches program l.info (body_of fun)) k.of.left (whole_switches context k.of.visits k.of.judged)
+
+pub keeps_info : AcceptedKeepsInfo
+keeps_info below settings infos trace program earlier fun entry_point outcome info e on is =
+    let k = known below settings infos trace program earlier fun entry_point outcome e on in
+    let same : k.info ≡ info = let both = sym k.lower ∙ is in cc in
+    subst (λ (i : FunctionInfo). outcome.info ≡ with_stages i outcome.info.available_stages) same (
+    subst (λ (l : FunctionOutcome). l.info ≡ with_stages k.info l.info.available_stages) k.of.left refl
+    )
 
 pub stages_are_met : AcceptedStagesAreMet
 stages_are_met below settings infos trace program earlier fun entry_point outcome info e on is some =

@@ -23,8 +23,11 @@ pub mod Own
 pub mod PreEmitted
 pub mod Judged
 pub mod Accepted
+pub mod Shapes
 pub mod Guarded
 pub mod FunctionLaw
 pub mod FunctionSteps
 pub mod Each
 pub mod ExpressionSteps
+pub mod Chains
+pub mod GlobalFits

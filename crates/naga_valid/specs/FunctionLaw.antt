@@ -13,17 +13,23 @@ use Rattle.naga_runs.specs.Soundness.{RunsAreSound}
 use Rattle.naga_valid.specs.Accepted.{nodes_of, ResultsAreFilledOnce, StagesAreOfAll, AreAmong, AreOfStatement}
 use Rattle.naga_valid.specs.Blocks.{body_of}
 use Rattle.naga_valid.specs.Context.{pre_emitted_of}
-use Rattle.naga_valid.specs.Expressions.{expression_masks}
+use Rattle.naga_valid.specs.Expressions.{with_stages, expression_masks}
 use Rattle.naga_valid.specs.WhatIsChecked.{checks_blocks, checks_expressions}
 use Rattle.naga_valid.specs.Judged.{FunctionOutcome, context_with, lower_step, function_judgement}
+use Rattle.naga_valid.specs.Shapes.{HasNoReturnInContinuing, HasWholeSwitches}
 use Rattle.naga_valid.specs.declared.trace.TraceState.{TraceState}
 
--- something holds of every function that the judgement accepts where bodies are looked at, and of what is known of it
-abbrev pub OfAccepted : (Settings → ModuleInfo → Function → FunctionOutcome → Type 0) → Type 0
-OfAccepted Holds =
+-- something holds of every function that the judgement accepts where bodies are looked at, of its module, and of what is
+-- known of it
+abbrev pub OfAcceptedIn : (Module → Settings → ModuleInfo → Function → FunctionOutcome → Type 0) → Type 0
+OfAcceptedIn Holds =
     (below : Meaning) (settings : Settings) (infos : List TypeInfo) (trace : TraceState) (program : Module) (earlier : ModuleInfo) (fun : Function) (entry_point : Bool) (outcome : FunctionOutcome) →
     function_judgement below settings infos trace program earlier fun entry_point ≡ Ok outcome → checks_blocks settings.flags ≡ true →
-    Holds settings earlier fun outcome
+    Holds program settings earlier fun outcome
+
+-- something that is not of the module
+abbrev pub OfAccepted : (Settings → ModuleInfo → Function → FunctionOutcome → Type 0) → Type 0
+OfAccepted Holds = OfAcceptedIn (λ program. Holds)
 
 -- all runs of its body are sound
 abbrev pub AcceptedIsSound : Type 0
@@ -38,6 +44,24 @@ AcceptedFillsOnce =
 abbrev pub AcceptedIsOfAllStages : Type 0
 AcceptedIsOfAllStages =
     OfAccepted (λ settings earlier fun outcome. StagesAreOfAll settings.subgroup_stages earlier (body_of fun) outcome.info.available_stages)
+
+-- no Return stands in a continuing part of its body, at any depth
+abbrev pub AcceptedHasNoReturnInContinuing : Type 0
+AcceptedHasNoReturnInContinuing =
+    OfAccepted (λ settings earlier fun outcome. HasNoReturnInContinuing (body_of fun))
+
+-- each Switch of its body, at any depth, has whole cases
+abbrev pub AcceptedHasWholeSwitches : Type 0
+AcceptedHasWholeSwitches =
+    OfAcceptedIn (λ program settings earlier fun outcome. HasWholeSwitches program outcome.info (body_of fun))
+
+-- its info is the lower layer's but for its stages
+abbrev pub AcceptedKeepsInfo : Type 0
+AcceptedKeepsInfo =
+    (below : Meaning) (settings : Settings) (infos : List TypeInfo) (trace : TraceState) (program : Module) (earlier : ModuleInfo) (fun : Function) (entry_point : Bool) (outcome : FunctionOutcome) (info : FunctionInfo) →
+    function_judgement below settings infos trace program earlier fun entry_point ≡ Ok outcome → checks_blocks settings.flags ≡ true →
+    lower_step below settings infos trace program earlier fun entry_point ≡ Ok info →
+    outcome.info ≡ with_stages info outcome.info.available_stages
 
 -- A stage is left exactly where the lower layer leaves it, every expression may run in it, where expressions are looked
 -- at, and so may every statement at any depth.

@@ -13,3 +13,7 @@ mod stages;
 mod state;
 pub mod trace;
 pub mod validator;
+
+pub use crate::laws::function_law;
+pub use crate::trace::{TraceRayVertexReturnState, TraceState};
+pub use crate::validator::Validator;

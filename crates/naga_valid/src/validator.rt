@@ -4,6 +4,7 @@ ghost use Rattle.std.specs.Prelude.{◌≡◌, ◌↔◌, IsTrue, []};
 ghost use Rattle.naga_valid.specs.Parts.{Parts, infos_given, first_settings, no_traces, NamesTypes, AreInfosOf};
 
 mod expressions;
+mod global;
 mod judge;
 mod whole;
 

@@ -1,7 +1,8 @@
 //! The check list of ImageStore.
 
-ghost use Rattle.std.specs.Prelude.{◌≡◌, ◌++◌, IfOk};
+ghost use Rattle.std.specs.Prelude.{◌≡◌, ◌++◌, IfOk, IfSome, IsOk};
 ghost use Rattle.std.specs.Option.{option_copied};
+ghost use Rattle.naga_below.specs.Types.{HasNoMembers};
 ghost use Rattle.naga_valid.specs.CodeAnswers.{Finds, AnswersPoints};
 ghost use Rattle.naga_valid.specs.CodeImages.{stored_points, texel_value_points};
 ghost use Rattle.naga_valid.specs.Images.{stored_type, image_store_points};
@@ -45,13 +46,14 @@ pub fn check_image_store(
     answer(alloc, checked, span)
 }
 
-/// The type of a value, for the fault that names it. Of what may be stored it takes no memory.
+/// The type of a value, for the fault that names it. Only that of a struct takes memory.
 fn type_of(
     alloc: Global,
     context: &BlockContext,
     value: Handle<tag::Expression>,
 ) -> Result<Option<TypeInner>, AllocError>
-    ensures { IfOk result (λ given. given ≡ type_at (context_of context.now) value) }
+    ensures given { IfOk result (λ given. given ≡ type_at (context_of context.now) value) }
+    ensures without_memory { IfSome (type_at (context_of context.now) value) HasNoMembers → IsOk result }
 {
     match context.type_inner(value) {
         Some(inner) => Ok(Some(inner.clone(alloc)?)),

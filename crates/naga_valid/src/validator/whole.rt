@@ -9,6 +9,7 @@ ghost use Rattle.naga_valid.specs.Context.{pre_emitted_of};
 ghost use Rattle.naga_valid.specs.WhatIsChecked.{checks_blocks, checks_expressions};
 ghost use Rattle.naga_valid.specs.Judged.{function_judgement, AnswersTracing};
 ghost use Rattle.naga_valid.specs.Parts.{AreInfosOf};
+ghost use Rattle.naga_valid.specs.Shapes.{HasNoReturnInContinuing, HasWholeSwitches};
 
 use crate::validator::Validator;
 use naga_below::ir::functions::Function;
@@ -52,6 +53,13 @@ impl<B: Below> Validator<B> {
         // Where bodies were looked at, the stages of an accepted one are stages of each of its statements and of each
         // function that it calls.
         ensures stages { IfOk result (λ info. checks_blocks self.old.settings.flags ≡ true → StagesAreOfAll self.old.settings.subgroup_stages mod_info.now (body_of fun.now) info.available_stages) }
+
+        // Where bodies were looked at, no Return of an accepted one stands in a continuing part, at any depth.
+        ensures returns { OnOk result (checks_blocks self.old.settings.flags ≡ true → HasNoReturnInContinuing (body_of fun.now)) }
+
+        // Where bodies were looked at, each Switch of an accepted one has exactly one default, no value twice, values of the
+        // sign that its selector's type in the info has, and a last case that doesn't fall through.
+        ensures switches { IfOk result (λ info. checks_blocks self.old.settings.flags ≡ true → HasWholeSwitches «module».now info (body_of fun.now)) }
 
         // Nothing but what ray traces leave may differ, and that only where the function is accepted.
         ensures kept { self.new ≡ record self.old { trace = self.new.trace } }

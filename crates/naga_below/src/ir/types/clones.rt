@@ -1,6 +1,7 @@
 //! Clones of types, of what is inside them, and of members.
 
-ghost use Rattle.std.specs.Prelude.{◌≡◌, IfOk};
+ghost use Rattle.std.specs.Prelude.{◌≡◌, IfOk, IsOk};
+ghost use Rattle.naga_below.specs.Types.{HasNoMembers};
 
 use crate::duplicate::{Duplicate, duplicates};
 use crate::ir::name::clone_name;
@@ -35,9 +36,10 @@ fn clone_members(alloc: Global, members: &Members) -> Result<Members, AllocError
 }
 
 impl TypeInner {
-    /// An equal type.
+    /// An equal type. Only members take memory.
     pub fn clone(&self, alloc: Global) -> Result<Self, AllocError>
-        ensures { IfOk result (λ made. made ≡ self.now) }
+        ensures made { IfOk result (λ made. made ≡ self.now) }
+        ensures without_memory { HasNoMembers self.now → IsOk result }
     {
         match self {
             TypeInner::Scalar(scalar) => Ok(TypeInner::Scalar(*scalar)),

@@ -4,7 +4,7 @@ use Rattle.std.proofs.lemmas.Result.{err_from_is_err_and}
 use Rattle.naga_rules.specs.Answers.{Refuses}
 use Rattle.naga_valid.specs.Parts.{Parts}
 use Rattle.naga_check.specs.Judged.{settings_with, parts_with, plain_judgement}
-use Rattle.naga_check.specs.declared.plain.Plain.{Plain}
+use Rattle.naga_module.specs.declared.plain.Plain.{Plain}
 use Rattle.naga_check.specs.Ready.{IsReady}
 use Rattle.naga_check.proofs.Infos.{refused_here, info_here, ready_here, all_judged}
 use Rattle.naga_check.proofs.case.judge_functions.Goals as goal

@@ -1,6 +1,6 @@
-use Rattle.std.proofs.Common.{rules, ◌≡◌, Ok, length, sym, ap, subst}
+use Rattle.std.proofs.Common.{rules, ◌≡◌, Ok, length, ap}
 use Rattle.naga_below.specs.declared.valid.info.FunctionInfo.{FunctionInfo}
-use Rattle.naga_rules.specs.Answers.{Answers, Refuses}
+use Rattle.naga_rules.specs.Answers.{Answers}
 use Rattle.naga_valid.specs.Seen.{asked_context}
 use Rattle.naga_valid.specs.Stages.{meet}
 use Rattle.naga_valid.proofs.ExpressionSteps.{asked_is, mask_met, mask_refused, masks_end}

@@ -1,0 +1,2 @@
+pub mod EmptySets
+pub mod Plain

@@ -1,0 +1,6 @@
+//! What a module is judged over: lower layers that validators stand on.
+#![tactic(auto)]
+
+pub mod plain;
+#[cfg(test)]
+mod tests;

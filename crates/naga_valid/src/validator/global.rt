@@ -1,0 +1,55 @@
+//! The validation of a global variable.
+
+ghost use Rattle.std.specs.Prelude.{◌≡◌, Contains, length};
+ghost use Rattle.std.specs.Result.{result_err};
+ghost use Rattle.naga_below.specs.Fits.{FitsTypes, FitsGlobals};
+ghost use Rattle.naga_below.specs.Points.{first_fault};
+ghost use Rattle.naga_valid.specs.GlobalPoints.{module_global_points};
+ghost use Rattle.naga_valid.specs.Parts.{AreInfosOf};
+
+use crate::validator::Validator;
+use naga_below::ir::module::{GlobalVariable, Module};
+use naga_below::proc::expression_kinds::ExpressionKindTracker;
+use naga_below::valid::info::ModuleInfo;
+use naga_below::valid::settings::Settings;
+use naga_rules::below::Below;
+use naga_rules::global::check_global;
+use naga_rules::interface::GlobalVariableError;
+
+impl<B: Below> Validator<B> {
+    /// Judges a global variable of a module: naga 30.0.1's `validate_global_var`. `kinds` are those of the module's global
+    /// expressions, whose types are in `mod_info`. The fault is the first of `check_global`, asked with the size of the
+    /// variable's type that the lower layer knows. It takes no memory, and leaves the validator as it is.
+    #[tactic(auto, using(naga_below::proofs::Callers::types_name_each_other, crate::proofs::GlobalFits::global_fits))]
+    pub fn validate_global_var(
+        &self,
+        var: &GlobalVariable,
+        module: &Module,
+        mod_info: &ModuleInfo,
+        kinds: &ExpressionKindTracker,
+    ) -> Result<(), GlobalVariableError>
+        requires infos { AreInfosOf «module».now self.now.types }
+        requires types { FitsTypes «module».now }
+        requires globals { FitsGlobals «module».now mod_info.now }
+        requires var { Contains «module».now.global_variables var.now }
+        requires one_kind_each { length kinds.now ≡ length «module».now.global_expressions }
+        ensures { result_err result
+            ≡ first_fault (module_global_points (B.meaning self.now.below) self.now.settings self.now.types «module».now mod_info.now kinds.now var.now) }
+    {
+        let Settings {
+            flags,
+            capabilities,
+            ..
+        } = self.settings;
+        check_global(
+            var,
+            &module.types,
+            self.infos(),
+            flags,
+            capabilities,
+            self.below.type_size(module, var.ty),
+            kinds,
+            mod_info.global_types.as_slice(),
+        )
+    }
+}
