@@ -24,5 +24,6 @@ pub use crate::interface::{GlobalVariableError, VaryingError};
 pub use crate::local::check_local;
 pub use crate::mesh::{MeshAnalysis, MeshFault};
 pub use crate::varying::item::check_varying_item;
+pub use crate::varying::laws::varyings_law;
 pub use crate::varying::rule::{BuiltInRule, BuiltInType, builtin_rule};
 pub use crate::varying::{MeshOutputType, VaryingPlace, VaryingState};

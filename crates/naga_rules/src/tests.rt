@@ -5,3 +5,4 @@ mod built_ins;
 mod clones;
 mod laws;
 mod names;
+mod varyings;

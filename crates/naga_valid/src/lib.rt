@@ -15,6 +15,7 @@ mod state;
 pub mod trace;
 pub mod validator;
 
+pub use crate::interface::EntryPointError;
 pub use crate::laws::function_law;
 pub use crate::trace::{TraceRayVertexReturnState, TraceState};
 pub use crate::validator::Validator;
