@@ -6,6 +6,7 @@ ghost use Rattle.naga_valid.specs.declared.interface.EntryPointError.TheVariants
 mod bindings;
 mod clones;
 mod globals;
+mod sentences;
 mod start;
 mod texts;
 mod uses;
