@@ -8,6 +8,7 @@ pub(crate) mod bindings;
 mod clones;
 pub(crate) mod globals;
 pub(crate) mod mesh;
+mod sentences;
 pub(crate) mod start;
 mod texts;
 pub(crate) mod uses;
