@@ -1,2 +1,3 @@
 pub mod EmptySets
 pub mod Plain
+pub mod Unless

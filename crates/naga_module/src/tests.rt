@@ -3,9 +3,11 @@
 mod atomics;
 mod bodies;
 mod declarations;
+mod picky;
 mod places;
 mod plain;
 mod rays;
 mod settings;
+mod steps;
 mod stores;
 mod subgroups;
