@@ -37,5 +37,4 @@ pub mod Groups
 pub mod EntryAccepted
 pub mod Chains
 pub mod GlobalFits
-pub mod EntrySteps
 pub mod EntryChains

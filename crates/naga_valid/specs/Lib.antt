@@ -65,13 +65,4 @@ pub use Rattle.naga_valid.specs.Parts.{AreInfosOf}
 pub use Rattle.naga_valid.specs.WhatIsChecked.{checks_blocks, checks_expressions}
 unfoldable pub use Rattle.naga_valid.specs.Judged.{function_judgement}
 pub mod GlobalPoints
-pub mod EntryPoints
-pub mod EntryStart
-pub mod EntryUses
-pub mod EntryGlobals
-pub mod CodeBindings
-pub mod EntryFaults
-pub mod EntryVaryings
-pub mod EntryMesh
-pub mod EntryJudged
 pub mod EntryChains
