@@ -37,3 +37,4 @@ pub mod Groups
 pub mod EntryAccepted
 pub mod Chains
 pub mod GlobalFits
+pub mod EntryLaw
