@@ -15,7 +15,7 @@ use Rattle.naga_valid.specs.declared.interface.EntryPointError.{EntryPointError}
 use Rattle.naga_valid.proofs.Refusals.{fault_first, fault_second}
 
 module _ (below : Meaning) (flags : ValidationFlags) (program : Module) (ep : EntryPoint) (uses : List GlobalUse) (h : ℕ) (g : GlobalVariable) (given : GlobalUse) (is : slice_get uses h ≡ Some given) (some : (given.0 == 0) ≡ false) where
-  points_are : global_points below flags program ep uses h g ≡ used_points below flags program ep uses h g given
+  pub points_are : global_points below flags program ep uses h g ≡ used_points below flags program ep uses h g given
   points_are =
       ap (points_if_used below flags program ep uses h g) is
       ∙ ap (λ b. if b then [] else used_points below flags program ep uses h g given) some

@@ -6,8 +6,8 @@ ghost use Rattle.naga_valid.specs.Parts.{Parts, infos_given, first_settings, no_
 mod entry;
 mod entry_point;
 mod expressions;
-mod globals;
 mod global;
+mod globals;
 mod judge;
 mod mesh;
 mod varyings;

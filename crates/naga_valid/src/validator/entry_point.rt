@@ -2,11 +2,14 @@
 
 ghost use Rattle.std.specs.Prelude.{◌≡◌, true, OnOk, OnErr, IfOk, length};
 ghost use Rattle.naga_below.specs.Fits.{FitsTypes, FitsFunction, FitsEntry};
+ghost use Rattle.naga_below.specs.declared.ir.module.ShaderStage.TheVariants.{Vertex};
 ghost use Rattle.naga_runs.specs.Soundness.{RunsAreSound};
 ghost use Rattle.naga_valid.specs.Accepted.{ResultsAreFilledOnce, StagesAreOfAll};
 ghost use Rattle.naga_valid.specs.Blocks.{body_of};
 ghost use Rattle.naga_valid.specs.Context.{pre_emitted_of};
+ghost use Rattle.naga_valid.specs.EntryGlobals.{checks_bindings};
 ghost use Rattle.naga_valid.specs.EntryJudged.{HasPayloadSizes, entry_judgement, AnswersEntry};
+ghost use Rattle.naga_valid.specs.EntryLaw.{BindingsAreDistinct, ReturnsPosition};
 ghost use Rattle.naga_valid.specs.EntryStart.{start_points};
 ghost use Rattle.naga_valid.specs.Parts.{AreInfosOf};
 ghost use Rattle.naga_valid.specs.WhatIsChecked.{checks_blocks, checks_expressions};
@@ -55,6 +58,12 @@ impl<B: Below> Validator<B> {
         // Where bodies were looked at, the stages of an accepted one are stages of each of its statements and of each
         // function that it calls.
         ensures stages { IfOk result (λ info. checks_blocks self.old.settings.flags ≡ true → StagesAreOfAll self.old.settings.subgroup_stages mod_info.now (body_of ep.now.function) info.available_stages) }
+
+        // Where bindings were looked at, no two globals that are used have one binding.
+        ensures bindings { IfOk result (λ info. checks_bindings self.old.settings.flags ≡ true → BindingsAreDistinct «module».now.global_variables info.global_uses) }
+
+        // At the vertex stage a position is returned.
+        ensures position { OnOk result (ep.now.stage ≡ Vertex → ReturnsPosition «module».now.types ep.now.function.result) }
 
         // Nothing but what ray traces leave may differ, and that only where the entry point is accepted.
         ensures kept { self.new ≡ record self.old { trace = self.new.trace } }

@@ -4,6 +4,7 @@ use Rattle.naga_valid.specs.Accepted.{StagesAreOfAll}
 use Rattle.naga_valid.specs.Blocks.{body_of}
 use Rattle.naga_valid.specs.Judged.{FunctionOutcome}
 use Rattle.naga_valid.proofs.EntryAccepted.{accepted_entry, stages_are}
+use Rattle.naga_valid.proofs.EntryLaw.{accepted_bindings, accepted_position}
 use Rattle.naga_valid.proofs.FunctionLaw.{is_sound, fills_once, is_of_all_stages}
 use Rattle.naga_valid.proofs.validator.Validator.validate_entry_point.Goals as goal
 
@@ -22,3 +23,10 @@ returns-clause-stages g c = λ on.
     let same = sym (stages_are (g.B.Below.meaning c.args.self.now.below) c.args.self.now.settings c.args.self.now.types c.args.module.now c.args.ep.now k.function) ∙ ap (λ (o : FunctionOutcome). o.info.available_stages) k.is in
     let left = subst (λ (s : ShaderStages). StagesAreOfAll c.args.self.now.settings.subgroup_stages c.args.mod_info.now (body_of c.args.ep.now.function) s) same of_all in
     rw (← c.outcome.view_is) at left
+
+pub returns-clause-bindings : goal.returns-clause-bindings
+returns-clause-bindings g c = λ on.
+    let distinct = accepted_bindings _ _ _ _ _ _ _ _ c.in_ok-outcome.ensures on in rw (← c.outcome.view_is) at distinct
+
+pub returns-clause-position : goal.returns-clause-position
+returns-clause-position g c = accepted_position _ _ _ _ _ _ _ _ c.in_ok-outcome.ensures
