@@ -4,3 +4,4 @@ pub mod Plain
 pub mod ModuleJudgement
 pub mod CodeModule
 pub mod Recorded
+pub mod ModuleLaw

@@ -1,5 +1,5 @@
 -- The check list of a global variable.
-use Rattle.std.specs.Prelude.{ℕ, Bool, true, false, not, ◌&&◌, ◌||◌, ◌==◌, List, [], ◌∷◌, ◌++◌, Option, None, Some, Result, Ok, Err, is_none, is_some, slice_get, unwrap_or}
+use Rattle.std.specs.Prelude.{ℕ, Bool, true, false, not, ◌||◌, ◌==◌, List, [], ◌∷◌, ◌++◌, Option, None, Some, Result, Ok, Err, is_none, is_some, slice_get, unwrap_or}
 use Rattle.naga_below.specs.Bits.{contains, has_capability, STRUCT_LAYOUTS, BINDINGS, STORE, COHERENT, VOLATILE, MEMORY_DECORATION_COHERENT, MEMORY_DECORATION_VOLATILE}
 use Rattle.naga_below.specs.Points.{Point}
 use Rattle.naga_below.specs.Types.{inner_at}
@@ -20,11 +20,12 @@ use Rattle.naga_below.specs.declared.valid.types.Disalignment.{Disalignment}
 use Rattle.naga_below.specs.declared.valid.types.ImmediateError.{ImmediateError}
 use Rattle.naga_below.specs.declared.valid.types.TypeInfo.{TypeInfo}
 use Rattle.naga_rules.specs.Locals.{is_const_or_override, is_declared_as}
-use Rattle.naga_rules.specs.Spaces.{Layout, AnyLayout, StorageLayout, UniformLayout, row_of, all_of, takes_arrays, array_needs, is_resource, format_needs, takes_initializers, is_storage, is_task_payload}
+use Rattle.naga_rules.specs.Spaces.{Layout, StorageLayout, UniformLayout, row_of, all_of, takes_arrays, array_needs, is_resource, format_needs, takes_initializers, is_storage, is_task_payload}
 use Rattle.naga_rules.specs.TypeInfos.{info_has}
 use Rattle.naga_rules.specs.declared.interface.GlobalVariableError.{GlobalVariableError}
 use Rattle.naga_rules.specs.declared.interface.GlobalVariableError.TheVariants.{InvalidUsage, InvalidType, MissingTypeFlags, UnsupportedCapability, InvalidBinding, Alignment, InitializerExprType, InitializerType, InitializerNotAllowed, StorageAddressSpaceWriteOnlyNotSupported, InvalidImmediateType, ZeroSizedTaskPayload, InvalidMemoryDecorationsAddressSpace, CoherentNotSupported, VolatileNotSupported}
 
+-- check points of a global variable
 abbrev pub GlobalPoints : Type 0
 GlobalPoints = List (Point GlobalVariableError)
 
@@ -34,13 +35,13 @@ capability_points capabilities None = []
 capability_points capabilities (Some needed) = (has_capability capabilities needed, UnsupportedCapability needed) ∷ []
 
 -- what a binding array has
-abbrev pub array_base : Option TypeInner → Option ℕ
-array_base (Some (BindingArray base size)) = Some base
-array_base _ = None
+abbrev pub element_of : Option TypeInner → Option ℕ
+element_of (Some (BindingArray base size)) = Some base
+element_of _ = None
 
 -- the type that a space is asked about: what a binding array has, any other type itself
 abbrev pub asked_type : List IrType → ℕ → ℕ
-asked_type types ty = unwrap_or (array_base (inner_at types ty)) ty
+asked_type types ty = unwrap_or (element_of (inner_at types ty)) ty
 
 -- a binding array, with what it has
 abbrev pub array_points : Capabilities → List IrType → AddressSpace → Option ℕ → GlobalPoints
@@ -61,6 +62,7 @@ abbrev pub good_layout_points : ValidationFlags → AddressSpace → Result ℕ 
 good_layout_points flags space (Ok alignment) = []
 good_layout_points flags space (Err bad) = (not (checks_layouts flags), Alignment space bad.0 bad.1) ∷ []
 
+-- the layout of a type that a space asks for
 abbrev pub layout_points : ValidationFlags → AddressSpace → Layout → Option TypeInfo → GlobalPoints
 layout_points flags space StorageLayout (Some info) = good_layout_points flags space info.storage_layout
 layout_points flags space UniformLayout (Some info) = good_layout_points flags space info.uniform_layout
@@ -76,12 +78,12 @@ abbrev pub resource_points : Capabilities → Option TypeInner → GlobalPoints
 resource_points capabilities ty = (is_resource ty, InvalidType space.Handle) ∷ capability_points capabilities (format_needs ty)
 
 -- what a space asks for beside its row of the table
-abbrev pub own_points : Capabilities → AddressSpace → Option TypeInner → Option TypeInfo → GlobalPoints
-own_points capabilities space.Function ty info = (false, InvalidUsage space.Function) ∷ []
-own_points capabilities (space.Storage access) ty info = (not (access.0 == STORE.0), StorageAddressSpaceWriteOnlyNotSupported) ∷ []
-own_points capabilities space.Handle ty info = resource_points capabilities ty
-own_points capabilities space.Immediate ty (Some info) = immediate_points info.immediates_compatibility
-own_points capabilities _ ty info = []
+abbrev pub extra_points : Capabilities → AddressSpace → Option TypeInner → Option TypeInfo → GlobalPoints
+extra_points capabilities space.Function ty info = (false, InvalidUsage space.Function) ∷ []
+extra_points capabilities (space.Storage access) ty info = (not (access.0 == STORE.0), StorageAddressSpaceWriteOnlyNotSupported) ∷ []
+extra_points capabilities space.Handle ty info = resource_points capabilities ty
+extra_points capabilities space.Immediate ty (Some info) = immediate_points info.immediates_compatibility
+extra_points capabilities _ ty info = []
 
 -- what a type can be used for
 abbrev pub seen_flags : Option TypeInfo → TypeFlags
@@ -93,7 +95,7 @@ abbrev pub place_points : ValidationFlags → Capabilities → AddressSpace → 
 place_points flags capabilities space ty info =
     layout_points flags space (row_of space).layout info
     ++ (capability_points capabilities (row_of space).capability
-    ++ own_points capabilities space ty info)
+    ++ extra_points capabilities space ty info)
 
 -- a type in a space: all that, and by the row what the type can be used for
 abbrev pub space_points : ValidationFlags → Capabilities → AddressSpace → Option TypeInner → Option TypeInfo → GlobalPoints
@@ -104,7 +106,7 @@ space_points flags capabilities space ty info =
 -- the type of a variable: whether it is a binding array that may lie in the space; then the type that the space is asked about
 abbrev pub type_points : List IrType → List TypeInfo → ValidationFlags → Capabilities → AddressSpace → ℕ → GlobalPoints
 type_points types infos flags capabilities space ty =
-    array_points capabilities types space (array_base (inner_at types ty))
+    array_points capabilities types space (element_of (inner_at types ty))
     ++ space_points flags capabilities space (inner_at types (asked_type types ty)) (slice_get infos (asked_type types ty))
 
 -- a binding is there exactly where it has to be

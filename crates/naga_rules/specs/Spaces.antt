@@ -1,6 +1,6 @@
 -- What an address space asks for of a global that lies in it: a table of one row a space, and what binding arrays need.
 use Rattle.std.specs.Int.RustNames.{bit_or}
-use Rattle.std.specs.Prelude.{ℕ, Bool, true, false, List, [], ◌∷◌, Option, None, Some, if◌then◌else◌}
+use Rattle.std.specs.Prelude.{Bool, true, false, List, [], ◌∷◌, Option, None, Some, if◌then◌else◌}
 use Rattle.naga_below.specs.Bits.{DATA, SIZED, COPY, HOST_SHAREABLE, CREATION_RESOLVED, CONSTRUCTIBLE, ACCELERATION_STRUCTURE_BINDING_ARRAY, BUFFER_BINDING_ARRAY, IMMEDIATES, MESH_SHADER, RAY_TRACING_PIPELINE, STORAGE_BUFFER_BINDING_ARRAY, STORAGE_TEXTURE_16BIT_NORM_FORMATS, STORAGE_TEXTURE_BINDING_ARRAY, TEXTURE_AND_SAMPLER_BINDING_ARRAY}
 use Rattle.naga_below.specs.declared.ir.types.AddressSpace.{AddressSpace}
 use Rattle.naga_below.specs.declared.ir.types.AddressSpace.TheVariants as space
@@ -32,9 +32,11 @@ pub record SpaceRow : Type 0 where
   pub capability : Option Capabilities
   pub flags : TypeFlags
 
+-- the row of a space in which globals are bound
 abbrev pub bound : Layout → Option Capabilities → List TypeFlags → SpaceRow
 bound layout capability flags = record { is_bound = true; layout = layout; capability = capability; flags = all_of flags }
 
+-- and of one in which they aren't
 abbrev pub unbound : Layout → Option Capabilities → List TypeFlags → SpaceRow
 unbound layout capability flags = record { is_bound = false; layout = layout; capability = capability; flags = all_of flags }
 
@@ -110,10 +112,12 @@ takes_initializers space.Function = true
 takes_initializers space.Private = true
 takes_initializers _ = false
 
+-- the space of storage, whatever may be done there
 abbrev pub is_storage : AddressSpace → Bool
 is_storage (space.Storage access) = true
 is_storage _ = false
 
+-- the space of task payloads
 abbrev pub is_task_payload : AddressSpace → Bool
 is_task_payload space.TaskPayload = true
 is_task_payload _ = false

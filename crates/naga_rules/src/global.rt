@@ -4,8 +4,8 @@ ghost use Rattle.std.specs.Prelude.{◌≡◌, ◌<◌, IfOk, IfSome, Some, All,
 ghost use Rattle.std.specs.Result.{result_err};
 ghost use Rattle.naga_below.specs.Points.{first_fault};
 ghost use Rattle.naga_below.specs.Types.{NameEachOther, ResolutionFits, inner_at};
-ghost use Rattle.naga_rules.specs.Globals.{global_points, array_points, array_base, asked_type, capability_points, good_layout_points, immediate_points, resource_points, place_points, space_points, type_points, decoration_points, variable_points, global_initializer_points};
-ghost use Rattle.naga_rules.specs.Spaces.{row_of, resource_array_needs, format_needs, is_resource, is_16bit_norm};
+ghost use Rattle.naga_rules.specs.Globals.{global_points, array_points, element_of, asked_type, capability_points, good_layout_points, immediate_points, resource_points, place_points, space_points, type_points, decoration_points, variable_points, global_initializer_points};
+ghost use Rattle.naga_rules.specs.Spaces.{row_of, resource_array_needs, is_16bit_norm};
 
 use crate::interface::GlobalVariableError;
 use bitflags::Flags;
@@ -106,7 +106,7 @@ fn check_array(
     requires ty { ty < length types.now }
     requires types { NameEachOther types.now }
     ensures fault { result_err result
-        ≡ first_fault (array_points capabilities types.now space (array_base (inner_at types.now ty))) }
+        ≡ first_fault (array_points capabilities types.now space (element_of (inner_at types.now ty))) }
     ensures asked { IfOk result (λ asked. asked ≡ asked_type types.now ty) }
     ensures there { IfOk result (λ asked. asked < length types.now) }
 {

@@ -29,6 +29,13 @@ pub mod FunctionLaw
 pub mod FunctionSteps
 pub mod Each
 pub mod ExpressionSteps
+pub mod EntrySteps
+pub mod EntryGlobals
+pub mod EntryUses
+pub mod EntryJudgement
+pub mod Groups
+pub mod EntryAccepted
 pub mod Chains
 pub mod GlobalFits
 pub mod EntrySteps
+pub mod EntryChains

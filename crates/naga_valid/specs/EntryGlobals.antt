@@ -1,5 +1,5 @@
 -- The steps of the globals that an entry point uses, where these are its uses of each global, its own joined in.
-use Rattle.std.specs.Prelude.{ℕ, zero, suc, ◌+◌, Bool, true, false, not, ◌&&◌, ◌||◌, ◌==◌, nat_le, List, [], ◌∷◌, ◌++◌, Option, None, Some, slice_get, length, option_and_then, unwrap_or, if◌then◌else◌}
+use Rattle.std.specs.Prelude.{ℕ, zero, suc, ◌+◌, Bool, false, not, ◌&&◌, ◌||◌, ◌==◌, nat_le, List, [], ◌∷◌, ◌++◌, Option, None, Some, slice_get, length, option_and_then, unwrap_or, if◌then◌else◌}
 use Rattle.naga_below.specs.Bits.{BINDINGS, contains}
 use Rattle.naga_below.specs.Points.{points_of_each}
 use Rattle.naga_below.specs.TypeTests.{is_handle}
@@ -21,7 +21,7 @@ use Rattle.naga_below.specs.declared.valid.flags.ValidationFlags.{ValidationFlag
 use Rattle.naga_rules.specs.AllowedUses.{allowed_use, hands_payload, takes_payload}
 use Rattle.naga_rules.specs.Meaning.{Meaning}
 use Rattle.naga_valid.specs.EntryPoints.{EntryPoints}
-use Rattle.naga_valid.specs.EntryUses.{is_task_payload, is_immediate}
+use Rattle.naga_valid.specs.EntryUses.{is_immediate}
 use Rattle.naga_valid.specs.declared.interface.EntryPointError.TheVariants as fault
 
 -- some use is made of a global

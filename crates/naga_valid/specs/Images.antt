@@ -21,6 +21,7 @@ use Rattle.naga_below.specs.declared.ir.types.TypeInner.TheVariants as inner
 use Rattle.naga_below.specs.declared.ir.types.VectorSize.TheVariants.{Quad}
 use Rattle.naga_below.specs.declared.valid.expression_error.ExpressionError.{ExpressionError}
 use Rattle.naga_below.specs.declared.valid.expression_error.ExpressionError.TheVariants as wrong
+use Rattle.naga_rules.specs.Globals.{element_of}
 use Rattle.naga_rules.specs.declared.function.FunctionError.{FunctionError}
 use Rattle.naga_rules.specs.declared.function.FunctionError.TheVariants.{InvalidImageStore, InvalidStoreValue}
 use Rattle.naga_runs.specs.Visits.{Place}
@@ -107,11 +108,6 @@ array_index_points inside context place arrayed (Some h) =
     ∷ use_point place h
     ∷ (is_integer_scalar (type_at context h), inside (wrong.InvalidImageArrayIndexType h))
     ∷ []
-
--- what a binding array has
-abbrev pub element_of : Option TypeInner → Option ℕ
-element_of (Some (inner.BindingArray base size)) = Some base
-element_of _ = None
 
 abbrev pub is_binding_array : Context → ℕ → Bool
 is_binding_array context ty = is_some (element_of (inner_at context.program.types ty))

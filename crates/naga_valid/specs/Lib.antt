@@ -39,6 +39,16 @@ pub mod FunctionLaw
 pub mod InOrder
 pub mod Declarations
 pub mod Expressions
+pub mod EntryPoints
+pub mod EntryStart
+pub mod EntryUses
+pub mod EntryGlobals
+pub mod CodeBindings
+pub mod CodeGroups
+pub mod EntryFaults
+pub mod EntryVaryings
+pub mod EntryMesh
+pub mod EntryJudged
 pub mod Chains
 pub use Rattle.naga_below.specs.Fits.{FitsTypes, FitsGlobals, FitsFunction, FitsEntry}
 pub use Rattle.naga_rules.specs.Answers.{Answers, Refuses}
@@ -64,3 +74,4 @@ pub mod EntryFaults
 pub mod EntryVaryings
 pub mod EntryMesh
 pub mod EntryJudged
+pub mod EntryChains

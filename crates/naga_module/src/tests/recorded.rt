@@ -14,6 +14,7 @@ use naga_below::ir::flags::MemoryDecorations;
 use naga_below::ir::functions::Function;
 use naga_below::ir::module::{GlobalVariable, MeshOutputTopology, MeshStageInfo, Module};
 use naga_below::ir::types::{AddressSpace, ArraySize, Members, Scalar, Type, TypeInner};
+use naga_below::proc::expression_kinds::ExpressionKindTracker;
 use naga_below::proc::typifier::TypeResolution;
 use naga_below::sequence::Sequence;
 use naga_below::span::Refusal;
@@ -28,7 +29,6 @@ use naga_rules::function::FunctionError;
 use naga_rules::mesh::MeshFault;
 use std::alloc::{AllocError, Global};
 use std::process::Abort;
-use std::test::Fail;
 
 /// What there was memory for.
 fn made<T>(rt: &(impl Abort + AllocGlobal), answer: Result<T, AllocError>) -> T {
@@ -253,8 +253,10 @@ fn a_missing_fact(rt: HostRuntime) {
 
 /// An info has what the fact has of the function of one literal.
 fn expect_whole(rt: &(impl Abort + AllocGlobal), info: &FunctionInfo) {
-    let first = &info.expression_types.as_slice()[0];
-    assert!(rt; *first == TypeResolution::Handle(Handle::new(0)));
+    match info.expression_types.as_slice().first() {
+        Some(first) => assert!(rt; *first == TypeResolution::Handle(Handle::new(0))),
+        None => panic!(rt; "no type"),
+    }
     assert!(rt; info.global_uses.as_slice() == [GlobalUse::READ].as_slice());
     assert!(rt; info.dual_source_blending);
 }
@@ -582,23 +584,29 @@ fn expressions_of_kinds(alloc: Global) -> Result<Arena<Expression>, AllocError> 
     Ok(expressions)
 }
 
-#[test]
-fn kinds(rt: HostRuntime) -> Result<(), Fail> {
-    let facts = Facts::new(rt.alloc());
-    let expressions = expressions_of_kinds(rt.alloc())?;
-    let kinds = Recorded { facts }.kinds(rt.alloc(), &expressions)?;
-    assert!(rt; kinds.len() == 5);
-    let known = [
-        (true, true),
-        (false, true),
-        (false, true),
-        (false, false),
-        (false, false),
-    ];
-    for (handle, expected) in (0..5).zip(known) {
-        let handle = Handle::new(handle);
-        let found = (kinds.is_const(handle), kinds.is_const_or_override(handle));
-        assert!(rt; found == expected);
+/// Whether an expression is const, and whether it is const or override.
+fn known_at(kinds: &ExpressionKindTracker, index: u32) -> Option<(bool, bool)> {
+    let handle = Handle::new(index);
+    if handle.index() < kinds.len() {
+        Some((kinds.is_const(handle), kinds.is_const_or_override(handle)))
+    } else {
+        None
     }
-    Ok(())
+}
+
+#[test]
+fn kinds(rt: HostRuntime) {
+    let facts = Facts::new(rt.alloc());
+    let expressions = made(&rt, expressions_of_kinds(rt.alloc()));
+    let kinds = made(&rt, Recorded { facts }.kinds(rt.alloc(), &expressions));
+    for (index, expected) in [
+        (0, Some((true, true))),
+        (1, Some((false, true))),
+        (2, Some((false, true))),
+        (3, Some((false, false))),
+        (4, Some((false, false))),
+        (5, None),
+    ] {
+        assert!(rt; known_at(&kinds, index) == expected);
+    }
 }

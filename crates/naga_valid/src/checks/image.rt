@@ -5,7 +5,8 @@ ghost use Rattle.std.specs.Option.{option_copied};
 ghost use Rattle.naga_below.specs.Types.{inner_at};
 ghost use Rattle.naga_valid.specs.CodeAnswers.{Finds};
 ghost use Rattle.naga_valid.specs.CodeImages.{image_fault, coordinate_points, texel_points};
-ghost use Rattle.naga_valid.specs.Images.{global_type_at, image_global_at, element_of, is_dimension, is_integer_scalar, array_index_points};
+ghost use Rattle.naga_rules.specs.Globals.{element_of};
+ghost use Rattle.naga_valid.specs.Images.{global_type_at, image_global_at, is_dimension, is_integer_scalar, array_index_points};
 ghost use Rattle.naga_valid.specs.CodePlace.{place_at};
 ghost use Rattle.naga_valid.specs.Seen.{context_of};
 

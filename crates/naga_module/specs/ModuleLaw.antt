@@ -1,0 +1,30 @@
+-- What is known of a module that is accepted, where bodies are looked at.
+use Rattle.std.specs.Prelude.{◌≡◌, ℕ, List, Some, slice_get, take}
+use Rattle.naga_below.specs.declared.ir.functions.Function.{Function}
+use Rattle.naga_below.specs.declared.ir.module.EntryPoint.{EntryPoint}
+use Rattle.naga_below.specs.declared.ir.module.Module.{Module}
+use Rattle.naga_below.specs.declared.valid.info.ModuleInfo.{ModuleInfo}
+use Rattle.naga_below.specs.declared.valid.settings.Settings.{Settings}
+use Rattle.naga_below.specs.declared.valid.types.TypeInfo.{TypeInfo}
+use Rattle.naga_rules.specs.Meaning.{Meaning}
+use Rattle.naga_runs.specs.Soundness.{RunsAreSound}
+use Rattle.naga_valid.specs.Blocks.{body_of}
+use Rattle.naga_valid.specs.Chains.{ChainsKeepTo}
+use Rattle.naga_valid.specs.Context.{pre_emitted_of}
+use Rattle.naga_valid.specs.EntryUses.{only}
+
+-- all runs of a function's body are sound
+abbrev pub IsSoundFunction : Function → Type 0
+IsSoundFunction f = RunsAreSound (pre_emitted_of f) (body_of f)
+
+-- the infos of a module as they were before entry point k was judged
+abbrev pub infos_before : ℕ → ModuleInfo → ModuleInfo
+infos_before k infos = record infos { entry_points = take k infos.entry_points }
+
+-- Of a module that was accepted with these infos: all runs of the body of each function and of each entry point are sound; and
+-- each entry point keeps to its stage through all chains of calls.
+pub record ModuleHolds (below : Meaning) (settings : Settings) (types : List TypeInfo) (m : Module) (infos : ModuleInfo) : Type 0 where
+  pub functions : (k : ℕ) (f : Function) → slice_get m.functions k ≡ Some f → IsSoundFunction f
+  pub entry_points : (k : ℕ) (p : EntryPoint) → slice_get m.entry_points k ≡ Some p → IsSoundFunction p.function
+  pub stages : (k : ℕ) (p : EntryPoint) → slice_get m.entry_points k ≡ Some p →
+      ChainsKeepTo below settings types m (infos_before k infos) p.function (only p.stage)
