@@ -3,6 +3,7 @@
 mod atomics;
 mod bodies;
 mod declarations;
+mod entry_errors;
 mod globals;
 mod picky;
 mod places;
