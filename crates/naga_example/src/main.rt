@@ -2,152 +2,107 @@
 //! that stores a value before it is there.
 #![tactic(auto)]
 
+ghost use Rattle.std.specs.Prelude.{IfOk, IfSome};
+ghost use Rattle.naga_valid.specs.{RunsAreSound, body_of, pre_emitted_of};
+
 use bitflags::Flags;
-use naga_below::arena::Arena;
-use naga_below::arena::handle::Handle;
-use naga_below::arena::range::Range;
-use naga_below::arena::unique_arena::UniqueArena;
-use naga_below::fits::function::fits_function;
-use naga_below::fits::types::fits_types;
-use naga_below::ir::expressions::{Expression, Literal};
-use naga_below::ir::flags::MemoryDecorations;
-use naga_below::ir::functions::{Function, LocalVariable};
-use naga_below::ir::module::{GlobalVariable, Module, SpecialTypes};
-use naga_below::ir::statements::{Block, Located, Statement};
-use naga_below::ir::types::{AddressSpace, Members, Scalar, StructMember, Type, TypeInner};
-use naga_below::proc::typifier::TypeResolution;
-use naga_below::sequence::Sequence;
-use naga_below::span::{Refusal, Span};
-use naga_below::valid::capabilities::Capabilities;
-use naga_below::valid::flags::{GlobalUse, ShaderStages, TypeFlags, ValidationFlags};
-use naga_below::valid::info::ModuleInfo;
-use naga_below::valid::types::TypeInfo;
-use naga_module::facts::{ExpressionFact, Facts, FunctionFact, InfoFact};
-use naga_module::recorded::Recorded;
-use naga_rules::function::FunctionError;
-use naga_valid::validator::Validator;
+use naga_below::{
+    AddressSpace, Block, Capabilities, Expression, Function, GlobalUse, GlobalVariable, Handle,
+    Literal, LocalVariable, Members, MemoryDecorations, Module, ModuleInfo, Range, Refusal, Scalar,
+    Sequence, ShaderStages, Span, Statement, StructMember, Type, TypeFlags, TypeInfo, TypeInner,
+    TypeResolution, ValidationFlags, fits_function, fits_types,
+};
+use naga_module::{
+    ExpressionFact, Facts, FunctionFact, InfoFact, Recorded, Subject, write_refusal,
+};
+use naga_rules::FunctionError;
+use naga_valid::Validator;
 use std::alloc::{AllocError, Global};
-use std::io;
 
-const NOWHERE: Span = Span { start: 0, end: 0 };
-
-/// Type 0 is u32, type 1 a struct of one.
-fn types(alloc: Global) -> Result<UniqueArena<Type>, AllocError> {
-    let mut types = UniqueArena::new(alloc);
+/// A module with a global of type 1, a struct of one u32, which is type 0.
+fn module(alloc: Global) -> Result<Module, AllocError> {
+    let mut module = Module::new(alloc);
     let inner = TypeInner::Scalar(Scalar::U32);
-    let ty = types.insert(Type { name: None, inner }, NOWHERE)?;
+    let ty = module
+        .types
+        .insert(Type { name: None, inner }, Span::UNDEFINED)?;
     let mut members = Members::new(alloc);
-    let (name, binding) = (None, None);
     members.push(StructMember {
-        name,
+        name: None,
         ty,
-        binding,
+        binding: None,
         offset: 0,
     })?;
     let inner = TypeInner::Struct { members, span: 4 };
-    types.insert(Type { name: None, inner }, NOWHERE)?;
-    Ok(types)
-}
-
-/// A module with a global of the struct.
-fn module(alloc: Global) -> Result<Module, AllocError> {
-    let mut global_variables = Arena::new(alloc);
+    let ty = module
+        .types
+        .insert(Type { name: None, inner }, Span::UNDEFINED)?;
     let counter = GlobalVariable {
         space: AddressSpace::Private,
         binding: None,
-        ty: Handle::new(1),
+        ty,
         init: None,
         memory_decorations: MemoryDecorations::empty(),
     };
-    global_variables.append(counter, NOWHERE)?;
-    Ok(Module {
-        types: types(alloc)?,
-        special_types: SpecialTypes { ray_desc: None },
-        constants: Arena::new(alloc),
-        overrides: Arena::new(alloc),
-        global_variables,
-        global_expressions: Arena::new(alloc),
-        functions: Arena::new(alloc),
-        entry_points: Sequence::new(alloc),
-    })
+    module.global_variables.append(counter, Span::UNDEFINED)?;
+    Ok(module)
 }
 
-/// Expressions: 0 the global, 1 a pointer to its member, 2 the member's value, 3 the local, 4 true.
-fn expressions(alloc: Global) -> Result<Arena<Expression>, AllocError> {
-    let mut expressions = Arena::new(alloc);
-    let base = expressions.append(Expression::GlobalVariable(Handle::new(0)), NOWHERE)?;
-    let pointer = expressions.append(Expression::AccessIndex { base, index: 0 }, NOWHERE)?;
-    expressions.append(Expression::Load { pointer }, NOWHERE)?;
-    expressions.append(Expression::LocalVariable(Handle::new(0)), NOWHERE)?;
+/// A function with a local of u32. Its expressions: 0 the global, 1 a pointer to its member, 2 the member's value, 3 a
+/// pointer to the local, 4 true.
+fn function(alloc: Global) -> Result<Function, AllocError> {
+    let mut fun = Function::new(alloc);
+    let local = LocalVariable {
+        name: None,
+        ty: Handle::new(0),
+        init: None,
+    };
+    let local = fun.local_variables.append(local, Span::UNDEFINED)?;
+    let expressions = &mut fun.expressions;
+    let base = expressions.append(Expression::GlobalVariable(Handle::new(0)), Span::UNDEFINED)?;
+    let pointer = expressions.append(Expression::AccessIndex { base, index: 0 }, Span::UNDEFINED)?;
+    expressions.append(Expression::Load { pointer }, Span::UNDEFINED)?;
+    expressions.append(Expression::LocalVariable(local), Span::UNDEFINED)?;
     let literal = Literal {
         scalar: Scalar::BOOL,
         bits: 1,
     };
-    expressions.append(Expression::Literal(literal), NOWHERE)?;
-    Ok(expressions)
-}
-
-/// A statement and where it stands.
-fn at(start: u32, end: u32, statement: Statement) -> Located {
-    Located {
-        statement,
-        span: Span { start, end },
-    }
+    expressions.append(Expression::Literal(literal), Span::UNDEFINED)?;
+    Ok(fun)
 }
 
 /// `loop { if true { break } }`
 fn loop_with_break(alloc: Global) -> Result<Statement, AllocError> {
-    let leave = vec![in alloc; at(80, 85, Statement::Break)]?;
+    let mut accept = Block::new(alloc);
+    accept.push(Statement::Break, Span { start: 80, end: 85 })?;
     let test = Statement::If {
         condition: Handle::new(4),
-        accept: Block {
-            list: Sequence::from(leave),
-        },
-        reject: Block {
-            list: Sequence::new(alloc),
-        },
+        accept,
+        reject: Block::new(alloc),
     };
-    let turn = vec![in alloc; at(70, 90, test)]?;
+    let mut body = Block::new(alloc);
+    body.push(test, Span { start: 70, end: 90 })?;
     Ok(Statement::Loop {
-        body: Block {
-            list: Sequence::from(turn),
-        },
-        continuing: Block {
-            list: Sequence::new(alloc),
-        },
+        body,
+        continuing: Block::new(alloc),
         break_if: None,
     })
 }
 
-/// A body that stores the member's value in the local, which is good once that value is emitted, and then loops.
+/// Stores the member's value in the local, which is good once that value is emitted, and then loops.
 fn body(alloc: Global, emits: bool) -> Result<Block, AllocError> {
-    let mut list = Sequence::new(alloc);
+    let mut body = Block::new(alloc);
     if emits {
-        let loaded = Range { start: 1, end: 3 };
-        list.push(at(40, 45, Statement::Emit(loaded)))?;
+        let loaded = Range::new(Handle::new(1), Handle::new(2));
+        body.push(Statement::Emit(loaded), Span { start: 40, end: 45 })?;
     }
     let store = Statement::Store {
         pointer: Handle::new(3),
         value: Handle::new(2),
     };
-    list.push(at(50, 55, store))?;
-    list.push(at(60, 95, loop_with_break(alloc)?))?;
-    Ok(Block { list })
-}
-
-/// A function with a local of u32 and one of the two bodies.
-fn function(alloc: Global, emits: bool) -> Result<Function, AllocError> {
-    let mut local_variables = Arena::new(alloc);
-    let ty = Handle::new(0);
-    let (name, init) = (None, None);
-    local_variables.append(LocalVariable { name, ty, init }, NOWHERE)?;
-    Ok(Function {
-        arguments: Sequence::new(alloc),
-        result: None,
-        local_variables,
-        expressions: expressions(alloc)?,
-        body: body(alloc, emits)?,
-    })
+    body.push(store, Span { start: 50, end: 55 })?;
+    body.push(loop_with_break(alloc)?, Span { start: 60, end: 95 })?;
+    Ok(body)
 }
 
 /// A pointer to a type of the module.
@@ -179,53 +134,51 @@ fn facts(alloc: Global) -> Result<Facts, AllocError> {
     Ok(facts)
 }
 
-/// The stages that the function may run in, or its first fault; `None` where something that is named isn't there.
+/// What is known of a type that can be used for everything, and whose layouts are good.
+const INFO: TypeInfo = TypeInfo {
+    flags: TypeFlags::ALL,
+    storage_layout: Ok(4),
+    uniform_layout: Ok(4),
+    immediates_compatibility: Ok(()),
+};
+
+/// The stages that the function may run in, or its first fault; `None` where something that is named isn't there. All
+/// runs of an accepted body are sound.
+#[tactic(auto, unfolding(bitflags::proofs::OnLiterals::bitflags_on_literals))]
 fn stages_of(
     alloc: Global,
     fun: &Function,
     module: &Module,
-) -> Result<Option<ShaderStages>, Refusal<FunctionError>> {
-    let info = TypeInfo {
-        flags: TypeFlags::ALL,
-        storage_layout: Ok(4),
-        uniform_layout: Ok(4),
-        immediates_compatibility: Ok(()),
-    };
+) -> Result<Option<ShaderStages>, Refusal<FunctionError>>
+    ensures { IfOk result (λ stages. IfSome stages (λ s. RunsAreSound (pre_emitted_of fun.now) (body_of fun.now))) }
+{
     let below = Recorded {
         facts: facts(alloc)?,
     };
-    let infos = vec![in alloc; info, info]?;
-    let mut validator = Validator::new(
-        below,
-        ValidationFlags::all(),
-        Capabilities::empty(),
-    ).with_types(infos);
+    let infos = vec![in alloc; INFO, INFO]?;
+    let flags = ValidationFlags::EXPRESSIONS.union(ValidationFlags::BLOCKS);
+    let mut validator = Validator::new(below, flags, Capabilities::empty()).with_types(infos);
     if !validator.has_types_of(module) || !fits_types(module) || !fits_function(fun, module, 0) {
         return Ok(None);
     }
-    let mod_info = ModuleInfo {
-        functions: Sequence::new(alloc),
-        entry_points: Sequence::new(alloc),
-        global_types: Sequence::new(alloc),
-    };
+    let mod_info = ModuleInfo::new(alloc);
     let info = validator.validate_function(alloc, fun, module, &mod_info, true)?;
     Ok(Some(info.available_stages))
 }
 
-fn main(rt: HostRuntime) -> io::Result<()> {
+fn main(rt: HostRuntime) -> anyhow::Result<()> {
     let module = module(rt.alloc())?;
+    let mut fun = function(rt.alloc())?;
     for emits in [true, false] {
-        let fun = function(rt.alloc(), emits)?;
+        fun.body = body(rt.alloc(), emits)?;
         match stages_of(rt.alloc(), &fun, &module) {
-            Ok(Some(stages)) => println!(rt; "ok {:03x}", stages.bits())?,
+            Ok(Some(stages)) => println!(rt; "accepted for {stages:?}")?,
             Ok(None) => println!(rt; "something that is named isn't there")?,
-            Err(Refusal::Fault(fault)) => {
-                for span in fault.spans() {
-                    print!(rt; "{}..{}: ", span.start, span.end)?;
-                }
-                println!(rt; "{:?}", fault.as_inner())?;
+            Err(refusal) => {
+                let mut line = String::new(rt.alloc());
+                write_refusal(&mut line, Subject::EntryPoint(0), &refusal)?;
+                println!(rt; "{line}")?;
             }
-            Err(Refusal::Memory) => println!(rt; "no memory")?,
         }
     }
     Ok(())
