@@ -77,7 +77,7 @@ module _ (below : Meaning) (settings : Settings) (types : List TypeInfo) (m : Mo
       record { sound = λ k f is. cc; trace = trace; infos = infos; vetted = vetted; entries = none; next = a }
   functions_hold (f ∷ fs) trace infos vetted none left a =
       let tested = passed (FitsFunction f m (length infos.functions))
-              (Step (function_judgement below settings types trace m infos f false) (IsOfFunction (fault.Function (length infos.functions))) (λ (l : FunctionOutcome). FunctionsAnswer below settings types m l.trace (with_info infos l.info) fs)) out a in
+      (Step (function_judgement below settings types trace m infos f false) (IsOfFunction (fault.Function (length infos.functions))) (λ (l : FunctionOutcome). FunctionsAnswer below settings types m l.trace (with_info infos l.info) fs)) out a in
       let judged = found (function_judgement below settings types trace m infos f false) (IsOfFunction (fault.Function (length infos.functions))) (λ (l : FunctionOutcome). FunctionsAnswer below settings types m l.trace (with_info infos l.info) fs) out tested.1 in
       let place = next_of m.functions (length infos.functions) f fs left in
       let more = one_more_is_vetted below settings types trace m infos f judged.value vetted none place.0 tested.0 judged.is in
@@ -153,7 +153,7 @@ module _ (below : Meaning) (settings : Settings) (types : List TypeInfo) (m : Mo
       }
   entries_hold (p ∷ ps) trace infos vetted a =
       let tested = passed (FitsFunction p.function m (length infos.functions) × FitsEntry p m)
-              (Step (entry_judgement below settings types trace m infos p) (IsOfEntryPoint (length infos.entry_points)) (λ (l : FunctionOutcome). EntriesAnswer below settings types m l.trace (with_entry infos l.info) ps)) out a in
+      (Step (entry_judgement below settings types trace m infos p) (IsOfEntryPoint (length infos.entry_points)) (λ (l : FunctionOutcome). EntriesAnswer below settings types m l.trace (with_entry infos l.info) ps)) out a in
       let judged = found (entry_judgement below settings types trace m infos p) (IsOfEntryPoint (length infos.entry_points)) (λ (l : FunctionOutcome). EntriesAnswer below settings types m l.trace (with_entry infos l.info) ps) out tested.1 in
       let rest = entries_hold ps judged.value.trace (with_entry infos judged.value.info) (vetted_with_entry infos judged.value.info vetted) judged.next in
       let before = front infos.entry_points judged.value.info out.entry_points rest.before in
@@ -175,7 +175,7 @@ pub module_holds : (below : Meaning) (settings : Settings) (types : List TypeInf
     IsJudgement below settings types m global_types (Ok out) → checks_blocks settings.flags ≡ true → ModuleHolds below settings types m out
 module_holds below settings types global_types m out a on =
     let tested = passed (Fits below settings types m global_types)
-            (Step (globals_step below settings types m (first_infos global_types)) (IsOfFunction (λ e. e)) (λ done. FunctionsAnswer below settings types m no_traces (first_infos global_types) m.functions)) out a in
+    (Step (globals_step below settings types m (first_infos global_types)) (IsOfFunction (λ e. e)) (λ done. FunctionsAnswer below settings types m no_traces (first_infos global_types) m.functions)) out a in
     let globals = found (globals_step below settings types m (first_infos global_types)) (IsOfFunction (λ e. e)) (λ done. FunctionsAnswer below settings types m no_traces (first_infos global_types) m.functions) out tested.1 in
     let none = none_is_vetted below settings types m (first_infos global_types) refl in
     let functions = functions_hold below settings types m on out m.functions no_traces (first_infos global_types) none refl refl globals.next in

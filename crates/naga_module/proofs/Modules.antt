@@ -28,7 +28,7 @@ module _ (below : Meaning) (settings : Settings) (types : List TypeInfo) (m : Mo
   here : (r : Answer) → FunctionsAnswer below settings types m trace infos (f ∷ drop (i + 1) m.functions) r → FunctionsAnswer below settings types m trace infos (drop i m.functions) r
   here r a =
       let same : drop i m.functions ≡ f ∷ drop (i + 1) m.functions =
-          at_drop_more (λ (fs : List Function). fs) m.functions i f lt ∙ ap (λ (g : Function). g ∷ drop (i + 1) m.functions) (get_or_from_slice_get m.functions i f f at) in
+      at_drop_more (λ (fs : List Function). fs) m.functions i f lt ∙ ap (λ (g : Function). g ∷ drop (i + 1) m.functions) (get_or_from_slice_get m.functions i f f at) in
       subst (λ (fs : List Function). FunctionsAnswer below settings types m trace infos fs r) (sym same) a
 
   pub goes_on : FitsFunction f m (length infos.functions) → (left : FunctionOutcome) →

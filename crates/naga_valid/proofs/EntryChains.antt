@@ -72,10 +72,10 @@ module _ (below : Meaning) (settings : Settings) (types : List TypeInfo) (trace 
       let behind = (both_hold (within fault_of (payload_points m.global_variables ep.stage ep.task_payload)) (used_points below settings types m ep (with_own_uses ep info)) e).1 in
       let stages = (with_own_uses ep info).available_stages in
       let rest =
-          argument_points settings m.types types ep
-          ++ (result_points settings m.types types ep
-          ++ (within fault_of (globals_points below settings.flags m ep (with_own_uses ep info).global_uses)
-          ++ mesh_points below settings types m ep ep.mesh_info)) in
+      argument_points settings m.types types ep
+      ++ (result_points settings m.types types ep
+      ++ (within fault_of (globals_points below settings.flags m ep (with_own_uses ep info).global_uses)
+      ++ mesh_points below settings types m ep ep.mesh_info)) in
       let first = (both_hold (within fault_of (stage_points ep.stage stages)) rest behind).0 in
       let points = none_within (first_fault (stage_points ep.stage stages)) fault_of (sym (first_within fault_of (stage_points ep.stage stages)) ∙ first) in
       let held = (first_holds (contains stages.0 (only ep.stage).0) fault.ForbiddenStageOperations [] points).0 in
