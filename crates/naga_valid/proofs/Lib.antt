@@ -38,3 +38,4 @@ pub mod EntryAccepted
 pub mod Chains
 pub mod GlobalFits
 pub mod EntryLaw
+pub mod EntryGroups

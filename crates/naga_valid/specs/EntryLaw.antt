@@ -21,11 +21,11 @@ use Rattle.naga_below.specs.declared.valid.info.ModuleInfo.{ModuleInfo}
 use Rattle.naga_below.specs.declared.valid.settings.Settings.{Settings}
 use Rattle.naga_below.specs.declared.valid.types.TypeInfo.{TypeInfo}
 use Rattle.naga_rules.specs.BuiltIns.{canonical}
+use Rattle.naga_rules.specs.Locations.{checks_bindings}
 use Rattle.naga_rules.specs.Meaning.{Meaning}
 use Rattle.naga_rules.specs.Varyings.{Item, Part, Placed, Bound, BlendSources}
 use Rattle.naga_rules.specs.declared.varying.MeshOutputType.TheVariants.{VertexOutput, PrimitiveOutput}
 use Rattle.naga_valid.specs.CodeGroups.{parts_of_all}
-use Rattle.naga_valid.specs.EntryGlobals.{checks_bindings}
 use Rattle.naga_valid.specs.EntryJudged.{entry_judgement}
 use Rattle.naga_valid.specs.EntryVaryings.{argument_item, result_items, output_item}
 use Rattle.naga_valid.specs.Judged.{FunctionOutcome, function_judgement}
