@@ -33,7 +33,7 @@ use Rattle.naga_valid.proofs.EntryAccepted.{accepted_entry}
 use Rattle.naga_valid.proofs.EntryLaw.{none_within, arguments_hold, results_hold}
 use Rattle.naga_valid.proofs.Flat.{holds_at}
 
-none_joined : {Fault : Type 0} (ps qs : List (Point Fault)) → first_fault ps ≡ None → first_fault qs ≡ None → first_fault (ps ++ qs) ≡ None
+pub none_joined : {Fault : Type 0} (ps qs : List (Point Fault)) → first_fault ps ≡ None → first_fault qs ≡ None → first_fault (ps ++ qs) ≡ None
 none_joined ps qs e f = first_of_both ps qs ∙ ap (λ o. option_or o (first_fault qs)) e ∙ f
 
 or_right : (b : Bool) → (b || true) ≡ true
@@ -49,7 +49,7 @@ same_number : (a b : ℕ) → a ≡ b → (a == b) ≡ true
 same_number a b e = grind (arith, nat_tests)
 
 -- an item of a list is among its first ones
-any_at : {A : Type 0} (test : A → Bool) (xs : List A) (i k : ℕ) (x : A) → i < k → slice_get xs i ≡ Some x → test x ≡ true → list_any test (take k xs) ≡ true
+pub any_at : {A : Type 0} (test : A → Bool) (xs : List A) (i k : ℕ) (x : A) → i < k → slice_get xs i ≡ Some x → test x ≡ true → list_any test (take k xs) ≡ true
 any_at test [] i k x lt e t = cc
 any_at test (y ∷ ys) i zero x lt e t = absurd (omega arith)
 any_at test (y ∷ ys) zero (suc k) x lt e t =
@@ -59,12 +59,12 @@ any_at test (y ∷ ys) (suc i) (suc k) x lt e t =
     let less : i < k = omega arith in ap (λ b. test y || b) (any_at test ys i k x less e t) ∙ or_right (test y)
 
 -- a fact about each item
-all_at : {A : Type 0} (P : A → Type 0) (xs : List A) → AllByRecursion P xs → (k : ℕ) (x : A) → slice_get xs k ≡ Some x → P x
+pub all_at : {A : Type 0} (P : A → Type 0) (xs : List A) → AllByRecursion P xs → (k : ℕ) (x : A) → slice_get xs k ≡ Some x → P x
 all_at P [] h k x e = cc
 all_at P (y ∷ ys) h zero x e = let same : y ≡ x = cc in subst P same h.0
 all_at P (y ∷ ys) h (suc k) x e = all_at P ys h.1 k x e
 
-all_both : {A : Type 0} (P : A → Type 0) (xs ys : List A) → AllByRecursion P xs → AllByRecursion P ys → AllByRecursion P (xs ++ ys)
+pub all_both : {A : Type 0} (P : A → Type 0) (xs ys : List A) → AllByRecursion P xs → AllByRecursion P ys → AllByRecursion P (xs ++ ys)
 all_both P [] ys h g = g
 all_both P (x ∷ xs) ys h g = (h.0, all_both P xs ys h.1 g)
 
@@ -97,17 +97,17 @@ module _ (types : List IrType) (infos : List TypeInfo) where
       ∙ sym (append_assoc here (placed_points types infos (earlier ++ p ∷ []) ps) (placed_points types infos ((earlier ++ p ∷ []) ++ ps) qs))
       ∙ ap (λ e. (here ++ placed_points types infos (earlier ++ p ∷ []) ps) ++ placed_points types infos e qs) (append_assoc earlier (p ∷ []) ps)
 
-  group_none : (fault : ℕ → VaryingFault → EntryFault) (items : List Item) (earlier : List Placed) (index : ℕ) → first_fault (group_points_from types infos fault earlier index items) ≡ None → first_fault (placed_points types infos earlier (parts_of_all types infos items)) ≡ None
+  pub group_none : (fault : ℕ → VaryingFault → EntryFault) (items : List Item) (earlier : List Placed) (index : ℕ) → first_fault (group_points_from types infos fault earlier index items) ≡ None → first_fault (placed_points types infos earlier (parts_of_all types infos items)) ≡ None
   group_none fault [] earlier index h = refl
   group_none fault (x ∷ xs) earlier index h =
       let both = both_hold (within (fault index) (item_points types infos earlier x)) (group_points_from types infos fault (earlier ++ placed_parts types infos x) (suc index) xs) h in
       ap first_fault (placed_both (placed_parts types infos x) (parts_of_all types infos xs) earlier)
       ∙ none_joined (item_points types infos earlier x) (placed_points types infos (earlier ++ placed_parts types infos x) (parts_of_all types infos xs)) (none_within (fault index) (item_points types infos earlier x) both.0) (group_none fault xs (earlier ++ placed_parts types infos x) (suc index) both.1)
 
-  abbrev Passes : List Placed → Placed → Type 0
+  abbrev pub Passes : List Placed → Placed → Type 0
   Passes earlier p = first_fault (part_points p.place types infos (seen_at p.place earlier) p.part) ≡ None
 
-  part_none : (ps earlier : List Placed) → first_fault (placed_points types infos earlier ps) ≡ None → (k : ℕ) (p : Placed) → slice_get ps k ≡ Some p → Passes (earlier ++ take k ps) p
+  pub part_none : (ps earlier : List Placed) → first_fault (placed_points types infos earlier ps) ≡ None → (k : ℕ) (p : Placed) → slice_get ps k ≡ Some p → Passes (earlier ++ take k ps) p
   part_none [] earlier h k p e = cc
   part_none (q ∷ qs) earlier h zero p e =
       let same : q ≡ p = cc in

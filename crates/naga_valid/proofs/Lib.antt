@@ -39,3 +39,4 @@ pub mod Chains
 pub mod GlobalFits
 pub mod EntryLaw
 pub mod EntryGroups
+pub mod EntryBuiltIns

@@ -9,7 +9,7 @@ ghost use Rattle.naga_valid.specs.Accepted.{ResultsAreFilledOnce, StagesAreOfAll
 ghost use Rattle.naga_valid.specs.Blocks.{body_of};
 ghost use Rattle.naga_valid.specs.Context.{pre_emitted_of};
 ghost use Rattle.naga_valid.specs.EntryJudged.{HasPayloadSizes, entry_judgement, AnswersEntry};
-ghost use Rattle.naga_valid.specs.EntryLaw.{BindingsAreDistinct, GroupsAreDistinct, ReturnsPosition};
+ghost use Rattle.naga_valid.specs.EntryLaw.{argument_parts, BindingsAreDistinct, BuiltInsAreDistinct, GroupsAreDistinct, ReturnsPosition};
 ghost use Rattle.naga_valid.specs.EntryStart.{start_points};
 ghost use Rattle.naga_valid.specs.Parts.{AreInfosOf};
 ghost use Rattle.naga_valid.specs.WhatIsChecked.{checks_blocks, checks_expressions};
@@ -65,6 +65,9 @@ impl<B: Below> Validator<B> {
         // Where bindings were looked at, no two parts of a group take one location: of the arguments, of the result, of the
         // outputs of a mesh together.
         ensures locations { OnOk result (checks_bindings self.old.settings.flags ≡ true → GroupsAreDistinct self.old.settings «module».now.types self.old.types ep.now) }
+
+        // No two parts of the arguments are one built-in, once `invariant` and `perspective` are cleared.
+        ensures built_ins { OnOk result (BuiltInsAreDistinct (argument_parts self.old.settings «module».now.types self.old.types ep.now)) }
 
         // At the vertex stage a position is returned.
         ensures position { OnOk result (ep.now.stage ≡ Vertex → ReturnsPosition «module».now.types ep.now.function.result) }

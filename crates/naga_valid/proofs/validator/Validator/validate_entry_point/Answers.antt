@@ -4,6 +4,7 @@ use Rattle.naga_valid.specs.Accepted.{StagesAreOfAll}
 use Rattle.naga_valid.specs.Blocks.{body_of}
 use Rattle.naga_valid.specs.Judged.{FunctionOutcome}
 use Rattle.naga_valid.proofs.EntryAccepted.{accepted_entry, stages_are}
+use Rattle.naga_valid.proofs.EntryBuiltIns.{accepted_built_ins}
 use Rattle.naga_valid.proofs.EntryGroups.{accepted_locations}
 use Rattle.naga_valid.proofs.EntryLaw.{accepted_bindings, accepted_position}
 use Rattle.naga_valid.proofs.FunctionLaw.{is_sound, fills_once, is_of_all_stages}
@@ -34,3 +35,7 @@ returns-clause-locations g c = accepted_locations _ _ _ _ _ _ _ _ c.in_ok-outcom
 
 pub returns-clause-position : goal.returns-clause-position
 returns-clause-position g c = accepted_position _ _ _ _ _ _ _ _ c.in_ok-outcome.ensures
+
+pub returns-clause-built_ins : goal.returns-clause-built_ins
+returns-clause-built_ins g c =
+    accepted_built_ins _ _ _ _ _ _ _ _ c.in_ok-outcome.ensures c.requires.types c.requires.function.signature
