@@ -29,11 +29,12 @@ use Rattle.naga_below.specs.declared.valid.info.FunctionInfo.{FunctionInfo}
 use Rattle.naga_below.specs.declared.valid.settings.Settings.{Settings}
 use Rattle.naga_below.specs.declared.valid.types.TypeInfo.{TypeInfo}
 use Rattle.naga_rules.specs.BuiltIns.{canonical, is_same_built_in}
+use Rattle.naga_rules.specs.Locations.{checks_bindings}
 use Rattle.naga_rules.specs.Meaning.{Meaning}
 use Rattle.naga_rules.specs.TypeInfos.{type_has}
 use Rattle.naga_rules.specs.Varyings.{Bound, is_built_in, member_part, member_parts, parts_of, unbound_parts}
 use Rattle.naga_valid.specs.EntryFaults.{EntryFault, fault_of}
-use Rattle.naga_valid.specs.EntryGlobals.{binding_at, binding_points, checks_bindings, global_points, globals_points, immediate_points, is_bound_to, is_same_binding, is_some_use, is_taken_before, is_used, use_points}
+use Rattle.naga_valid.specs.EntryGlobals.{binding_at, binding_points, global_points, globals_points, immediate_points, is_bound_to, is_same_binding, is_some_use, is_taken_before, is_used, use_points}
 use Rattle.naga_valid.specs.EntryJudged.{interface_points, used_points}
 use Rattle.naga_valid.specs.EntryMesh.{mesh_points}
 use Rattle.naga_valid.specs.EntryUses.{payload_points, stage_points, with_own_uses}
@@ -161,7 +162,7 @@ mapped_none : {A B : Type 0} (f : A → B) (o : Option A) → option_map f o ≡
 mapped_none f None e = refl
 mapped_none f (Some a) e = cc
 
-none_within : {Inner Outer : Type 0} (f : Inner → Outer) (ps : List (Point Inner)) → first_fault (within f ps) ≡ None → first_fault ps ≡ None
+pub none_within : {Inner Outer : Type 0} (f : Inner → Outer) (ps : List (Point Inner)) → first_fault (within f ps) ≡ None → first_fault ps ≡ None
 none_within f ps e = mapped_none f (first_fault ps) (sym (first_within f ps) ∙ e)
 
 uses_if : (b : Bool) (info : FunctionInfo) → info.global_uses ≡ (if b then record info { dual_source_blending = true } else info).global_uses

@@ -39,3 +39,5 @@ pub mod Chains
 pub mod GlobalFits
 pub mod EntryChains
 pub mod EntryLaw
+pub mod EntryGroups
+pub mod EntryBuiltIns

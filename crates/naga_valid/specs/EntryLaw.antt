@@ -1,5 +1,7 @@
 -- What is known of each entry point that the judgement accepts: in words over the entry point, not over the points.
 use Rattle.std.specs.Prelude.{◌≡◌, ◌≢◌, ◌⊎◌, ⊤, ℕ, Bool, true, List, [], ◌∷◌, ◌++◌, Option, None, Some, Ok, map, slice_get}
+use Rattle.naga_below.specs.Fits.{FitsTypes}
+use Rattle.naga_below.specs.FitsBody.{SignatureFits}
 use Rattle.naga_below.specs.Types.{inner_at}
 use Rattle.naga_below.specs.declared.ir.built_in.BuiltIn.{BuiltIn}
 use Rattle.naga_below.specs.declared.ir.built_in.BuiltIn.TheVariants.{Position}
@@ -21,11 +23,11 @@ use Rattle.naga_below.specs.declared.valid.info.ModuleInfo.{ModuleInfo}
 use Rattle.naga_below.specs.declared.valid.settings.Settings.{Settings}
 use Rattle.naga_below.specs.declared.valid.types.TypeInfo.{TypeInfo}
 use Rattle.naga_rules.specs.BuiltIns.{canonical}
+use Rattle.naga_rules.specs.Locations.{checks_bindings}
 use Rattle.naga_rules.specs.Meaning.{Meaning}
 use Rattle.naga_rules.specs.Varyings.{Item, Part, Placed, Bound, BlendSources}
 use Rattle.naga_rules.specs.declared.varying.MeshOutputType.TheVariants.{VertexOutput, PrimitiveOutput}
 use Rattle.naga_valid.specs.CodeGroups.{parts_of_all}
-use Rattle.naga_valid.specs.EntryGlobals.{checks_bindings}
 use Rattle.naga_valid.specs.EntryJudged.{entry_judgement}
 use Rattle.naga_valid.specs.EntryVaryings.{argument_item, result_items, output_item}
 use Rattle.naga_valid.specs.Judged.{FunctionOutcome, function_judgement}
@@ -119,10 +121,10 @@ abbrev pub AcceptedLocationsAreDistinct : Type 0
 AcceptedLocationsAreDistinct =
     OfAcceptedEntry (λ settings infos program ep outcome. checks_bindings settings.flags ≡ true → GroupsAreDistinct settings program.types infos ep)
 
--- The built-ins of its arguments are distinct.
+-- Where the types of the module and of its function's signature are there, the built-ins of its arguments are distinct.
 abbrev pub AcceptedBuiltInsAreDistinct : Type 0
 AcceptedBuiltInsAreDistinct =
-    OfAcceptedEntry (λ settings infos program ep outcome. BuiltInsAreDistinct (argument_parts settings program.types infos ep))
+    OfAcceptedEntry (λ settings infos program ep outcome. FitsTypes program → SignatureFits program ep.function → BuiltInsAreDistinct (argument_parts settings program.types infos ep))
 
 -- At the vertex stage it returns a position.
 abbrev pub AcceptedVertexHasPosition : Type 0

@@ -4,12 +4,12 @@ ghost use Rattle.std.specs.Prelude.{◌≡◌, true, OnOk, OnErr, IfOk, length};
 ghost use Rattle.naga_below.specs.Fits.{FitsTypes, FitsFunction, FitsEntry};
 ghost use Rattle.naga_below.specs.declared.ir.module.ShaderStage.TheVariants.{Vertex};
 ghost use Rattle.naga_runs.specs.Soundness.{RunsAreSound};
+ghost use Rattle.naga_rules.specs.Locations.{checks_bindings};
 ghost use Rattle.naga_valid.specs.Accepted.{ResultsAreFilledOnce, StagesAreOfAll};
 ghost use Rattle.naga_valid.specs.Blocks.{body_of};
 ghost use Rattle.naga_valid.specs.Context.{pre_emitted_of};
-ghost use Rattle.naga_valid.specs.EntryGlobals.{checks_bindings};
 ghost use Rattle.naga_valid.specs.EntryJudged.{HasPayloadSizes, entry_judgement, AnswersEntry};
-ghost use Rattle.naga_valid.specs.EntryLaw.{BindingsAreDistinct, ReturnsPosition};
+ghost use Rattle.naga_valid.specs.EntryLaw.{argument_parts, BindingsAreDistinct, BuiltInsAreDistinct, GroupsAreDistinct, ReturnsPosition};
 ghost use Rattle.naga_valid.specs.EntryStart.{start_points};
 ghost use Rattle.naga_valid.specs.Parts.{AreInfosOf};
 ghost use Rattle.naga_valid.specs.WhatIsChecked.{checks_blocks, checks_expressions};
@@ -61,6 +61,13 @@ impl<B: Below> Validator<B> {
 
         // Where bindings were looked at, no two globals that are used have one binding.
         ensures bindings { IfOk result (λ info. checks_bindings self.old.settings.flags ≡ true → BindingsAreDistinct «module».now.global_variables info.global_uses) }
+
+        // Where bindings were looked at, no two parts of a group take one location: of the arguments, of the result, of the
+        // outputs of a mesh together.
+        ensures locations { OnOk result (checks_bindings self.old.settings.flags ≡ true → GroupsAreDistinct self.old.settings «module».now.types self.old.types ep.now) }
+
+        // No two parts of the arguments are one built-in, once `invariant` and `perspective` are cleared.
+        ensures built_ins { OnOk result (BuiltInsAreDistinct (argument_parts self.old.settings «module».now.types self.old.types ep.now)) }
 
         // At the vertex stage a position is returned.
         ensures position { OnOk result (ep.now.stage ≡ Vertex → ReturnsPosition «module».now.types ep.now.function.result) }

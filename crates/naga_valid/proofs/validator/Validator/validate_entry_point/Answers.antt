@@ -4,6 +4,8 @@ use Rattle.naga_valid.specs.Accepted.{StagesAreOfAll}
 use Rattle.naga_valid.specs.Blocks.{body_of}
 use Rattle.naga_valid.specs.Judged.{FunctionOutcome}
 use Rattle.naga_valid.proofs.EntryAccepted.{accepted_entry, stages_are}
+use Rattle.naga_valid.proofs.EntryBuiltIns.{accepted_built_ins}
+use Rattle.naga_valid.proofs.EntryGroups.{accepted_locations}
 use Rattle.naga_valid.proofs.EntryLaw.{accepted_bindings, accepted_position}
 use Rattle.naga_valid.proofs.FunctionLaw.{is_sound, fills_once, is_of_all_stages}
 use Rattle.naga_valid.proofs.validator.Validator.validate_entry_point.Goals as goal
@@ -28,5 +30,12 @@ pub returns-clause-bindings : goal.returns-clause-bindings
 returns-clause-bindings g c = λ on.
     let distinct = accepted_bindings _ _ _ _ _ _ _ _ c.in_ok-outcome.ensures on in rw (← c.outcome.view_is) at distinct
 
+pub returns-clause-locations : goal.returns-clause-locations
+returns-clause-locations g c = accepted_locations _ _ _ _ _ _ _ _ c.in_ok-outcome.ensures
+
 pub returns-clause-position : goal.returns-clause-position
 returns-clause-position g c = accepted_position _ _ _ _ _ _ _ _ c.in_ok-outcome.ensures
+
+pub returns-clause-built_ins : goal.returns-clause-built_ins
+returns-clause-built_ins g c =
+    accepted_built_ins _ _ _ _ _ _ _ _ c.in_ok-outcome.ensures c.requires.types c.requires.function.signature
