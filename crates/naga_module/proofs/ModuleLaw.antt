@@ -14,7 +14,7 @@ use Rattle.naga_below.specs.declared.valid.types.TypeInfo.{TypeInfo}
 use Rattle.naga_rules.specs.Meaning.{Meaning}
 use Rattle.naga_rules.specs.declared.function.FunctionError.{FunctionError}
 use Rattle.naga_valid.proofs.Chains.{none_is_vetted, one_more_is_vetted, fits_calls_below}
-use Rattle.naga_valid.proofs.EntryLaw.{entry_is_sound, entry_keeps_its_stage}
+use Rattle.naga_valid.proofs.EntryChains.{entry_is_sound, entry_keeps_its_stage}
 use Rattle.naga_valid.proofs.FunctionLaw.{is_sound}
 use Rattle.naga_valid.specs.Chains.{AreVetted, ChainsKeepTo}
 use Rattle.naga_valid.specs.EntryFaults.{EntryFault}
@@ -49,8 +49,11 @@ found (Err e) Makes Next out a = absurd a
 next_of : {A : Type 0} (xs : List A) (i : ℕ) (y : A) (ys : List A) → y ∷ ys ≡ drop i xs → (slice_get xs i ≡ Some y) × (ys ≡ drop (i + 1) xs)
 next_of [] zero y ys e = cc
 next_of [] (suc i) y ys e = cc
-next_of (x ∷ xs) zero y ys e = cc
-next_of (x ∷ xs) (suc i) y ys e = next_of xs i y ys e
+next_of (x ∷ xs) zero y ys e = let first : x ≡ y = cc in let rest : ys ≡ xs = cc in (ap Some first, rest)
+next_of (x ∷ xs) (suc i) y ys e =
+    let rest = next_of xs i y ys e in
+    let place : suc (i + 1) ≡ suc i + 1 = omega arith in
+    (rest.0, rest.1 ∙ ap (λ k. drop k (x ∷ xs)) place)
 
 module _ (below : Meaning) (settings : Settings) (types : List TypeInfo) (m : Module) (on : checks_blocks settings.flags ≡ true) (out : ModuleInfo) where
   -- what is left behind all functions
@@ -62,13 +65,19 @@ module _ (below : Meaning) (settings : Settings) (types : List TypeInfo) (m : Mo
     entries : infos.entry_points ≡ []
     next : BehindFunctions below settings types m trace infos (Ok out)
 
+  at_each : (f : Function) (fs : List Function) → IsSoundFunction f → ((k : ℕ) (g : Function) → slice_get fs k ≡ Some g → IsSoundFunction g) →
+      (k : ℕ) (g : Function) → slice_get (f ∷ fs) k ≡ Some g → IsSoundFunction g
+  at_each f fs own rest zero g is = subst (λ (h : Function). IsSoundFunction h) (let same : f ≡ g = cc in same) own
+  at_each f fs own rest (suc k) g is = rest k g is
+
   functions_hold : (fs : List Function) (trace : TraceState) (infos : ModuleInfo) → AreVetted below settings types m infos → infos.entry_points ≡ [] →
       fs ≡ drop (length infos.functions) m.functions → FunctionsAnswer below settings types m trace infos fs (Ok out) → Behind fs
   unfolding FunctionsAnswer
   functions_hold [] trace infos vetted none left a =
       record { sound = λ k f is. cc; trace = trace; infos = infos; vetted = vetted; entries = none; next = a }
   functions_hold (f ∷ fs) trace infos vetted none left a =
-      let tested = passed (FitsFunction f m (length infos.functions)) _ out a in
+      let tested = passed (FitsFunction f m (length infos.functions))
+      (Step (function_judgement below settings types trace m infos f false) (IsOfFunction (fault.Function (length infos.functions))) (λ (l : FunctionOutcome). FunctionsAnswer below settings types m l.trace (with_info infos l.info) fs)) out a in
       let judged = found (function_judgement below settings types trace m infos f false) (IsOfFunction (fault.Function (length infos.functions))) (λ (l : FunctionOutcome). FunctionsAnswer below settings types m l.trace (with_info infos l.info) fs) out tested.1 in
       let place = next_of m.functions (length infos.functions) f fs left in
       let more = one_more_is_vetted below settings types trace m infos f judged.value vetted none place.0 tested.0 judged.is in
@@ -83,11 +92,6 @@ module _ (below : Meaning) (settings : Settings) (types : List TypeInfo) (m : Mo
         entries = rest.entries;
         next = rest.next;
       }
-
-  at_each : (f : Function) (fs : List Function) → IsSoundFunction f → ((k : ℕ) (g : Function) → slice_get fs k ≡ Some g → IsSoundFunction g) →
-      (k : ℕ) (g : Function) → slice_get (f ∷ fs) k ≡ Some g → IsSoundFunction g
-  at_each f fs own rest zero g is = subst (λ (h : Function). IsSoundFunction h) (let same : f ≡ g = cc in same) own
-  at_each f fs own rest (suc k) g is = rest k g is
 
   vetted_with_entry : (infos : ModuleInfo) (more : FunctionInfo) → AreVetted below settings types m infos → AreVetted below settings types m (with_entry infos more)
   vetted_with_entry infos more v =
@@ -118,36 +122,6 @@ module _ (below : Meaning) (settings : Settings) (types : List TypeInfo) (m : Mo
   all_of [] = refl
   all_of (x ∷ xs) = ap (λ l. x ∷ l) (all_of xs)
 
-  entries_hold : (ps : List EntryPoint) (trace : TraceState) (infos : ModuleInfo) → AreVetted below settings types m infos →
-      EntriesAnswer below settings types m trace infos ps (Ok out) → Entries infos ps
-  unfolding EntriesAnswer
-  entries_hold [] trace infos vetted a =
-      let same : out ≡ infos = cc in
-      record {
-        functions = ap (λ (i : ModuleInfo). i.functions) same;
-        types_of = ap (λ (i : ModuleInfo). i.global_types) same;
-        before = subst (λ (i : ModuleInfo). infos.entry_points ≡ take (length infos.entry_points) i.entry_points) (sym same) (all_of infos.entry_points);
-        sound = λ k p is. cc;
-        stages = λ k p is. cc;
-      }
-  entries_hold (p ∷ ps) trace infos vetted a =
-      let tested = passed (FitsFunction p.function m (length infos.functions) × FitsEntry p m) _ out a in
-      let judged = found (entry_judgement below settings types trace m infos p) (IsOfEntryPoint (length infos.entry_points)) (λ (l : FunctionOutcome). EntriesAnswer below settings types m l.trace (with_entry infos l.info) ps) out tested.1 in
-      let rest = entries_hold ps judged.value.trace (with_entry infos judged.value.info) (vetted_with_entry infos judged.value.info vetted) judged.next in
-      let before = front infos.entry_points judged.value.info out.entry_points rest.before in
-      let same : infos ≡ infos_before (length infos.entry_points) out = λ i. record { functions = sym rest.functions i; entry_points = before i; global_types = sym rest.types_of i } in
-      let calls = fits_calls_below p.function m (length infos.functions) tested.0.0 in
-      let own = entry_keeps_its_stage below settings types trace m infos p judged.value judged.is on vetted calls in
-      let one : length (infos.entry_points ++ judged.value.info ∷ []) ≡ length infos.entry_points + 1 = length-append infos.entry_points (judged.value.info ∷ []) in
-      record {
-        functions = rest.functions;
-        types_of = rest.types_of;
-        before = before;
-        sound = entry_at p ps (entry_is_sound below settings types trace m infos p judged.value judged.is on) rest.sound;
-        stages = stage_at p ps (length infos.entry_points) (subst (λ (i : ModuleInfo). ChainsKeepTo below settings types m i p.function (only p.stage)) same own)
-            (subst (λ n. (k : ℕ) (q : EntryPoint) → slice_get ps k ≡ Some q → ChainsKeepTo below settings types m (infos_before (n + k) out) q.function (only q.stage)) one rest.stages);
-      }
-
   entry_at : (p : EntryPoint) (ps : List EntryPoint) → IsSoundFunction p.function → ((k : ℕ) (q : EntryPoint) → slice_get ps k ≡ Some q → IsSoundFunction q.function) →
       (k : ℕ) (q : EntryPoint) → slice_get (p ∷ ps) k ≡ Some q → IsSoundFunction q.function
   entry_at p ps own rest zero q is = subst (λ (e : EntryPoint). IsSoundFunction e.function) (let same : p ≡ q = cc in same) own
@@ -165,18 +139,53 @@ module _ (below : Meaning) (settings : Settings) (types : List TypeInfo) (m : Mo
       let place : n + 1 + k ≡ n + suc k = omega arith in
       subst (λ i. Keeps i q) place (rest k q is)
 
+  entries_hold : (ps : List EntryPoint) (trace : TraceState) (infos : ModuleInfo) → AreVetted below settings types m infos →
+      EntriesAnswer below settings types m trace infos ps (Ok out) → Entries infos ps
+  unfolding EntriesAnswer
+  entries_hold [] trace infos vetted a =
+      let same : out ≡ infos = cc in
+      record {
+        functions = ap (λ (i : ModuleInfo). i.functions) same;
+        types_of = ap (λ (i : ModuleInfo). i.global_types) same;
+        before = subst (λ (i : ModuleInfo). infos.entry_points ≡ take (length infos.entry_points) i.entry_points) (sym same) (all_of infos.entry_points);
+        sound = λ k p is. cc;
+        stages = λ k p is. cc;
+      }
+  entries_hold (p ∷ ps) trace infos vetted a =
+      let tested = passed (FitsFunction p.function m (length infos.functions) × FitsEntry p m)
+      (Step (entry_judgement below settings types trace m infos p) (IsOfEntryPoint (length infos.entry_points)) (λ (l : FunctionOutcome). EntriesAnswer below settings types m l.trace (with_entry infos l.info) ps)) out a in
+      let judged = found (entry_judgement below settings types trace m infos p) (IsOfEntryPoint (length infos.entry_points)) (λ (l : FunctionOutcome). EntriesAnswer below settings types m l.trace (with_entry infos l.info) ps) out tested.1 in
+      let rest = entries_hold ps judged.value.trace (with_entry infos judged.value.info) (vetted_with_entry infos judged.value.info vetted) judged.next in
+      let before = front infos.entry_points judged.value.info out.entry_points rest.before in
+      let same : infos ≡ infos_before (length infos.entry_points) out = λ i. record { functions = sym rest.functions i; entry_points = before i; global_types = sym rest.types_of i } in
+      let calls = fits_calls_below p.function m (length infos.functions) tested.0.0 in
+      let own = entry_keeps_its_stage below settings types trace m infos p judged.value judged.is on vetted calls in
+      let one : length (infos.entry_points ++ judged.value.info ∷ []) ≡ length infos.entry_points + 1 = length-append infos.entry_points (judged.value.info ∷ []) in
+      record {
+        functions = rest.functions;
+        types_of = rest.types_of;
+        before = before;
+        sound = entry_at p ps (entry_is_sound below settings types trace m infos p judged.value judged.is on) rest.sound;
+        stages = stage_at p ps (length infos.entry_points) (subst (λ (i : ModuleInfo). ChainsKeepTo below settings types m i p.function (only p.stage)) same own)
+            (subst (λ n. (k : ℕ) (q : EntryPoint) → slice_get ps k ≡ Some q → ChainsKeepTo below settings types m (infos_before (n + k) out) q.function (only q.stage)) one rest.stages);
+      }
+
 -- all of an accepted module
 pub module_holds : (below : Meaning) (settings : Settings) (types : List TypeInfo) (global_types : List TypeResolution) (m : Module) (out : ModuleInfo) →
     IsJudgement below settings types m global_types (Ok out) → checks_blocks settings.flags ≡ true → ModuleHolds below settings types m out
 module_holds below settings types global_types m out a on =
-    let tested = passed (Fits below settings types m global_types) _ out a in
+    let tested = passed (Fits below settings types m global_types)
+    (Step (globals_step below settings types m (first_infos global_types)) (IsOfFunction (λ e. e)) (λ done. FunctionsAnswer below settings types m no_traces (first_infos global_types) m.functions)) out a in
     let globals = found (globals_step below settings types m (first_infos global_types)) (IsOfFunction (λ e. e)) (λ done. FunctionsAnswer below settings types m no_traces (first_infos global_types) m.functions) out tested.1 in
     let none = none_is_vetted below settings types m (first_infos global_types) refl in
     let functions = functions_hold below settings types m on out m.functions no_traces (first_infos global_types) none refl refl globals.next in
-    let sizes = passed (HasPayloadSizes below m) _ out functions.next in
+    let sizes = passed (HasPayloadSizes below m) (EntriesAnswer below settings types m functions.trace functions.infos m.entry_points) out functions.next in
     let entries = entries_hold below settings types m on out m.entry_points functions.trace functions.infos functions.vetted sizes.1 in
     record {
       functions = functions.sound;
       entry_points = entries.sound;
-      stages = subst (λ n. (k : ℕ) (p : EntryPoint) → slice_get m.entry_points k ≡ Some p → ChainsKeepTo below settings types m (infos_before (n + k) out) p.function (only p.stage)) (ap length functions.entries) entries.stages;
+      stages = λ k p is.
+          let place : 0 + k ≡ k = omega arith in
+          let first = ap length functions.entries in
+          subst (λ n. ChainsKeepTo below settings types m (infos_before n out) p.function (only p.stage)) (ap (λ n. n + k) first ∙ place) (entries.stages k p is);
     }

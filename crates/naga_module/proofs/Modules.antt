@@ -2,7 +2,10 @@
 use Rattle.std.proofs.Common.{◌≡◌, ◌<◌, ◌+◌, ◌≤◌, ◌⊎◌, inl, inr, ℕ, false, List, [], ◌∷◌, Ok, Err, length, drop, get_or, refl, sym, ap, ◌∙◌, subst}
 use Rattle.std.proofs.lemmas.List.{at_drop_more, drop_all}
 use Rattle.std.proofs.lemmas.Option.{get_or_from_slice_get}
-use Rattle.std.specs.Prelude.{Some, slice_get}
+use Rattle.std.specs.Option.{option_or}
+use Rattle.std.specs.Prelude.{None, Some, slice_get}
+use Rattle.naga_below.proofs.Points.{first_turn, first_end}
+use Rattle.naga_below.specs.Points.{Point, first_fault, points_from, points_of_each}
 use Rattle.naga_below.specs.Fits.{FitsFunction}
 use Rattle.naga_below.specs.declared.ir.functions.Function.{Function}
 use Rattle.naga_below.specs.declared.ir.module.Module.{Module}
@@ -25,7 +28,7 @@ module _ (below : Meaning) (settings : Settings) (types : List TypeInfo) (m : Mo
   here : (r : Answer) → FunctionsAnswer below settings types m trace infos (f ∷ drop (i + 1) m.functions) r → FunctionsAnswer below settings types m trace infos (drop i m.functions) r
   here r a =
       let same : drop i m.functions ≡ f ∷ drop (i + 1) m.functions =
-          at_drop_more (λ (fs : List Function). fs) m.functions i f lt ∙ ap (λ (g : Function). g ∷ drop (i + 1) m.functions) (get_or_from_slice_get m.functions i f f at) in
+      at_drop_more (λ (fs : List Function). fs) m.functions i f lt ∙ ap (λ (g : Function). g ∷ drop (i + 1) m.functions) (get_or_from_slice_get m.functions i f f at) in
       subst (λ (fs : List Function). FunctionsAnswer below settings types m trace infos fs r) (sym same) a
 
   pub goes_on : FitsFunction f m (length infos.functions) → (left : FunctionOutcome) →
@@ -60,3 +63,20 @@ module _ (below : Meaning) (settings : Settings) (types : List TypeInfo) (m : Mo
 
 pub none_left : {A : Type 0} (xs : List A) (i : ℕ) → length xs ≤ i → drop i xs ≡ []
 none_left xs i le = drop_all i xs le
+
+-- the points of each item of a list, item by item
+module _ {A Fault : Type 0} (points : ℕ → A → List (Point Fault)) (xs : List A) (i : ℕ) where
+  abbrev Left : Type 0
+  Left = first_fault (points_from points i (drop i xs)) ≡ first_fault (points_of_each points xs)
+
+  pub item_stops : (x : A) → i < length xs → x ≡ get_or xs i x → Left → (told : Fault) → first_fault (points i x) ≡ Some told → Some told ≡ first_fault (points_of_each points xs)
+  item_stops x lt is left told h =
+      sym (first_turn points xs i x lt is ∙ ap (λ o. option_or o (first_fault (points_from points (i + 1) (drop (i + 1) xs)))) h) ∙ left
+
+  pub item_passes : (x : A) → i < length xs → x ≡ get_or xs i x → Left → first_fault (points i x) ≡ None →
+      first_fault (points_from points (i + 1) (drop (i + 1) xs)) ≡ first_fault (points_of_each points xs)
+  item_passes x lt is left h =
+      sym (first_turn points xs i x lt is ∙ ap (λ o. option_or o (first_fault (points_from points (i + 1) (drop (i + 1) xs)))) h) ∙ left
+
+  pub items_end : length xs ≤ i → Left → first_fault (points_of_each points xs) ≡ None
+  items_end le left = sym left ∙ first_end points xs i le

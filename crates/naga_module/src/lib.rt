@@ -17,4 +17,4 @@ pub use crate::facts::{
 };
 pub use crate::plain::Plain;
 pub use crate::recorded::Recorded;
-pub use crate::report::{Subject, write_fault, write_refusal};
+pub use crate::report::{Subject, write_fault, write_module_fault, write_refusal};

@@ -1,7 +1,9 @@
 //! Refusals, told to a person.
 
+use crate::check::ModuleFault;
 use naga_below::{Handle, Refusal, Span, tag};
 use naga_rules::Explain;
+use std::error::Error;
 use std::fmt;
 
 /// What was judged: a function or a global of the module by its handle, or an entry point by its index, from 0.
@@ -48,6 +50,47 @@ pub fn write_fault<E: Explain, W: fmt::Write>(
     write!(writer, "{fault:?}: ")?;
     fault.explain(writer)
 }
+
+/// Writes why a module was refused, as `write_refusal` does: of what is not there, or where there was no memory, it names
+/// no function and no place.
+pub fn write_module_fault<W: fmt::Write>(writer: &mut W, fault: &ModuleFault) -> fmt::Result {
+    match fault {
+        ModuleFault::NotFit => writer.write_str(
+            "NotFit: something that is named isn't there, or the size of a task payload isn't known",
+        ),
+        ModuleFault::Global(global, error) => {
+            write_fault(writer, Subject::GlobalVariable(*global), &[], error)
+        }
+        ModuleFault::Function(function, error) => write_fault(
+            writer,
+            Subject::Function(*function),
+            error.spans(),
+            error.as_inner(),
+        ),
+        ModuleFault::EntryPoint(index, error) => write_fault(
+            writer,
+            Subject::EntryPoint(*index),
+            error.spans(),
+            error.as_inner(),
+        ),
+        ModuleFault::Memory => writer.write_str("Memory: there was not enough memory"),
+    }
+}
+
+/// Writes the variant's name.
+impl fmt::Display for ModuleFault {
+    fn fmt<W: fmt::Write>(&self, f: &mut fmt::Formatter<W>) -> fmt::Result {
+        f.write_str(match self {
+            ModuleFault::NotFit => "NotFit",
+            ModuleFault::Global(_, _) => "Global",
+            ModuleFault::Function(_, _) => "Function",
+            ModuleFault::EntryPoint(_, _) => "EntryPoint",
+            ModuleFault::Memory => "Memory",
+        })
+    }
+}
+
+impl Error for ModuleFault {}
 
 /// Writes places with a comma between them and a colon behind the last.
 fn write_places<W: fmt::Write>(writer: &mut W, places: &[Span]) -> fmt::Result {

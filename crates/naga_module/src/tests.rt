@@ -3,12 +3,15 @@
 mod atomics;
 mod bodies;
 mod declarations;
+mod entry_errors;
 mod globals;
+mod picky;
 mod places;
 mod plain;
 mod rays;
 mod recorded;
 mod report;
 mod settings;
+mod steps;
 mod stores;
 mod subgroups;

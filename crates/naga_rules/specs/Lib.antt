@@ -17,3 +17,6 @@ pub use Rattle.naga_rules.specs.Locals.{local_points}
 pub use Rattle.naga_rules.specs.Meaning.{HasOneTypeEach, HasOneUseEach, HasTypesInRange, HasNoStructValues, HasOneKindEach}
 pub mod Spaces
 pub mod Globals
+pub use Rattle.naga_rules.specs.BuiltIns.{built_in_rule}
+pub use Rattle.naga_rules.specs.VaryingFaults.{AnswersVaryings}
+pub use Rattle.naga_rules.specs.Varyings.{points_from, parts_of, seen_in, seen_with, nothing_seen, without_built_ins, StartsEmpty, PointsAreByPosition, LeavesTheNext, SeesLocationsAlone}

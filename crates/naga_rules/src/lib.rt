@@ -20,8 +20,12 @@ pub use crate::function::{
     AtomicError, CallError, FunctionError, LocalVariableError, SubgroupError,
 };
 pub use crate::global::check_global;
+pub use crate::interface::allowed::allowed_use;
 pub use crate::interface::{GlobalVariableError, VaryingError};
 pub use crate::local::check_local;
 pub use crate::mesh::{MeshAnalysis, MeshFault};
 pub use crate::sentences::Explain;
+pub use crate::varying::item::check_varying_item;
+pub use crate::varying::laws::varyings_law;
+pub use crate::varying::rule::{BuiltInRule, BuiltInType, builtin_rule};
 pub use crate::varying::{MeshOutputType, VaryingPlace, VaryingState};

@@ -17,8 +17,8 @@ pub trait Explain: fmt::Debug {
     }
 }
 
-/// Writes the sentence of an error inside behind that of the one around it.
-fn explain_inside<E: Explain, W: fmt::Write>(error: &E, writer: &mut W) -> fmt::Result {
+/// Writes the sentence of an error inside behind that of the one around it, for a layer above that has errors of its own.
+pub fn explain_inside<E: Explain, W: fmt::Write>(error: &E, writer: &mut W) -> fmt::Result {
     writer.write_str(": ")?;
     error.explain(writer)
 }

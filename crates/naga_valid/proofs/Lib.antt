@@ -29,7 +29,15 @@ pub mod FunctionLaw
 pub mod FunctionSteps
 pub mod Each
 pub mod ExpressionSteps
+pub mod EntrySteps
+pub mod EntryGlobals
+pub mod EntryUses
+pub mod EntryJudgement
+pub mod Groups
+pub mod EntryAccepted
 pub mod Chains
 pub mod GlobalFits
-pub mod EntrySteps
+pub mod EntryChains
 pub mod EntryLaw
+pub mod EntryGroups
+pub mod EntryBuiltIns

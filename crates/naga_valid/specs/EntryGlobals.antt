@@ -1,6 +1,6 @@
 -- The steps of the globals that an entry point uses, where these are its uses of each global, its own joined in.
-use Rattle.std.specs.Prelude.{ℕ, zero, suc, ◌+◌, Bool, true, false, not, ◌&&◌, ◌||◌, ◌==◌, nat_le, List, [], ◌∷◌, ◌++◌, Option, None, Some, slice_get, length, option_and_then, unwrap_or, if◌then◌else◌}
-use Rattle.naga_below.specs.Bits.{BINDINGS, contains}
+use Rattle.std.specs.Prelude.{ℕ, zero, suc, ◌+◌, Bool, false, not, ◌&&◌, ◌||◌, ◌==◌, nat_le, List, [], ◌∷◌, ◌++◌, Option, None, Some, slice_get, length, option_and_then, unwrap_or, if◌then◌else◌}
+use Rattle.naga_below.specs.Bits.{contains}
 use Rattle.naga_below.specs.Points.{points_of_each}
 use Rattle.naga_below.specs.TypeTests.{is_handle}
 use Rattle.naga_below.specs.Types.{inner_at}
@@ -19,9 +19,10 @@ use Rattle.naga_below.specs.declared.ir.types.TypeInner.TheVariants as inner
 use Rattle.naga_below.specs.declared.valid.flags.GlobalUse.{GlobalUse}
 use Rattle.naga_below.specs.declared.valid.flags.ValidationFlags.{ValidationFlags}
 use Rattle.naga_rules.specs.AllowedUses.{allowed_use, hands_payload, takes_payload}
+use Rattle.naga_rules.specs.Locations.{checks_bindings}
 use Rattle.naga_rules.specs.Meaning.{Meaning}
 use Rattle.naga_valid.specs.EntryPoints.{EntryPoints}
-use Rattle.naga_valid.specs.EntryUses.{is_task_payload, is_immediate}
+use Rattle.naga_valid.specs.EntryUses.{is_immediate}
 use Rattle.naga_valid.specs.declared.interface.EntryPointError.TheVariants as fault
 
 -- some use is made of a global
@@ -51,10 +52,6 @@ abbrev pub immediate_points : List GlobalUse → List GlobalVariable → EntryPo
 immediate_points uses globals = (nat_le (used_immediates uses globals (length globals)) 1, fault.MoreThanOneImmediateUsed) ∷ []
 
 -- Bindings.
-
--- whether bindings are looked at
-abbrev pub checks_bindings : ValidationFlags → Bool
-checks_bindings flags = contains flags.0 BINDINGS.0
 
 abbrev pub is_same_binding : ResourceBinding → ResourceBinding → Bool
 is_same_binding a b = (a.group == b.group) && (a.binding == b.binding)

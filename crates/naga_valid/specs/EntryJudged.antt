@@ -1,5 +1,5 @@
 -- The judgement of an entry point: a chain of steps, of which that of its function is one.
-use Rattle.std.specs.Prelude.{◌≡◌, Bool, true, List, ◌++◌, Result, Ok, Err, None, All, IsSome}
+use Rattle.std.specs.Prelude.{◌≡◌, true, List, ◌++◌, Result, Ok, Err, None, All, IsSome}
 use Rattle.naga_below.specs.Points.{Point, first_fault, answer, and_then, within}
 use Rattle.naga_below.specs.declared.ir.module.EntryPoint.{EntryPoint}
 use Rattle.naga_below.specs.declared.ir.module.Module.{Module}
@@ -53,7 +53,7 @@ module _ (below : Meaning) (settings : Settings) (infos : List TypeInfo) (progra
   -- what is known of an accepted entry point, where this is known of its function
   abbrev pub outcome_of : FunctionOutcome → FunctionOutcome
   outcome_of outcome =
-      record outcome { info = with_blending settings program.types infos ep (with_own_uses ep outcome.info) }
+      record outcome { info = with_blending program.types infos ep (with_own_uses ep outcome.info) }
 
   abbrev pub interface_step : FunctionOutcome → Result FunctionOutcome EntryFault
   interface_step outcome = answer (first_fault (interface_points outcome.info)) (outcome_of outcome)
@@ -72,6 +72,11 @@ entry_judgement below settings infos trace program earlier ep =
 abbrev pub RefusesEntry : {A : Type 0} → EntryPoints → Result A EntryFault → Refusal EntryPointError → Type 0
 RefusesEntry first right (Fault error) = right ≡ Err (fault_of error)
 RefusesEntry first right Memory = first_fault first ≡ None
+
+-- an answer with all that is left: the judgement; or there was no memory, and no point up to the function fails
+abbrev pub AnswersOutcome : {A : Type 0} → EntryPoints → Result A EntryFault → Result A (Refusal EntryPointError) → Type 0
+AnswersOutcome first right (Ok outcome) = right ≡ Ok outcome
+AnswersOutcome first right (Err refused) = RefusesEntry first right refused
 
 -- an answer with what is left of ray traces: the judgement; or there was no memory, and no point up to the function fails
 abbrev pub AnswersEntry : EntryPoints → Result FunctionOutcome EntryFault → TraceState → Result FunctionInfo (Refusal EntryPointError) → Type 0

@@ -60,30 +60,25 @@ abbrev pub is_points : MeshOutputTopology → Bool
 is_points Points = true
 is_points _ = false
 
--- what is said of the mesh is what the type of its output variable implies
-abbrev pub implied_points : List Expression → MeshAnalysis → MeshStageInfo → EntryPoints
-implied_points expressions analysis mesh =
-    (is_implied (get_or analysis.overrides 0 None) (override_at expressions mesh.max_vertices_override), fault.BadMeshOutputVariableType)
-    ∷ (is_implied (get_or analysis.overrides 1 None) (override_at expressions mesh.max_primitives_override), fault.BadMeshOutputVariableType)
-    ∷ (is_same_mesh (with_overrides_of mesh analysis.implied) mesh, fault.BadMeshOutputVariableType)
-    ∷ []
-
--- the target has meshes of points, where this is one
-abbrev pub topology_points : Capabilities → MeshOutputTopology → EntryPoints
-topology_points capabilities topology =
-    (not (is_points topology) || has_capability capabilities MESH_SHADER_POINT_TOPOLOGY, fault.UnsupportedCapability MESH_SHADER_POINT_TOPOLOGY) ∷ []
-
 -- the output variable lies in a work group
 abbrev pub variable_points : Module → MeshStageInfo → EntryPoints
 variable_points program mesh =
     (lies_in is_work_group program.global_variables mesh.output_variable, fault.WrongMeshOutputAddressSpace) ∷ []
 
+-- what is said of the mesh, where this is implied, with these overrides of its two numbers: just that; and where it is one of
+-- points, the target has these
+abbrev pub stated_points : Capabilities → Module → List (Option ℕ) → MeshStageInfo → MeshStageInfo → EntryPoints
+stated_points capabilities program overrides implied mesh =
+    (is_implied (get_or overrides 0 None) (override_at program.global_expressions mesh.max_vertices_override), fault.BadMeshOutputVariableType)
+    ∷ (is_implied (get_or overrides 1 None) (override_at program.global_expressions mesh.max_primitives_override), fault.BadMeshOutputVariableType)
+    ∷ (is_same_mesh (with_overrides_of mesh implied) mesh, fault.BadMeshOutputVariableType)
+    ∷ (not (is_points mesh.topology) || has_capability capabilities MESH_SHADER_POINT_TOPOLOGY, fault.UnsupportedCapability MESH_SHADER_POINT_TOPOLOGY)
+    ∷ []
+
 -- what is said of the mesh, where the lower layer finds this out about its output variable
 abbrev pub said_points : Capabilities → Module → MeshAnalysis → MeshStageInfo → EntryPoints
 said_points capabilities program analysis mesh =
-    analysis_points analysis.fault
-    ++ (implied_points program.global_expressions analysis mesh
-    ++ topology_points capabilities mesh.topology)
+    analysis_points analysis.fault ++ stated_points capabilities program analysis.overrides analysis.implied mesh
 
 -- the whole mesh
 abbrev pub mesh_points : Meaning → Settings → List TypeInfo → Module → EntryPoint → Option MeshStageInfo → List (Point EntryFault)

@@ -1,5 +1,5 @@
 -- Check points of an entry point, and what an answer of the code says of them.
-use Rattle.std.specs.Prelude.{◌≡◌, ⊤, List, Result, Ok, Err, Option, None, Some}
+use Rattle.std.specs.Prelude.{◌≡◌, ⊤, List, Result, Ok, Err, None, Some}
 use Rattle.naga_below.specs.Points.{Point, first_fault}
 use Rattle.naga_below.specs.declared.span.Refusal.{Refusal}
 use Rattle.naga_below.specs.declared.span.Refusal.TheVariants.{Fault, Memory}

@@ -39,6 +39,17 @@ pub mod FunctionLaw
 pub mod InOrder
 pub mod Declarations
 pub mod Expressions
+pub mod EntryPoints
+pub mod EntryStart
+pub mod EntryUses
+pub mod EntryGlobals
+pub mod CodeBindings
+pub mod CodeGroups
+pub mod EntryFaults
+pub mod EntryVaryings
+pub mod EntryMesh
+pub mod EntryJudged
+pub mod EntryLaw
 pub mod Chains
 pub use Rattle.naga_below.specs.Fits.{FitsTypes, FitsGlobals, FitsFunction, FitsEntry}
 pub use Rattle.naga_rules.specs.Answers.{Answers, Refuses}
@@ -55,13 +66,4 @@ pub use Rattle.naga_valid.specs.Parts.{AreInfosOf}
 pub use Rattle.naga_valid.specs.WhatIsChecked.{checks_blocks, checks_expressions}
 unfoldable pub use Rattle.naga_valid.specs.Judged.{function_judgement}
 pub mod GlobalPoints
-pub mod EntryPoints
-pub mod EntryStart
-pub mod EntryUses
-pub mod EntryGlobals
-pub mod CodeBindings
-pub mod EntryFaults
-pub mod EntryVaryings
-pub mod EntryMesh
-pub mod EntryJudged
-pub mod EntryLaw
+pub mod EntryChains

@@ -3,12 +3,16 @@
 ghost use Rattle.std.specs.Prelude.{◌≡◌};
 ghost use Rattle.naga_valid.specs.declared.interface.EntryPointError.TheVariants as fault;
 
-mod bindings;
+pub(crate) mod answers;
+pub(crate) mod bindings;
 mod clones;
-mod globals;
-mod start;
+pub(crate) mod globals;
+pub(crate) mod mesh;
+mod sentences;
+pub(crate) mod start;
 mod texts;
-mod uses;
+pub(crate) mod uses;
+pub(crate) mod varyings;
 
 use naga_below::arena::handle::Handle;
 use naga_below::arena::tag;

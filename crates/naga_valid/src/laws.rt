@@ -1,6 +1,7 @@
 //! Laws of accepted functions: they compute nothing; whoever rests on them calls them to cite them.
 
 ghost use Rattle.naga_valid.specs.Chains.{ChainsAreKept, NoneIsVetted, OneMoreIsVetted, CallsOfFittingAreBelow};
+ghost use Rattle.naga_valid.specs.EntryLaw.{AcceptedHasAcceptedFunction, AcceptedBindingsAreDistinct, AcceptedLocationsAreDistinct, AcceptedBuiltInsAreDistinct, AcceptedVertexHasPosition};
 ghost use Rattle.naga_valid.specs.FunctionLaw.{AcceptedIsSound, AcceptedFillsOnce, AcceptedIsOfAllStages, AcceptedHasNoReturnInContinuing, AcceptedHasWholeSwitches, AcceptedKeepsInfo, AcceptedStagesAreMet};
 
 /// Of each function that the judgement accepts, where bodies are looked at: all runs of its body are sound; with
@@ -27,4 +28,15 @@ pub fn chains_law()
     ensures none { NoneIsVetted }
     ensures more { OneMoreIsVetted }
     ensures calls { CallsOfFittingAreBelow }
+{}
+
+/// Of each entry point that the judgement accepts: its function is accepted; where bindings are looked at, the globals that
+/// are used and bound are bound at distinct places, and no two parts of a group of inputs or outputs take one location; where
+/// its types are there, no two parts of its arguments are one built-in; at the vertex stage it returns a position.
+pub fn entry_law()
+    ensures function { AcceptedHasAcceptedFunction }
+    ensures bindings { AcceptedBindingsAreDistinct }
+    ensures locations { AcceptedLocationsAreDistinct }
+    ensures built_ins { AcceptedBuiltInsAreDistinct }
+    ensures position { AcceptedVertexHasPosition }
 {}

@@ -3,9 +3,14 @@
 ghost use Rattle.std.specs.Prelude.{◌≡◌, ◌↔◌, IsTrue, []};
 ghost use Rattle.naga_valid.specs.Parts.{Parts, infos_given, first_settings, no_traces, NamesTypes, AreInfosOf};
 
+mod entry;
+mod entry_point;
 mod expressions;
 mod global;
+mod globals;
 mod judge;
+mod mesh;
+mod varyings;
 mod whole;
 
 use crate::trace::{TraceRayVertexReturnState, TraceState};

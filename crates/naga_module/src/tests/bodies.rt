@@ -1,5 +1,5 @@
 //! What the tests of statements share: a module and a function from their parts, and what the validator answers to them
-//! over the plain layer.
+//! over a lower layer, mostly the plain one.
 
 use crate::plain::Plain;
 use bitflags::Flags;
@@ -18,6 +18,7 @@ use naga_below::valid::capabilities::Capabilities;
 use naga_below::valid::flags::{ShaderStages, SubgroupOperationSet, TypeFlags, ValidationFlags};
 use naga_below::valid::info::ModuleInfo;
 use naga_below::valid::types::TypeInfo;
+use naga_rules::below::Below;
 use naga_rules::function::FunctionError;
 use naga_valid::validator::Validator;
 use std::alloc::{AllocError, Global};
@@ -112,15 +113,21 @@ pub fn validator_for(
     target: Target,
     module: &Module,
 ) -> Validator<Plain> {
+    validator_over(rt, Plain::without_mesh_shaders(), target, module)
+}
+
+/// The same over a lower layer.
+pub fn validator_over<B: Below + Drop>(
+    rt: &(impl Abort + AllocGlobal),
+    below: B,
+    target: Target,
+    module: &Module,
+) -> Validator<B> {
     let flags = ValidationFlags::all();
     let Ok(infos) = vec![in rt.alloc(); GOOD; module.types.len()] else {
         panic!(rt; "no memory");
     };
-    let mut validator = Validator::new(
-        Plain::without_mesh_shaders(),
-        flags,
-        target.capabilities,
-    ).with_types(infos);
+    let mut validator = Validator::new(below, flags, target.capabilities).with_types(infos);
     validator.subgroup_stages(target.stages);
     validator.subgroup_operations(target.operations);
     validator
@@ -130,9 +137,9 @@ pub fn validator_for(
 pub type Answer = Result<ShaderStages, FunctionError>;
 
 /// The stages that a validator leaves a function, or its fault, which must be at this place, or at none.
-pub fn judge(
+pub fn judge<B: Below>(
     rt: &(impl Abort + AllocGlobal),
-    validator: &mut Validator<Plain>,
+    validator: &mut Validator<B>,
     fun: &Function,
     module: &Module,
     infos: &ModuleInfo,
@@ -142,9 +149,9 @@ pub fn judge(
 }
 
 /// The same of a function that is an entry point's, or not.
-pub fn judge_as(
+pub fn judge_as<B: Below>(
     rt: &(impl Abort + AllocGlobal),
-    validator: &mut Validator<Plain>,
+    validator: &mut Validator<B>,
     fun: &Function,
     module: &Module,
     infos: &ModuleInfo,

@@ -1,6 +1,7 @@
 //! What is told of refusals, and that they pass into `anyhow`.
 
-use crate::report::{Subject, write_fault, write_refusal};
+use crate::check::ModuleFault;
+use crate::report::{Subject, write_fault, write_module_fault, write_refusal};
 use crate::tests::bodies::{
     EVERYTHING, HERE, add, function_of, module_of, no_infos, validator_for,
 };
@@ -10,6 +11,7 @@ use naga_below::{
     WithSpan, fits_function, fits_types,
 };
 use naga_rules::{CallError, FunctionError, GlobalVariableError, LocalVariableError};
+use naga_valid::EntryPointError;
 use std::alloc::{AllocError, Global};
 use std::process::Abort;
 use std::test::Fail;
@@ -204,5 +206,58 @@ fn faults_pass_into_anyhow(rt: HostRuntime) -> Result<(), Fail> {
     };
     let text = error.to_string(rt.alloc())?;
     assert_eq!(rt; text.as_str(), "InvalidBinding");
+    Ok(())
+}
+
+/// The fault of a module is told so, and has this name.
+fn assert_module_told(
+    rt: &(impl Abort + AllocGlobal),
+    fault: &ModuleFault,
+    name: &str,
+    expected: &str,
+) -> Result<(), Fail> {
+    let printed = fault.to_string(rt.alloc())?;
+    assert_eq!(rt; printed.as_str(), name);
+    let mut told = String::new(rt.alloc());
+    write_module_fault(&mut told, fault)?;
+    assert_eq!(rt; told.as_str(), expected);
+    Ok(())
+}
+
+#[test]
+fn faults_of_modules_are_told(rt: HostRuntime) -> Result<(), Fail> {
+    let alloc = rt.alloc();
+    let in_function = WithSpan::new(alloc, FunctionError::InvalidPayloadType).with_span(HERE)?;
+    let in_entry = WithSpan::new(alloc, EntryPointError::ExpectedTaskPayload);
+    let rows = [
+        (
+            ModuleFault::NotFit,
+            "NotFit",
+            "NotFit: something that is named isn't there, or the size of a task payload isn't known",
+        ),
+        (
+            ModuleFault::Global(Handle::new(1), GlobalVariableError::InvalidBinding),
+            "Global",
+            "global [1]: InvalidBinding: a binding is missing where the space is bound, or is there where it isn't",
+        ),
+        (
+            ModuleFault::Function(Handle::new(2), in_function),
+            "Function",
+            "function [2]: 3..7: InvalidPayloadType: the payload of a ray is no pointer",
+        ),
+        (
+            ModuleFault::EntryPoint(0, in_entry),
+            "EntryPoint",
+            "entry point 0: ExpectedTaskPayload: a task entry point has no payload",
+        ),
+        (
+            ModuleFault::Memory,
+            "Memory",
+            "Memory: there was not enough memory",
+        ),
+    ];
+    for (fault, name, expected) in rows {
+        assert_module_told(&rt, &fault, name, expected)?;
+    }
     Ok(())
 }

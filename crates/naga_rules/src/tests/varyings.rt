@@ -224,6 +224,27 @@ fn by_primitive(interpolation: Option<Interpolation>) -> Binding {
 
 /// The answer for an item at a place, behind what the state has: the fault, if there is one.
 #[tactic(auto, using(naga_below::proofs::Callers::types_name_each_other))]
+fn answer_of(
+    rt: &(impl Abort + AllocGlobal),
+    bench: &Bench,
+    place: &VaryingPlace,
+    state: &mut VaryingState,
+    ty: u32,
+    binding: Option<Binding>,
+) -> Result<Option<VaryingError>, AllocError> {
+    let Bench { module, infos } = bench;
+    assert!(rt; fits_types(module));
+    assert!(rt; infos.len() == module.types.len());
+    assert!(rt; (ty as usize) < module.types.len());
+    let ty = Handle::new(ty);
+    match check_varying_item(rt.alloc(), place, state, &module.types, infos, ty, binding) {
+        Ok(()) => Ok(None),
+        Err(Refusal::Fault(fault)) => Ok(Some(fault.into_inner())),
+        Err(Refusal::Memory) => Err(AllocError),
+    }
+}
+
+/// That answer. Where there was no memory, the same call is made again, and there is.
 fn fault_of(
     rt: &(impl Abort + AllocGlobal),
     bench: &Bench,
@@ -232,22 +253,9 @@ fn fault_of(
     ty: u32,
     binding: Option<Binding>,
 ) -> Option<VaryingError> {
-    let Bench { module, infos } = bench;
-    assert!(rt; fits_types(module));
-    assert!(rt; infos.len() == module.types.len());
-    assert!(rt; (ty as usize) < module.types.len());
-    let ty = Handle::new(ty);
-    match check_varying_item(rt.alloc(), place, state, &module.types, infos, ty, binding) {
-        Ok(()) => None,
-        Err(refused) => Some(inner_fault(rt, refused)),
-    }
-}
-
-/// The fault of a refusal that isn't for want of memory.
-fn inner_fault(rt: &impl Abort, refused: Refusal<VaryingError>) -> VaryingError {
-    match refused {
-        Refusal::Fault(fault) => fault.into_inner(),
-        Refusal::Memory => panic!(rt; "no memory"),
+    match answer_of(rt, bench, place, state, ty, binding) {
+        Ok(fault) => fault,
+        Err(_) => answer_of(rt, bench, place, state, ty, binding).expect(rt, "memory"),
     }
 }
 
@@ -427,6 +435,12 @@ fn duplicates(rt: HostRuntime) -> Result<(), Fail> {
         twice(&rt, &bench, &fragment, invariant, variant);
         twice(&rt, &bench, &fragment, variant, invariant);
     }
+    let view = Some(Binding::BuiltIn(BuiltIn::ViewIndex));
+    let mut state = VaryingState::new(rt.alloc());
+    next(&rt, &bench, &fragment, &mut state, U32, view, None);
+    fragment.capabilities = Capabilities::empty();
+    let fault = VaryingError::DuplicateBuiltIn(BuiltIn::ViewIndex);
+    next(&rt, &bench, &fragment, &mut state, U32, view, Some(fault));
     Ok(())
 }
 
@@ -655,6 +669,9 @@ fn sources_of_a_blend(rt: HostRuntime) -> Result<(), Fail> {
     assert!(&rt; state.has_location(0));
     let fault = VaryingError::BindingCollision { location: 0 };
     next(&rt, &bench, &color, &mut state, BLEND, None, Some(fault));
+    let mut unbound = at(ShaderStage::Fragment, true);
+    unbound.flags = ValidationFlags::empty();
+    next(&rt, &bench, &unbound, &mut state, BLEND, None, None);
     let stage = ShaderStage::Fragment;
     let fault = VaryingError::InvalidInputAttributeInStage("blend_src", stage);
     alone(&rt, &bench, &at(stage, false), BLEND, None, Some(fault));

@@ -5,8 +5,8 @@ ghost use Rattle.naga_rules.specs.BuiltIns.{built_in_rule, is_one_of, is_there, 
 ghost use Rattle.naga_rules.specs.CodeBuiltIns.{required_of, is_of_mesh_shaders, is_visible, type_of};
 
 use crate::varying::{MeshOutputType, VaryingPlace};
-use naga_below::ir::built_in::BuiltIn;
-use naga_below::ir::module::ShaderStage;
+use naga_below::ir::built_in::BuiltIn as Bi;
+use naga_below::ir::module::ShaderStage as St;
 use naga_below::ir::types::{Scalar, TypeInner, VectorSize};
 use naga_below::valid::capabilities::Capabilities;
 
@@ -33,7 +33,7 @@ pub struct BuiltInRule {
 
 /// What is asked of a built-in at a place. `invariant` and `perspective` make no difference.
 #[tactic(auto, using(crate::proofs::RuleColumns::rule_is))]
-pub fn builtin_rule(built_in: BuiltIn, place: &VaryingPlace) -> BuiltInRule
+pub fn builtin_rule(built_in: Bi, place: &VaryingPlace) -> BuiltInRule
     ensures { result ≡ built_in_rule built_in place.now }
 {
     BuiltInRule {
@@ -45,165 +45,122 @@ pub fn builtin_rule(built_in: BuiltIn, place: &VaryingPlace) -> BuiltInRule
 }
 
 /// The capability that a built-in needs, but for mesh shaders.
-fn required(built_in: BuiltIn, stage: ShaderStage) -> Option<Capabilities>
+fn required(built_in: Bi, stage: St) -> Option<Capabilities>
     ensures { result ≡ required_of built_in stage }
 {
     match built_in {
-        BuiltIn::ClipDistances => Some(Capabilities::CLIP_DISTANCES),
-        BuiltIn::CullDistance => Some(Capabilities::CULL_DISTANCE),
-        BuiltIn::PrimitiveIndex => match stage {
-            ShaderStage::AnyHit | ShaderStage::ClosestHit => None,
+        Bi::ClipDistances => Some(Capabilities::CLIP_DISTANCES),
+        Bi::CullDistance => Some(Capabilities::CULL_DISTANCE),
+        Bi::PrimitiveIndex => match stage {
+            St::AnyHit | St::ClosestHit => None,
             _ => Some(Capabilities::PRIMITIVE_INDEX),
         },
-        BuiltIn::Barycentric { .. } => Some(Capabilities::SHADER_BARYCENTRICS),
-        BuiltIn::ViewIndex => Some(Capabilities::MULTIVIEW),
-        BuiltIn::SampleIndex => Some(Capabilities::MULTISAMPLED_SHADING),
-        BuiltIn::NumSubgroups
-        | BuiltIn::SubgroupId
-        | BuiltIn::SubgroupSize
-        | BuiltIn::SubgroupInvocationId => Some(Capabilities::SUBGROUP),
-        BuiltIn::DrawIndex => Some(Capabilities::DRAW_INDEX),
+        Bi::Barycentric { .. } => Some(Capabilities::SHADER_BARYCENTRICS),
+        Bi::ViewIndex => Some(Capabilities::MULTIVIEW),
+        Bi::SampleIndex => Some(Capabilities::MULTISAMPLED_SHADING),
+        Bi::NumSubgroups | Bi::SubgroupId | Bi::SubgroupSize | Bi::SubgroupInvocationId => Some(
+            Capabilities::SUBGROUP,
+        ),
+        Bi::DrawIndex => Some(Capabilities::DRAW_INDEX),
         _ => None,
     }
 }
 
 /// Whether a built-in needs mesh shaders.
-fn is_of_mesh_shaders(built_in: BuiltIn) -> bool
+fn is_of_mesh_shaders(built_in: Bi) -> bool
     ensures { result ≡ is_of_mesh_shaders built_in }
 {
     matches!(
         built_in,
-        BuiltIn::CullPrimitive
-            | BuiltIn::PointIndex
-            | BuiltIn::LineIndices
-            | BuiltIn::TriangleIndices
-            | BuiltIn::MeshTaskSize
-            | BuiltIn::VertexCount
-            | BuiltIn::PrimitiveCount
-            | BuiltIn::Vertices
-            | BuiltIn::Primitives
+        Bi::CullPrimitive
+            | Bi::PointIndex
+            | Bi::LineIndices
+            | Bi::TriangleIndices
+            | Bi::MeshTaskSize
+            | Bi::VertexCount
+            | Bi::PrimitiveCount
+            | Bi::Vertices
+            | Bi::Primitives
     )
 }
 
 /// Whether a built-in is visible at a place.
-fn is_visible(built_in: BuiltIn, place: &VaryingPlace) -> bool
+fn is_visible(built_in: Bi, place: &VaryingPlace) -> bool
     ensures { result ≡ is_visible built_in place.now }
 {
     match built_in {
-        BuiltIn::BaseInstance | BuiltIn::BaseVertex | BuiltIn::VertexIndex => {
-            is_input(place, &[ShaderStage::Vertex])
+        Bi::BaseInstance | Bi::BaseVertex | Bi::VertexIndex => { is_input(place, &[St::Vertex]) }
+        Bi::InstanceIndex => is_input(place, &[St::Vertex, St::AnyHit, St::ClosestHit]),
+        Bi::DrawIndex => {
+            is_input(place, &[St::Vertex, St::Task])
+                || is_input(place, &[St::Mesh]) && !place.has_task_payload
         }
-        BuiltIn::InstanceIndex => is_input(
+        Bi::ClipDistances | Bi::CullDistance | Bi::PointSize => {
+            is_output(place, &[St::Vertex, St::Mesh])
+        }
+        Bi::PointCoord | Bi::FrontFacing | Bi::Barycentric { .. } | Bi::SampleIndex => is_input(
             place,
-            &[
-                ShaderStage::Vertex,
-                ShaderStage::AnyHit,
-                ShaderStage::ClosestHit,
-            ],
+            &[St::Fragment],
         ),
-        BuiltIn::DrawIndex => {
-            is_input(place, &[ShaderStage::Vertex, ShaderStage::Task])
-                || is_input(place, &[ShaderStage::Mesh]) && !place.has_task_payload
+        Bi::Position { .. } => {
+            is_output(place, &[St::Vertex, St::Mesh]) || is_input(place, &[St::Fragment])
         }
-        BuiltIn::ClipDistances | BuiltIn::CullDistance | BuiltIn::PointSize => {
-            is_output(place, &[ShaderStage::Vertex, ShaderStage::Mesh])
+        Bi::ViewIndex => is_input(place, &[St::Vertex, St::Fragment, St::Task, St::Mesh]),
+        Bi::FragDepth => is_output(place, &[St::Fragment]),
+        Bi::PrimitiveIndex => {
+            is_input(place, &[St::Fragment, St::AnyHit, St::ClosestHit])
+                || is_output(place, &[St::Mesh]) && is_primitive_output(place)
         }
-        BuiltIn::PointCoord
-        | BuiltIn::FrontFacing
-        | BuiltIn::Barycentric { .. }
-        | BuiltIn::SampleIndex => is_input(place, &[ShaderStage::Fragment]),
-        BuiltIn::Position { .. } => {
-            is_output(place, &[ShaderStage::Vertex, ShaderStage::Mesh])
-                || is_input(place, &[ShaderStage::Fragment])
+        Bi::SampleMask => is_at(place, &[St::Fragment]),
+        Bi::LocalInvocationIndex
+        | Bi::GlobalInvocationId
+        | Bi::LocalInvocationId
+        | Bi::WorkGroupId
+        | Bi::WorkGroupSize
+        | Bi::NumWorkGroups
+        | Bi::NumSubgroups
+        | Bi::SubgroupId => is_input(place, &[St::Compute, St::Task, St::Mesh]),
+        Bi::SubgroupSize | Bi::SubgroupInvocationId => {
+            !is_at(place, &[St::Vertex]) && !place.output
         }
-        BuiltIn::ViewIndex => is_input(
+        Bi::CullPrimitive | Bi::PointIndex | Bi::LineIndices | Bi::TriangleIndices =>
+            is_primitive_output(place),
+        Bi::MeshTaskSize => is_output(place, &[St::Task]),
+        Bi::RayInvocationId | Bi::NumRayInvocations => is_at(
             place,
-            &[
-                ShaderStage::Vertex,
-                ShaderStage::Fragment,
-                ShaderStage::Task,
-                ShaderStage::Mesh,
-            ],
+            &[St::RayGeneration, St::AnyHit, St::ClosestHit, St::Miss],
         ),
-        BuiltIn::FragDepth => is_output(place, &[ShaderStage::Fragment]),
-        BuiltIn::PrimitiveIndex => {
-            is_input(
-                place,
-                &[
-                    ShaderStage::Fragment,
-                    ShaderStage::AnyHit,
-                    ShaderStage::ClosestHit,
-                ],
-            ) || is_output(place, &[ShaderStage::Mesh]) && is_primitive_output(place)
-        }
-        BuiltIn::SampleMask => is_at(place, &[ShaderStage::Fragment]),
-        BuiltIn::LocalInvocationIndex
-        | BuiltIn::GlobalInvocationId
-        | BuiltIn::LocalInvocationId
-        | BuiltIn::WorkGroupId
-        | BuiltIn::WorkGroupSize
-        | BuiltIn::NumWorkGroups
-        | BuiltIn::NumSubgroups
-        | BuiltIn::SubgroupId => is_input(
+        Bi::InstanceCustomData
+        | Bi::GeometryIndex
+        | Bi::HitKind
+        | Bi::ObjectRayOrigin
+        | Bi::ObjectRayDirection
+        | Bi::ObjectToWorld
+        | Bi::WorldToObject => is_at(place, &[St::AnyHit, St::ClosestHit]),
+        Bi::WorldRayOrigin | Bi::WorldRayDirection | Bi::RayTmin | Bi::RayTCurrentMax => is_at(
             place,
-            &[ShaderStage::Compute, ShaderStage::Task, ShaderStage::Mesh],
+            &[St::AnyHit, St::ClosestHit, St::Miss],
         ),
-        BuiltIn::SubgroupSize | BuiltIn::SubgroupInvocationId => {
-            !is_at(place, &[ShaderStage::Vertex]) && !place.output
-        }
-        BuiltIn::CullPrimitive
-        | BuiltIn::PointIndex
-        | BuiltIn::LineIndices
-        | BuiltIn::TriangleIndices => is_primitive_output(place),
-        BuiltIn::MeshTaskSize => is_output(place, &[ShaderStage::Task]),
-        BuiltIn::RayInvocationId | BuiltIn::NumRayInvocations => is_at(
-            place,
-            &[
-                ShaderStage::RayGeneration,
-                ShaderStage::AnyHit,
-                ShaderStage::ClosestHit,
-                ShaderStage::Miss,
-            ],
-        ),
-        BuiltIn::InstanceCustomData
-        | BuiltIn::GeometryIndex
-        | BuiltIn::HitKind
-        | BuiltIn::ObjectRayOrigin
-        | BuiltIn::ObjectRayDirection
-        | BuiltIn::ObjectToWorld
-        | BuiltIn::WorldToObject => is_at(place, &[ShaderStage::AnyHit, ShaderStage::ClosestHit]),
-        BuiltIn::WorldRayOrigin
-        | BuiltIn::WorldRayDirection
-        | BuiltIn::RayTmin
-        | BuiltIn::RayTCurrentMax => is_at(
-            place,
-            &[
-                ShaderStage::AnyHit,
-                ShaderStage::ClosestHit,
-                ShaderStage::Miss,
-            ],
-        ),
-        BuiltIn::VertexCount | BuiltIn::PrimitiveCount | BuiltIn::Vertices | BuiltIn::Primitives =>
-            false,
+        Bi::VertexCount | Bi::PrimitiveCount | Bi::Vertices | Bi::Primitives => false,
     }
 }
 
 /// Whether the place is at one of these stages, in whatever direction.
-fn is_at(place: &VaryingPlace, stages: &[ShaderStage]) -> bool
+fn is_at(place: &VaryingPlace, stages: &[St]) -> bool
     ensures { result ≡ is_one_of stages.now place.now.stage }
 {
     stages.contains(&place.stage)
 }
 
 /// Whether the place is an input of one of these stages.
-fn is_input(place: &VaryingPlace, stages: &[ShaderStage]) -> bool
+fn is_input(place: &VaryingPlace, stages: &[St]) -> bool
     ensures { result ≡ is_there place.now (Into stages.now) }
 {
     is_at(place, stages) && !place.output
 }
 
 /// Whether the place is an output of one of these stages.
-fn is_output(place: &VaryingPlace, stages: &[ShaderStage]) -> bool
+fn is_output(place: &VaryingPlace, stages: &[St]) -> bool
     ensures { result ≡ is_there place.now (OutOf stages.now) }
 {
     is_at(place, stages) && place.output
@@ -220,58 +177,56 @@ fn is_primitive_output(place: &VaryingPlace) -> bool
 }
 
 /// The type of a built-in.
-fn type_of(built_in: BuiltIn) -> BuiltInType
+fn type_of(built_in: Bi) -> BuiltInType
     ensures { result ≡ type_of built_in }
 {
     match built_in {
-        BuiltIn::BaseInstance
-        | BuiltIn::BaseVertex
-        | BuiltIn::VertexIndex
-        | BuiltIn::InstanceIndex
-        | BuiltIn::DrawIndex
-        | BuiltIn::ViewIndex
-        | BuiltIn::PrimitiveIndex
-        | BuiltIn::SampleIndex
-        | BuiltIn::SampleMask
-        | BuiltIn::LocalInvocationIndex
-        | BuiltIn::NumSubgroups
-        | BuiltIn::SubgroupId
-        | BuiltIn::SubgroupSize
-        | BuiltIn::SubgroupInvocationId
-        | BuiltIn::PointIndex
-        | BuiltIn::InstanceCustomData
-        | BuiltIn::GeometryIndex
-        | BuiltIn::HitKind => scalar(Scalar::U32),
-        BuiltIn::ClipDistances | BuiltIn::CullDistance => BuiltInType::Distances,
-        BuiltIn::PointSize | BuiltIn::FragDepth | BuiltIn::RayTmin | BuiltIn::RayTCurrentMax =>
-            scalar(Scalar::F32),
-        BuiltIn::PointCoord => vector(VectorSize::Bi, Scalar::F32),
-        BuiltIn::Position { .. } => vector(VectorSize::Quad, Scalar::F32),
-        BuiltIn::FrontFacing | BuiltIn::CullPrimitive => scalar(Scalar::BOOL),
-        BuiltIn::Barycentric { .. }
-        | BuiltIn::WorldRayOrigin
-        | BuiltIn::WorldRayDirection
-        | BuiltIn::ObjectRayOrigin
-        | BuiltIn::ObjectRayDirection => vector(VectorSize::Tri, Scalar::F32),
-        BuiltIn::GlobalInvocationId
-        | BuiltIn::LocalInvocationId
-        | BuiltIn::WorkGroupId
-        | BuiltIn::WorkGroupSize
-        | BuiltIn::NumWorkGroups
-        | BuiltIn::TriangleIndices
-        | BuiltIn::MeshTaskSize
-        | BuiltIn::RayInvocationId
-        | BuiltIn::NumRayInvocations => vector(VectorSize::Tri, Scalar::U32),
-        BuiltIn::LineIndices => vector(VectorSize::Bi, Scalar::U32),
-        BuiltIn::ObjectToWorld | BuiltIn::WorldToObject => {
+        Bi::BaseInstance
+        | Bi::BaseVertex
+        | Bi::VertexIndex
+        | Bi::InstanceIndex
+        | Bi::DrawIndex
+        | Bi::ViewIndex
+        | Bi::PrimitiveIndex
+        | Bi::SampleIndex
+        | Bi::SampleMask
+        | Bi::LocalInvocationIndex
+        | Bi::NumSubgroups
+        | Bi::SubgroupId
+        | Bi::SubgroupSize
+        | Bi::SubgroupInvocationId
+        | Bi::PointIndex
+        | Bi::InstanceCustomData
+        | Bi::GeometryIndex
+        | Bi::HitKind => scalar(Scalar::U32),
+        Bi::ClipDistances | Bi::CullDistance => BuiltInType::Distances,
+        Bi::PointSize | Bi::FragDepth | Bi::RayTmin | Bi::RayTCurrentMax => scalar(Scalar::F32),
+        Bi::PointCoord => vector(VectorSize::Bi, Scalar::F32),
+        Bi::Position { .. } => vector(VectorSize::Quad, Scalar::F32),
+        Bi::FrontFacing | Bi::CullPrimitive => scalar(Scalar::BOOL),
+        Bi::Barycentric { .. }
+        | Bi::WorldRayOrigin
+        | Bi::WorldRayDirection
+        | Bi::ObjectRayOrigin
+        | Bi::ObjectRayDirection => vector(VectorSize::Tri, Scalar::F32),
+        Bi::GlobalInvocationId
+        | Bi::LocalInvocationId
+        | Bi::WorkGroupId
+        | Bi::WorkGroupSize
+        | Bi::NumWorkGroups
+        | Bi::TriangleIndices
+        | Bi::MeshTaskSize
+        | Bi::RayInvocationId
+        | Bi::NumRayInvocations => vector(VectorSize::Tri, Scalar::U32),
+        Bi::LineIndices => vector(VectorSize::Bi, Scalar::U32),
+        Bi::ObjectToWorld | Bi::WorldToObject => {
             BuiltInType::Inner(TypeInner::Matrix {
                 columns: VectorSize::Quad,
                 rows: VectorSize::Tri,
                 scalar: Scalar::F32,
             })
         }
-        BuiltIn::VertexCount | BuiltIn::PrimitiveCount | BuiltIn::Vertices | BuiltIn::Primitives =>
-            BuiltInType::Any,
+        Bi::VertexCount | Bi::PrimitiveCount | Bi::Vertices | Bi::Primitives => BuiltInType::Any,
     }
 }
 

@@ -1,6 +1,6 @@
 //! The checks of the globals that an entry point uses.
 
-ghost use Rattle.std.specs.Prelude.{◌≡◌, ◌++◌, length};
+ghost use Rattle.std.specs.Prelude.{◌≡◌, ◌++◌, length, slice_get};
 ghost use Rattle.std.specs.Option.{option_copied};
 ghost use Rattle.naga_below.specs.Types.{inner_at};
 ghost use Rattle.naga_valid.specs.CodeAnswers.{Finds};
@@ -17,6 +17,13 @@ use naga_below::ir::types::{AddressSpace, ImageClass, TypeInner};
 use naga_below::valid::flags::GlobalUse;
 use naga_below::valid::info::FunctionInfo;
 use naga_rules::interface::allowed::{allowed_use, hands_payload, takes_payload};
+
+/// How a global is used.
+pub fn uses_of(info: &FunctionInfo, index: usize) -> Option<GlobalUse>
+    ensures { result ≡ slice_get info.now.global_uses index }
+{
+    info.global_uses.as_slice().get(index).copied()
+}
 
 /// Whether a global is used.
 pub fn is_used(info: &FunctionInfo, index: usize) -> bool
@@ -72,10 +79,10 @@ pub fn check_allowed(
     module: &Module,
     stage: ShaderStage,
     handle: Handle<tag::GlobalVariable>,
-    var: GlobalVariable,
+    var: &GlobalVariable,
     uses: GlobalUse,
 ) -> Result<(), EntryPointError>
-    ensures { Finds (ray_points stage var.space ++ allowed_points «module».now.types stage handle var uses) result }
+    ensures { Finds (ray_points stage var.now.space ++ allowed_points «module».now.types stage handle var.now uses) result }
 {
     check_ray(stage, var.space)?;
     let storage = access_in(module, inner_at(module, var.ty));

@@ -24,8 +24,8 @@ returns-in_err-judge_function-clause-refused g c =
     let told = c.in_err-judge_function.field-0.0 in
     let p = err_from_is_err_and c.from_residual.result c.from_residual.ensures.1 in
     let here =
-        subst (λ i. Stops (g.B.Below.meaning v.below) v.settings v.types m c.loop-index.validator.trace c.loop-index.infos (drop i m.functions) told) c.new.ensures
-        (subst (λ (w : Parts g.row.B.Denot). Stops (g.B.Below.meaning w.below) w.settings w.types m c.loop-index.validator.trace c.loop-index.infos (drop c.new.result m.functions) told) c.loop-index.invariant.kept c.in_err-judge_function.ensures.refused) in
+    subst (λ i. Stops (g.B.Below.meaning v.below) v.settings v.types m c.loop-index.validator.trace c.loop-index.infos (drop i m.functions) told) c.new.ensures
+    (subst (λ (w : Parts g.row.B.Denot). Stops (g.B.Below.meaning w.below) w.settings w.types m c.loop-index.validator.trace c.loop-index.infos (drop c.new.result m.functions) told) c.loop-index.invariant.kept c.in_err-judge_function.ensures.refused) in
     rw (p.1, p.2) (stops_behind (g.B.Below.meaning v.below) v.settings v.types m v.trace c.args.infos.now m.functions c.loop-index.validator.trace c.loop-index.infos (drop c.loop-index.index m.functions) c.loop-index.invariant.leads told here)
 
 pub returns-in_err-judge_function-clause-kept : goal.returns-in_err-judge_function-clause-kept
@@ -39,8 +39,8 @@ loop-index-preserved g c =
     let left = c.judge_function.new.validator.trace in
     let more = c.judge_function.new.infos in
     let on =
-        subst (λ i. Leads (g.B.Below.meaning v.below) v.settings v.types m c.loop-index.validator.trace c.loop-index.infos (drop i m.functions) left more (drop (i + 1) m.functions)) c.new.ensures
-        (subst (λ (w : Parts g.row.B.Denot). Leads (g.B.Below.meaning w.below) w.settings w.types m c.loop-index.validator.trace c.loop-index.infos (drop c.new.result m.functions) left more (drop (c.new.result + 1) m.functions)) c.loop-index.invariant.kept c.in_ok-judge_function.ensures.judged) in
+    subst (λ i. Leads (g.B.Below.meaning v.below) v.settings v.types m c.loop-index.validator.trace c.loop-index.infos (drop i m.functions) left more (drop (i + 1) m.functions)) c.new.ensures
+    (subst (λ (w : Parts g.row.B.Denot). Leads (g.B.Below.meaning w.below) w.settings w.types m c.loop-index.validator.trace c.loop-index.infos (drop c.new.result m.functions) left more (drop (c.new.result + 1) m.functions)) c.loop-index.invariant.kept c.in_ok-judge_function.ensures.judged) in
     record {
       place = c.in_ok-judge_function.ensures.place ∙ ap (λ i. i + 1) c.new.ensures;
       kept = c.judge_function.ensures.kept ∙ ap (λ (v : Parts g.row.B.Denot). record v { trace = left }) c.loop-index.invariant.kept;

@@ -1,0 +1,73 @@
+-- The steps of an entry point's judgement, as the code takes them.
+use Rattle.std.proofs.Common.{◌≡◌, true, List, None, Some, Result, Ok, Err, sym, ap, ◌∙◌}
+use Rattle.std.specs.Option.{option_map}
+use Rattle.std.specs.Prelude.{IsErr}
+use Rattle.naga_below.proofs.Points.{first_within}
+use Rattle.naga_below.specs.Points.{Point, first_fault, answer, and_then}
+use Rattle.naga_below.specs.declared.ir.module.EntryPoint.{EntryPoint}
+use Rattle.naga_below.specs.declared.ir.module.Module.{Module}
+use Rattle.naga_below.specs.declared.span.Refusal.{Refusal}
+use Rattle.naga_below.specs.declared.span.Refusal.TheVariants as refusal
+use Rattle.naga_below.specs.declared.valid.info.ModuleInfo.{ModuleInfo}
+use Rattle.naga_below.specs.declared.valid.settings.Settings.{Settings}
+use Rattle.naga_below.specs.declared.valid.types.TypeInfo.{TypeInfo}
+use Rattle.naga_rules.specs.Meaning.{Meaning}
+use Rattle.naga_rules.specs.declared.function.FunctionError.{FunctionError}
+use Rattle.naga_valid.specs.EntryFaults.{EntryFault, fault_of, Judges, RefusesFault, AnswersFault}
+use Rattle.naga_valid.specs.EntryJudged.{entry_judgement, of_function, interface_step, AnswersOutcome, RefusesEntry}
+use Rattle.naga_valid.specs.EntryStart.{start_points}
+use Rattle.naga_valid.specs.Judged.{FunctionOutcome, function_judgement}
+use Rattle.naga_valid.specs.declared.interface.EntryPointError.{EntryPointError}
+use Rattle.naga_valid.specs.declared.trace.TraceState.{TraceState}
+
+module _ {A : Type 0} (points : List (Point EntryFault)) (x : A) where
+  -- a refusal for one of the points
+  pub points_refuse : (r : Result A (Refusal EntryPointError)) → IsErr r → Judges points r → AnswersFault (answer (first_fault points) x) r
+  points_refuse (Err (refusal.Fault f)) err h = ap (λ o. answer o x) h
+  points_refuse (Err refusal.Memory) err h = tt
+  points_refuse (Ok y) err h = cc
+
+  -- no point fails
+  pub points_pass : first_fault points ≡ None → answer (first_fault points) x ≡ Ok x
+  points_pass h = ap (λ o. answer o x) h
+
+pub function_passes : (o : Result FunctionOutcome FunctionError) (x : FunctionOutcome) → of_function o ≡ Ok x → o ≡ Ok x
+function_passes (Ok y) x e = let same : y ≡ x = cc in ap Ok same
+function_passes (Err f) x e = cc
+
+module _ (below : Meaning) (settings : Settings) (infos : List TypeInfo) (trace : TraceState) (program : Module) (earlier : ModuleInfo) (ep : EntryPoint) where
+  abbrev judgement : Result FunctionOutcome EntryFault
+  judgement = entry_judgement below settings infos trace program earlier ep
+
+  abbrev function : Result FunctionOutcome FunctionError
+  function = function_judgement below settings infos trace program earlier ep.function true
+
+  abbrev behind : EntryPoint → Result FunctionOutcome EntryFault
+  behind _ = and_then (of_function function) (λ outcome. interface_step below settings infos program ep outcome)
+
+  by_start : judgement ≡ and_then (answer (option_map fault_of (first_fault (start_points settings.capabilities ep))) ep) behind
+  unfolding entry_judgement
+  by_start = ap (λ o. and_then (answer o ep) behind) (first_within fault_of (start_points settings.capabilities ep))
+
+  -- a fault before the function
+  pub start_refuses : (fault : EntryPointError) → Some fault ≡ first_fault (start_points settings.capabilities ep) → judgement ≡ Err (fault_of fault)
+  start_refuses fault h = by_start ∙ ap (λ o. and_then (answer (option_map fault_of o) ep) behind) (sym h)
+
+  module _ (none : first_fault (start_points settings.capabilities ep) ≡ None) where
+    started : judgement ≡ and_then (of_function function) (λ outcome. interface_step below settings infos program ep outcome)
+    started = by_start ∙ ap (λ o. and_then (answer (option_map fault_of o) ep) behind) none
+
+    -- a refusal of the function
+    pub function_refuses : (x : Refusal EntryPointError) → RefusesFault (of_function function) x → RefusesEntry (start_points settings.capabilities ep) judgement x
+    function_refuses (refusal.Fault f) h =
+        started ∙ ap (λ o. and_then o (λ outcome. interface_step below settings infos program ep outcome)) h
+    function_refuses refusal.Memory h = none
+
+    -- what the steps behind the function answer
+    pub interface_decides : (outcome : FunctionOutcome) (r : Result FunctionOutcome (Refusal EntryPointError)) → of_function function ≡ Ok outcome →
+        AnswersFault (interface_step below settings infos program ep outcome) r → AnswersOutcome (start_points settings.capabilities ep) judgement r
+    interface_decides outcome (Ok y) is h =
+        started ∙ ap (λ o. and_then o (λ outcome. interface_step below settings infos program ep outcome)) is ∙ h
+    interface_decides outcome (Err (refusal.Fault f)) is h =
+        started ∙ ap (λ o. and_then o (λ outcome. interface_step below settings infos program ep outcome)) is ∙ h
+    interface_decides outcome (Err refusal.Memory) is h = none

@@ -1,0 +1,112 @@
+-- The points of a group, item by item.
+use Rattle.std.proofs.Common.{◌≡◌, ℕ, suc, ◌+◌, ◌<◌, ◌≤◌, List, [], ◌∷◌, ◌++◌, Option, None, Some, Result, Ok, Err, length, take, drop, get_or, sym, ap, ◌∙◌, arith, append-nil, append_assoc}
+use Rattle.std.proofs.lemmas.List.{at_drop_more, at_drop_all, take_more}
+use Rattle.std.specs.Option.{option_map, option_or}
+use Rattle.std.specs.Prelude.{Bool, true, false, IsErr, if◌then◌else◌}
+use Rattle.naga_below.proofs.Points.{first_of_both, first_within}
+use Rattle.naga_below.specs.Points.{Point, first_fault, within}
+use Rattle.naga_below.specs.declared.ir.types.Type.{«Type» as IrType}
+use Rattle.naga_below.specs.declared.valid.types.TypeInfo.{TypeInfo}
+use Rattle.naga_below.specs.declared.ir.module.EntryPoint.{EntryPoint}
+use Rattle.naga_below.specs.declared.ir.types.Binding.{Binding}
+use Rattle.naga_below.specs.declared.span.Refusal.{Refusal}
+use Rattle.naga_below.specs.declared.span.Refusal.TheVariants as refusal
+use Rattle.naga_below.specs.declared.valid.settings.Settings.{Settings}
+use Rattle.naga_below.specs.TypeTests.{it_is}
+use Rattle.naga_below.specs.Types.{inner_at}
+use Rattle.naga_rules.proofs.Seeing.{points_are_by_position}
+use Rattle.naga_rules.specs.Seen.{Seen}
+use Rattle.naga_rules.specs.VaryingFaults.{VaryingFault}
+use Rattle.naga_rules.specs.Varyings.{Item, Placed, placed_parts, item_points, group_points, group_points_from, points_from, seen_at}
+use Rattle.naga_rules.specs.declared.varying.MeshOutputType.{MeshOutputType}
+use Rattle.naga_rules.specs.declared.varying.VaryingPlace.{VaryingPlace}
+use Rattle.naga_valid.specs.CodeGroups.{parts_of_all}
+use Rattle.naga_valid.specs.EntryFaults.{EntryFault, OfResult, Other, Judges}
+use Rattle.naga_valid.specs.EntryVaryings.{is_struct, output_points, place_of}
+use Rattle.naga_valid.specs.declared.interface.EntryPointError.{EntryPointError}
+use Rattle.naga_valid.specs.declared.interface.EntryPointError.TheVariants as fault
+
+module _ (types : List IrType) (infos : List TypeInfo) where
+  parts_more : (items : List Item) (x : Item) → parts_of_all types infos (items ++ x ∷ []) ≡ parts_of_all types infos items ++ placed_parts types infos x
+  parts_more [] x = append-nil (placed_parts types infos x)
+  parts_more (y ∷ ys) x =
+      ap (λ l. placed_parts types infos y ++ l) (parts_more ys x)
+      ∙ sym (append_assoc (placed_parts types infos y) (parts_of_all types infos ys) (placed_parts types infos x))
+
+  module _ (fault : ℕ → VaryingFault → EntryFault) (items : List Item) (i : ℕ) where
+    abbrev before : ℕ → List Placed
+    before n = parts_of_all types infos (take n items)
+
+    abbrev rest : List Placed → ℕ → List Item → Option EntryFault
+    rest earlier index left = first_fault (group_points_from types infos fault earlier index left)
+
+    -- one item more is done
+    pub parts_taken : (x : Item) → i < length items → x ≡ get_or items i x → before (i + 1) ≡ before i ++ placed_parts types infos x
+    parts_taken x lt is =
+        ap (parts_of_all types infos) (take_more items i x lt)
+        ∙ ap (λ z. parts_of_all types infos (take i items ++ z ∷ [])) (sym is)
+        ∙ parts_more (take i items) x
+
+    pub group_turn : (x : Item) → i < length items → x ≡ get_or items i x →
+        rest (before i) i (drop i items) ≡ option_or (first_fault (within (fault i) (item_points types infos (before i) x))) (rest (before (i + 1)) (i + 1) (drop (i + 1) items))
+    group_turn x lt is =
+        let next : suc i ≡ i + 1 = omega arith in
+        at_drop_more (λ l. rest (before i) i l) items i x lt
+        ∙ ap (λ z. rest (before i) i (z ∷ drop (i + 1) items)) (sym is)
+        ∙ first_of_both (within (fault i) (item_points types infos (before i) x)) (group_points_from types infos fault (before i ++ placed_parts types infos x) (suc i) (drop (i + 1) items))
+        ∙ ap (λ k. option_or (first_fault (within (fault i) (item_points types infos (before i) x))) (rest (before i ++ placed_parts types infos x) k (drop (i + 1) items))) next
+        ∙ ap (λ e. option_or (first_fault (within (fault i) (item_points types infos (before i) x))) (rest e (i + 1) (drop (i + 1) items))) (sym (parts_taken x lt is))
+
+    pub group_end : length items ≤ i → rest (before i) i (drop i items) ≡ None
+    group_end le = at_drop_all (λ l. rest (before i) i l) items i le
+
+    -- the fault of this item is that of the group, where those before it have none
+    pub group_stops : {T : Type 0} (r : Result T (Refusal EntryPointError)) (x : Item) → i < length items → x ≡ get_or items i x →
+        rest (before i) i (drop i items) ≡ rest [] 0 items → IsErr r → Judges (within (fault i) (item_points types infos (before i) x)) r →
+        Judges (group_points types infos fault items) r
+    group_stops (Ok t) x lt is left err h = cc
+    group_stops (Err (refusal.Fault f)) x lt is left err h =
+        sym left ∙ group_turn x lt is ∙ ap (λ o. option_or o (rest (before (i + 1)) (i + 1) (drop (i + 1) items))) h
+    group_stops (Err refusal.Memory) x lt is left err h = tt
+
+    -- an item without a fault leaves what is behind it
+    pub group_goes_on : (x : Item) → i < length items → x ≡ get_or items i x → rest (before i) i (drop i items) ≡ rest [] 0 items →
+        first_fault (within (fault i) (item_points types infos (before i) x)) ≡ None → rest (before (i + 1)) (i + 1) (drop (i + 1) items) ≡ rest [] 0 items
+    group_goes_on x lt is left h =
+        sym (group_turn x lt is ∙ ap (λ o. option_or o (rest (before (i + 1)) (i + 1) (drop (i + 1) items))) h) ∙ left
+
+    -- behind the last there is none
+    pub group_ends : length items ≤ i → rest (before i) i (drop i items) ≡ rest [] 0 items → rest [] 0 items ≡ None
+    group_ends le left = sym left ∙ group_end le
+
+  -- a group of one item
+  pub one_item : (fault : ℕ → VaryingFault → EntryFault) (x : Item) → within (fault 0) (item_points types infos [] x) ≡ group_points types infos fault (x ∷ [])
+  one_item fault x = sym (append-nil (within (fault 0) (item_points types infos [] x)))
+
+  -- an item, where this was seen before
+  pub seen_by_position : (place : VaryingPlace) (earlier : List Placed) (seen : Seen) (ty : ℕ) (given : Option Binding) → seen ≡ seen_at place earlier →
+      points_from place types infos seen ty given ≡ item_points types infos earlier (record { place = place; ty = ty; binding = given })
+  seen_by_position place earlier seen ty given e =
+      ap (λ s. points_from place types infos s ty given) e
+      ∙ points_are_by_position types infos earlier (record { place = place; ty = ty; binding = given })
+
+  -- an output of a mesh
+  pub output_by_position : (settings : Settings) (ep : EntryPoint) (which : MeshOutputType) (earlier : List Placed) (seen : Seen) (ty : ℕ) → seen ≡ seen_at (place_of settings ep true which) earlier →
+      ((it_is is_struct (inner_at types ty), Other fault.InvalidMeshOutputType) ∷ within OfResult (points_from (place_of settings ep true which) types infos seen ty None)) ≡ output_points settings types infos ep which earlier ty
+  output_by_position settings ep which earlier seen ty e =
+      ap (λ ps. (it_is is_struct (inner_at types ty), Other fault.InvalidMeshOutputType) ∷ within OfResult ps) (seen_by_position (place_of settings ep true which) earlier seen ty None e)
+
+-- points without a fault, inside others
+pub passes_within : {Inner Outer : Type 0} (outer : Inner → Outer) (points : List (Point Inner)) → first_fault points ≡ None → first_fault (within outer points) ≡ None
+passes_within outer points h = first_within outer points ∙ ap (option_map outer) h
+
+-- a point behind others that hold
+module _ (first : List (Point EntryFault)) (b : Bool) (f : EntryFault) (none : first_fault first ≡ None) where
+  behind : first_fault (first ++ (b, f) ∷ []) ≡ (if b then None else Some f)
+  behind = first_of_both first ((b, f) ∷ []) ∙ ap (λ o. option_or o (first_fault ((b, f) ∷ []))) none
+
+  pub last_fails : b ≡ false → first_fault (first ++ (b, f) ∷ []) ≡ Some f
+  last_fails e = behind ∙ ap (λ c. if c then None else Some f) e
+
+  pub last_holds : b ≡ true → first_fault (first ++ (b, f) ∷ []) ≡ None
+  last_holds e = behind ∙ ap (λ c. if c then None else Some f) e

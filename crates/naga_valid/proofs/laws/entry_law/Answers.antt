@@ -1,0 +1,19 @@
+use Rattle.naga_valid.proofs.EntryBuiltIns.{accepted_built_ins}
+use Rattle.naga_valid.proofs.EntryGroups.{accepted_locations}
+use Rattle.naga_valid.proofs.EntryLaw.{accepted_bindings, accepted_position, accepted_function}
+use Rattle.naga_valid.proofs.laws.entry_law.Goals as goal
+
+pub returns-clause-function : goal.returns-clause-function
+returns-clause-function c = accepted_function
+
+pub returns-clause-bindings : goal.returns-clause-bindings
+returns-clause-bindings c = accepted_bindings
+
+pub returns-clause-position : goal.returns-clause-position
+returns-clause-position c = accepted_position
+
+pub returns-clause-locations : goal.returns-clause-locations
+returns-clause-locations c = accepted_locations
+
+pub returns-clause-built_ins : goal.returns-clause-built_ins
+returns-clause-built_ins c = accepted_built_ins

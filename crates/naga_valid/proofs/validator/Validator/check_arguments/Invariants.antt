@@ -1,0 +1,18 @@
+use Rattle.std.proofs.Common.{◌≡◌, [], drop, map, take}
+use Rattle.naga_below.specs.Points.{first_fault}
+use Rattle.naga_rules.specs.Varyings.{group_points_from, seen_at, seen_in}
+use Rattle.naga_valid.specs.CodeGroups.{parts_of_all}
+use Rattle.naga_valid.specs.EntryFaults.{OfArgument}
+use Rattle.naga_valid.specs.EntryVaryings.{argument_item}
+use Rattle.naga_valid.proofs.validator.Validator.check_arguments.Given as goal
+
+-- what is left decides, and the state has seen what is seen behind the arguments so far
+abbrev pub invariant-loop-index : goal.invariant-loop-index
+invariant-loop-index g l =
+    let types = l.module.types in
+    let infos = l.self.types in
+    let items = map (argument_item l.self.settings l.ep) l.arguments in
+    let before = parts_of_all types infos (take l.index items) in record {
+      faults : first_fault (group_points_from types infos OfArgument before l.index (drop l.index items)) ≡ first_fault (group_points_from types infos OfArgument [] 0 items);
+      seen : seen_in l.state ≡ seen_at l.place before;
+    }

@@ -1,0 +1,13 @@
+use Rattle.std.proofs.Common.{◌≡◌, drop}
+use Rattle.naga_below.specs.Points.{first_fault, points_from}
+use Rattle.naga_valid.specs.CodeBindings.{AreTaken}
+use Rattle.naga_valid.specs.EntryGlobals.{global_points}
+use Rattle.naga_valid.proofs.validator.Validator.check_each_global.Given as goal
+
+-- what is left decides, and the set has what is taken
+abbrev pub invariant-loop-index : goal.invariant-loop-index
+invariant-loop-index g l =
+    let points = global_points (g.B.Below.meaning l.self.below) l.self.settings.flags l.module l.ep l.info.global_uses in record {
+      faults : first_fault (points_from points l.index (drop l.index l.globals)) ≡ first_fault (points_from points 0 l.globals);
+      taken : AreTaken l.taken l.info.global_uses l.globals l.index;
+    }

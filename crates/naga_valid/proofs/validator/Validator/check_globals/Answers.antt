@@ -1,0 +1,24 @@
+use Rattle.std.proofs.Common.{rules}
+use Rattle.naga_valid.specs.EntryGlobals.{immediate_points, global_points}
+use Rattle.naga_below.specs.Points.{points_of_each}
+use Rattle.naga_valid.specs.EntryPoints.{Meets}
+use Rattle.naga_valid.proofs.EntrySteps.{meets_first, meets_second}
+use Rattle.naga_valid.proofs.validator.Validator.check_globals.Goals as goal
+
+pub returns-in_err-answer : goal.returns-in_err-answer
+returns-in_err-answer g c =
+    let uses = c.args.info.now.global_uses in
+    let globals = c.args.module.now.global_variables in
+    let each = points_of_each (global_points (g.B.Below.meaning c.args.self.now.below) c.args.self.now.settings.flags c.args.module.now c.args.ep.now uses) globals in
+    let met = c.in_err-answer.ensures (immediate_points uses globals) c.check_immediates.ensures in
+    let r = c.from_residual.result in
+    let here : Meets (immediate_points uses globals) r = search (rules, met) in
+    meets_first r (immediate_points uses globals) each (search rules) here
+
+pub returns : goal.returns
+returns g c =
+    let uses = c.args.info.now.global_uses in
+    let globals = c.args.module.now.global_variables in
+    let each = points_of_each (global_points (g.B.Below.meaning c.args.self.now.below) c.args.self.now.settings.flags c.args.module.now c.args.ep.now uses) globals in
+    let met = c.in_ok-answer.ensures (immediate_points uses globals) c.check_immediates.ensures in
+    meets_second c.check_each_global.result (immediate_points uses globals) each met c.check_each_global.ensures

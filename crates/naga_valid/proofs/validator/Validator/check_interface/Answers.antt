@@ -1,0 +1,113 @@
+use Rattle.std.proofs.Common.{rules, ◌++◌}
+use Rattle.naga_below.specs.Points.{within}
+use Rattle.naga_valid.specs.EntryFaults.{fault_of, Judges}
+use Rattle.naga_valid.specs.EntryGlobals.{globals_points}
+use Rattle.naga_valid.specs.EntryMesh.{mesh_points}
+use Rattle.naga_valid.specs.EntryUses.{stage_points}
+use Rattle.naga_valid.specs.EntryVaryings.{argument_points, result_points}
+use Rattle.naga_valid.proofs.EntrySteps.{judges_first, judges_second}
+use Rattle.naga_valid.proofs.validator.Validator.check_interface.Goals as goal
+
+pub returns-in_err-judged : goal.returns-in_err-judged
+returns-in_err-judged g c =
+    let below = g.B.Below.meaning c.args.self.now.below in
+    let settings = c.args.self.now.settings in
+    let infos = c.args.self.now.types in
+    let program = c.args.module.now in
+    let ep = c.args.ep.now in
+    let info = c.args.info.now in
+    let stages = stage_points ep.stage info.available_stages in
+    let a = within fault_of stages in
+    let b = argument_points settings program.types infos ep in
+    let d = result_points settings program.types infos ep in
+    let globals = globals_points below settings.flags program ep info.global_uses in
+    let f = within fault_of globals in
+    let h = mesh_points below settings infos program ep ep.mesh_info in
+    let r = c.from_residual.result in
+    let here : Judges a r = search (rules, c.judged.ensures stages (c.answer.ensures stages c.check_stage.ensures)) in
+    judges_first r a (b ++ (d ++ (f ++ h))) (search rules) here
+
+pub returns-in_err-check_arguments : goal.returns-in_err-check_arguments
+returns-in_err-check_arguments g c =
+    let below = g.B.Below.meaning c.args.self.now.below in
+    let settings = c.args.self.now.settings in
+    let infos = c.args.self.now.types in
+    let program = c.args.module.now in
+    let ep = c.args.ep.now in
+    let info = c.args.info.now in
+    let stages = stage_points ep.stage info.available_stages in
+    let a = within fault_of stages in
+    let b = argument_points settings program.types infos ep in
+    let d = result_points settings program.types infos ep in
+    let globals = globals_points below settings.flags program ep info.global_uses in
+    let f = within fault_of globals in
+    let h = mesh_points below settings infos program ep ep.mesh_info in
+    let no_a = c.in_ok-judged.ensures stages (c.answer.ensures stages c.check_stage.ensures) in
+    let r = c.from_residual-in_err-check_arguments.result in
+    let here : Judges b r = search (rules, c.check_arguments.ensures) in
+    judges_second r a (b ++ (d ++ (f ++ h))) no_a (judges_first r b (d ++ (f ++ h)) (search rules) here)
+
+pub returns-in_err-check_result : goal.returns-in_err-check_result
+returns-in_err-check_result g c =
+    let below = g.B.Below.meaning c.args.self.now.below in
+    let settings = c.args.self.now.settings in
+    let infos = c.args.self.now.types in
+    let program = c.args.module.now in
+    let ep = c.args.ep.now in
+    let info = c.args.info.now in
+    let stages = stage_points ep.stage info.available_stages in
+    let a = within fault_of stages in
+    let b = argument_points settings program.types infos ep in
+    let d = result_points settings program.types infos ep in
+    let globals = globals_points below settings.flags program ep info.global_uses in
+    let f = within fault_of globals in
+    let h = mesh_points below settings infos program ep ep.mesh_info in
+    let no_a = c.in_ok-judged.ensures stages (c.answer.ensures stages c.check_stage.ensures) in
+    let no_b = c.in_ok-check_arguments.ensures in
+    let r = c.from_residual-in_err-check_result.result in
+    let here : Judges d r = search (rules, c.check_result.ensures) in
+    judges_second r a (b ++ (d ++ (f ++ h))) no_a (judges_second r b (d ++ (f ++ h)) no_b (judges_first r d (f ++ h) (search rules) here))
+
+pub returns-in_err-judged-2 : goal.returns-in_err-judged-2
+returns-in_err-judged-2 g c =
+    let below = g.B.Below.meaning c.args.self.now.below in
+    let settings = c.args.self.now.settings in
+    let infos = c.args.self.now.types in
+    let program = c.args.module.now in
+    let ep = c.args.ep.now in
+    let info = c.args.info.now in
+    let stages = stage_points ep.stage info.available_stages in
+    let a = within fault_of stages in
+    let b = argument_points settings program.types infos ep in
+    let d = result_points settings program.types infos ep in
+    let globals = globals_points below settings.flags program ep info.global_uses in
+    let f = within fault_of globals in
+    let h = mesh_points below settings infos program ep ep.mesh_info in
+    let no_a = c.in_ok-judged.ensures stages (c.answer.ensures stages c.check_stage.ensures) in
+    let no_b = c.in_ok-check_arguments.ensures in
+    let no_d = c.in_ok-check_result.ensures in
+    let r = c.from_residual-in_err-judged-2.result in
+    let here : Judges f r = search (rules, c.judged-2.ensures globals c.check_globals.ensures) in
+    judges_second r a (b ++ (d ++ (f ++ h))) no_a (judges_second r b (d ++ (f ++ h)) no_b (judges_second r d (f ++ h) no_d (judges_first r f h (search rules) here)))
+
+pub returns : goal.returns
+returns g c =
+    let below = g.B.Below.meaning c.args.self.now.below in
+    let settings = c.args.self.now.settings in
+    let infos = c.args.self.now.types in
+    let program = c.args.module.now in
+    let ep = c.args.ep.now in
+    let info = c.args.info.now in
+    let stages = stage_points ep.stage info.available_stages in
+    let a = within fault_of stages in
+    let b = argument_points settings program.types infos ep in
+    let d = result_points settings program.types infos ep in
+    let globals = globals_points below settings.flags program ep info.global_uses in
+    let f = within fault_of globals in
+    let h = mesh_points below settings infos program ep ep.mesh_info in
+    let no_a = c.in_ok-judged.ensures stages (c.answer.ensures stages c.check_stage.ensures) in
+    let no_b = c.in_ok-check_arguments.ensures in
+    let no_d = c.in_ok-check_result.ensures in
+    let no_f = c.in_ok-judged-2.ensures globals c.check_globals.ensures in
+    let r = c.check_mesh.result in
+    judges_second r a (b ++ (d ++ (f ++ h))) no_a (judges_second r b (d ++ (f ++ h)) no_b (judges_second r d (f ++ h) no_d (judges_second r f h no_f c.check_mesh.ensures)))

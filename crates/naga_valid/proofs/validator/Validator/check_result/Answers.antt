@@ -1,0 +1,33 @@
+use Rattle.std.proofs.Common.{rules, ◌∙◌, false, Bool, subst}
+use Rattle.naga_below.specs.Points.{within}
+use Rattle.naga_below.specs.declared.ir.built_in.BuiltIn.TheVariants.{Position}
+use Rattle.naga_valid.specs.CodeAnswers.{Finds}
+use Rattle.naga_valid.specs.EntryFaults.{fault_of, Judges}
+use Rattle.naga_valid.specs.EntryVaryings.{declared_points, has_built_in, result_parts, returned_points}
+use Rattle.naga_valid.proofs.EntrySteps.{judges_first, judges_second}
+use Rattle.naga_valid.proofs.validator.Validator.check_result.Goals as goal
+
+pub returns-in_err-check_declared : goal.returns-in_err-check_declared
+returns-in_err-check_declared g c =
+    let infos = c.args.self.now.types in
+    let types = c.args.module.now.types in
+    let ep = c.args.ep.now in
+    let r = c.from_residual.result in
+    let first = declared_points c.args.self.now.settings types infos ep ep.function.result in
+    let position = has_built_in (Position false) (result_parts types infos ep.function.result) in
+    let second = within fault_of (returned_points types ep.stage position ep.function.result) in
+    let here : Judges first r = search (rules, c.check_declared.ensures.fault) in
+    judges_first r first second (search rules) here
+
+pub returns : goal.returns
+returns g c =
+    let infos = c.args.self.now.types in
+    let types = c.args.module.now.types in
+    let ep = c.args.ep.now in
+    let r = c.judged.result in
+    let first = declared_points c.args.self.now.settings types infos ep ep.function.result in
+    let position = has_built_in (Position false) (result_parts types infos ep.function.result) in
+    let points = returned_points types ep.stage position ep.function.result in
+    let same = c.has_built_in-position.ensures ∙ c.in_ok-check_declared.ensures.seen in
+    let found = subst (λ (b : Bool). Finds (returned_points types ep.stage b ep.function.result) c.check_returned.result) same c.check_returned.ensures in
+    judges_second r first (within fault_of points) c.in_ok-check_declared.ensures.fault (c.judged.ensures points (c.answer.ensures points found))

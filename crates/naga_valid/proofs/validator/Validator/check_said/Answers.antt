@@ -1,0 +1,19 @@
+use Rattle.std.proofs.Common.{rules, ◌≡◌, ◌++◌, None, Option, sym, subst}
+use Rattle.naga_rules.specs.declared.mesh.MeshAnalysis.{MeshAnalysis}
+use Rattle.naga_rules.specs.declared.mesh.MeshFault.{MeshFault}
+use Rattle.naga_valid.specs.EntryMesh.{analysis_points, stated_points, said_points}
+use Rattle.naga_valid.specs.EntryPoints.{EntryPoints, Meets}
+use Rattle.naga_valid.proofs.validator.Validator.check_said.Goals as goal
+
+pub returns : goal.returns
+returns g c =
+    let capabilities = c.args.self.now.settings.capabilities in
+    let program = c.args.module.now in
+    let mesh = c.args.mesh.now in
+    let analysis = c.in_ok-analysis.analysis in
+    let r = c.answer.result in
+    let points : EntryPoints = stated_points capabilities program analysis.overrides analysis.implied mesh in
+    let none : analysis.fault ≡ None = search rules in
+    let met : Meets points r = search (rules, c.answer.ensures points) in
+    let is : analysis ≡ (g.B.Below.meaning c.args.self.now.below).mesh_analysis program mesh.output_variable = search rules in
+    subst (λ (a : MeshAnalysis). Meets (said_points capabilities program a mesh) r) is (subst (λ (f : Option MeshFault). Meets (analysis_points f ++ points) r) (sym none) met)

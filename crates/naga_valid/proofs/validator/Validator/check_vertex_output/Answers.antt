@@ -1,0 +1,65 @@
+use Rattle.std.proofs.Common.{rules, ◌≡◌, ◌∷◌, true, false, None, [], sym, ap, ◌∙◌, subst}
+use Rattle.naga_below.specs.Points.{first_fault, within}
+use Rattle.naga_below.specs.TypeTests.{it_is}
+use Rattle.naga_below.specs.Types.{inner_at}
+use Rattle.naga_below.specs.declared.ir.built_in.BuiltIn.TheVariants.{Position}
+use Rattle.naga_rules.proofs.Seeing.{leaves_the_next}
+use Rattle.naga_rules.specs.Seen.{Seen}
+use Rattle.naga_rules.specs.Varyings.{parts_of, points_from, seen_in, seen_with}
+use Rattle.naga_rules.specs.declared.varying.MeshOutputType.TheVariants.{VertexOutput}
+use Rattle.naga_valid.specs.EntryFaults.{OfResult, Other, Judges}
+use Rattle.naga_valid.specs.EntryVaryings.{has_built_in, is_struct, output_points, place_of}
+use Rattle.naga_valid.specs.declared.interface.EntryPointError.TheVariants as fault
+use Rattle.naga_valid.proofs.EntrySteps.{judges_first}
+use Rattle.naga_valid.proofs.Groups.{last_fails, last_holds, output_by_position}
+use Rattle.naga_valid.proofs.validator.Validator.check_vertex_output.Goals as goal
+
+pub returns-in_err-check_output-clause-fault : goal.returns-in_err-check_output-clause-fault
+returns-in_err-check_output-clause-fault g c =
+    let settings = c.args.self.now.settings in
+    let infos = c.args.self.now.types in
+    let types = c.args.module.now.types in
+    let ep = c.args.ep.now in
+    let ty = c.args.ty in
+    let r = c.from_residual.result in
+    let out = output_points settings types infos ep VertexOutput [] ty in
+    let by = output_by_position types infos settings ep VertexOutput [] (seen_in c.args.state.now) ty c.requires.seen in
+    let asked : Judges ((it_is is_struct (inner_at types ty), Other fault.InvalidMeshOutputType) ∷ within OfResult (points_from (place_of settings ep true VertexOutput) types infos (seen_in c.args.state.now) ty None)) r = search (rules, c.check_output.ensures.fault) in
+    judges_first r out ((has_built_in (Position false) (parts_of types infos ty None), Other fault.MissingVertexOutputPosition) ∷ []) (search rules) (subst (λ points. Judges points r) by asked)
+
+pub returns-then-not-has_built_in-clause-fault : goal.returns-then-not-has_built_in-clause-fault
+returns-then-not-has_built_in-clause-fault g c =
+    let settings = c.args.self.now.settings in
+    let infos = c.args.self.now.types in
+    let types = c.args.module.now.types in
+    let ep = c.args.ep.now in
+    let ty = c.args.ty in
+    let parts = parts_of types infos ty None in
+    let out = output_points settings types infos ep VertexOutput [] ty in
+    let by = output_by_position types infos settings ep VertexOutput [] (seen_in c.args.state.now) ty c.requires.seen in
+    let none = subst (λ points. first_fault points ≡ None) by c.in_ok-check_output.ensures.fault in
+    let same = sym (c.has_built_in.ensures ∙ ap (λ (s : Seen). s.built_ins (Position false)) (c.in_ok-check_output.ensures.seen ∙ ap (λ (s : Seen). seen_with s parts) c.requires.seen)) in
+    let no : c.has_built_in.result ≡ false = search rules in
+    rw c.refusal.ensures (last_fails out (has_built_in (Position false) parts) (Other fault.MissingVertexOutputPosition) none (same ∙ no))
+
+pub returns-clause-fault : goal.returns-clause-fault
+returns-clause-fault g c =
+    let settings = c.args.self.now.settings in
+    let infos = c.args.self.now.types in
+    let types = c.args.module.now.types in
+    let ep = c.args.ep.now in
+    let ty = c.args.ty in
+    let parts = parts_of types infos ty None in
+    let out = output_points settings types infos ep VertexOutput [] ty in
+    let by = output_by_position types infos settings ep VertexOutput [] (seen_in c.args.state.now) ty c.requires.seen in
+    let none = subst (λ points. first_fault points ≡ None) by c.in_ok-check_output.ensures.fault in
+    let same = sym (c.has_built_in.ensures ∙ ap (λ (s : Seen). s.built_ins (Position false)) (c.in_ok-check_output.ensures.seen ∙ ap (λ (s : Seen). seen_with s parts) c.requires.seen)) in
+    let yes : c.has_built_in.result ≡ true = search rules in
+    last_holds out (has_built_in (Position false) parts) (Other fault.MissingVertexOutputPosition) none (same ∙ yes)
+
+pub returns-clause-seen : goal.returns-clause-seen
+returns-clause-seen g c =
+    let parts = parts_of c.args.module.now.types c.args.self.now.types c.args.ty None in
+    c.in_ok-check_output.ensures.seen
+    ∙ ap (λ (s : Seen). seen_with s parts) c.requires.seen
+    ∙ leaves_the_next (place_of c.args.self.now.settings c.args.ep.now true VertexOutput) [] parts

@@ -1,0 +1,54 @@
+use Rattle.std.proofs.Common.{rules, ◌≡◌, true, None, Some}
+use Rattle.naga_below.specs.Points.{first_fault}
+use Rattle.naga_valid.specs.EntryStart.{start_points}
+use Rattle.naga_valid.specs.Judged.{function_judgement}
+use Rattle.naga_valid.proofs.EntryJudgement.{start_refuses, function_refuses, interface_decides, function_passes}
+use Rattle.naga_valid.proofs.EntryUses.{one_use_each}
+use Rattle.naga_valid.proofs.validator.Validator.judge_entry_point.Goals as goal
+
+pub returns-in-Err : goal.returns-in-Err
+returns-in-Err g c =
+    let ep = c.args.ep.now in
+    let found : Some c.in-Err.fault ≡ first_fault (start_points c.args.self.now.settings.capabilities ep) = search rules in
+    rw c.refusal.ensures (start_refuses (g.B.Below.meaning c.args.self.now.below) c.args.self.now.settings c.args.self.now.types c.args.self.now.trace c.args.module.now c.args.mod_info.now ep c.in-Err.fault found)
+
+pub returns-in_err-outcome : goal.returns-in_err-outcome
+returns-in_err-outcome g c =
+    let below = g.B.Below.meaning c.args.self.now.below in
+    let settings = c.args.self.now.settings in
+    let infos = c.args.self.now.types in
+    let trace = c.args.self.now.trace in
+    let program = c.args.module.now in
+    let earlier = c.args.mod_info.now in
+    let ep = c.args.ep.now in
+    let none : first_fault (start_points settings.capabilities ep) ≡ None = search rules in
+    let fun = function_judgement below settings infos trace program earlier ep.function true in
+    let refused = c.in_err-outcome.ensures fun c.judge_function-function.ensures in
+    search (rules, function_refuses below settings infos trace program earlier ep none, refused)
+
+pub judge_interface-requires-clause-uses : goal.judge_interface-requires-clause-uses
+judge_interface-requires-clause-uses g c =
+    let below = g.B.Below.meaning c.args.self.now.below in
+    let settings = c.args.self.now.settings in
+    let infos = c.args.self.now.types in
+    let trace = c.args.self.now.trace in
+    let program = c.args.module.now in
+    let earlier = c.args.mod_info.now in
+    let ep = c.args.ep.now in
+    let fun = function_judgement below settings infos trace program earlier ep.function true in
+    let passed = c.in_ok-outcome.ensures fun c.judge_function-function.ensures in
+    one_use_each below settings infos trace program earlier ep.function true c.in_ok-outcome.outcome (g.met.B.Below.one_use_each _) (function_passes fun c.in_ok-outcome.outcome passed)
+
+pub returns : goal.returns
+returns g c =
+    let below = g.B.Below.meaning c.args.self.now.below in
+    let settings = c.args.self.now.settings in
+    let infos = c.args.self.now.types in
+    let trace = c.args.self.now.trace in
+    let program = c.args.module.now in
+    let earlier = c.args.mod_info.now in
+    let ep = c.args.ep.now in
+    let none : first_fault (start_points settings.capabilities ep) ≡ None = search rules in
+    let fun = function_judgement below settings infos trace program earlier ep.function true in
+    let passed = c.in_ok-outcome.ensures fun c.judge_function-function.ensures in
+    interface_decides below settings infos trace program earlier ep none c.in_ok-outcome.outcome c.judge_interface.result passed c.judge_interface.ensures

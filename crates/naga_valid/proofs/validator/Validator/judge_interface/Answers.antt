@@ -1,0 +1,23 @@
+use Rattle.std.proofs.Common.{rules, ◌++◌}
+use Rattle.naga_below.specs.Points.{within}
+use Rattle.naga_valid.specs.EntryFaults.{fault_of, Judges}
+use Rattle.naga_valid.specs.EntryJudged.{used_points, outcome_of}
+use Rattle.naga_valid.specs.EntryUses.{payload_points, with_own_uses}
+use Rattle.naga_valid.proofs.EntryJudgement.{points_refuse}
+use Rattle.naga_valid.proofs.EntrySteps.{judges_first}
+use Rattle.naga_valid.proofs.validator.Validator.judge_interface.Goals as goal
+
+pub returns-in_err-judged : goal.returns-in_err-judged
+returns-in_err-judged g c =
+    let below = g.B.Below.meaning c.args.self.now.below in
+    let settings = c.args.self.now.settings in
+    let infos = c.args.self.now.types in
+    let program = c.args.module.now in
+    let ep = c.args.ep.now in
+    let outcome = c.args.outcome in
+    let r = c.from_residual.result in
+    let payload = payload_points program.global_variables ep.stage ep.task_payload in
+    let first = within fault_of payload in
+    let second = used_points below settings infos program ep (with_own_uses ep outcome.info) in
+    let here : Judges first r = search (rules, c.judged.ensures payload (c.answer.ensures payload c.check_payload.ensures)) in
+    points_refuse (first ++ second) (outcome_of below settings infos program ep outcome) r (search rules) (judges_first r first second (search rules) here)

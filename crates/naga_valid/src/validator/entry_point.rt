@@ -1,0 +1,83 @@
+//! The validation of an entry point.
+
+ghost use Rattle.std.specs.Prelude.{◌≡◌, true, OnOk, OnErr, IfOk, length};
+ghost use Rattle.naga_below.specs.Fits.{FitsTypes, FitsFunction, FitsEntry};
+ghost use Rattle.naga_below.specs.declared.ir.module.ShaderStage.TheVariants.{Vertex};
+ghost use Rattle.naga_runs.specs.Soundness.{RunsAreSound};
+ghost use Rattle.naga_rules.specs.Locations.{checks_bindings};
+ghost use Rattle.naga_valid.specs.Accepted.{ResultsAreFilledOnce, StagesAreOfAll};
+ghost use Rattle.naga_valid.specs.Blocks.{body_of};
+ghost use Rattle.naga_valid.specs.Context.{pre_emitted_of};
+ghost use Rattle.naga_valid.specs.EntryJudged.{HasPayloadSizes, entry_judgement, AnswersEntry};
+ghost use Rattle.naga_valid.specs.EntryLaw.{argument_parts, BindingsAreDistinct, BuiltInsAreDistinct, GroupsAreDistinct, ReturnsPosition};
+ghost use Rattle.naga_valid.specs.EntryStart.{start_points};
+ghost use Rattle.naga_valid.specs.Parts.{AreInfosOf};
+ghost use Rattle.naga_valid.specs.WhatIsChecked.{checks_blocks, checks_expressions};
+
+use crate::interface::EntryPointError;
+use crate::validator::Validator;
+use naga_below::ir::module::{EntryPoint, Module};
+use naga_below::span::Refusal;
+use naga_below::valid::info::{FunctionInfo, ModuleInfo};
+use naga_rules::below::Below;
+use std::alloc::Global;
+
+impl<B: Below> Validator<B> {
+    /// Judges an entry point of a module: naga 30.0.1's `validate_entry_point`. `mod_info` has the infos of the module's
+    /// functions. The fault is the first in this order: what its stage needs; the early depth test; the size of a work
+    /// group; whether something is said of a mesh; the function, as `validate_function` with `entry_point` (`Function`); the
+    /// task payload; the stage; the arguments (`Argument`); the result (`Result`) and what the stage has to return; the
+    /// globals that are used, of which at most one is an immediate; the mesh. Of those before the function no memory is
+    /// taken: they are always answered. The info is that of the function, with what the entry point itself does with its
+    /// payload and its mesh's output variable joined to the uses, and with `dual_source_blending` set where the result is the
+    /// two sources of a blend. What ray traces leave is kept for later functions; after a refusal the validator is as before.
+    pub fn validate_entry_point(
+        &mut self,
+        alloc: Global,
+        ep: &EntryPoint,
+        module: &Module,
+        mod_info: &ModuleInfo,
+    ) -> Result<FunctionInfo, Refusal<EntryPointError>>
+        requires infos { AreInfosOf «module».now self.old.types }
+        requires types { FitsTypes «module».now }
+        requires function { FitsFunction ep.now.function «module».now (length mod_info.now.functions) }
+        requires entry { FitsEntry ep.now «module».now }
+        requires sizes { HasPayloadSizes (B.meaning self.old.below) «module».now }
+
+        // The answer is the judgement's; or there was no memory, and nothing up to the function is wrong.
+        ensures judged { AnswersEntry (start_points self.old.settings.capabilities ep.now) (entry_judgement (B.meaning self.old.below) self.old.settings self.old.types self.old.trace «module».now mod_info.now ep.now) self.new.trace result }
+
+        // In every run of an accepted body that was looked at, what is used is live or was skipped by a Continue, no
+        // live handle is put, and jumps have targets.
+        ensures sound { OnOk result (checks_blocks self.old.settings.flags ≡ true → RunsAreSound (pre_emitted_of ep.now.function) (body_of ep.now.function)) }
+
+        // Where bodies and expressions were looked at, each CallResult of an accepted body is filled by one Call, which
+        // is of its function, and by no Atomic; each AtomicResult by one Atomic and by no Call.
+        ensures filled { OnOk result (checks_blocks self.old.settings.flags ≡ true → checks_expressions self.old.settings.flags ≡ true → ResultsAreFilledOnce ep.now.function) }
+
+        // Where bodies were looked at, the stages of an accepted one are stages of each of its statements and of each
+        // function that it calls.
+        ensures stages { IfOk result (λ info. checks_blocks self.old.settings.flags ≡ true → StagesAreOfAll self.old.settings.subgroup_stages mod_info.now (body_of ep.now.function) info.available_stages) }
+
+        // Where bindings were looked at, no two globals that are used have one binding.
+        ensures bindings { IfOk result (λ info. checks_bindings self.old.settings.flags ≡ true → BindingsAreDistinct «module».now.global_variables info.global_uses) }
+
+        // Where bindings were looked at, no two parts of a group take one location: of the arguments, of the result, of the
+        // outputs of a mesh together.
+        ensures locations { OnOk result (checks_bindings self.old.settings.flags ≡ true → GroupsAreDistinct self.old.settings «module».now.types self.old.types ep.now) }
+
+        // No two parts of the arguments are one built-in, once `invariant` and `perspective` are cleared.
+        ensures built_ins { OnOk result (BuiltInsAreDistinct (argument_parts self.old.settings «module».now.types self.old.types ep.now)) }
+
+        // At the vertex stage a position is returned.
+        ensures position { OnOk result (ep.now.stage ≡ Vertex → ReturnsPosition «module».now.types ep.now.function.result) }
+
+        // Nothing but what ray traces leave may differ, and that only where the entry point is accepted.
+        ensures kept { self.new ≡ record self.old { trace = self.new.trace } }
+        ensures refused { OnErr result (self.new ≡ self.old) }
+    {
+        let outcome = self.judge_entry_point(alloc, ep, module, mod_info)?;
+        self.trace = outcome.trace;
+        Ok(outcome.info)
+    }
+}

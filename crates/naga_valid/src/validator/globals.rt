@@ -1,0 +1,157 @@
+//! The checks of the globals that an entry point uses which ask the lower layer for a size.
+
+ghost use Rattle.std.specs.Prelude.{◌≡◌, ◌↔◌, ◌<◌, IsTrue, IsSome, Some, [], slice_get, length};
+ghost use Rattle.naga_below.specs.Points.{points_of_each};
+ghost use Rattle.naga_below.specs.declared.ir.types.AddressSpace.TheVariants as space;
+ghost use Rattle.naga_valid.specs.CodeAnswers.{Finds};
+ghost use Rattle.naga_valid.specs.CodeBindings.{AreTaken};
+ghost use Rattle.naga_valid.specs.EntryGlobals.{used_payload_points, use_points, points_if_used, global_points, globals_points};
+ghost use Rattle.naga_valid.specs.EntryJudged.{HasPayloadSizes};
+ghost use Rattle.naga_valid.specs.EntryPoints.{Meets};
+
+use crate::interface::EntryPointError;
+use crate::interface::answers::answer;
+use crate::interface::bindings::{check_binding, take_binding};
+use crate::interface::globals::{check_allowed, check_immediates, is_task_payload, uses_of};
+use crate::validator::Validator;
+use bitflags::Flags;
+use naga_below::arena::handle::Handle;
+use naga_below::arena::tag;
+use naga_below::ir::module::{EntryPoint, GlobalVariable, Module, ResourceBinding};
+use naga_below::ir::types::AddressSpace;
+use naga_below::span::Refusal;
+use naga_below::valid::flags::GlobalUse;
+use naga_below::valid::info::FunctionInfo;
+use naga_rules::below::Below;
+use std::alloc::Global;
+use std::collections::BTreeSet;
+
+impl<B: Below> Validator<B> {
+    /// Whether the lower layer knows the size of the type of each global in `TaskPayload`.
+    pub fn has_payload_sizes(&self, module: &Module) -> bool
+        ensures { IsTrue result ↔ HasPayloadSizes (B.meaning self.now.below) «module».now }
+    {
+        let globals = module.global_variables.as_slice();
+        globals
+            .iter()
+            .all(|global| self.has_payload_size(module, global))
+    }
+
+    fn has_payload_size(&self, module: &Module, global: &GlobalVariable) -> bool
+        ensures { IsTrue result ↔ (global.now.space ≡ space.TaskPayload → IsSome ((B.meaning self.now.below).size_of «module».now global.now.ty)) }
+    {
+        !matches!(global.space, AddressSpace::TaskPayload)
+            || self.below.type_size(module, global.ty).is_some()
+    }
+
+    /// A payload that is used is the entry point's, and has at least 4 bytes.
+    fn check_used_payload(
+        &self,
+        module: &Module,
+        ep: &EntryPoint,
+        handle: Handle<tag::GlobalVariable>,
+        var: &GlobalVariable,
+    ) -> Result<(), EntryPointError>
+        requires { var.now.space ≡ space.TaskPayload → IsSome ((B.meaning self.now.below).size_of «module».now var.now.ty) }
+        ensures { Finds (used_payload_points ep.now.task_payload ((B.meaning self.now.below).size_of «module».now var.now.ty) handle var.now.space) result }
+    {
+        if !is_task_payload(var.space) {
+            return Ok(());
+        }
+        if ep.task_payload != Some(handle) {
+            return Err(EntryPointError::WrongTaskPayloadUsed);
+        }
+        let size = self.below.type_size(module, var.ty).unwrap();
+        if size < 4 {
+            return Err(EntryPointError::TaskPayloadTooSmall(size));
+        }
+        Ok(())
+    }
+
+    /// How a global is used.
+    #[tactic(auto, using(crate::proofs::EntrySteps::finding))]
+    fn check_use(
+        &self,
+        module: &Module,
+        ep: &EntryPoint,
+        handle: Handle<tag::GlobalVariable>,
+        var: &GlobalVariable,
+        uses: GlobalUse,
+    ) -> Result<(), EntryPointError>
+        requires { var.now.space ≡ space.TaskPayload → IsSome ((B.meaning self.now.below).size_of «module».now var.now.ty) }
+        ensures { Finds (use_points (B.meaning self.now.below) self.now.settings.flags «module».now ep.now [] handle var.now uses) result }
+    {
+        self.check_used_payload(module, ep, handle, var)?;
+        check_allowed(module, ep.stage, handle, var, uses)
+    }
+
+    /// A global, where it is used: how, and its binding.
+    #[tactic(auto, using(crate::proofs::EntrySteps::finding))]
+    fn check_global(
+        &self,
+        module: &Module,
+        ep: &EntryPoint,
+        info: &FunctionInfo,
+        taken: &BTreeSet<ResourceBinding>,
+        handle: Handle<tag::GlobalVariable>,
+        var: &GlobalVariable,
+    ) -> Result<(), EntryPointError>
+        requires size { var.now.space ≡ space.TaskPayload → IsSome ((B.meaning self.now.below).size_of «module».now var.now.ty) }
+        requires taken { AreTaken taken.now info.now.global_uses «module».now.global_variables handle }
+        ensures { Finds (global_points (B.meaning self.now.below) self.now.settings.flags «module».now ep.now info.now.global_uses handle var.now) result }
+    {
+        let Some(uses) = uses_of(info, handle.index()) else {
+            return Ok(());
+        };
+        if uses.is_empty() {
+            return Ok(());
+        }
+        self.check_use(module, ep, handle, var, uses)?;
+        check_binding(
+            self.settings.flags,
+            module,
+            info,
+            taken,
+            handle,
+            var.binding,
+        )
+    }
+
+    /// Each global that is used, in order.
+    fn check_each_global(
+        &self,
+        alloc: Global,
+        module: &Module,
+        ep: &EntryPoint,
+        info: &FunctionInfo,
+    ) -> Result<(), Refusal<EntryPointError>>
+        requires { HasPayloadSizes (B.meaning self.now.below) «module».now }
+        ensures { Meets (points_of_each (global_points (B.meaning self.now.below) self.now.settings.flags «module».now ep.now info.now.global_uses) «module».now.global_variables) result }
+    {
+        let mut taken = BTreeSet::new(alloc);
+        let globals = module.global_variables.as_slice();
+        for index in 0..module.global_variables.len() {
+            let handle = Handle::new(index as u32);
+            let checked = self.check_global(module, ep, info, &taken, handle, &globals[index]);
+            answer(alloc, checked)?;
+            take_binding(module, info, &mut taken, index)?;
+        }
+        Ok(())
+    }
+
+    /// The globals that are used: of immediates at most one; and then each in order.
+    #[tactic(auto, using(crate::proofs::EntrySteps::meeting))]
+    pub fn check_globals(
+        &self,
+        alloc: Global,
+        module: &Module,
+        ep: &EntryPoint,
+        info: &FunctionInfo,
+    ) -> Result<(), Refusal<EntryPointError>>
+        requires { HasPayloadSizes (B.meaning self.now.below) «module».now }
+        ensures { Meets (globals_points (B.meaning self.now.below) self.now.settings.flags «module».now ep.now info.now.global_uses) result }
+    {
+        answer(alloc, check_immediates(module, info))?;
+        self.check_each_global(alloc, module, ep, info)
+    }
+}

@@ -1,0 +1,284 @@
+//! The checks of what an entry point puts in and out: its arguments, its result and the outputs of a mesh.
+
+ghost use Rattle.std.specs.Prelude.{◌≡◌, ◌<◌, ◌∷◌, ◌++◌, [], None, OnOk, true, false, length};
+ghost use Rattle.naga_below.specs.Fits.{FitsTypes, FitsEntry};
+ghost use Rattle.naga_below.specs.FitsBody.{SignatureFits};
+ghost use Rattle.naga_below.specs.Points.{within};
+ghost use Rattle.naga_below.specs.TypeTests.{it_is};
+ghost use Rattle.naga_below.specs.Types.{inner_at};
+ghost use Rattle.naga_below.specs.declared.ir.built_in.BuiltIn.TheVariants.{Position};
+ghost use Rattle.naga_rules.specs.Varyings.{nothing_seen, parts_of, placed_parts, points_from, seen_at, seen_in, seen_with};
+ghost use Rattle.naga_rules.specs.declared.varying.MeshOutputType.TheVariants as which;
+ghost use Rattle.naga_valid.specs.EntryFaults.{Judges, OfArgument, OfResult, Other};
+ghost use Rattle.naga_valid.specs.EntryMesh.{mesh_points};
+ghost use Rattle.naga_valid.specs.EntryVaryings.{argument_points, declared_points, has_built_in, is_struct, output_item, output_points, outputs_points, place_of, primitive_points, result_parts, result_points, vertex_points};
+ghost use Rattle.naga_valid.specs.Parts.{AreInfosOf};
+ghost use Rattle.naga_valid.specs.declared.interface.EntryPointError.TheVariants as fault;
+
+use crate::interface::EntryPointError;
+use crate::interface::answers::{answer, judged, refusal};
+use crate::interface::globals::inner_at;
+use crate::interface::mesh::check_variable;
+use crate::interface::varyings::{
+    argument_refused, check_returned, has_one_of_indices, is_struct, result_refused,
+};
+use crate::validator::Validator;
+use naga_below::arena::handle::Handle;
+use naga_below::arena::tag;
+use naga_below::ir::built_in::BuiltIn;
+use naga_below::ir::functions::FunctionArgument;
+use naga_below::ir::module::{EntryPoint, MeshStageInfo, Module};
+use naga_below::ir::types::Binding;
+use naga_below::span::Refusal;
+use naga_rules::below::Below;
+use naga_rules::varying::item::check_varying_item;
+use naga_rules::varying::{MeshOutputType, VaryingPlace, VaryingState};
+use std::alloc::Global;
+
+impl<B: Below> Validator<B> {
+    /// Where an input or an output of an entry point stands.
+    fn place_of(&self, ep: &EntryPoint, output: bool, mesh_output: MeshOutputType) -> VaryingPlace
+        ensures { result ≡ place_of self.now.settings ep.now output mesh_output }
+    {
+        VaryingPlace {
+            stage: ep.stage,
+            output,
+            mesh_output,
+            has_task_payload: ep.task_payload.is_some(),
+            workgroup_size: ep.workgroup_size,
+            capabilities: self.settings.capabilities,
+            flags: self.settings.flags,
+        }
+    }
+
+    /// An argument, counted from 0.
+    fn check_argument(
+        &self,
+        alloc: Global,
+        module: &Module,
+        place: &VaryingPlace,
+        state: &mut VaryingState,
+        index: u32,
+        argument: &FunctionArgument,
+    ) -> Result<(), Refusal<EntryPointError>>
+        requires infos { AreInfosOf «module».now self.now.types }
+        requires types { FitsTypes «module».now }
+        requires ty { argument.now.ty < length «module».now.types }
+        ensures fault { Judges (within (OfArgument index) (points_from place.now «module».now.types self.now.types (seen_in state.old) argument.now.ty argument.now.binding)) result }
+        ensures seen { OnOk result (seen_in state.new ≡ seen_with (seen_in state.old) (parts_of «module».now.types self.now.types argument.now.ty argument.now.binding)) }
+    {
+        let infos = self.infos();
+        let types = &module.types;
+        match check_varying_item(
+            alloc,
+            place,
+            state,
+            types,
+            infos,
+            argument.ty,
+            argument.binding,
+        ) {
+            Ok(()) => Ok(()),
+            Err(refused) => Err(argument_refused(alloc, index, refused)),
+        }
+    }
+
+    /// The arguments, which are one group.
+    pub fn check_arguments(
+        &self,
+        alloc: Global,
+        ep: &EntryPoint,
+        module: &Module,
+    ) -> Result<(), Refusal<EntryPointError>>
+        requires infos { AreInfosOf «module».now self.now.types }
+        requires types { FitsTypes «module».now }
+        requires signature { SignatureFits «module».now ep.now.function }
+        ensures { Judges (argument_points self.now.settings «module».now.types self.now.types ep.now) result }
+    {
+        let place = self.place_of(ep, false, MeshOutputType::Neither);
+        let mut state = VaryingState::new(alloc);
+        let arguments = ep.function.arguments.as_slice();
+        for index in 0..arguments.len() {
+            let argument = &arguments[index];
+            self.check_argument(alloc, module, &place, &mut state, index as u32, argument)?;
+        }
+        Ok(())
+    }
+
+    /// The result, or an output of a mesh.
+    fn check_output_item(
+        &self,
+        alloc: Global,
+        module: &Module,
+        place: &VaryingPlace,
+        state: &mut VaryingState,
+        ty: Handle<tag::Type>,
+        binding: Option<Binding>,
+    ) -> Result<(), Refusal<EntryPointError>>
+        requires infos { AreInfosOf «module».now self.now.types }
+        requires types { FitsTypes «module».now }
+        requires ty { ty < length «module».now.types }
+        ensures fault { Judges (within OfResult (points_from place.now «module».now.types self.now.types (seen_in state.old) ty binding)) result }
+        ensures seen { OnOk result (seen_in state.new ≡ seen_with (seen_in state.old) (parts_of «module».now.types self.now.types ty binding)) }
+    {
+        let infos = self.infos();
+        match check_varying_item(alloc, place, state, &module.types, infos, ty, binding) {
+            Ok(()) => Ok(()),
+            Err(refused) => Err(result_refused(refused)),
+        }
+    }
+
+    /// The result, if there is one, which is one group; whether a position is among its parts.
+    fn check_declared(
+        &self,
+        alloc: Global,
+        ep: &EntryPoint,
+        module: &Module,
+        state: &mut VaryingState,
+    ) -> Result<(), Refusal<EntryPointError>>
+        requires infos { AreInfosOf «module».now self.now.types }
+        requires types { FitsTypes «module».now }
+        requires signature { SignatureFits «module».now ep.now.function }
+        requires seen { seen_in state.old ≡ nothing_seen }
+        ensures fault { Judges (declared_points self.now.settings «module».now.types self.now.types ep.now ep.now.function.result) result }
+        ensures seen { OnOk result ((seen_in state.new).built_ins (Position false) ≡ has_built_in (Position false) (result_parts «module».now.types self.now.types ep.now.function.result)) }
+    {
+        let Some(declared) = ep.function.result else {
+            return Ok(());
+        };
+        let place = self.place_of(ep, true, MeshOutputType::Neither);
+        self.check_output_item(alloc, module, &place, state, declared.ty, declared.binding)
+    }
+
+    /// The result, and what the stage has to return.
+    pub fn check_result(
+        &self,
+        alloc: Global,
+        ep: &EntryPoint,
+        module: &Module,
+    ) -> Result<(), Refusal<EntryPointError>>
+        requires infos { AreInfosOf «module».now self.now.types }
+        requires types { FitsTypes «module».now }
+        requires signature { SignatureFits «module».now ep.now.function }
+        ensures { Judges (result_points self.now.settings «module».now.types self.now.types ep.now) result }
+    {
+        let mut state = VaryingState::new(alloc);
+        self.check_declared(alloc, ep, module, &mut state)?;
+        let position = state.has_built_in(BuiltIn::Position { invariant: false });
+        let declared = ep.function.result;
+        judged(answer(alloc, check_returned(module, ep.stage, position, declared)))
+    }
+
+    /// An output of a mesh: a struct, whose members may be put out.
+    fn check_output(
+        &self,
+        alloc: Global,
+        ep: &EntryPoint,
+        module: &Module,
+        state: &mut VaryingState,
+        output: MeshOutputType,
+        ty: Handle<tag::Type>,
+    ) -> Result<(), Refusal<EntryPointError>>
+        requires infos { AreInfosOf «module».now self.now.types }
+        requires types { FitsTypes «module».now }
+        requires ty { ty < length «module».now.types }
+        ensures fault { Judges ((it_is is_struct (inner_at «module».now.types ty), Other fault.InvalidMeshOutputType) ∷ within OfResult (points_from (place_of self.now.settings ep.now true output) «module».now.types self.now.types (seen_in state.old) ty None)) result }
+        ensures seen { OnOk result (seen_in state.new ≡ seen_with (seen_in state.old) (parts_of «module».now.types self.now.types ty None)) }
+    {
+        if !is_struct(inner_at(module, ty)) {
+            return Err(refusal(alloc, EntryPointError::InvalidMeshOutputType));
+        }
+        let place = self.place_of(ep, true, output);
+        self.check_output_item(alloc, module, &place, state, ty, None)
+    }
+
+    /// The output of each vertex of a mesh, which has a position.
+    fn check_vertex_output(
+        &self,
+        alloc: Global,
+        ep: &EntryPoint,
+        module: &Module,
+        state: &mut VaryingState,
+        ty: Handle<tag::Type>,
+    ) -> Result<(), Refusal<EntryPointError>>
+        requires infos { AreInfosOf «module».now self.now.types }
+        requires types { FitsTypes «module».now }
+        requires ty { ty < length «module».now.types }
+        requires seen { seen_in state.old ≡ nothing_seen }
+        ensures fault { Judges (vertex_points self.now.settings «module».now.types self.now.types ep.now ty) result }
+        ensures seen { OnOk result (seen_in state.new ≡ seen_at (place_of self.now.settings ep.now true which.VertexOutput) (placed_parts «module».now.types self.now.types (output_item self.now.settings ep.now which.VertexOutput ty))) }
+    {
+        let output = MeshOutputType::VertexOutput;
+        self.check_output(alloc, ep, module, state, output, ty)?;
+        if !state.has_built_in(BuiltIn::Position { invariant: false }) {
+            let fault = EntryPointError::MissingVertexOutputPosition;
+            return Err(refusal(alloc, fault));
+        }
+        Ok(())
+    }
+
+    /// The output of each primitive of a mesh, which has one built-in of indices. The locations of the vertex output, which
+    /// has this type, are taken.
+    fn check_primitive_output(
+        &self,
+        alloc: Global,
+        ep: &EntryPoint,
+        module: &Module,
+        state: &mut VaryingState,
+        mesh: &MeshStageInfo,
+    ) -> Result<(), Refusal<EntryPointError>>
+        requires infos { AreInfosOf «module».now self.now.types }
+        requires types { FitsTypes «module».now }
+        requires ty { mesh.now.primitive_output_type < length «module».now.types }
+        requires seen { seen_in state.old ≡ seen_at (place_of self.now.settings ep.now true which.PrimitiveOutput) (placed_parts «module».now.types self.now.types (output_item self.now.settings ep.now which.VertexOutput mesh.now.vertex_output_type)) }
+        ensures { Judges (primitive_points self.now.settings «module».now.types self.now.types ep.now (placed_parts «module».now.types self.now.types (output_item self.now.settings ep.now which.VertexOutput mesh.now.vertex_output_type)) mesh.now.primitive_output_type) result }
+    {
+        let output = MeshOutputType::PrimitiveOutput;
+        self.check_output(alloc, ep, module, state, output, mesh.primitive_output_type)?;
+        if !has_one_of_indices(state) {
+            let fault = EntryPointError::InvalidMeshPrimitiveOutputType;
+            return Err(refusal(alloc, fault));
+        }
+        Ok(())
+    }
+
+    /// The vertex output, and then the primitive output, which share locations.
+    fn check_outputs(
+        &self,
+        alloc: Global,
+        ep: &EntryPoint,
+        module: &Module,
+        mesh: &MeshStageInfo,
+    ) -> Result<(), Refusal<EntryPointError>>
+        requires infos { AreInfosOf «module».now self.now.types }
+        requires types { FitsTypes «module».now }
+        requires vertex { mesh.now.vertex_output_type < length «module».now.types }
+        requires primitive { mesh.now.primitive_output_type < length «module».now.types }
+        ensures { Judges (outputs_points self.now.settings «module».now.types self.now.types ep.now mesh.now.vertex_output_type mesh.now.primitive_output_type) result }
+    {
+        let mut state = VaryingState::new(alloc);
+        self.check_vertex_output(alloc, ep, module, &mut state, mesh.vertex_output_type)?;
+        state.clear_built_ins();
+        self.check_primitive_output(alloc, ep, module, &mut state, mesh)
+    }
+
+    /// The mesh: its output variable, what is said of it, and its outputs.
+    pub fn check_mesh(
+        &self,
+        alloc: Global,
+        ep: &EntryPoint,
+        module: &Module,
+    ) -> Result<(), Refusal<EntryPointError>>
+        requires infos { AreInfosOf «module».now self.now.types }
+        requires types { FitsTypes «module».now }
+        requires entry { FitsEntry ep.now «module».now }
+        ensures { Judges (mesh_points (B.meaning self.now.below) self.now.settings self.now.types «module».now ep.now ep.now.mesh_info) result }
+    {
+        let Some(mesh) = &ep.mesh_info else {
+            return Ok(());
+        };
+        judged(answer(alloc, check_variable(module, mesh)))?;
+        judged(self.check_said(alloc, module, mesh))?;
+        self.check_outputs(alloc, ep, module, mesh)
+    }
+}
