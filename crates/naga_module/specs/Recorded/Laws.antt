@@ -1,5 +1,5 @@
 -- The laws that the layer of recorded facts keeps as a lower layer, whatever the facts are.
-use Rattle.std.specs.Prelude.{ℕ, ◌≡◌, Bool, true, false, ◌&&◌, ◌==◌, All, List, Option, Some, None, Result, Ok, Err, length, if◌then◌else◌}
+use Rattle.std.specs.Prelude.{ℕ, ◌≡◌, Bool, true, false, ◌&&◌, ◌==◌, All, Option, Some, None, Ok, Err, length, if◌then◌else◌}
 use Rattle.std.specs.List.{list_all}
 use Rattle.std.proofs.Common.{refl}
 use Rattle.std.proofs.lemmas.Bool.{ltb-true, eqb-true}
@@ -14,7 +14,6 @@ use Rattle.naga_below.specs.declared.proc.typifier.TypeResolution.TheVariants.{H
 use Rattle.naga_below.specs.declared.valid.info.FunctionInfo.{FunctionInfo}
 use Rattle.naga_below.specs.declared.valid.info.ModuleInfo.{ModuleInfo}
 use Rattle.naga_rules.specs.Lawful.{IsNoStruct}
-use Rattle.naga_rules.specs.declared.function.FunctionError.{FunctionError}
 use Rattle.naga_module.specs.Recorded.Asked.{fact_asked}
 use Rattle.naga_module.specs.Recorded.Facts.{info_of}
 use Rattle.naga_module.specs.Recorded.Infos.{is_lawful_type, is_lawful_info, recorded_info, USELESS}
