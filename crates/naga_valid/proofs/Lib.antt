@@ -37,6 +37,6 @@ pub mod Groups
 pub mod EntryAccepted
 pub mod Chains
 pub mod GlobalFits
-pub mod EntryLaw
+pub mod EntryFacts
 pub mod EntryGroups
 pub mod EntryBuiltIns
