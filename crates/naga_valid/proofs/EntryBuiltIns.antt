@@ -30,11 +30,11 @@ use Rattle.naga_rules.specs.declared.varying.MeshOutputType.TheVariants.{Neither
 use Rattle.naga_rules.specs.declared.varying.VaryingPlace.{VaryingPlace}
 use Rattle.naga_valid.specs.CodeGroups.{parts_of_all}
 use Rattle.naga_valid.specs.EntryFaults.{OfArgument}
-use Rattle.naga_valid.specs.EntryLaw.{IsBuiltIn, BuiltInsAreDistinct, AcceptedBuiltInsAreDistinct}
+use Rattle.naga_valid.specs.EntryFacts.{IsBuiltIn, BuiltInsAreDistinct, AcceptedBuiltInsAreDistinct}
 use Rattle.naga_valid.specs.EntryVaryings.{argument_item, argument_points, place_of}
 use Rattle.naga_valid.proofs.EntryAccepted.{accepted_entry}
 use Rattle.naga_valid.proofs.EntryGroups.{any_at, all_at, all_both, group_none, part_none}
-use Rattle.naga_valid.proofs.EntryLaw.{none_within, arguments_hold}
+use Rattle.naga_valid.proofs.EntryFacts.{none_within, arguments_hold}
 use Rattle.naga_valid.proofs.Flat.{holds_at}
 
 -- there is a type where a part is bound

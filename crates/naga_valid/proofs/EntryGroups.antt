@@ -25,12 +25,12 @@ use Rattle.naga_valid.specs.CodeGroups.{parts_of_all}
 use Rattle.naga_valid.specs.EntryFaults.{EntryFault, OfArgument, OfResult, fault_of}
 use Rattle.naga_valid.specs.EntryGlobals.{globals_points}
 use Rattle.naga_valid.specs.EntryJudged.{interface_points}
-use Rattle.naga_valid.specs.EntryLaw.{TakesLocation, LocationsAreDistinct, GroupsAreDistinct, mesh_items, AcceptedLocationsAreDistinct}
+use Rattle.naga_valid.specs.EntryFacts.{TakesLocation, LocationsAreDistinct, GroupsAreDistinct, mesh_items, AcceptedLocationsAreDistinct}
 use Rattle.naga_valid.specs.EntryMesh.{mesh_points, said_points, variable_points}
 use Rattle.naga_valid.specs.EntryUses.{with_own_uses}
 use Rattle.naga_valid.specs.EntryVaryings.{argument_item, argument_points, declared_points, output_item, output_points, outputs_points, primitive_points, result_items, result_points, vertex_points}
 use Rattle.naga_valid.proofs.EntryAccepted.{accepted_entry}
-use Rattle.naga_valid.proofs.EntryLaw.{none_within, arguments_hold, results_hold}
+use Rattle.naga_valid.proofs.EntryFacts.{none_within, arguments_hold, results_hold}
 use Rattle.naga_valid.proofs.Flat.{holds_at}
 
 pub none_joined : {Fault : Type 0} (ps qs : List (Point Fault)) → first_fault ps ≡ None → first_fault qs ≡ None → first_fault (ps ++ qs) ≡ None

@@ -49,7 +49,7 @@ pub mod EntryFaults
 pub mod EntryVaryings
 pub mod EntryMesh
 pub mod EntryJudged
-pub mod EntryLaw
+pub mod EntryFacts
 pub mod Chains
 pub use Rattle.naga_below.specs.Fits.{FitsTypes, FitsGlobals, FitsFunction, FitsEntry}
 pub use Rattle.naga_rules.specs.Answers.{Answers, Refuses}

@@ -1,7 +1,7 @@
 //! Laws of accepted functions: they compute nothing; whoever rests on them calls them to cite them.
 
 ghost use Rattle.naga_valid.specs.Chains.{ChainsAreKept, NoneIsVetted, OneMoreIsVetted, CallsOfFittingAreBelow};
-ghost use Rattle.naga_valid.specs.EntryLaw.{AcceptedHasAcceptedFunction, AcceptedBindingsAreDistinct, AcceptedLocationsAreDistinct, AcceptedBuiltInsAreDistinct, AcceptedVertexHasPosition};
+ghost use Rattle.naga_valid.specs.EntryFacts.{AcceptedHasAcceptedFunction, AcceptedBindingsAreDistinct, AcceptedLocationsAreDistinct, AcceptedBuiltInsAreDistinct, AcceptedVertexHasPosition};
 ghost use Rattle.naga_valid.specs.FunctionLaw.{AcceptedIsSound, AcceptedFillsOnce, AcceptedIsOfAllStages, AcceptedHasNoReturnInContinuing, AcceptedHasWholeSwitches, AcceptedKeepsInfo, AcceptedStagesAreMet};
 
 /// Of each function that the judgement accepts, where bodies are looked at: all runs of its body are sound; with

@@ -9,7 +9,7 @@ ghost use Rattle.naga_valid.specs.Accepted.{ResultsAreFilledOnce, StagesAreOfAll
 ghost use Rattle.naga_valid.specs.Blocks.{body_of};
 ghost use Rattle.naga_valid.specs.Context.{pre_emitted_of};
 ghost use Rattle.naga_valid.specs.EntryJudged.{HasPayloadSizes, entry_judgement, AnswersEntry};
-ghost use Rattle.naga_valid.specs.EntryLaw.{argument_parts, BindingsAreDistinct, BuiltInsAreDistinct, GroupsAreDistinct, ReturnsPosition};
+ghost use Rattle.naga_valid.specs.EntryFacts.{argument_parts, BindingsAreDistinct, BuiltInsAreDistinct, GroupsAreDistinct, ReturnsPosition};
 ghost use Rattle.naga_valid.specs.EntryStart.{start_points};
 ghost use Rattle.naga_valid.specs.Parts.{AreInfosOf};
 ghost use Rattle.naga_valid.specs.WhatIsChecked.{checks_blocks, checks_expressions};

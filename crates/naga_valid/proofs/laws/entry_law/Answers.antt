@@ -1,6 +1,6 @@
 use Rattle.naga_valid.proofs.EntryBuiltIns.{accepted_built_ins}
 use Rattle.naga_valid.proofs.EntryGroups.{accepted_locations}
-use Rattle.naga_valid.proofs.EntryLaw.{accepted_bindings, accepted_position, accepted_function}
+use Rattle.naga_valid.proofs.EntryFacts.{accepted_bindings, accepted_position, accepted_function}
 use Rattle.naga_valid.proofs.laws.entry_law.Goals as goal
 
 pub returns-clause-function : goal.returns-clause-function

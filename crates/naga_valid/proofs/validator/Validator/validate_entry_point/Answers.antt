@@ -6,7 +6,7 @@ use Rattle.naga_valid.specs.Judged.{FunctionOutcome}
 use Rattle.naga_valid.proofs.EntryAccepted.{accepted_entry, stages_are}
 use Rattle.naga_valid.proofs.EntryBuiltIns.{accepted_built_ins}
 use Rattle.naga_valid.proofs.EntryGroups.{accepted_locations}
-use Rattle.naga_valid.proofs.EntryLaw.{accepted_bindings, accepted_position}
+use Rattle.naga_valid.proofs.EntryFacts.{accepted_bindings, accepted_position}
 use Rattle.naga_valid.proofs.FunctionLaw.{is_sound, fills_once, is_of_all_stages}
 use Rattle.naga_valid.proofs.validator.Validator.validate_entry_point.Goals as goal
 

@@ -38,7 +38,7 @@ use Rattle.naga_valid.specs.EntryGlobals.{binding_at, binding_points, global_poi
 use Rattle.naga_valid.specs.EntryJudged.{interface_points, used_points}
 use Rattle.naga_valid.specs.EntryMesh.{mesh_points}
 use Rattle.naga_valid.specs.EntryUses.{payload_points, stage_points, with_own_uses}
-use Rattle.naga_valid.specs.EntryLaw.{IsUsedAt, BindingsAreDistinct, IsPosition, HasPositionMember, ReturnsPosition, AcceptedBindingsAreDistinct, AcceptedVertexHasPosition, AcceptedHasAcceptedFunction}
+use Rattle.naga_valid.specs.EntryFacts.{IsUsedAt, BindingsAreDistinct, IsPosition, HasPositionMember, ReturnsPosition, AcceptedBindingsAreDistinct, AcceptedVertexHasPosition, AcceptedHasAcceptedFunction}
 use Rattle.naga_valid.specs.EntryVaryings.{are_blend_sources, argument_points, declared_points, has_built_in, result_parts, result_points, returned_points}
 use Rattle.naga_valid.specs.Judged.{FunctionOutcome}
 use Rattle.naga_valid.specs.declared.interface.EntryPointError.TheVariants.{MissingVertexOutputPosition}
