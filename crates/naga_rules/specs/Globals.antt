@@ -1,5 +1,5 @@
 -- The check list of a global variable.
-use Rattle.std.specs.Prelude.{ℕ, Bool, true, false, not, ◌&&◌, ◌||◌, ◌==◌, List, [], ◌∷◌, ◌++◌, Option, None, Some, Result, Ok, Err, is_none, is_some, slice_get, unwrap_or}
+use Rattle.std.specs.Prelude.{ℕ, Bool, true, false, not, ◌||◌, ◌==◌, List, [], ◌∷◌, ◌++◌, Option, None, Some, Result, Ok, Err, is_none, is_some, slice_get, unwrap_or}
 use Rattle.naga_below.specs.Bits.{contains, has_capability, STRUCT_LAYOUTS, BINDINGS, STORE, COHERENT, VOLATILE, MEMORY_DECORATION_COHERENT, MEMORY_DECORATION_VOLATILE}
 use Rattle.naga_below.specs.Points.{Point}
 use Rattle.naga_below.specs.Types.{inner_at}
@@ -20,7 +20,7 @@ use Rattle.naga_below.specs.declared.valid.types.Disalignment.{Disalignment}
 use Rattle.naga_below.specs.declared.valid.types.ImmediateError.{ImmediateError}
 use Rattle.naga_below.specs.declared.valid.types.TypeInfo.{TypeInfo}
 use Rattle.naga_rules.specs.Locals.{is_const_or_override, is_declared_as}
-use Rattle.naga_rules.specs.Spaces.{Layout, AnyLayout, StorageLayout, UniformLayout, row_of, all_of, takes_arrays, array_needs, is_resource, format_needs, takes_initializers, is_storage, is_task_payload}
+use Rattle.naga_rules.specs.Spaces.{Layout, StorageLayout, UniformLayout, row_of, all_of, takes_arrays, array_needs, is_resource, format_needs, takes_initializers, is_storage, is_task_payload}
 use Rattle.naga_rules.specs.TypeInfos.{info_has}
 use Rattle.naga_rules.specs.declared.interface.GlobalVariableError.{GlobalVariableError}
 use Rattle.naga_rules.specs.declared.interface.GlobalVariableError.TheVariants.{InvalidUsage, InvalidType, MissingTypeFlags, UnsupportedCapability, InvalidBinding, Alignment, InitializerExprType, InitializerType, InitializerNotAllowed, StorageAddressSpaceWriteOnlyNotSupported, InvalidImmediateType, ZeroSizedTaskPayload, InvalidMemoryDecorationsAddressSpace, CoherentNotSupported, VolatileNotSupported}
