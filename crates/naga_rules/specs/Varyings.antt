@@ -15,6 +15,7 @@
 --   next    what it leaves is what is seen at that place behind the earlier parts and those of the item
 --   other   where all earlier parts go another way, the same without the built-ins is seen (so a state whose built-ins are
 --           cleared goes from the vertex output of a mesh to its primitive output)
+-- In an accepted group no location and no built-in stands twice (`DistinctVaryings`).
 use Rattle.std.specs.Prelude.{◌≡◌, ℕ, suc, Bool, true, false, not, ◌&&◌, ◌||◌, ◌==◌, List, [], ◌∷◌, ◌++◌, slice_index, Option, None, Some, if◌then◌else◌, map, codes, nat_le, unwrap_or}
 use Rattle.std.specs.BTreeSet.{contains as set_contains}
 use Rattle.std.specs.List.{list_any}
