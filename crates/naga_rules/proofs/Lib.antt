@@ -5,3 +5,4 @@ pub mod TypesAt
 pub mod Behind
 pub mod PlainFaults
 pub mod Members
+pub mod DistinctParts

@@ -35,7 +35,7 @@ both_plain [] qs h k = k
 both_plain (p ∷ ps) qs h k = (h.0, both_plain ps qs h.1 k)
 
 built_in_plain : (place : VaryingPlace) (types : List IrType) (seen : Seen) (given : Option TypeInner) (b : BuiltIn) → ArePlain (built_in_points place types seen given b)
-built_in_plain place types seen None b = tt
+built_in_plain place types seen None b = (refl, tt)
 built_in_plain place types seen (Some given) b = (refl, (refl, (refl, (refl, (refl, (refl, tt))))))
 
 combination_plain : (i : Option Interpolation) (s : Option Sampling) → ArePlain (combination_points i s)

@@ -11,6 +11,7 @@ pub mod Locations
 pub mod VaryingFaults
 pub mod Varyings
 pub mod CodeVaryings
+pub mod DistinctVaryings
 pub use Rattle.naga_below.specs.Types
 pub use Rattle.naga_rules.specs.Answers.{Refuses}
 pub use Rattle.naga_rules.specs.Locals.{local_points}

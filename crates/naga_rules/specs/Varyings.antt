@@ -15,6 +15,7 @@
 --   next    what it leaves is what is seen at that place behind the earlier parts and those of the item
 --   other   where all earlier parts go another way, the same without the built-ins is seen (so a state whose built-ins are
 --           cleared goes from the vertex output of a mesh to its primitive output)
+-- In an accepted group no location and no built-in stands twice (`DistinctVaryings`).
 use Rattle.std.specs.Prelude.{◌≡◌, ℕ, suc, Bool, true, false, not, ◌&&◌, ◌||◌, ◌==◌, List, [], ◌∷◌, ◌++◌, slice_index, Option, None, Some, if◌then◌else◌, map, codes, nat_le, unwrap_or}
 use Rattle.std.specs.BTreeSet.{contains as set_contains}
 use Rattle.std.specs.List.{list_any}
@@ -107,6 +108,7 @@ is_of_one_dimension SubgroupId = true
 is_of_one_dimension SubgroupInvocationId = true
 is_of_one_dimension _ = false
 
+-- the work group of a place has one dimension
 abbrev pub has_one_dimension : VaryingPlace → Bool
 has_one_dimension place = nat_le (slice_index place.workgroup_size 1) 1 && nat_le (slice_index place.workgroup_size 2) 1
 
@@ -121,10 +123,10 @@ has_built_in_type types given (built_in_type.Inner wanted) = is_same_inner given
 has_built_in_type types given built_in_type.Distances = is_distances types given
 has_built_in_type types given built_in_type.Any = true
 
--- nothing is required, or the target has it
 abbrev no_capability : Capabilities
 no_capability = record { 0 = 0 }
 
+-- nothing is required, or the target has it
 abbrev pub has_required : Capabilities → Option Capabilities → Bool
 has_required capabilities None = true
 has_required capabilities (Some required) = has_capability capabilities required
@@ -140,8 +142,9 @@ ruled_points place types seen given b rule =
     ∷ (has_built_in_type types given rule.ty, InvalidBuiltInType b given)
     ∷ []
 
+-- the same by its rule, where the type is there
 abbrev pub built_in_points : VaryingPlace → List IrType → Seen → Option TypeInner → BuiltIn → List (Point VaryingError)
-built_in_points place types seen None b = []
+built_in_points place types seen None b = (not (seen.built_ins (canonical b)), DuplicateBuiltIn b) ∷ []
 built_in_points place types seen (Some given) b = ruled_points place types seen given b (built_in_rule b place)
 
 -- what is bound, where this was seen before
@@ -177,6 +180,7 @@ pub record Placed : Type 0 where
   pub place : VaryingPlace
   pub part : Part
 
+-- both true, or both false
 abbrev pub is_same_bool : Bool → Bool → Bool
 is_same_bool true b = b
 is_same_bool false b = not b
@@ -218,12 +222,18 @@ module _ (types : List IrType) (infos : List TypeInfo) where
   group_points_from fault earlier index (item ∷ items) =
       within (fault index) (item_points earlier item) ++ group_points_from fault (earlier ++ placed_parts item) (suc index) items
 
+  -- the parts of items
+  abbrev pub group_parts : List Item → List Placed
+  group_parts [] = []
+  group_parts (item ∷ items) = placed_parts item ++ group_parts items
+
   -- the points of a group
   abbrev pub group_points : {Fault : Type 0} → (ℕ → VaryingFault → Fault) → List Item → List (Point Fault)
   group_points fault items = group_points_from fault [] 0 items
 
 -- The judgement from a state.
 
+-- nothing was seen
 abbrev pub nothing_seen : Seen
 nothing_seen = record { locations = λ location. false; built_ins = λ b. false }
 

@@ -1,3 +1,4 @@
+use Rattle.naga_rules.proofs.DistinctParts.{built_ins_distinct, locations_distinct}
 use Rattle.naga_rules.proofs.Seeing.{leaves_the_next, points_are_by_position, sees_locations_alone}
 use Rattle.naga_rules.proofs.varying.laws.varyings_law.Goals as goal
 
@@ -9,3 +10,9 @@ returns-clause-next c = leaves_the_next
 
 pub returns-clause-other : goal.returns-clause-other
 returns-clause-other c = sees_locations_alone
+
+pub returns-clause-locations : goal.returns-clause-locations
+returns-clause-locations c = locations_distinct
+
+pub returns-clause-built_ins : goal.returns-clause-built_ins
+returns-clause-built_ins c = built_ins_distinct
