@@ -6,19 +6,23 @@ use Rattle.std.specs.Option.{option_or}
 use Rattle.std.specs.Prelude.{None, Some, slice_get}
 use Rattle.naga_below.proofs.Points.{first_turn, first_end}
 use Rattle.naga_below.specs.Points.{Point, first_fault, points_from, points_of_each}
-use Rattle.naga_below.specs.Fits.{FitsFunction}
+use Rattle.naga_below.specs.Fits.{FitsFunction, FitsEntry}
 use Rattle.naga_below.specs.declared.ir.functions.Function.{Function}
+use Rattle.naga_below.specs.declared.ir.module.EntryPoint.{EntryPoint}
 use Rattle.naga_below.specs.declared.ir.module.Module.{Module}
 use Rattle.naga_below.specs.declared.valid.info.ModuleInfo.{ModuleInfo}
 use Rattle.naga_below.specs.declared.valid.settings.Settings.{Settings}
 use Rattle.naga_below.specs.declared.valid.types.TypeInfo.{TypeInfo}
 use Rattle.naga_rules.specs.Meaning.{Meaning}
 use Rattle.naga_rules.specs.declared.function.FunctionError.{FunctionError}
+use Rattle.naga_valid.specs.EntryFaults.{fault_of}
+use Rattle.naga_valid.specs.EntryJudged.{entry_judgement}
 use Rattle.naga_valid.specs.InOrder.{with_info}
 use Rattle.naga_valid.specs.Judged.{FunctionOutcome, function_judgement}
+use Rattle.naga_valid.specs.declared.interface.EntryPointError.{EntryPointError}
 use Rattle.naga_valid.specs.declared.trace.TraceState.{TraceState}
-use Rattle.naga_module.specs.CodeModule.{Leads, Stops}
-use Rattle.naga_module.specs.ModuleJudgement.{Answer, Step, IsOfFunction, FunctionsAnswer}
+use Rattle.naga_module.specs.CodeModule.{Leads, Stops, EntriesLead, EntriesStop}
+use Rattle.naga_module.specs.ModuleJudgement.{Answer, Step, with_entry, IsOfFunction, IsOfEntryPoint, EntriesAnswer, FunctionsAnswer}
 use Rattle.naga_module.specs.declared.check.ModuleFault.{ModuleFault}
 use Rattle.naga_module.specs.declared.check.ModuleFault.TheVariants as fault
 
@@ -50,6 +54,45 @@ module _ (below : Meaning) (settings : Settings) (types : List TypeInfo) (m : Mo
   pub is_unfit : (FitsFunction f m (length infos.functions) → ⊥) → FunctionsAnswer below settings types m trace infos (drop i m.functions) (Err fault.NotFit)
   unfolding FunctionsAnswer
   is_unfit unfit = here (Err fault.NotFit) (inr (unfit, refl))
+
+-- the same of entry points
+module _ (below : Meaning) (settings : Settings) (types : List TypeInfo) (m : Module) (trace : TraceState) (infos : ModuleInfo) (i : ℕ) (p : EntryPoint)
+    (at : slice_get m.entry_points i ≡ Some p) (lt : i < length m.entry_points) where
+  abbrev EntryFits : Type 0
+  EntryFits = FitsFunction p.function m (length infos.functions) × FitsEntry p m
+
+  entry_here : (r : Answer) → EntriesAnswer below settings types m trace infos (p ∷ drop (i + 1) m.entry_points) r → EntriesAnswer below settings types m trace infos (drop i m.entry_points) r
+  entry_here r a =
+      let same : drop i m.entry_points ≡ p ∷ drop (i + 1) m.entry_points =
+      at_drop_more (λ (ps : List EntryPoint). ps) m.entry_points i p lt ∙ ap (λ (q : EntryPoint). q ∷ drop (i + 1) m.entry_points) (get_or_from_slice_get m.entry_points i p p at) in
+      subst (λ (ps : List EntryPoint). EntriesAnswer below settings types m trace infos ps r) (sym same) a
+
+  pub entry_goes_on : EntryFits → (left : FunctionOutcome) → entry_judgement below settings types trace m infos p ≡ Ok left →
+      EntriesLead below settings types m trace infos (drop i m.entry_points) left.trace (with_entry infos left.info) (drop (i + 1) m.entry_points)
+  unfolding EntriesAnswer
+  entry_goes_on fits left e r a =
+      entry_here r
+      (inl (fits, subst (λ o. Step o (IsOfEntryPoint (length infos.entry_points)) (λ (l : FunctionOutcome). EntriesAnswer below settings types m l.trace (with_entry infos l.info) (drop (i + 1) m.entry_points)) r) (sym e) a))
+
+  pub entry_is_faulty : EntryFits → (error : EntryPointError) → entry_judgement below settings types trace m infos p ≡ Err (fault_of error) →
+      EntriesAnswer below settings types m trace infos (drop i m.entry_points) (Err (fault.EntryPoint (length infos.entry_points) error))
+  unfolding EntriesAnswer
+  entry_is_faulty fits error e =
+      entry_here (Err (fault.EntryPoint (length infos.entry_points) error))
+      (inl (fits, subst (λ o. Step o (IsOfEntryPoint (length infos.entry_points)) (λ (l : FunctionOutcome). EntriesAnswer below settings types m l.trace (with_entry infos l.info) (drop (i + 1) m.entry_points)) (Err (fault.EntryPoint (length infos.entry_points) error))) (sym e) (refl, refl)))
+
+  pub entry_is_unfit : (EntryFits → ⊥) → EntriesAnswer below settings types m trace infos (drop i m.entry_points) (Err fault.NotFit)
+  unfolding EntriesAnswer
+  entry_is_unfit unfit = entry_here (Err fault.NotFit) (inr (unfit, refl))
+
+module _ (below : Meaning) (settings : Settings) (types : List TypeInfo) (m : Module) (t0 : TraceState) (i0 : ModuleInfo) (ps : List EntryPoint)
+    (t1 : TraceState) (i1 : ModuleInfo) (rest : List EntryPoint) (first : EntriesLead below settings types m t0 i0 ps t1 i1 rest) where
+  pub entries_lead_on : (t2 : TraceState) (i2 : ModuleInfo) (last : List EntryPoint) → EntriesLead below settings types m t1 i1 rest t2 i2 last → EntriesLead below settings types m t0 i0 ps t2 i2 last
+  entries_lead_on t2 i2 last second r a = first r (second r a)
+
+  pub entries_stop_behind : (told : ModuleFault) → EntriesStop below settings types m t1 i1 rest told → EntriesStop below settings types m t0 i0 ps told
+  entries_stop_behind told (inl memory) = inl memory
+  entries_stop_behind told (inr a) = inr (first (Err told) a)
 
 -- parts of the functions one behind another
 module _ (below : Meaning) (settings : Settings) (types : List TypeInfo) (m : Module) (t0 : TraceState) (i0 : ModuleInfo) (fs : List Function)

@@ -38,7 +38,6 @@ pub mod EntryAccepted
 pub mod Chains
 pub mod GlobalFits
 pub mod EntryChains
-pub mod EntryLaw
 pub mod EntryFacts
 pub mod EntryGroups
 pub mod EntryBuiltIns
