@@ -1,12 +1,12 @@
 -- From an accepted entry point to its function.
-use Rattle.std.proofs.Common.{◌≡◌, ◌++◌, ◌∙◌, ℕ, Bool, true, false, List, [], ◌∷◌, Option, None, Some, Result, Ok, Err, refl, sym, ap, subst, arith}
+use Rattle.std.proofs.Common.{◌≡◌, ◌++◌, ◌∙◌, ℕ, true, List, [], Option, None, Some, refl, sym, subst, arith}
 use Rattle.std.proofs.lemmas.Bool.Decides.{nat_tests}
 use Rattle.std.proofs.lemmas.Nat.{and_comm}
 use Rattle.std.specs.Int.RustNames.{bit_and}
 use Rattle.std.specs.Option.{option_map}
 use Rattle.naga_below.proofs.Points.{first_holds, both_hold, first_within}
 use Rattle.naga_below.specs.Bits.{contains}
-use Rattle.naga_below.specs.Points.{Point, first_fault, answer, and_then, within}
+use Rattle.naga_below.specs.Points.{first_fault, within}
 use Rattle.naga_below.specs.declared.ir.module.EntryPoint.{EntryPoint}
 use Rattle.naga_below.specs.declared.ir.module.MeshStageInfo.{MeshStageInfo}
 use Rattle.naga_below.specs.declared.ir.module.Module.{Module}
@@ -15,25 +15,20 @@ use Rattle.naga_below.specs.declared.ir.module.ShaderStage.TheVariants as stage
 use Rattle.naga_below.specs.declared.valid.flags.GlobalUse.{GlobalUse}
 use Rattle.naga_below.specs.declared.valid.flags.ShaderStages.{ShaderStages}
 use Rattle.naga_below.specs.declared.valid.info.FunctionInfo.{FunctionInfo}
-use Rattle.naga_below.specs.declared.valid.info.ModuleInfo.{ModuleInfo}
 use Rattle.naga_below.specs.declared.valid.settings.Settings.{Settings}
 use Rattle.naga_below.specs.declared.valid.types.TypeInfo.{TypeInfo}
 use Rattle.naga_rules.specs.Meaning.{Meaning}
-use Rattle.naga_rules.specs.declared.function.FunctionError.{FunctionError}
 use Rattle.naga_valid.specs.Accepted.{AreAmong}
-use Rattle.naga_valid.specs.EntryFaults.{EntryFault, fault_of}
-use Rattle.naga_valid.specs.EntryJudged.{of_function, used_points, interface_points, outcome_of, interface_step, entry_judgement}
+use Rattle.naga_valid.specs.EntryFaults.{fault_of}
+use Rattle.naga_valid.specs.EntryJudged.{used_points, interface_points}
 use Rattle.naga_valid.specs.EntryChains.{AcceptedEntryIsSound, AcceptedEntryKeepsItsStage}
 use Rattle.naga_valid.specs.EntryGlobals.{globals_points}
 use Rattle.naga_valid.specs.EntryMesh.{mesh_points}
-use Rattle.naga_valid.specs.EntryStart.{start_points}
 use Rattle.naga_valid.specs.EntryUses.{only, stage_points, payload_points, with_use_of, with_uses_at, with_own_uses, output_variable_of}
 use Rattle.naga_valid.specs.EntryVaryings.{argument_points, result_points}
-use Rattle.naga_valid.specs.Judged.{FunctionOutcome, function_judgement}
-use Rattle.naga_valid.specs.declared.interface.EntryPointError.{EntryPointError}
 use Rattle.naga_valid.specs.declared.interface.EntryPointError.TheVariants as fault
-use Rattle.naga_valid.specs.declared.trace.TraceState.{TraceState}
 use Rattle.naga_valid.proofs.Chains.{chains_are_kept}
+use Rattle.naga_valid.proofs.EntryAccepted.{accepted_entry}
 use Rattle.naga_valid.proofs.FunctionLaw.{is_sound}
 
 -- stages
@@ -59,13 +54,7 @@ none_within : {Inner Outer : Type 0} (o : Option Inner) (make : Inner → Outer)
 none_within None make h = refl
 none_within (Some x) make h = cc
 
-module _ (below : Meaning) (settings : Settings) (types : List TypeInfo) (trace : TraceState) (m : Module) (infos : ModuleInfo) (ep : EntryPoint) (outcome : FunctionOutcome) where
-  -- the function is accepted, and its stages have that of the entry point
-  pub record FunctionIsAccepted : Type 0 where
-    pub left : FunctionOutcome
-    pub judged : function_judgement below settings types trace m infos ep.function true ≡ Ok left
-    pub stage : AreAmong (only ep.stage) left.info.available_stages
-
+module _ (below : Meaning) (settings : Settings) (types : List TypeInfo) (m : Module) (ep : EntryPoint) where
   -- where no point behind the function fails, that of the stage doesn't
   stage_holds : (info : FunctionInfo) → first_fault (interface_points below settings types m ep info) ≡ None → AreAmong (only ep.stage) info.available_stages
   stage_holds info e =
@@ -81,33 +70,13 @@ module _ (below : Meaning) (settings : Settings) (types : List TypeInfo) (trace 
       let held = (first_holds (contains stages.0 (only ep.stage).0) fault.ForbiddenStageOperations [] points).0 in
       subst (λ (s : ShaderStages). AreAmong (only ep.stage) s) (uses_keep ep.stage ep.task_payload ep.mesh_info info) (among_from_contains stages (only ep.stage) held)
 
-  behind_function : (left : FunctionOutcome) → function_judgement below settings types trace m infos ep.function true ≡ Ok left →
-      (o : Option EntryFault) → first_fault (interface_points below settings types m ep left.info) ≡ o →
-      answer o (outcome_of below settings types m ep left) ≡ Ok outcome → FunctionIsAccepted
-  behind_function left judged None none e = record { left = left; judged = judged; stage = stage_holds left.info none }
-  behind_function left judged (Some f) none e = cc
-
-  behind_start : (r : Result FunctionOutcome FunctionError) → function_judgement below settings types trace m infos ep.function true ≡ r →
-      and_then (of_function r) (λ left. interface_step below settings types m ep left) ≡ Ok outcome → FunctionIsAccepted
-  behind_start (Ok left) judged e = behind_function left judged (first_fault (interface_points below settings types m ep left.info)) refl e
-  behind_start (Err f) judged e = cc
-
-  from_start : (o : Option EntryFault) →
-      and_then (answer o ep) (λ _. and_then (of_function (function_judgement below settings types trace m infos ep.function true)) (λ left. interface_step below settings types m ep left)) ≡ Ok outcome →
-      FunctionIsAccepted
-  from_start None e = behind_start (function_judgement below settings types trace m infos ep.function true) refl e
-  from_start (Some f) e = cc
-
-  pub accepted_function : entry_judgement below settings types trace m infos ep ≡ Ok outcome → FunctionIsAccepted
-  unfolding entry_judgement
-  accepted_function e = from_start (first_fault (within fault_of (start_points settings.capabilities ep))) e
-
 pub entry_is_sound : AcceptedEntryIsSound
 entry_is_sound below settings types trace m infos ep outcome e on =
-    let known = accepted_function below settings types trace m infos ep outcome e in
-    is_sound below settings types trace m infos ep.function true known.left known.judged on
+    let known = accepted_entry below settings types trace m infos ep outcome e in
+    is_sound below settings types trace m infos ep.function true known.function known.judged on
 
 pub entry_keeps_its_stage : AcceptedEntryKeepsItsStage
 entry_keeps_its_stage below settings types trace m infos ep outcome e on vetted calls =
-    let known = accepted_function below settings types trace m infos ep outcome e in
-    chains_are_kept below settings types trace m infos ep.function true known.left (only ep.stage) known.judged on vetted calls known.stage
+    let known = accepted_entry below settings types trace m infos ep outcome e in
+    chains_are_kept below settings types trace m infos ep.function true known.function (only ep.stage) known.judged on vetted calls
+    (stage_holds below settings types m ep known.function.info known.points)

@@ -15,7 +15,7 @@ use Rattle.naga_below.specs.declared.ir.types.Type.{«Type» as IrType}
 use Rattle.naga_below.specs.declared.valid.info.FunctionInfo.{FunctionInfo}
 use Rattle.naga_below.specs.declared.valid.settings.Settings.{Settings}
 use Rattle.naga_below.specs.declared.valid.types.TypeInfo.{TypeInfo}
-use Rattle.naga_rules.specs.Locations.{carried_type, checks_bindings, interpolation_points, location_points, may_take, per_vertex_points, sharing_points}
+use Rattle.naga_rules.specs.Locations.{carried_type, checks_bindings, interpolation_points, location_points, per_vertex_points, sharing_points}
 use Rattle.naga_rules.specs.Meaning.{Meaning}
 use Rattle.naga_rules.specs.VaryingFaults.{VaryingFault, Plain}
 use Rattle.naga_rules.specs.Varyings.{Item, Part, Placed, Bound, BlendSources, UnboundMember, Unbound, blend_points, group_points_from, is_at, item_points, part_points, placed, placed_parts, placed_points, seen_at}

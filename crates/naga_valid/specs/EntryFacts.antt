@@ -1,5 +1,5 @@
 -- What is known of each entry point that the judgement accepts: in words over the entry point, not over the points.
-use Rattle.std.specs.Prelude.{◌≡◌, ◌≢◌, ◌⊎◌, ⊤, ℕ, Bool, true, List, [], ◌∷◌, ◌++◌, Option, None, Some, Ok, map, slice_get}
+use Rattle.std.specs.Prelude.{◌≡◌, ◌≢◌, ◌⊎◌, ⊤, ℕ, true, List, [], ◌∷◌, Option, None, Some, Ok, map, slice_get}
 use Rattle.naga_below.specs.Fits.{FitsTypes}
 use Rattle.naga_below.specs.FitsBody.{SignatureFits}
 use Rattle.naga_below.specs.Types.{inner_at}
