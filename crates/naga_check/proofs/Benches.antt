@@ -2,16 +2,16 @@
 use Rattle.std.proofs.Common.{◌≡◌, ℕ, zero, suc, ◌++◌, ◌<◌, Bool, true, false, ◌&&◌, List, [], ◌∷◌, All, Option, Some, None, length, sym, subst, refl, arith}
 use Rattle.std.proofs.lemmas.Bool.{ltb-true, leb-true}
 use Rattle.std.proofs.lemmas.List.Elements.{All-nil, All-from_recursion}
-use Rattle.std.specs.Prelude.{IfSome, nat_lt}
+use Rattle.std.specs.Prelude.{IfSome, IfErr, Ok, Err, nat_lt}
 use Rattle.naga_below.proofs.Each.{EachFrom, each_from}
 use Rattle.naga_below.specs.Each.{EachAt}
-use Rattle.naga_below.specs.Fits.{FitsTypes, FitsFunction, MemberCountFits, NameEarlierExpressions, ReferencesFit, LocalFits}
+use Rattle.naga_below.specs.Fits.{FitsTypes, FitsGlobals, GlobalFits, FitsFunction, MemberCountFits, NameEarlierExpressions, ReferencesFit, LocalFits}
 use Rattle.naga_below.specs.FitsBody.{LeafFits, StatementFits, BodyFits, CasesFit, CalleeFits, SignatureFits}
 use Rattle.naga_below.specs.Operands.{operands_of}
 use Rattle.naga_below.specs.View.{body_of, no_operands}
 use Rattle.naga_below.specs.declared.ir.statements.Block.{Block}
 use Rattle.naga_below.specs.Tree.{Stmt, Leaf, Block as Nested, Branch, Switch, Loop, Break, Continue, Return, Kill, Body, Done, Then, Cases, NoCase, OneCase}
-use Rattle.naga_below.specs.Types.{NamesTypesBelow}
+use Rattle.naga_below.specs.Types.{NamesTypesBelow, ResolutionFits}
 use Rattle.naga_below.specs.declared.ir.expressions.Expression.{Expression}
 use Rattle.naga_below.specs.declared.ir.expressions.Expression.TheVariants.{CallResult}
 use Rattle.naga_below.specs.declared.ir.functions.FunctionArgument.{FunctionArgument}
@@ -25,8 +25,11 @@ use Rattle.naga_check.specs.Bench.{names_of, callees_of}
 use Rattle.naga_check.specs.BenchModule.{bench_types, shared_expressions, bench_expressions, bench_locals, bench_function, bench_functions, bench_module, callee_block, callee_function}
 use Rattle.naga_check.specs.Notation.Blocks.{list_of}
 use Rattle.naga_valid.specs.Parts.{NamesTypes, AreInfosOf}
-use Rattle.naga_check.specs.Judged.{bench_infos}
-use Rattle.naga_check.specs.Ready.{IsReady}
+use Rattle.naga_below.specs.declared.valid.settings.Settings.{Settings}
+use Rattle.naga_check.specs.Judged.{bench_infos, IsPlainAnswer}
+use Rattle.naga_module.specs.ModuleJudgement.{Answer, Fits, first_infos}
+use Rattle.naga_module.specs.ModuleLaw.{IsToldOfFunctions, FunctionsAloneAreTold}
+use Rattle.naga_module.specs.Plain.Meaning.{plain_meaning, plain_layer}
 use Rattle.naga_check.specs.Notation.Sayable.{is_sayable, is_sayable_statement, are_sayable_cases, is_below_if_any, is_sayable_leaf, is_empty}
 use Rattle.naga_check.specs.declared.bench.Bench.{Bench}
 use Rattle.naga_check.specs.declared.bench.Bench.TheVariants.{P, C}
@@ -36,7 +39,7 @@ both_hold : (a b : Bool) → (a && b) ≡ true → (a ≡ true) × (b ≡ true)
 both_hold true b e = (refl, e)
 both_hold false b e = cc
 
-pub types_fit : (bench : Bench) (block : Block) → FitsTypes (bench_module bench block)
+types_fit : (bench : Bench) (block : Block) → FitsTypes (bench_module bench block)
 types_fit bench block =
     let m = bench_module bench block in
     record {
@@ -167,14 +170,36 @@ module _ (block : Block) where
   callee_there zero lt = callee_signature
   callee_there (suc h) lt = absurd (omega arith)
 
--- each function of a bench's module is ready to be judged
-pub functions_ready : (bench : Bench) (block : Block) → is_sayable (length (names_of bench)) (callees_of bench) (body_of no_operands block) ≡ true → EachAt (IsReady (bench_module bench block)) (bench_module bench block).functions
-functions_ready P block sayable =
-    (each_from (IsReady (bench_module P block)) (bench_functions P block)).1 (function_fits block P (λ g lt. absurd (omega arith)) sayable, tt)
-functions_ready C block sayable =
-    (each_from (IsReady (bench_module C block)) (bench_functions C block)).1 (callee_fits block, (function_fits block C (callee_there block) sayable, tt))
+-- each function of a bench's module fits
+functions_fit : (bench : Bench) (block : Block) → is_sayable (length (names_of bench)) (callees_of bench) (body_of no_operands block) ≡ true → EachAt (λ k f. FitsFunction f (bench_module bench block) k) (bench_module bench block).functions
+functions_fit P block sayable =
+    (each_from (λ k f. FitsFunction f (bench_module P block) k) (bench_functions P block)).1 (function_fits block P (λ g lt. absurd (omega arith)) sayable, tt)
+functions_fit C block sayable =
+    (each_from (λ k f. FitsFunction f (bench_module C block) k) (bench_functions C block)).1 (callee_fits block, (function_fits block C (callee_there block) sayable, tt))
+
+globals_fit : (bench : Bench) (block : Block) → FitsGlobals (bench_module bench block) (first_infos [])
+globals_fit bench block =
+    let m = bench_module bench block in
+    record {
+      globals = All-nil (GlobalFits m);
+      count = refl;
+      types = All-nil (ResolutionFits (length m.types));
+      earlier = (each_from (λ k x. All (λ h. h < k) (operands_of x)) m.global_expressions).1 tt;
+    }
 
 -- there is an info for each type of a bench
-pub infos_fit : (bench : Bench) (block : Block) → AreInfosOf (bench_module bench block) bench_infos
+infos_fit : (bench : Bench) (block : Block) → AreInfosOf (bench_module bench block) bench_infos
 infos_fit bench block =
     record { one_each = refl; named = All-from_recursion (NamesTypes 3) bench_infos ((tt, tt), ((tt, tt), ((tt, tt), tt))) }
+
+-- all that is asked before a bench is judged
+bench_fits : (settings : Settings) (bench : Bench) (block : Block) → Fits (plain_meaning plain_layer) settings bench_infos (bench_module bench block) []
+bench_fits settings bench block =
+    record { infos = infos_fit bench block; types_fit = types_fit bench block; globals = globals_fit bench block }
+
+-- what can be told of a bench, by what is known of modules without globals and entry points
+pub told_of_bench : FunctionsAloneAreTold → (settings : Settings) (bench : Bench) (block : Block) → is_sayable (length (names_of bench)) (callees_of bench) (body_of no_operands block) ≡ true →
+    (r : Answer) → IsPlainAnswer settings (bench_module bench block) r → IfErr r IsToldOfFunctions
+told_of_bench law settings bench block sayable (Ok infos) a = tt
+told_of_bench law settings bench block sayable (Err told) a =
+    law (plain_meaning plain_layer) settings bench_infos [] (bench_module bench block) told (bench_fits settings bench block) refl refl (functions_fit bench block sayable) a

@@ -2,7 +2,7 @@
 use Rattle.std.proofs.Common.{◌≡◌, ◌≤◌, ◌<◌, ◌+◌, ℕ, List, ◌++◌, Option, Some, None, ap, sym, ◌∙◌, ◌-◌, suc, [], ◌∷◌, arith, length, take, subst, refl, Ok, Err, inl, inr}
 use Rattle.std.proofs.lemmas.List.{take_all, take-append-le, length-take}
 use Rattle.std.proofs.Math.Seq.{take-append-add}
-use Rattle.std.specs.Prelude.{IfSome, Result, slice_get}
+use Rattle.std.specs.Prelude.{IfSome, slice_get}
 use Rattle.std.specs.Io.KnownBytes.{Appends}
 use Rattle.naga_below.specs.declared.ir.module.Module.{Module}
 use Rattle.naga_below.specs.declared.valid.flags.ShaderStages.{ShaderStages}
@@ -11,27 +11,19 @@ use Rattle.naga_below.specs.declared.valid.info.ModuleInfo.{ModuleInfo}
 use Rattle.naga_rules.specs.declared.function.FunctionError.{FunctionError}
 use Rattle.naga_check.specs.EmptySets.{NO_STAGE}
 use Rattle.naga_check.specs.BenchModule.{bench_module}
-use Rattle.naga_check.specs.Judged.{judgement_of, module_judgement, settings_of, stages_of_last}
-use Rattle.naga_check.specs.Line.{Replies, IsDue, Writes, IsLine, line_of, status_of, reply_of, reply_line, reply_status}
+use Rattle.naga_check.specs.Judged.{IsPlainAnswer, IsJudgementOf, module_of, settings_of, stages_of_last}
+use Rattle.naga_check.specs.Line.{Replies, IsDue, Writes, IsLine, IsLineOf, reply_line, reply_status}
 use Rattle.naga_check.specs.Notation.Case.{Case, HoldsBlock, Reads, case_of}
+use Rattle.naga_module.specs.ModuleJudgement.{Answer}
+use Rattle.naga_module.specs.declared.check.ModuleFault.TheVariants as told
 use Rattle.naga_check.specs.declared.notation.Case as declared
 use Rattle.naga_check.specs.declared.line.Reply.{Reply}
 use Rattle.naga_check.specs.declared.line.Reply.TheVariants.{Accepted, Fault, Unreadable, Memory}
 
-line_due : (judged : Result ModuleInfo FunctionError) → reply_line (reply_of judged) ≡ line_of judged
-unfolding reply_line line_of
-line_due (Ok infos) = refl
-line_due (Err fault) = refl
-
-status_due : (judged : Result ModuleInfo FunctionError) → reply_status (reply_of judged) ≡ status_of judged
-status_due (Ok infos) = refl
-status_due (Err fault) = refl
-
 -- the line of a reply that is due
 due_line : (input : List ℕ) (reply : Reply) → IsDue input reply → IsLine input (reply_line reply) (reply_status reply)
 unfolding IsLine
-due_line input reply (c, reads, due) =
-    inl (c, reads, sym (ap reply_line due) ∙ line_due (judgement_of c), sym (ap reply_status due) ∙ status_due (judgement_of c))
+due_line input reply due = inl due
 
 unreadable_writes : (input : List ℕ) (old new : Option (List ℕ)) → ((c : Case) → Reads input c → ⊥) → Appends old new (reply_line Unreadable) → Writes input old new 2
 unfolding Writes IsLine reply_line
@@ -86,20 +78,21 @@ heard None n front reply e h r = tt
 heard (Some input) n front reply e h r =
     whole_replies input n (omega arith) reply (subst (λ xs. Replies xs reply) h r)
 
--- the judgement of a case is that of the module that is made for it
-pub judged_as : (c : declared.Case) (m : Module) → HoldsBlock c → m ≡ bench_module c.bench c.body → judgement_of (case_of c) ≡ module_judgement (settings_of (case_of c)) m
-unfolding judgement_of
-judged_as c m holds is =
-    sym (ap (module_judgement (settings_of (case_of c))) (is ∙ ap (bench_module c.bench) holds))
+-- what is answered of the module that is made for a case is answered of the case
+pub judged_as : (c : declared.Case) (m : Module) (r : Answer) → HoldsBlock c → m ≡ bench_module c.bench c.body → IsPlainAnswer (settings_of (case_of c)) m r → IsPlainAnswer (settings_of (case_of c)) (module_of (case_of c)) r
+judged_as c m r holds is a =
+    subst (λ (n : Module). IsPlainAnswer (settings_of (case_of c)) n r) (is ∙ ap (bench_module c.bench) holds) a
 
 -- the replies to a case that was read
-pub replies_accepted : (input : List ℕ) (c : Case) (infos : ModuleInfo) → Reads input c → judgement_of c ≡ Ok infos → Replies input (Accepted (stages_of_last infos.functions))
-unfolding Replies
-replies_accepted input c infos reads judged = (c, reads, ap reply_of judged)
+pub replies_accepted : (input : List ℕ) (c : Case) (infos : ModuleInfo) → Reads input c → IsPlainAnswer (settings_of c) (module_of c) (Ok infos) → Replies input (Accepted (stages_of_last infos.functions))
+unfolding Replies IsJudgementOf IsLineOf reply_line
+replies_accepted input c infos reads (inl memory) = cc
+replies_accepted input c infos reads (inr judged) = (c, reads, (Ok infos, judged, (refl, refl)))
 
-pub replies_fault : (input : List ℕ) (c : Case) (fault : FunctionError) → Reads input c → judgement_of c ≡ Err fault → Replies input (Fault fault)
-unfolding Replies
-replies_fault input c fault reads judged = (c, reads, ap reply_of judged)
+pub replies_fault : (input : List ℕ) (c : Case) (handle : ℕ) (fault : FunctionError) → Reads input c → IsPlainAnswer (settings_of c) (module_of c) (Err (told.Function handle fault)) → Replies input (Fault fault)
+unfolding Replies IsJudgementOf IsLineOf reply_line
+replies_fault input c handle fault reads (inl memory) = cc
+replies_fault input c handle fault reads (inr judged) = (c, reads, (Err (told.Function handle fault), judged, (refl, refl)))
 
 pub replies_none : (input : List ℕ) → ((c : Case) → Reads input c → ⊥) → Replies input Unreadable
 unfolding Replies

@@ -1,4 +1,3 @@
 pub mod Reading
 pub mod Benches
-pub mod Infos
 pub mod Cases

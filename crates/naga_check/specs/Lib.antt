@@ -3,6 +3,5 @@ pub mod Bench
 pub mod BenchModule
 pub mod Notation
 pub mod Judged
-pub mod Ready
 pub mod Faults
 pub mod Line

@@ -1,13 +1,14 @@
 -- What the program writes, and the status it ends with.
-use Rattle.std.specs.Prelude.{◌≡◌, ◌⊎◌, ◌/◌, ◌%◌, ℕ, false, List, [], ◌∷◌, ◌++◌, Option, None, Some, Result, Ok, Err, codes, decimal}
+use Rattle.std.specs.Prelude.{◌≡◌, ◌⊎◌, ◌/◌, ◌%◌, ℕ, false, List, [], ◌∷◌, ◌++◌, Option, None, Some, Ok, Err, codes, decimal}
 use Rattle.std.specs.Fmt.{digit_glyph}
 use Rattle.std.specs.Io.KnownBytes.{Appends}
 use Rattle.naga_below.specs.declared.valid.flags.ShaderStages.{ShaderStages}
-use Rattle.naga_below.specs.declared.valid.info.ModuleInfo.{ModuleInfo}
 use Rattle.naga_rules.specs.declared.function.FunctionError.{FunctionError}
 use Rattle.naga_check.specs.Faults.{fault_name, inner_text, fault_handle}
-use Rattle.naga_check.specs.Judged.{judgement_of, stages_of_last}
+use Rattle.naga_check.specs.Judged.{IsJudgementOf, stages_of_last}
 use Rattle.naga_check.specs.Notation.Case.{Case, Reads}
+use Rattle.naga_module.specs.ModuleJudgement.{Answer}
+use Rattle.naga_module.specs.declared.check.ModuleFault.TheVariants as told
 use Rattle.naga_check.specs.declared.line.Reply.{Reply}
 use Rattle.naga_check.specs.declared.line.Reply.TheVariants.{Accepted, Fault, Unreadable, Memory}
 
@@ -38,27 +39,25 @@ unreadable_line = codes "unreadable" ++ newline
 abbrev pub memory_line : List ℕ
 memory_line = codes "memory" ++ newline
 
--- the line of a judgement, and its status
-unfoldable pub line_of : Result ModuleInfo FunctionError → List ℕ
-line_of (Ok infos) = accepted_line (stages_of_last infos.functions)
-line_of (Err fault) = fault_line fault
+-- The line of an answer about a module, and its status: the stages of the last function, or the fault of a function. No
+-- other answer has one: none is the judgement of a bench's module.
+unfoldable pub IsLineOf : Answer → List ℕ → ℕ → Type 0
+IsLineOf (Ok infos) line status = (line ≡ accepted_line (stages_of_last infos.functions)) × (status ≡ 0)
+IsLineOf (Err (told.Function handle fault)) line status = (line ≡ fault_line fault) × (status ≡ 1)
+IsLineOf (Err told.NotFit) line status = ⊥
+IsLineOf (Err (told.Global handle fault)) line status = ⊥
+IsLineOf (Err (told.EntryPoint index fault)) line status = ⊥
+IsLineOf (Err told.Memory) line status = ⊥
 
-abbrev pub status_of : Result ModuleInfo FunctionError → ℕ
-status_of (Ok infos) = 0
-status_of (Err fault) = 1
-
--- the line of a case, and its status
-abbrev pub case_line : Case → List ℕ
-case_line c = line_of (judgement_of c)
-
-abbrev pub case_status : Case → ℕ
-case_status c = status_of (judgement_of c)
+-- the line of a case, and its status: those of its judgement
+abbrev pub IsCaseLine : Case → List ℕ → ℕ → Type 0
+IsCaseLine c line status = (answer : Answer) × IsJudgementOf c answer × IsLineOf answer line status
 
 -- The line of an input, and its status: those of the case that it reads as; where it reads as none, that it is
 -- unreadable.
 unfoldable pub IsLine : List ℕ → List ℕ → ℕ → Type 0
 IsLine input line status =
-    ((c : Case) × Reads input c × (line ≡ case_line c) × (status ≡ case_status c))
+    ((c : Case) × Reads input c × IsCaseLine c line status)
     ⊎ (((c : Case) → Reads input c → ⊥) × (line ≡ unreadable_line) × (status ≡ 2))
 
 -- the line of the input was written, or that there is no memory, and nothing else; and the status is the line's
@@ -79,14 +78,9 @@ reply_status (Fault fault) = 1
 reply_status Unreadable = 2
 reply_status Memory = 3
 
--- the reply that a judgement asks for
-abbrev pub reply_of : Result ModuleInfo FunctionError → Reply
-reply_of (Ok infos) = Accepted (stages_of_last infos.functions)
-reply_of (Err fault) = Fault fault
-
--- the input reads as a case whose judgement asks for this reply
+-- the input reads as a case whose judgement asks for this reply: its line and its status
 abbrev pub IsDue : List ℕ → Reply → Type 0
-IsDue input reply = (c : Case) × Reads input c × (reply_of (judgement_of c) ≡ reply)
+IsDue input reply = (c : Case) × Reads input c × IsCaseLine c (reply_line reply) (reply_status reply)
 
 -- the reply is the one that is due to the input, or want of memory
 unfoldable pub Replies : List ℕ → Reply → Type 0

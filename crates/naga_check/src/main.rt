@@ -3,14 +3,15 @@
 
 mod bench;
 mod bench_module;
-mod case;
 mod faults;
+mod judge;
 mod line;
 mod notation;
+mod run;
 #[cfg(test)]
 mod tests;
 
-use crate::case::run_case;
+use crate::run::run_case;
 use std::io;
 use std::process::ExitCode;
 

@@ -1,6 +1,6 @@
 //! Whole runs of the program.
 
-use crate::case::run_case;
+use crate::run::run_case;
 use std::alloc::Global;
 use std::io;
 use std::io::Read;

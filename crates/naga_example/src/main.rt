@@ -1,31 +1,31 @@
-//! Makes a module by hand and has its function judged over recorded facts: once with a good body, and once with a body
-//! that stores a value before it is there.
+//! Makes a module by hand and has it judged over recorded facts: once with a good body, and once with a body that stores a
+//! value before it is there.
 #![tactic(auto)]
 
-ghost use Rattle.std.specs.Prelude.{IfOk, IfSome};
+ghost use Rattle.std.specs.Prelude.{ℕ, ◌≡◌, OnOk, Some, slice_get};
+ghost use Rattle.naga_below.specs.declared.ir.module.EntryPoint.{EntryPoint};
 ghost use Rattle.naga_valid.specs.{RunsAreSound, body_of, pre_emitted_of};
 
 use bitflags::Flags;
 use naga_below::{
-    AddressSpace, Block, Capabilities, Expression, Function, GlobalUse, GlobalVariable, Handle,
-    Literal, LocalVariable, Members, MemoryDecorations, Module, ModuleInfo, Range, Refusal, Scalar,
-    Sequence, ShaderStages, Span, Statement, StructMember, Type, TypeFlags, TypeInfo, TypeInner,
-    TypeResolution, ValidationFlags, fits_function, fits_types,
+    AddressSpace, Arena, Block, Capabilities, EntryPoint, Expression, Function, GlobalUse,
+    GlobalVariable, Handle, Literal, LocalVariable, Members, MemoryDecorations, Module, ModuleInfo,
+    Range, Scalar, Sequence, Settings, ShaderStage, ShaderStages, Span, Statement, StructMember,
+    SubgroupOperationSet, Type, TypeFlags, TypeInfo, TypeInner, TypeResolution, UniqueArena,
+    ValidationFlags,
 };
 use naga_module::{
-    ExpressionFact, Facts, FunctionFact, InfoFact, Recorded, Subject, write_refusal,
+    ExpressionFact, Facts, FunctionFact, Given, InfoFact, ModuleFault, Recorded, check_module,
+    write_module_fault,
 };
-use naga_rules::FunctionError;
-use naga_valid::Validator;
 use std::alloc::{AllocError, Global};
+use std::fmt::Write;
 
-/// A module with a global of type 1, a struct of one u32, which is type 0.
-fn module(alloc: Global) -> Result<Module, AllocError> {
-    let mut module = Module::new(alloc);
+/// Type 0 is u32, type 1 a struct of one.
+fn types(alloc: Global) -> Result<UniqueArena<Type>, AllocError> {
+    let mut types = UniqueArena::new(alloc);
     let inner = TypeInner::Scalar(Scalar::U32);
-    let ty = module
-        .types
-        .insert(Type { name: None, inner }, Span::UNDEFINED)?;
+    let ty = types.insert(Type { name: None, inner }, Span::UNDEFINED)?;
     let mut members = Members::new(alloc);
     members.push(StructMember {
         name: None,
@@ -34,41 +34,50 @@ fn module(alloc: Global) -> Result<Module, AllocError> {
         offset: 0,
     })?;
     let inner = TypeInner::Struct { members, span: 4 };
-    let ty = module
-        .types
-        .insert(Type { name: None, inner }, Span::UNDEFINED)?;
+    types.insert(Type { name: None, inner }, Span::UNDEFINED)?;
+    Ok(types)
+}
+
+/// A global of type 1.
+fn globals(alloc: Global) -> Result<Arena<GlobalVariable>, AllocError> {
+    let mut globals = Arena::new(alloc);
     let counter = GlobalVariable {
         space: AddressSpace::Private,
         binding: None,
-        ty,
+        ty: Handle::new(1),
         init: None,
         memory_decorations: MemoryDecorations::empty(),
     };
-    module.global_variables.append(counter, Span::UNDEFINED)?;
-    Ok(module)
+    globals.append(counter, Span::UNDEFINED)?;
+    Ok(globals)
 }
 
-/// A function with a local of u32. Its expressions: 0 the global, 1 a pointer to its member, 2 the member's value, 3 a
-/// pointer to the local, 4 true.
-fn function(alloc: Global) -> Result<Function, AllocError> {
-    let mut fun = Function::new(alloc);
+/// A local of u32.
+fn locals(alloc: Global) -> Result<Arena<LocalVariable>, AllocError> {
+    let mut locals = Arena::new(alloc);
     let local = LocalVariable {
         name: None,
         ty: Handle::new(0),
         init: None,
     };
-    let local = fun.local_variables.append(local, Span::UNDEFINED)?;
-    let expressions = &mut fun.expressions;
+    locals.append(local, Span::UNDEFINED)?;
+    Ok(locals)
+}
+
+/// The expressions of the function: 0 the global, 1 a pointer to its member, 2 the member's value, 3 a pointer to the local,
+/// 4 true.
+fn expressions(alloc: Global) -> Result<Arena<Expression>, AllocError> {
+    let mut expressions = Arena::new(alloc);
     let base = expressions.append(Expression::GlobalVariable(Handle::new(0)), Span::UNDEFINED)?;
     let pointer = expressions.append(Expression::AccessIndex { base, index: 0 }, Span::UNDEFINED)?;
     expressions.append(Expression::Load { pointer }, Span::UNDEFINED)?;
-    expressions.append(Expression::LocalVariable(local), Span::UNDEFINED)?;
+    expressions.append(Expression::LocalVariable(Handle::new(0)), Span::UNDEFINED)?;
     let literal = Literal {
         scalar: Scalar::BOOL,
         bits: 1,
     };
     expressions.append(Expression::Literal(literal), Span::UNDEFINED)?;
-    Ok(fun)
+    Ok(expressions)
 }
 
 /// `loop { if true { break } }`
@@ -103,6 +112,39 @@ fn body(alloc: Global, emits: bool) -> Result<Block, AllocError> {
     body.push(store, Span { start: 50, end: 55 })?;
     body.push(loop_with_break(alloc)?, Span { start: 60, end: 95 })?;
     Ok(body)
+}
+
+/// The entry point of the module, for the compute stage.
+fn entry_points(alloc: Global, emits: bool) -> Result<Sequence<EntryPoint>, AllocError> {
+    let local_variables = locals(alloc)?;
+    let expressions = expressions(alloc)?;
+    let body = body(alloc, emits)?;
+    let mut function = Function::new(alloc);
+    function.local_variables = local_variables;
+    function.expressions = expressions;
+    function.body = body;
+    let mut entry_points = Sequence::new(alloc);
+    entry_points.push(EntryPoint {
+        stage: ShaderStage::Compute,
+        early_depth_test: None,
+        workgroup_size: [64, 1, 1],
+        function,
+        mesh_info: None,
+        task_payload: None,
+    })?;
+    Ok(entry_points)
+}
+
+/// A module of these types, this global and this entry point.
+fn module(alloc: Global, emits: bool) -> Result<Module, AllocError> {
+    let types = types(alloc)?;
+    let global_variables = globals(alloc)?;
+    let entry_points = entry_points(alloc, emits)?;
+    let mut module = Module::new(alloc);
+    module.types = types;
+    module.global_variables = global_variables;
+    module.entry_points = entry_points;
+    Ok(module)
 }
 
 /// A pointer to a type of the module.
@@ -142,44 +184,57 @@ const INFO: TypeInfo = TypeInfo {
     immediates_compatibility: Ok(()),
 };
 
-/// The stages that the function may run in, or its first fault; `None` where something that is named isn't there. All
-/// runs of an accepted body are sound.
+/// What is known of the module: its two types are good, and it has no global expressions.
+fn given(alloc: Global) -> Result<Given, AllocError> {
+    Ok(Given {
+        types: vec![in alloc; INFO, INFO]?,
+        global_types: Vec::new(alloc),
+    })
+}
+
+/// Judges a module over these facts: its infos, or its first fault. All runs of the body of each entry point that is accepted
+/// are sound.
 #[tactic(auto, unfolding(bitflags::proofs::OnLiterals::bitflags_on_literals))]
-fn stages_of(
-    alloc: Global,
-    fun: &Function,
-    module: &Module,
-) -> Result<Option<ShaderStages>, Refusal<FunctionError>>
-    ensures { IfOk result (λ stages. IfSome stages (λ s. RunsAreSound (pre_emitted_of fun.now) (body_of fun.now))) }
+fn judge(alloc: Global, module: &Module) -> Result<ModuleInfo, ModuleFault>
+    ensures { OnOk result ((k : ℕ) (ep : EntryPoint) → slice_get «module».now.entry_points k ≡ Some ep → RunsAreSound (pre_emitted_of ep.function) (body_of ep.function)) }
 {
     let below = Recorded {
         facts: facts(alloc)?,
     };
-    let infos = vec![in alloc; INFO, INFO]?;
-    let flags = ValidationFlags::EXPRESSIONS.union(ValidationFlags::BLOCKS);
-    let mut validator = Validator::new(below, flags, Capabilities::empty()).with_types(infos);
-    if !validator.has_types_of(module) || !fits_types(module) || !fits_function(fun, module, 0) {
-        return Ok(None);
+    let settings = Settings {
+        flags: ValidationFlags::EXPRESSIONS.union(ValidationFlags::BLOCKS),
+        capabilities: Capabilities::empty(),
+        subgroup_stages: ShaderStages::empty(),
+        subgroup_operations: SubgroupOperationSet::empty(),
+    };
+    check_module(alloc, below, settings, given(alloc)?, module)
+}
+
+/// The verdict as a line.
+fn told(alloc: Global, verdict: &Result<ModuleInfo, ModuleFault>) -> anyhow::Result<String> {
+    let mut line = String::new(alloc);
+    match verdict {
+        Ok(infos) => {
+            for info in infos.entry_points.as_slice() {
+                write!(line, "accepted for {:?}", info.available_stages)?;
+            }
+        }
+        Err(fault) => write_module_fault(&mut line, fault)?,
     }
-    let mod_info = ModuleInfo::new(alloc);
-    let info = validator.validate_function(alloc, fun, module, &mod_info, true)?;
-    Ok(Some(info.available_stages))
+    Ok(line)
+}
+
+/// What is told of the module.
+fn verdict(alloc: Global, emits: bool) -> anyhow::Result<String> {
+    let module = module(alloc, emits)?;
+    let verdict = judge(alloc, &module);
+    told(alloc, &verdict)
 }
 
 fn main(rt: HostRuntime) -> anyhow::Result<()> {
-    let module = module(rt.alloc())?;
-    let mut fun = function(rt.alloc())?;
     for emits in [true, false] {
-        fun.body = body(rt.alloc(), emits)?;
-        match stages_of(rt.alloc(), &fun, &module) {
-            Ok(Some(stages)) => println!(rt; "accepted for {stages:?}")?,
-            Ok(None) => println!(rt; "something that is named isn't there")?,
-            Err(refusal) => {
-                let mut line = String::new(rt.alloc());
-                write_refusal(&mut line, Subject::EntryPoint(0), &refusal)?;
-                println!(rt; "{line}")?;
-            }
-        }
+        let line = verdict(rt.alloc(), emits)?;
+        println!(rt; "{line}")?;
     }
     Ok(())
 }

@@ -1,32 +1,29 @@
 -- From an accepted module to its functions and entry points.
-use Rattle.std.proofs.Common.{◌≡◌, ◌<◌, ◌≤◌, ◌+◌, ◌++◌, ◌∙◌, ◌⊎◌, inl, inr, ℕ, zero, suc, Bool, true, false, List, [], ◌∷◌, Option, None, Some, Result, Ok, Err, length, slice_get, refl, sym, ap, subst, arith}
+use Rattle.std.proofs.Common.{◌≡◌, ◌+◌, ◌++◌, ◌∙◌, inl, inr, ℕ, zero, suc, true, false, List, [], ◌∷◌, Some, Result, Ok, Err, length, slice_get, refl, sym, ap, subst, arith}
 use Rattle.std.proofs.lemmas.List.{length-append}
 use Rattle.std.specs.Prelude.{drop, take}
 use Rattle.naga_below.specs.Fits.{FitsFunction, FitsEntry}
 use Rattle.naga_below.specs.declared.ir.functions.Function.{Function}
 use Rattle.naga_below.specs.declared.ir.module.EntryPoint.{EntryPoint}
 use Rattle.naga_below.specs.declared.ir.module.Module.{Module}
-use Rattle.naga_below.specs.declared.proc.typifier.TypeResolution.{TypeResolution}
 use Rattle.naga_below.specs.declared.valid.info.FunctionInfo.{FunctionInfo}
 use Rattle.naga_below.specs.declared.valid.info.ModuleInfo.{ModuleInfo}
 use Rattle.naga_below.specs.declared.valid.settings.Settings.{Settings}
 use Rattle.naga_below.specs.declared.valid.types.TypeInfo.{TypeInfo}
 use Rattle.naga_rules.specs.Meaning.{Meaning}
-use Rattle.naga_rules.specs.declared.function.FunctionError.{FunctionError}
 use Rattle.naga_valid.proofs.Chains.{none_is_vetted, one_more_is_vetted, fits_calls_below}
 use Rattle.naga_valid.proofs.EntryChains.{entry_is_sound, entry_keeps_its_stage}
 use Rattle.naga_valid.proofs.FunctionLaw.{is_sound}
 use Rattle.naga_valid.specs.Chains.{AreVetted, ChainsKeepTo}
-use Rattle.naga_valid.specs.EntryFaults.{EntryFault}
-use Rattle.naga_valid.specs.EntryJudged.{HasPayloadSizes, entry_judgement}
-use Rattle.naga_valid.specs.EntryUses.{only}
+use Rattle.naga_valid.specs.interface.Judged.{HasPayloadSizes, entry_judgement}
+use Rattle.naga_valid.specs.interface.Uses.{only}
 use Rattle.naga_valid.specs.InOrder.{with_info}
 use Rattle.naga_valid.specs.Judged.{FunctionOutcome, function_judgement}
 use Rattle.naga_valid.specs.Parts.{no_traces}
 use Rattle.naga_valid.specs.WhatIsChecked.{checks_blocks}
 use Rattle.naga_valid.specs.declared.trace.TraceState.{TraceState}
-use Rattle.naga_module.specs.ModuleJudgement.{Answer, Tested, Step, with_entry, first_infos, IsOfFunction, IsOfEntryPoint, EntriesAnswer, BehindFunctions, FunctionsAnswer, Fits, IsJudgement, globals_step}
-use Rattle.naga_module.specs.ModuleLaw.{IsSoundFunction, infos_before, ModuleHolds}
+use Rattle.naga_module.specs.ModuleJudgement.{Answer, Tested, Step, with_entry, first_infos, IsOfFunction, IsOfEntryPoint, EntriesAnswer, BehindFunctions, FunctionsAnswer, Fits, globals_step}
+use Rattle.naga_module.specs.ModuleLaw.{IsSoundFunction, infos_before, AcceptedModuleHolds}
 use Rattle.naga_module.specs.declared.check.ModuleFault.{ModuleFault}
 use Rattle.naga_module.specs.declared.check.ModuleFault.TheVariants as fault
 
@@ -171,8 +168,7 @@ module _ (below : Meaning) (settings : Settings) (types : List TypeInfo) (m : Mo
       }
 
 -- all of an accepted module
-pub module_holds : (below : Meaning) (settings : Settings) (types : List TypeInfo) (global_types : List TypeResolution) (m : Module) (out : ModuleInfo) →
-    IsJudgement below settings types m global_types (Ok out) → checks_blocks settings.flags ≡ true → ModuleHolds below settings types m out
+pub module_holds : AcceptedModuleHolds
 module_holds below settings types global_types m out a on =
     let tested = passed (Fits below settings types m global_types)
     (Step (globals_step below settings types m (first_infos global_types)) (IsOfFunction (λ e. e)) (λ done. FunctionsAnswer below settings types m no_traces (first_infos global_types) m.functions)) out a in

@@ -1,5 +1,5 @@
 -- The judgement of a module, function by function and entry point by entry point.
-use Rattle.std.proofs.Common.{◌≡◌, ◌<◌, ◌+◌, ◌≤◌, ◌⊎◌, inl, inr, ℕ, false, List, [], ◌∷◌, Ok, Err, length, drop, get_or, refl, sym, ap, ◌∙◌, subst}
+use Rattle.std.proofs.Common.{◌≡◌, ◌<◌, ◌+◌, ◌≤◌, inl, inr, ℕ, false, List, [], ◌∷◌, Ok, Err, length, drop, get_or, refl, sym, ap, ◌∙◌, subst}
 use Rattle.std.proofs.lemmas.List.{at_drop_more, drop_all}
 use Rattle.std.proofs.lemmas.Option.{get_or_from_slice_get}
 use Rattle.std.specs.Option.{option_or}
@@ -15,8 +15,8 @@ use Rattle.naga_below.specs.declared.valid.settings.Settings.{Settings}
 use Rattle.naga_below.specs.declared.valid.types.TypeInfo.{TypeInfo}
 use Rattle.naga_rules.specs.Meaning.{Meaning}
 use Rattle.naga_rules.specs.declared.function.FunctionError.{FunctionError}
-use Rattle.naga_valid.specs.EntryFaults.{fault_of}
-use Rattle.naga_valid.specs.EntryJudged.{entry_judgement}
+use Rattle.naga_valid.specs.interface.Faults.{fault_of}
+use Rattle.naga_valid.specs.interface.Judged.{entry_judgement}
 use Rattle.naga_valid.specs.InOrder.{with_info}
 use Rattle.naga_valid.specs.Judged.{FunctionOutcome, function_judgement}
 use Rattle.naga_valid.specs.declared.interface.EntryPointError.{EntryPointError}
@@ -93,6 +93,12 @@ module _ (below : Meaning) (settings : Settings) (types : List TypeInfo) (m : Mo
   pub entries_stop_behind : (told : ModuleFault) → EntriesStop below settings types m t1 i1 rest told → EntriesStop below settings types m t0 i0 ps told
   entries_stop_behind told (inl memory) = inl memory
   entries_stop_behind told (inr a) = inr (first (Err told) a)
+
+-- where none is left, the entry points are judged
+pub entries_judged : (below : Meaning) (settings : Settings) (types : List TypeInfo) (m : Module) (trace : TraceState) (infos : ModuleInfo) (ps : List EntryPoint) (left : TraceState) (out : ModuleInfo) →
+    EntriesLead below settings types m trace infos ps left out [] → EntriesAnswer below settings types m trace infos ps (Ok out)
+unfolding EntriesAnswer
+entries_judged below settings types m trace infos ps left out leads = leads (Ok out) refl
 
 -- parts of the functions one behind another
 module _ (below : Meaning) (settings : Settings) (types : List TypeInfo) (m : Module) (t0 : TraceState) (i0 : ModuleInfo) (fs : List Function)

@@ -5,4 +5,4 @@ pub mod ModuleJudgement
 pub mod CodeModule
 pub mod Recorded
 pub mod ModuleLaw
-pub mod Unless
+pub mod WorkedChain

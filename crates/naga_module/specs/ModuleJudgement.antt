@@ -1,7 +1,7 @@
 -- The judgement of a whole module: the tests of what it and the infos name; its globals; its functions in order, each with the
 -- infos of those before it; the sizes of task payloads; its entry points in order, each with all infos so far. What ray traces
 -- leave goes from each to the next. It is told as what an answer has to be, since a test is a proposition.
-use Rattle.std.specs.Prelude.{◌≡◌, ◌⊎◌, ℕ, false, List, [], ◌∷◌, ◌++◌, Result, Ok, Err, ⊤, length}
+use Rattle.std.specs.Prelude.{◌≡◌, ◌⊎◌, ℕ, false, List, [], ◌∷◌, ◌++◌, Result, Ok, Err, length}
 use Rattle.naga_below.specs.Fits.{FitsTypes, FitsGlobals, FitsFunction, FitsEntry}
 use Rattle.naga_below.specs.Points.{Point, first_fault, answer, within, points_of_each}
 use Rattle.naga_below.specs.declared.ir.functions.Function.{Function}
@@ -14,9 +14,9 @@ use Rattle.naga_below.specs.declared.valid.info.ModuleInfo.{ModuleInfo}
 use Rattle.naga_below.specs.declared.valid.settings.Settings.{Settings}
 use Rattle.naga_below.specs.declared.valid.types.TypeInfo.{TypeInfo}
 use Rattle.naga_rules.specs.Meaning.{Meaning}
-use Rattle.naga_valid.specs.EntryFaults.{EntryFault, fault_of}
-use Rattle.naga_valid.specs.EntryJudged.{HasPayloadSizes, entry_judgement}
-use Rattle.naga_valid.specs.GlobalPoints.{module_global_points}
+use Rattle.naga_valid.specs.interface.Faults.{EntryFault, fault_of}
+use Rattle.naga_valid.specs.interface.Judged.{HasPayloadSizes, entry_judgement}
+use Rattle.naga_valid.specs.interface.GlobalPoints.{module_global_points}
 use Rattle.naga_valid.specs.InOrder.{with_info}
 use Rattle.naga_valid.specs.Judged.{function_judgement}
 use Rattle.naga_valid.specs.Parts.{AreInfosOf, no_traces}
@@ -88,6 +88,11 @@ module _ (below : Meaning) (settings : Settings) (types : List TypeInfo) (m : Mo
       (Step (function_judgement below settings types trace m infos f false) (IsOfFunction (fault.Function (length infos.functions)))
       (λ left. FunctionsAnswer left.trace (with_info infos left.info) fs)) r
 
+  -- behind the tests: the globals, then the functions
+  abbrev pub BehindTests : TraceState → ModuleInfo → Answer → Type 0
+  BehindTests trace infos r =
+      Step (globals_step infos) (IsOfFunction (λ e. e)) (λ done. FunctionsAnswer trace infos m.functions) r
+
   -- what is asked before anything is judged
   pub record Fits (global_types : List TypeResolution) : Type 0 where
     pub infos : AreInfosOf m types
@@ -96,10 +101,7 @@ module _ (below : Meaning) (settings : Settings) (types : List TypeInfo) (m : Mo
 
   -- the answer about a module, where these are the types of its global expressions
   abbrev pub IsJudgement : List TypeResolution → Answer → Type 0
-  IsJudgement global_types r =
-      Tested (Fits global_types)
-      (Step (globals_step (first_infos global_types)) (IsOfFunction (λ e. e))
-      (λ done. FunctionsAnswer no_traces (first_infos global_types) m.functions)) r
+  IsJudgement global_types r = Tested (Fits global_types) (BehindTests no_traces (first_infos global_types)) r
 
   -- the answer is the judgement, or there was no memory
   abbrev pub IsAnswered : List TypeResolution → Answer → Type 0

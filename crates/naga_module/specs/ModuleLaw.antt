@@ -1,8 +1,11 @@
 -- What is known of a module that is accepted, where bodies are looked at.
-use Rattle.std.specs.Prelude.{◌≡◌, ℕ, List, Some, slice_get, take}
+use Rattle.std.specs.Prelude.{◌≡◌, ℕ, true, List, [], Some, Ok, Err, ⊤, slice_get, take}
+use Rattle.naga_below.specs.Each.{EachAt}
+use Rattle.naga_below.specs.Fits.{FitsFunction}
 use Rattle.naga_below.specs.declared.ir.functions.Function.{Function}
 use Rattle.naga_below.specs.declared.ir.module.EntryPoint.{EntryPoint}
 use Rattle.naga_below.specs.declared.ir.module.Module.{Module}
+use Rattle.naga_below.specs.declared.proc.typifier.TypeResolution.{TypeResolution}
 use Rattle.naga_below.specs.declared.valid.info.ModuleInfo.{ModuleInfo}
 use Rattle.naga_below.specs.declared.valid.settings.Settings.{Settings}
 use Rattle.naga_below.specs.declared.valid.types.TypeInfo.{TypeInfo}
@@ -11,7 +14,11 @@ use Rattle.naga_runs.specs.Soundness.{RunsAreSound}
 use Rattle.naga_valid.specs.Blocks.{body_of}
 use Rattle.naga_valid.specs.Chains.{ChainsKeepTo}
 use Rattle.naga_valid.specs.Context.{pre_emitted_of}
-use Rattle.naga_valid.specs.EntryUses.{only}
+use Rattle.naga_valid.specs.interface.Uses.{only}
+use Rattle.naga_valid.specs.WhatIsChecked.{checks_blocks}
+use Rattle.naga_module.specs.ModuleJudgement.{Fits, IsJudgement, IsAnswered}
+use Rattle.naga_module.specs.declared.check.ModuleFault.{ModuleFault}
+use Rattle.naga_module.specs.declared.check.ModuleFault.TheVariants as fault
 
 -- all runs of a function's body are sound
 abbrev pub IsSoundFunction : Function → Type 0
@@ -28,3 +35,26 @@ pub record ModuleHolds (below : Meaning) (settings : Settings) (types : List Typ
   pub entry_points : (k : ℕ) (p : EntryPoint) → slice_get m.entry_points k ≡ Some p → IsSoundFunction p.function
   pub stages : (k : ℕ) (p : EntryPoint) → slice_get m.entry_points k ≡ Some p →
       ChainsKeepTo below settings types m (infos_before k infos) p.function (only p.stage)
+
+-- what holds of a module that the judgement accepts where bodies are looked at
+abbrev pub AcceptedModuleHolds : Type 0
+AcceptedModuleHolds =
+    (below : Meaning) (settings : Settings) (types : List TypeInfo) (global_types : List TypeResolution) (m : Module) (infos : ModuleInfo) →
+    IsJudgement below settings types m global_types (Ok infos) → checks_blocks settings.flags ≡ true →
+    ModuleHolds below settings types m infos
+
+-- the fault of a function, or want of memory
+abbrev pub IsToldOfFunctions : ModuleFault → Type 0
+IsToldOfFunctions (fault.Function handle error) = ⊤
+IsToldOfFunctions fault.Memory = ⊤
+IsToldOfFunctions fault.NotFit = ⊥
+IsToldOfFunctions (fault.Global handle error) = ⊥
+IsToldOfFunctions (fault.EntryPoint index error) = ⊥
+
+-- Of a module without globals and entry points in which everything fits nothing else can be told.
+abbrev pub FunctionsAloneAreTold : Type 0
+FunctionsAloneAreTold =
+    (below : Meaning) (settings : Settings) (types : List TypeInfo) (global_types : List TypeResolution) (m : Module) (told : ModuleFault) →
+    Fits below settings types m global_types → m.global_variables ≡ [] → m.entry_points ≡ [] →
+    EachAt (λ k f. FitsFunction f m k) m.functions →
+    IsAnswered below settings types m global_types (Err told) → IsToldOfFunctions told

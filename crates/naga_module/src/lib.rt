@@ -5,13 +5,13 @@
 pub mod check;
 pub mod facts;
 mod kinds;
+pub mod laws;
 pub mod plain;
 pub mod recorded;
 pub mod report;
-#[cfg(test)]
-mod tests;
+pub mod worked;
 
-pub use crate::check::{Given, ModuleFault};
+pub use crate::check::{Given, ModuleFault, check_module};
 pub use crate::facts::{
     ExpressionFact, Facts, FunctionFact, InfoFact, LowerFunctionError, MeshAnalysisFact,
 };

@@ -20,9 +20,10 @@ use Rattle.naga_below.specs.declared.ir.types.TypeInner.{TypeInner}
 use Rattle.naga_below.specs.declared.valid.types.TypeInfo.{TypeInfo}
 use Rattle.naga_rules.specs.BuiltIns.{built_in_rule, canonical, is_primitive_output, is_stage}
 use Rattle.naga_rules.specs.DistinctVaryings.{AcceptedBuiltInsAreDistinct, AcceptedLocationsAreDistinct}
-use Rattle.naga_rules.specs.Locations.{carried_type, checks_bindings, interpolation_points, is_fragment_input, may_take, per_vertex_points, sharing_points}
+use Rattle.naga_rules.specs.Locations.{carried_type, interpolation_points, is_fragment_input, may_take, per_vertex_points, sharing_points}
+use Rattle.naga_rules.specs.WhatIsChecked.{checks_bindings}
 use Rattle.naga_rules.specs.Seen.{Seen}
-use Rattle.naga_rules.specs.VaryingFaults.{InvalidAttribute, InvalidInputAttribute, Plain, VaryingFault}
+use Rattle.naga_rules.specs.VaryingFaults.{InvalidAttribute, InvalidInputAttribute, Itself, VaryingFault}
 use Rattle.naga_rules.specs.Varyings.{Part, Bound, UnboundMember, Unbound, BlendSources, Item, Placed, bound_points, built_in_points, group_parts, group_points_from, has_built_in_type, has_one_dimension, has_required, is_at, is_built_in, is_of_one_dimension, part_points, placed_parts, placed_points, seen_at}
 use Rattle.naga_rules.specs.declared.interface.VaryingError.{VaryingError}
 use Rattle.naga_rules.specs.declared.varying.VaryingPlace.{VaryingPlace}
@@ -50,7 +51,7 @@ location_free place types infos seen (Bound ty (binding.Location k i s blend_src
     let carried = carried_type types ty i in
     let interpolation = interpolation_points place types carried i s per_primitive in
     let sharing = sharing_points place infos seen carried k blend_src per_primitive in
-    let all = none_within Plain (bound_points place types infos seen ty (binding.Location k i s blend_src per_primitive)) e in
+    let all = none_within Itself (bound_points place types infos seen ty (binding.Location k i s blend_src per_primitive)) e in
     let mesh = not per_primitive || has_capability place.capabilities MESH_SHADER in
     let behind = (first_holds mesh (UnsupportedCapability MESH_SHADER) (per_vertex_points place types ty i s ++ (sharing ++ interpolation)) all).1 in
     let shared = (both_hold sharing interpolation (both_hold (per_vertex_points place types ty i s) (sharing ++ interpolation) behind).1).0 in
@@ -70,7 +71,7 @@ location_free place types infos seen BlendSources l checks is e =
     (is_stage place.stage Fragment, InvalidAttribute (codes "blend_src") place.stage)
     ∷ (place.output, InvalidInputAttribute (codes "blend_src") place.stage)
     ∷ [] in
-    let free = taken_free (checks_bindings place.flags) (seen.locations 0) checks (holds_in before [] (may_take place seen 0) (Plain (BindingCollision 0)) e) in
+    let free = taken_free (checks_bindings place.flags) (seen.locations 0) checks (holds_in before [] (may_take place seen 0) (Itself (BindingCollision 0)) e) in
     let same : l ≡ 0 = grind (arith, nat_tests) in
     ap seen.locations same ∙ free
 
@@ -94,7 +95,7 @@ built_in_new : (place : VaryingPlace) (types : List IrType) (infos : List TypeIn
     is_built_in b part ≡ true → first_fault (part_points place types infos seen part) ≡ None → seen.built_ins b ≡ false
 built_in_new place types infos seen (Bound ty (binding.BuiltIn g)) b is e =
     ap seen.built_ins (built_in_same b (canonical g) is)
-    ∙ built_in_free place types seen (inner_at types ty) g (none_within Plain (built_in_points place types seen (inner_at types ty) g) e)
+    ∙ built_in_free place types seen (inner_at types ty) g (none_within Itself (built_in_points place types seen (inner_at types ty) g) e)
 built_in_new place types infos seen (Bound ty (binding.Location k i s blend_src per_primitive)) b is e = cc
 built_in_new place types infos seen (UnboundMember index) b is e = cc
 built_in_new place types infos seen Unbound b is e = cc

@@ -21,14 +21,14 @@ use Rattle.naga_below.specs.declared.valid.types.TypeInfo.{TypeInfo}
 use Rattle.naga_rules.specs.Answers.{AnswersPoints}
 use Rattle.naga_rules.specs.Locations.{carried_type, combination_points, interpolation_points, is_interpolated, is_per_vertex, kind_points, per_vertex_points, sharing_points}
 use Rattle.naga_rules.specs.Seen.{Seen}
-use Rattle.naga_rules.specs.VaryingFaults.{AnswersVaryings, Plain, fault_of}
+use Rattle.naga_rules.specs.VaryingFaults.{AnswersVaryings, Itself, fault_of}
 use Rattle.naga_rules.specs.Varyings.{bound_points, built_in_points}
 use Rattle.naga_rules.specs.declared.interface.VaryingError.{VaryingError}
 use Rattle.naga_rules.specs.declared.varying.VaryingPlace.{VaryingPlace}
 
 abbrev ArePlain : List (Point VaryingError) → Type 0
 ArePlain [] = Unit {0}
-ArePlain (p ∷ ps) = (fault_of p.1 ≡ Plain p.1) × ArePlain ps
+ArePlain (p ∷ ps) = (fault_of p.1 ≡ Itself p.1) × ArePlain ps
 
 both_plain : (ps qs : List (Point VaryingError)) → ArePlain ps → ArePlain qs → ArePlain (ps ++ qs)
 both_plain [] qs h k = k
@@ -70,20 +70,20 @@ bound_plain place types infos seen ty (binding.Location location i s blend_src p
     both_plain sharing interpolation (refl, (refl, (refl, (refl, (refl, tt))))) (interpolation_plain place types carried i s per_primitive) in
     (refl, both_plain (per_vertex_points place types ty i s) (sharing ++ interpolation) (refl, (refl, (refl, (refl, tt)))) behind)
 
-first_plain : (ps : List (Point VaryingError)) (e : VaryingError) → ArePlain ps → first_fault ps ≡ Some e → Plain e ≡ fault_of e
+first_plain : (ps : List (Point VaryingError)) (e : VaryingError) → ArePlain ps → first_fault ps ≡ Some e → Itself e ≡ fault_of e
 first_plain [] e all h = cc
 first_plain ((true, f) ∷ ps) e all h = first_plain ps e all.1 h
 first_plain ((false, f) ∷ ps) e all h =
     let same : f ≡ e = cc in
-    let P : VaryingError → Type 0 = λ e. Plain e ≡ fault_of e in
+    let P : VaryingError → Type 0 = λ e. Itself e ≡ fault_of e in
     subst P same (sym all.0)
 
 -- an answer of the points of what is bound is one of the points of the part
 pub part_answers : (place : VaryingPlace) (types : List IrType) (infos : List TypeInfo) (seen : Seen) (ty : ℕ) (given : Binding) {T : Type 0} (r : Result T (Refusal VaryingError)) →
-    AnswersPoints (bound_points place types infos seen ty given) r → AnswersVaryings (within Plain (bound_points place types infos seen ty given)) r
-part_answers place types infos seen ty given (Ok t) h = first_within Plain (bound_points place types infos seen ty given) ∙ ap (option_map Plain) h
+    AnswersPoints (bound_points place types infos seen ty given) r → AnswersVaryings (within Itself (bound_points place types infos seen ty given)) r
+part_answers place types infos seen ty given (Ok t) h = first_within Itself (bound_points place types infos seen ty given) ∙ ap (option_map Itself) h
 part_answers place types infos seen ty given (Err (Fault e)) h =
-    first_within Plain (bound_points place types infos seen ty given)
-    ∙ ap (option_map Plain) h
+    first_within Itself (bound_points place types infos seen ty given)
+    ∙ ap (option_map Itself) h
     ∙ ap Some (first_plain (bound_points place types infos seen ty given) e (bound_plain place types infos seen ty given) h)
 part_answers place types infos seen ty given (Err Memory) h = tt

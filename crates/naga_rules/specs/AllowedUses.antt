@@ -32,21 +32,38 @@ memory_use = join (join READ WRITE) QUERY
 -- of a task payload: writes at the stage that makes it alone
 abbrev pub payload_use : ShaderStage → GlobalUse
 payload_use stage.Task = memory_use
-payload_use _ = join READ QUERY
+payload_use stage.Vertex = join READ QUERY
+payload_use stage.Fragment = join READ QUERY
+payload_use stage.Compute = join READ QUERY
+payload_use stage.Mesh = join READ QUERY
+payload_use stage.RayGeneration = join READ QUERY
+payload_use stage.AnyHit = join READ QUERY
+payload_use stage.ClosestHit = join READ QUERY
+payload_use stage.Miss = join READ QUERY
 
 -- the stages that trace rays, and hand them a payload
 abbrev pub hands_payload : ShaderStage → Bool
 hands_payload stage.RayGeneration = true
 hands_payload stage.ClosestHit = true
 hands_payload stage.Miss = true
-hands_payload _ = false
+hands_payload stage.Vertex = false
+hands_payload stage.Fragment = false
+hands_payload stage.Compute = false
+hands_payload stage.Mesh = false
+hands_payload stage.Task = false
+hands_payload stage.AnyHit = false
 
 -- the stages that a ray comes to with a payload
 abbrev pub takes_payload : ShaderStage → Bool
 takes_payload stage.AnyHit = true
 takes_payload stage.ClosestHit = true
 takes_payload stage.Miss = true
-takes_payload _ = false
+takes_payload stage.Vertex = false
+takes_payload stage.Fragment = false
+takes_payload stage.Compute = false
+takes_payload stage.Mesh = false
+takes_payload stage.Task = false
+takes_payload stage.RayGeneration = false
 
 -- a use, where there is one at all
 abbrev pub only_if : Bool → GlobalUse → Option GlobalUse

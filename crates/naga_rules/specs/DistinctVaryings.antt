@@ -5,7 +5,7 @@ use Rattle.naga_below.specs.Points.{first_fault}
 use Rattle.naga_below.specs.declared.ir.built_in.BuiltIn.{BuiltIn}
 use Rattle.naga_below.specs.declared.ir.types.Type.{«Type» as IrType}
 use Rattle.naga_below.specs.declared.valid.types.TypeInfo.{TypeInfo}
-use Rattle.naga_rules.specs.Locations.{checks_bindings}
+use Rattle.naga_rules.specs.WhatIsChecked.{checks_bindings}
 use Rattle.naga_rules.specs.Varyings.{Placed, go_same_way, is_at, is_built_in, placed_points}
 
 -- where bindings are looked at, no part has the location of an earlier one

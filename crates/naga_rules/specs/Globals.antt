@@ -1,6 +1,6 @@
 -- The check list of a global variable.
 use Rattle.std.specs.Prelude.{ℕ, Bool, true, false, not, ◌||◌, ◌==◌, List, [], ◌∷◌, ◌++◌, Option, None, Some, Result, Ok, Err, is_none, is_some, slice_get, unwrap_or}
-use Rattle.naga_below.specs.Bits.{contains, has_capability, STRUCT_LAYOUTS, BINDINGS, STORE, COHERENT, VOLATILE, MEMORY_DECORATION_COHERENT, MEMORY_DECORATION_VOLATILE}
+use Rattle.naga_below.specs.Bits.{contains, has_capability, STORE, COHERENT, VOLATILE, MEMORY_DECORATION_COHERENT, MEMORY_DECORATION_VOLATILE}
 use Rattle.naga_below.specs.Points.{Point}
 use Rattle.naga_below.specs.Types.{inner_at}
 use Rattle.naga_below.specs.declared.ir.flags.MemoryDecorations.{MemoryDecorations}
@@ -22,6 +22,7 @@ use Rattle.naga_below.specs.declared.valid.types.TypeInfo.{TypeInfo}
 use Rattle.naga_rules.specs.Locals.{is_const_or_override, is_declared_as}
 use Rattle.naga_rules.specs.Spaces.{Layout, StorageLayout, UniformLayout, row_of, all_of, takes_arrays, array_needs, is_resource, format_needs, takes_initializers, is_storage, is_task_payload}
 use Rattle.naga_rules.specs.TypeInfos.{info_has}
+use Rattle.naga_rules.specs.WhatIsChecked.{checks_layouts, checks_bindings}
 use Rattle.naga_rules.specs.declared.interface.GlobalVariableError.{GlobalVariableError}
 use Rattle.naga_rules.specs.declared.interface.GlobalVariableError.TheVariants.{InvalidUsage, InvalidType, MissingTypeFlags, UnsupportedCapability, InvalidBinding, Alignment, InitializerExprType, InitializerType, InitializerNotAllowed, StorageAddressSpaceWriteOnlyNotSupported, InvalidImmediateType, ZeroSizedTaskPayload, InvalidMemoryDecorationsAddressSpace, CoherentNotSupported, VolatileNotSupported}
 
@@ -49,13 +50,6 @@ array_points capabilities types space None = []
 array_points capabilities types space (Some base) =
     (takes_arrays space, InvalidUsage space)
     ∷ capability_points capabilities (array_needs space (inner_at types base))
-
--- whether layouts are looked at, and whether bindings are
-abbrev pub checks_layouts : ValidationFlags → Bool
-checks_layouts flags = contains flags.0 STRUCT_LAYOUTS.0
-
-abbrev pub checks_bindings : ValidationFlags → Bool
-checks_bindings flags = contains flags.0 BINDINGS.0
 
 -- a layout; a bad one comes with the type inside that spoils it, and the reason
 abbrev pub good_layout_points : ValidationFlags → AddressSpace → Result ℕ (ℕ × Disalignment) → GlobalPoints

@@ -2,6 +2,7 @@ pub mod Answers
 pub mod Lawful
 pub mod Meaning
 pub mod TypeInfos
+pub mod WhatIsChecked
 pub mod Locals
 pub mod AllowedUses
 pub mod BuiltIns

@@ -1,6 +1,6 @@
 -- The check list of what is bound to a location.
 use Rattle.std.specs.Prelude.{ℕ, Bool, true, false, not, ◌&&◌, ◌||◌, ◌==◌, List, [], ◌∷◌, ◌++◌, Option, None, Some, is_none, is_some, option_and_then, if◌then◌else◌}
-use Rattle.naga_below.specs.Bits.{BINDINGS, IO_SHAREABLE, MESH_SHADER, MULTISAMPLED_SHADING, PER_VERTEX, contains, has_capability}
+use Rattle.naga_below.specs.Bits.{IO_SHAREABLE, MESH_SHADER, MULTISAMPLED_SHADING, PER_VERTEX, contains, has_capability}
 use Rattle.naga_below.specs.Points.{Point}
 use Rattle.naga_below.specs.Types.{inner_at, scalar_kind_of}
 use Rattle.naga_below.specs.declared.ir.module.ShaderStage.{ShaderStage}
@@ -15,18 +15,14 @@ use Rattle.naga_below.specs.declared.ir.types.ScalarKind.TheVariants.{Sint, Uint
 use Rattle.naga_below.specs.declared.ir.types.Type.{«Type» as IrType}
 use Rattle.naga_below.specs.declared.ir.types.TypeInner.{TypeInner}
 use Rattle.naga_below.specs.declared.ir.types.TypeInner.TheVariants as inner
-use Rattle.naga_below.specs.declared.valid.flags.ValidationFlags.{ValidationFlags}
 use Rattle.naga_below.specs.declared.valid.types.TypeInfo.{TypeInfo}
 use Rattle.naga_rules.specs.BuiltIns.{is_primitive_output, is_stage}
 use Rattle.naga_rules.specs.Seen.{Seen}
 use Rattle.naga_rules.specs.TypeInfos.{type_has}
+use Rattle.naga_rules.specs.WhatIsChecked.{checks_bindings}
 use Rattle.naga_rules.specs.declared.interface.VaryingError.{VaryingError}
 use Rattle.naga_rules.specs.declared.interface.VaryingError.TheVariants.{InvalidType, NotIOShareableType, InvalidInterpolationInStage, InvalidInterpolationSamplingCombination, InvalidInterpolationForInteger, MissingInterpolation, BindingCollision, UnsupportedCapability, BlendSrcNotOnStructMember, InvalidPerPrimitive, MissingPerPrimitive, PerVertexNotArrayOfThree, InvalidPerVertexSampling}
 use Rattle.naga_rules.specs.declared.varying.VaryingPlace.{VaryingPlace}
-
--- whether bindings are looked at
-abbrev pub checks_bindings : ValidationFlags → Bool
-checks_bindings flags = contains flags.0 BINDINGS.0
 
 -- a location is free, or bindings aren't looked at
 abbrev pub may_take : VaryingPlace → Seen → ℕ → Bool

@@ -12,13 +12,13 @@ use Rattle.naga_rules.specs.declared.interface.VaryingError.TheVariants.{Invalid
 pub data VaryingFault : Type 0 where
   InvalidInputAttribute : (attribute : List ℕ) (stage : ShaderStage) → VaryingFault
   InvalidAttribute : (attribute : List ℕ) (stage : ShaderStage) → VaryingFault
-  Plain : (error : VaryingError) → VaryingFault
+  Itself : (error : VaryingError) → VaryingFault
 
 -- the fault that an error is
 abbrev pub fault_of : VaryingError → VaryingFault
 fault_of (InvalidInputAttributeInStage attribute stage) = InvalidInputAttribute attribute.now stage
 fault_of (InvalidAttributeInStage attribute stage) = InvalidAttribute attribute.now stage
-fault_of error = Plain error
+fault_of error = Itself error
 
 -- a refusal is for the fault of the first of these points that fails, or for want of memory
 abbrev pub IsFirstVaryingFault : List (Point VaryingFault) → Refusal VaryingError → Type 0

@@ -38,10 +38,11 @@ use Rattle.naga_below.specs.declared.ir.types.TypeInner.TheVariants as inner
 use Rattle.naga_below.specs.declared.valid.capabilities.Capabilities.{Capabilities}
 use Rattle.naga_below.specs.declared.valid.types.TypeInfo.{TypeInfo}
 use Rattle.naga_rules.specs.BuiltIns.{built_in_rule, canonical, f32, is_same_built_in, is_stage}
-use Rattle.naga_rules.specs.Locations.{checks_bindings, location_points, may_take}
+use Rattle.naga_rules.specs.Locations.{location_points, may_take}
+use Rattle.naga_rules.specs.WhatIsChecked.{checks_bindings}
 use Rattle.naga_rules.specs.Seen.{Seen}
 use Rattle.naga_rules.specs.TypeInfos.{type_has}
-use Rattle.naga_rules.specs.VaryingFaults.{VaryingFault, InvalidInputAttribute, InvalidAttribute, Plain}
+use Rattle.naga_rules.specs.VaryingFaults.{VaryingFault, InvalidInputAttribute, InvalidAttribute, Itself}
 use Rattle.naga_rules.specs.declared.interface.VaryingError.{VaryingError}
 use Rattle.naga_rules.specs.declared.interface.VaryingError.TheVariants.{DuplicateBuiltIn, UnsupportedCapability, InvalidMultiDimensionalSubgroupBuiltIn, InvalidBuiltInStage, InvalidBuiltInType, MissingBinding, MemberMissingBinding, BindingCollision}
 use Rattle.naga_rules.specs.declared.varying.VaryingPlace.{VaryingPlace}
@@ -158,14 +159,14 @@ abbrev pub blend_points : VaryingPlace → Seen → List (Point VaryingFault)
 blend_points place seen =
     (is_stage place.stage Fragment, InvalidAttribute (codes "blend_src") place.stage)
     ∷ (place.output, InvalidInputAttribute (codes "blend_src") place.stage)
-    ∷ (may_take place seen 0, Plain (BindingCollision 0))
+    ∷ (may_take place seen 0, Itself (BindingCollision 0))
     ∷ []
 
 -- a part, where this was seen before
 abbrev pub part_points : VaryingPlace → List IrType → List TypeInfo → Seen → Part → List (Point VaryingFault)
-part_points place types infos seen (Bound ty given) = within Plain (bound_points place types infos seen ty given)
-part_points place types infos seen (UnboundMember index) = (not (checks_bindings place.flags), Plain (MemberMissingBinding index)) ∷ []
-part_points place types infos seen Unbound = (not (checks_bindings place.flags), Plain MissingBinding) ∷ []
+part_points place types infos seen (Bound ty given) = within Itself (bound_points place types infos seen ty given)
+part_points place types infos seen (UnboundMember index) = (not (checks_bindings place.flags), Itself (MemberMissingBinding index)) ∷ []
+part_points place types infos seen Unbound = (not (checks_bindings place.flags), Itself MissingBinding) ∷ []
 part_points place types infos seen BlendSources = blend_points place seen
 
 -- The judgement by position.

@@ -23,22 +23,21 @@ use Rattle.naga_runs.specs.Positions.{Node, NoNode, StatementNode, BreakIfNode, 
 use Rattle.naga_runs.specs.VisitOrder.{positions}
 use Rattle.naga_runs.specs.Visits.{Visit, Place, visit_at, visits_of}
 use Rattle.naga_valid.specs.Accepted.{nodes_of, callee_filling, callees_filling, atomic_filling, atomics_filling, ResultsAreFilledOnce, AreAmong, AreOfStatement, AreOfCallee, StagesAreOfAll, AreOfStartAndAll}
-use Rattle.naga_valid.specs.Atomics.{is_atomic_result}
+use Rattle.naga_valid.specs.checks.Atomic.{is_atomic_result}
 use Rattle.naga_valid.specs.Blocks.{body_of}
-use Rattle.naga_valid.specs.Calls.{is_call_result_of, has_result}
+use Rattle.naga_valid.specs.checks.Call.{is_call_result_of, has_result}
 use Rattle.naga_valid.specs.Context.{Context, pre_emitted}
 use Rattle.naga_valid.specs.WhatIsChecked.{checks_blocks, checks_expressions}
 use Rattle.naga_valid.specs.Judged.{FunctionOutcome, body_judgement, judged_with, outcome_left}
 use Rattle.naga_valid.specs.Past.{Past, past_of}
-use Rattle.naga_valid.specs.Results.{is_to_fill, result_of, fills, filled_before, is_unfilled, filled_points_from, filled_points}
+use Rattle.naga_valid.specs.checks.Results.{is_to_fill, result_of, fills, filled_before, is_unfilled, filled_points_from, filled_points}
 use Rattle.naga_valid.specs.Rules.{points_at, stages_of, stages_behind, stages_left}
-use Rattle.naga_valid.specs.Scope.{in_scope, known}
 use Rattle.naga_valid.specs.Stages.{meet}
-use Rattle.naga_valid.specs.State.{State, seen, kept_rules, begin_state, state_behind, state_left}
+use Rattle.naga_valid.specs.walk.State.{State, seen, kept_rules, begin_state, state_behind, state_left}
 use Rattle.naga_valid.specs.Types.{expression_at}
 use Rattle.naga_valid.proofs.Atomics.{NamedHolds, atomic_named}
 use Rattle.naga_valid.proofs.Calls.{call_holds}
-use Rattle.naga_valid.proofs.Fillings.{or_false, with_is, unfilled, known_filled}
+use Rattle.naga_valid.proofs.Fillings.{or_false, with_is, unfilled}
 use Rattle.naga_valid.proofs.Judged.{kept}
 
 -- stages
@@ -209,10 +208,10 @@ module _ (context : Context) (r : ℕ) where
   step filled node nodes a (ByAtomic free full is c n) rest =
       by_atomic node nodes (filled r) (filled r || fills r node) a free (ap (λ b. b || fills r node) free ∙ full) is c n rest
 
-  behind_is : (st : State) (node : Node) → in_scope (state_behind context st node).filled r ≡ (in_scope st.filled r || fills r node)
-  behind_is st NoNode = sym (or_false (in_scope st.filled r))
+  behind_is : (st : State) (node : Node) → (state_behind context st node).filled r ≡ (st.filled r || fills r node)
+  behind_is st NoNode = sym (or_false (st.filled r))
   behind_is st (StatementNode x) = with_is (result_of (StatementNode x)) st.filled r
-  behind_is st (BreakIfNode h) = sym (or_false (in_scope st.filled r))
+  behind_is st (BreakIfNode h) = sym (or_false (st.filled r))
 
   passes : (o : Option FunctionError) (st : State) (f : State → Result State FunctionError) (end : State) → and_then (answer o st) f ≡ Ok end → (o ≡ None) × (f st ≡ Ok end)
   passes None st f end h = (refl, h)
@@ -222,16 +221,16 @@ module _ (context : Context) (r : ℕ) where
   nothing true = Before refl refl
   nothing false = Never refl refl
 
-  along : (st end : State) (visits : List Visit) → judge_visits (kept_rules context) st visits ≡ Ok end → Filled context r (map (λ v. v.node) visits) (in_scope st.filled r) (in_scope end.filled r)
+  along : (st end : State) (visits : List Visit) → judge_visits (kept_rules context) st visits ≡ Ok end → Filled context r (map (λ v. v.node) visits) (st.filled r) (end.filled r)
   unfolding judge_visits Rattle.naga_runs.specs.ByTree.judge
   along st end [] h =
       let same : st ≡ end = cc in
-      subst (λ z. Filled context r [] (in_scope st.filled r) (in_scope z.filled r)) same (nothing (in_scope st.filled r))
+      subst (λ z. Filled context r [] (st.filled r) (z.filled r)) same (nothing (st.filled r))
   along st end (v ∷ visits) h =
       let next = state_behind context st v.node in
       let both = passes (first_fault (points_at context (seen st) v.place v.node)) next (λ s. judge_visits (kept_rules context) s visits) end h in
       let nodes = map (λ w. w.node) visits in
-      step (known st.filled) v.node nodes (in_scope end.filled r) (filling context (seen st) v.place r v.node both.0) (subst (λ b. Filled context r nodes b (in_scope end.filled r)) (behind_is st v.node) (along next end visits both.1))
+      step (st.filled) v.node nodes (end.filled r) (filling context (seen st) v.place r v.node both.0) (subst (λ b. Filled context r nodes b (end.filled r)) (behind_is st v.node) (along next end visits both.1))
 
   called_once : (f : ℕ) (nodes : List Node) (b a : Bool) → b ≡ false → a ≡ true → expression_at context r ≡ Some (e.CallResult f) → Filled context r nodes b a → (callees_filling r nodes ≡ f ∷ []) × (atomics_filling r nodes ≡ 0)
   called_once f nodes true false free full is rest = elim rest [ ]
@@ -295,7 +294,7 @@ module _ (context : Context) (visits : List Visit) (is : body_judgement context 
 
   filled_of : (r : ℕ) → Filled context r (nodes_of (body_of context.fun)) false (filled_before visits r)
   filled_of r =
-      subst (λ nodes. Filled context r nodes false (filled_before visits r)) nodes_of_visits (subst (λ a. Filled context r (map (λ v. v.node) visits) false a) (λ i. known_filled visits i r) (along context r (begin_state context) (state_left context visits) visits walked))
+      subst (λ nodes. Filled context r nodes false (filled_before visits r)) nodes_of_visits (along context r (begin_state context) (state_left context visits) visits walked)
 
   module _ (on : checks_expressions context.settings.flags ≡ true) (all : first_fault (filled_points context (filled_before visits)) ≡ None) where
     each : first_fault (filled_points_from context (filled_before visits) 0 (length context.fun.expressions)) ≡ None

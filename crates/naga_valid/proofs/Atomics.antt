@@ -11,12 +11,12 @@ use Rattle.naga_below.specs.declared.ir.types.Scalar.{Scalar}
 use Rattle.naga_runs.specs.Handles.{Handles}
 use Rattle.naga_runs.specs.Soundness.{Fit}
 use Rattle.naga_runs.specs.Visits.{Place}
-use Rattle.naga_valid.specs.Atomics.{atomic_scalar, atomic_space, scalar_points, is_atomic_result, atomic_result_points, atomic_points}
+use Rattle.naga_valid.specs.checks.Atomic.{atomic_scalar, atomic_space, scalar_points, is_atomic_result, atomic_result_points, atomic_points}
 use Rattle.naga_valid.specs.Context.{Context}
+use Rattle.naga_runs.specs.PutsAndUses.{puts_of}
 use Rattle.naga_valid.specs.Points.{may_use, is_in_scope}
-use Rattle.naga_valid.specs.Results.{is_fresh}
+use Rattle.naga_valid.specs.checks.Results.{is_fresh}
 use Rattle.naga_valid.specs.Types.{expression_at}
-use Rattle.naga_valid.specs.Walk.{puts_of}
 use Rattle.naga_valid.proofs.Flat.{holds_at, holds_behind}
 
 -- what holds of a result that is named

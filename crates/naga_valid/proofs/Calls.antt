@@ -17,12 +17,12 @@ use Rattle.naga_runs.specs.Handles.{Handles}
 use Rattle.naga_runs.specs.Visits.{Place}
 use Rattle.naga_below.specs.Points.{Point, first_fault}
 use Rattle.naga_runs.specs.Soundness.{Fit}
-use Rattle.naga_valid.specs.Calls.{arguments_of, has_result, is_passed_as, argument_points, argument_points_from, arguments_points, is_call_result_of, call_result_points, callee_points, call_points}
+use Rattle.naga_valid.specs.checks.Call.{arguments_of, has_result, is_passed_as, argument_points, argument_points_from, arguments_points, is_call_result_of, call_result_points, callee_points, call_points}
 use Rattle.naga_valid.specs.Context.{Context}
+use Rattle.naga_runs.specs.PutsAndUses.{puts_of}
 use Rattle.naga_valid.specs.Points.{may_use, is_in_scope}
-use Rattle.naga_valid.specs.Results.{is_fresh}
+use Rattle.naga_valid.specs.checks.Results.{is_fresh}
 use Rattle.naga_valid.specs.Types.{expression_at}
-use Rattle.naga_valid.specs.Walk.{puts_of}
 use Rattle.naga_valid.proofs.Lists.{first_fault-append, first_fault-within}
 
 -- a point whose fault stands inside another fails where it does

@@ -1,7 +1,6 @@
 -- What vetted infos give along chains of calls: by induction on how a body reaches a function.
 use Rattle.std.proofs.Common.{◌≡◌, ◌<◌, ◌≤◌, ◌++◌, ◌⊎◌, inl, inr, ℕ, zero, suc, Bool, true, false, List, [], ◌∷◌, Option, None, Some, Ok, length, slice_get, refl, sym, ap, ◌∙◌, subst, arith}
 use Rattle.std.proofs.lemmas.List.{length-append}
-use Rattle.std.proofs.lemmas.List.Elements.{All-contains, All-from_recursion}
 use Rattle.std.proofs.lemmas.Option.{slice_get_within}
 use Rattle.std.specs.List.{AllByRecursion}
 use Rattle.std.specs.Prelude.{Contains, map, take, if◌then◌else◌}
@@ -44,33 +43,7 @@ use Rattle.naga_valid.specs.WhatIsChecked.{checks_blocks, checks_expressions}
 use Rattle.naga_valid.specs.declared.trace.TraceState.{TraceState}
 use Rattle.naga_valid.proofs.Accepted.{among_all, nodes_are}
 use Rattle.naga_valid.proofs.FunctionLaw.{is_of_all_stages, stages_are_met}
-
--- lists
-
-module _ {A : Type 0} (P : A → Type 0) where
-  in_first : (xs ys : List A) → AllByRecursion P (xs ++ ys) → AllByRecursion P xs
-  in_first [] ys a = tt
-  in_first (x ∷ xs) ys a = (a.0, in_first xs ys a.1)
-
-  in_second : (xs ys : List A) → AllByRecursion P (xs ++ ys) → AllByRecursion P ys
-  in_second [] ys a = a
-  in_second (x ∷ xs) ys a = in_second xs ys a.1
-
-  of_each : (xs : List A) (x : A) → AllByRecursion P xs → Contains xs x → P x
-  of_each xs x a c = All-contains P xs x (All-from_recursion P xs a) c
-
-module _ {A : Type 0} where
-  taken : (xs : List A) (k f : ℕ) → f < k → slice_get (take k xs) f ≡ slice_get xs f
-  taken [] zero f h = refl
-  taken [] (suc k) f h = refl
-  taken (x ∷ xs) zero f h = absurd (omega arith)
-  taken (x ∷ xs) (suc k) zero h = refl
-  taken (x ∷ xs) (suc k) (suc f) h = taken xs k f (omega arith)
-
-  present : (xs : List A) (f : ℕ) → f < length xs → (x : A) × (slice_get xs f ≡ Some x)
-  present [] f h = absurd (omega arith)
-  present (x ∷ xs) zero h = (x, refl)
-  present (x ∷ xs) (suc f) h = present xs f (omega arith)
+use Rattle.naga_valid.proofs.Lists.{in_first, in_second, of_each, taken, present}
 
 -- masks of statements: those with the infos below k are those with all infos, where what is called is below k
 module _ (subgroups : ShaderStages) (infos : ModuleInfo) (k : ℕ) where

@@ -5,7 +5,7 @@ use Rattle.naga_below.specs.Tree.{Use}
 use Rattle.naga_runs.specs.Soundness.{Fit}
 use Rattle.naga_runs.specs.Visits.{Place}
 use Rattle.naga_valid.specs.Context.{Context}
-use Rattle.naga_valid.specs.Cooperative.{cooperative_points}
+use Rattle.naga_valid.specs.checks.Cooperative.{cooperative_points}
 use Rattle.naga_valid.specs.Points.{may_use, is_in_scope}
 use Rattle.naga_valid.proofs.Flat.{holds_at}
 

@@ -16,11 +16,11 @@ use Rattle.naga_below.specs.declared.valid.types.TypeInfo.{TypeInfo}
 use Rattle.naga_rules.specs.AllowedUses.{join}
 use Rattle.naga_rules.specs.Meaning.{Meaning}
 use Rattle.naga_rules.specs.declared.function.FunctionError.{FunctionError}
-use Rattle.naga_valid.specs.EntryFaults.{EntryFault, fault_of}
-use Rattle.naga_valid.specs.EntryJudged.{entry_judgement, of_function, interface_points, interface_step, outcome_of}
-use Rattle.naga_valid.specs.EntryStart.{start_points}
-use Rattle.naga_valid.specs.EntryUses.{with_use_of, output_variable_of, with_own_uses, with_uses_at}
-use Rattle.naga_valid.specs.EntryVaryings.{are_blend_sources}
+use Rattle.naga_valid.specs.interface.Faults.{EntryFault, fault_of}
+use Rattle.naga_valid.specs.interface.Judged.{entry_judgement, of_function, interface_points, interface_step, outcome_of}
+use Rattle.naga_valid.specs.interface.Start.{start_points}
+use Rattle.naga_valid.specs.interface.Uses.{with_use_of, output_variable_of, with_own_uses, with_uses_at}
+use Rattle.naga_valid.specs.interface.Varyings.{are_blend_sources}
 use Rattle.naga_valid.specs.Judged.{FunctionOutcome, function_judgement}
 use Rattle.naga_valid.specs.declared.trace.TraceState.{TraceState}
 

@@ -24,14 +24,14 @@ use Rattle.naga_rules.proofs.Seeing.{goes_own_way}
 use Rattle.naga_rules.proofs.TypesAt.{inner_is, named_at}
 use Rattle.naga_rules.specs.BuiltIns.{built_in_rule, canonical, is_same_built_in}
 use Rattle.naga_rules.specs.TypeInfos.{type_has}
-use Rattle.naga_rules.specs.VaryingFaults.{Plain}
+use Rattle.naga_rules.specs.VaryingFaults.{Itself}
 use Rattle.naga_rules.specs.Varyings.{Part, Placed, Bound, BlendSources, UnboundMember, Unbound, built_in_points, go_same_way, is_built_in, member_part, member_parts, part_points, parts_of, placed, placed_parts, placed_points, ruled_points, seen_at, unbound_parts}
 use Rattle.naga_rules.specs.declared.varying.MeshOutputType.TheVariants.{Neither}
 use Rattle.naga_rules.specs.declared.varying.VaryingPlace.{VaryingPlace}
-use Rattle.naga_valid.specs.CodeGroups.{parts_of_all}
-use Rattle.naga_valid.specs.EntryFaults.{OfArgument}
-use Rattle.naga_valid.specs.EntryFacts.{IsBuiltIn, BuiltInsAreDistinct, AcceptedBuiltInsAreDistinct}
-use Rattle.naga_valid.specs.EntryVaryings.{argument_item, argument_points, place_of}
+use Rattle.naga_valid.specs.walk.Groups.{parts_of_all}
+use Rattle.naga_valid.specs.interface.Faults.{OfArgument}
+use Rattle.naga_valid.specs.interface.Facts.{IsBuiltIn, BuiltInsAreDistinct, AcceptedBuiltInsAreDistinct}
+use Rattle.naga_valid.specs.interface.Varyings.{argument_item, argument_points, place_of}
 use Rattle.naga_valid.proofs.EntryAccepted.{accepted_entry}
 use Rattle.naga_valid.proofs.EntryGroups.{any_at, all_at, all_both, group_none, part_none}
 use Rattle.naga_valid.proofs.EntryFacts.{none_within, arguments_hold}
@@ -101,7 +101,7 @@ module _ (types : List IrType) where
       list_any (λ (p : Placed). go_same_way place p.place && is_built_in b p.part) earlier ≡ false
   new_at infos place earlier (Bound ty (binding.BuiltIn given)) b typed is h =
       let seen = seen_at place earlier in
-      let points = none_within Plain (built_in_points place types seen (inner_at types ty) given) h in
+      let points = none_within Itself (built_in_points place types seen (inner_at types ty) given) h in
       let ruled = subst (λ o. first_fault (built_in_points place types seen o given) ≡ None) typed.1 points in
       let fresh = not_holds (seen.built_ins (canonical given)) (holds_at 0 (ruled_points place types seen typed.0 given (built_in_rule given place)) ruled) in
       subst (λ c. list_any (λ (p : Placed). go_same_way place p.place && is_built_in c p.part) earlier ≡ false) (sym is) fresh

@@ -19,13 +19,13 @@ use Rattle.naga_below.specs.declared.valid.settings.Settings.{Settings}
 use Rattle.naga_below.specs.declared.valid.types.TypeInfo.{TypeInfo}
 use Rattle.naga_rules.specs.Meaning.{Meaning}
 use Rattle.naga_valid.specs.Accepted.{AreAmong}
-use Rattle.naga_valid.specs.EntryFaults.{fault_of}
-use Rattle.naga_valid.specs.EntryJudged.{used_points, interface_points}
-use Rattle.naga_valid.specs.EntryChains.{AcceptedEntryIsSound, AcceptedEntryKeepsItsStage}
-use Rattle.naga_valid.specs.EntryGlobals.{globals_points}
-use Rattle.naga_valid.specs.EntryMesh.{mesh_points}
-use Rattle.naga_valid.specs.EntryUses.{only, stage_points, payload_points, with_use_of, with_uses_at, with_own_uses, output_variable_of}
-use Rattle.naga_valid.specs.EntryVaryings.{argument_points, result_points}
+use Rattle.naga_valid.specs.interface.Faults.{fault_of}
+use Rattle.naga_valid.specs.interface.Judged.{used_points, interface_points}
+use Rattle.naga_valid.specs.interface.Chains.{AcceptedEntryIsSound, AcceptedEntryKeepsItsStage}
+use Rattle.naga_valid.specs.interface.Globals.{globals_points}
+use Rattle.naga_valid.specs.interface.Mesh.{mesh_points}
+use Rattle.naga_valid.specs.interface.Uses.{only, stage_points, payload_points, with_use_of, with_uses_at, with_own_uses, output_variable_of}
+use Rattle.naga_valid.specs.interface.Varyings.{argument_points, result_points}
 use Rattle.naga_valid.specs.declared.interface.EntryPointError.TheVariants as fault
 use Rattle.naga_valid.proofs.Chains.{chains_are_kept}
 use Rattle.naga_valid.proofs.EntryAccepted.{accepted_entry}

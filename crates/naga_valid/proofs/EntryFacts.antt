@@ -29,17 +29,17 @@ use Rattle.naga_below.specs.declared.valid.info.FunctionInfo.{FunctionInfo}
 use Rattle.naga_below.specs.declared.valid.settings.Settings.{Settings}
 use Rattle.naga_below.specs.declared.valid.types.TypeInfo.{TypeInfo}
 use Rattle.naga_rules.specs.BuiltIns.{canonical, is_same_built_in}
-use Rattle.naga_rules.specs.Locations.{checks_bindings}
+use Rattle.naga_rules.specs.WhatIsChecked.{checks_bindings}
 use Rattle.naga_rules.specs.Meaning.{Meaning}
 use Rattle.naga_rules.specs.TypeInfos.{type_has}
 use Rattle.naga_rules.specs.Varyings.{Bound, is_built_in, member_part, member_parts, parts_of, unbound_parts}
-use Rattle.naga_valid.specs.EntryFaults.{EntryFault, fault_of}
-use Rattle.naga_valid.specs.EntryGlobals.{binding_at, binding_points, global_points, globals_points, immediate_points, is_bound_to, is_same_binding, is_some_use, is_taken_before, is_used, use_points}
-use Rattle.naga_valid.specs.EntryJudged.{interface_points, used_points}
-use Rattle.naga_valid.specs.EntryMesh.{mesh_points}
-use Rattle.naga_valid.specs.EntryUses.{payload_points, stage_points, with_own_uses}
-use Rattle.naga_valid.specs.EntryFacts.{IsUsedAt, BindingsAreDistinct, IsPosition, HasPositionMember, ReturnsPosition, AcceptedBindingsAreDistinct, AcceptedVertexHasPosition, AcceptedHasAcceptedFunction}
-use Rattle.naga_valid.specs.EntryVaryings.{are_blend_sources, argument_points, declared_points, has_built_in, result_parts, result_points, returned_points}
+use Rattle.naga_valid.specs.interface.Faults.{EntryFault, fault_of}
+use Rattle.naga_valid.specs.interface.Globals.{binding_at, binding_points, global_points, globals_points, immediate_points, is_bound_to, is_same_binding, is_some_use, is_taken_before, is_used, use_points}
+use Rattle.naga_valid.specs.interface.Judged.{interface_points, used_points}
+use Rattle.naga_valid.specs.interface.Mesh.{mesh_points}
+use Rattle.naga_valid.specs.interface.Uses.{payload_points, stage_points, with_own_uses}
+use Rattle.naga_valid.specs.interface.Facts.{IsUsedAt, BindingsAreDistinct, IsPosition, HasPositionMember, ReturnsPosition, AcceptedBindingsAreDistinct, AcceptedVertexHasPosition, AcceptedHasAcceptedFunction}
+use Rattle.naga_valid.specs.interface.Varyings.{are_blend_sources, argument_points, declared_points, has_built_in, result_parts, result_points, returned_points}
 use Rattle.naga_valid.specs.Judged.{FunctionOutcome}
 use Rattle.naga_valid.specs.declared.interface.EntryPointError.TheVariants.{MissingVertexOutputPosition}
 use Rattle.naga_valid.proofs.EntryAccepted.{accepted_entry, stages_are}

@@ -9,8 +9,8 @@ use Rattle.naga_below.specs.declared.ir.module.Module.{Module}
 use Rattle.naga_below.specs.declared.valid.flags.GlobalUse.{GlobalUse}
 use Rattle.naga_below.specs.declared.valid.flags.ValidationFlags.{ValidationFlags}
 use Rattle.naga_rules.specs.Meaning.{Meaning}
-use Rattle.naga_valid.specs.CodeAnswers.{Finds}
-use Rattle.naga_valid.specs.EntryGlobals.{binding_points, use_points, used_points, points_if_used, global_points}
+use Rattle.naga_valid.specs.walk.Answers.{Finds}
+use Rattle.naga_valid.specs.interface.Globals.{binding_points, use_points, used_points, points_if_used, global_points}
 use Rattle.naga_valid.specs.declared.interface.EntryPointError.{EntryPointError}
 use Rattle.naga_valid.proofs.Refusals.{fault_first, fault_second}
 

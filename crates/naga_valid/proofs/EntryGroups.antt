@@ -15,20 +15,21 @@ use Rattle.naga_below.specs.declared.ir.types.Type.{«Type» as IrType}
 use Rattle.naga_below.specs.declared.valid.info.FunctionInfo.{FunctionInfo}
 use Rattle.naga_below.specs.declared.valid.settings.Settings.{Settings}
 use Rattle.naga_below.specs.declared.valid.types.TypeInfo.{TypeInfo}
-use Rattle.naga_rules.specs.Locations.{carried_type, checks_bindings, interpolation_points, location_points, per_vertex_points, sharing_points}
+use Rattle.naga_rules.specs.Locations.{carried_type, interpolation_points, location_points, per_vertex_points, sharing_points}
+use Rattle.naga_rules.specs.WhatIsChecked.{checks_bindings}
 use Rattle.naga_rules.specs.Meaning.{Meaning}
-use Rattle.naga_rules.specs.VaryingFaults.{VaryingFault, Plain}
+use Rattle.naga_rules.specs.VaryingFaults.{VaryingFault, Itself}
 use Rattle.naga_rules.specs.Varyings.{Item, Part, Placed, Bound, BlendSources, UnboundMember, Unbound, blend_points, group_points_from, is_at, item_points, part_points, placed, placed_parts, placed_points, seen_at}
 use Rattle.naga_rules.specs.declared.varying.MeshOutputType.TheVariants.{VertexOutput, PrimitiveOutput}
 use Rattle.naga_rules.specs.declared.varying.VaryingPlace.{VaryingPlace}
-use Rattle.naga_valid.specs.CodeGroups.{parts_of_all}
-use Rattle.naga_valid.specs.EntryFaults.{EntryFault, OfArgument, OfResult, fault_of}
-use Rattle.naga_valid.specs.EntryGlobals.{globals_points}
-use Rattle.naga_valid.specs.EntryJudged.{interface_points}
-use Rattle.naga_valid.specs.EntryFacts.{TakesLocation, LocationsAreDistinct, GroupsAreDistinct, mesh_items, AcceptedLocationsAreDistinct}
-use Rattle.naga_valid.specs.EntryMesh.{mesh_points, said_points, variable_points}
-use Rattle.naga_valid.specs.EntryUses.{with_own_uses}
-use Rattle.naga_valid.specs.EntryVaryings.{argument_item, argument_points, declared_points, output_item, output_points, outputs_points, primitive_points, result_items, result_points, vertex_points}
+use Rattle.naga_valid.specs.walk.Groups.{parts_of_all}
+use Rattle.naga_valid.specs.interface.Faults.{EntryFault, OfArgument, OfResult, fault_of}
+use Rattle.naga_valid.specs.interface.Globals.{globals_points}
+use Rattle.naga_valid.specs.interface.Judged.{interface_points}
+use Rattle.naga_valid.specs.interface.Facts.{TakesLocation, LocationsAreDistinct, GroupsAreDistinct, mesh_items, AcceptedLocationsAreDistinct}
+use Rattle.naga_valid.specs.interface.Mesh.{mesh_points, said_points, variable_points}
+use Rattle.naga_valid.specs.interface.Uses.{with_own_uses}
+use Rattle.naga_valid.specs.interface.Varyings.{argument_item, argument_points, declared_points, output_item, output_points, outputs_points, primitive_points, result_items, result_points, vertex_points}
 use Rattle.naga_valid.proofs.EntryAccepted.{accepted_entry}
 use Rattle.naga_valid.proofs.EntryFacts.{none_within, arguments_hold, results_hold}
 use Rattle.naga_valid.proofs.Flat.{holds_at}
@@ -123,7 +124,7 @@ module _ (types : List IrType) (infos : List TypeInfo) where
       let carried = carried_type types ty i in
       let sharing = sharing_points place infos seen carried given f p in
       let rest = interpolation_points place types carried i s p in
-      let points = none_within Plain (location_points place types infos seen ty given i s f p) h in
+      let points = none_within Itself (location_points place types infos seen ty given i s f p) h in
       let behind = (first_holds _ _ (per_vertex_points place types ty i s ++ (sharing ++ rest)) points).1 in
       let shared = (both_hold sharing rest (both_hold (per_vertex_points place types ty i s) (sharing ++ rest) behind).1).0 in
       let free = may_free (checks_bindings place.flags) (list_any (λ (p : Placed). is_at given p.part) earlier) on (holds_at 4 sharing shared) in

@@ -13,9 +13,9 @@ use Rattle.naga_below.specs.declared.valid.settings.Settings.{Settings}
 use Rattle.naga_below.specs.declared.valid.types.TypeInfo.{TypeInfo}
 use Rattle.naga_rules.specs.Meaning.{Meaning}
 use Rattle.naga_rules.specs.declared.function.FunctionError.{FunctionError}
-use Rattle.naga_valid.specs.EntryFaults.{EntryFault, fault_of, Judges, RefusesFault, AnswersFault}
-use Rattle.naga_valid.specs.EntryJudged.{entry_judgement, of_function, interface_step, AnswersOutcome, RefusesEntry}
-use Rattle.naga_valid.specs.EntryStart.{start_points}
+use Rattle.naga_valid.specs.interface.Faults.{EntryFault, fault_of, Judges, RefusesFault, AnswersFault}
+use Rattle.naga_valid.specs.interface.Judged.{entry_judgement, of_function, interface_step, AnswersOutcome, RefusesEntry}
+use Rattle.naga_valid.specs.interface.Start.{start_points}
 use Rattle.naga_valid.specs.Judged.{FunctionOutcome, function_judgement}
 use Rattle.naga_valid.specs.declared.interface.EntryPointError.{EntryPointError}
 use Rattle.naga_valid.specs.declared.trace.TraceState.{TraceState}

@@ -9,8 +9,8 @@ use Rattle.naga_below.specs.declared.span.Refusal.TheVariants as refusal
 use Rattle.naga_rules.specs.VaryingFaults.{VaryingFault}
 use Rattle.naga_rules.specs.VaryingFaults as varying
 use Rattle.naga_rules.specs.declared.interface.VaryingError.{VaryingError}
-use Rattle.naga_valid.specs.EntryFaults.{EntryFault, OfArgument, OfResult, fault_of, Judges}
-use Rattle.naga_valid.specs.EntryPoints.{EntryPoints, Meets}
+use Rattle.naga_valid.specs.interface.Faults.{EntryFault, OfArgument, OfResult, fault_of, Judges}
+use Rattle.naga_valid.specs.interface.Points.{EntryPoints, Meets}
 use Rattle.naga_valid.specs.declared.interface.EntryPointError.{EntryPointError}
 use Rattle.naga_valid.specs.declared.interface.EntryPointError.TheVariants as fault
 use Rattle.naga_valid.proofs.Refusals.{fault_first, fault_second}

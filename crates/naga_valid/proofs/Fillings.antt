@@ -1,5 +1,6 @@
 -- The results that are filled and the stages that are left: as the code keeps them, and as the visits before say.
 use Rattle.std.proofs.Common.{◌≡◌, ℕ, suc, ◌+◌, ◌-◌, ◌<◌, ◌≤◌, ◌==◌, Bool, true, false, not, ◌&&◌, ◌||◌, List, [], ◌∷◌, ◌++◌, Option, None, Some, cond, refl, sym, ap, ◌∙◌, arith}
+use Rattle.std.specs.Prelude.{if◌then◌else◌}
 use Rattle.std.proofs.lemmas.List.Folds.{list_any-append}
 use Rattle.naga_below.specs.declared.valid.flags.ShaderStages.{ShaderStages}
 use Rattle.naga_rules.specs.declared.function.FunctionError.{FunctionError}
@@ -11,39 +12,28 @@ use Rattle.naga_runs.specs.Visits.{Visit}
 use Rattle.naga_valid.specs.Context.{Context}
 use Rattle.naga_valid.specs.WhatIsChecked.{checks_expressions}
 use Rattle.naga_valid.specs.Types.{expression_at}
-use Rattle.naga_valid.specs.Results.{result_of, is_this, is_to_fill, is_fresh, filled_before, is_unfilled, filled_points_from}
+use Rattle.naga_valid.specs.checks.Results.{result_of, is_this, fills, is_to_fill, is_fresh, filled_before, is_unfilled, filled_points_from}
 use Rattle.naga_valid.specs.Rules.{stages_behind, stages_left}
-use Rattle.naga_valid.specs.Scope.{in_scope, known}
-use Rattle.naga_valid.specs.State.{with_result, filled_from}
+use Rattle.naga_valid.specs.walk.State.{with_result}
 
 pub or_false : (b : Bool) → (b || false) ≡ b
 or_false true = refl
 or_false false = refl
 
-or_assoc : (a b c : Bool) → ((a || b) || c) ≡ (a || (b || c))
-or_assoc true b c = refl
-or_assoc false b c = refl
+or_chosen : (b c : Bool) → (if b then true else c) ≡ (c || b)
+or_chosen true true = refl
+or_chosen true false = refl
+or_chosen false true = refl
+or_chosen false false = refl
 
-pub with_is : (o : Option ℕ) (filled : List ℕ) (r : ℕ) → in_scope (with_result filled o) r ≡ (in_scope filled r || is_this r o)
-with_is None filled r = sym (or_false (in_scope filled r))
-with_is (Some q) filled r =
-    list_any-append (λ x. x == r) filled (q ∷ []) ∙ ap (λ b. in_scope filled r || b) (or_false (q == r))
-
-from_is : (filled : List ℕ) (visits : List Visit) (r : ℕ) → in_scope (filled_from filled visits) r ≡ (in_scope filled r || filled_before visits r)
-from_is filled [] r = sym (or_false (in_scope filled r))
-from_is filled (v ∷ visits) r =
-    from_is (with_result filled (result_of v.node)) visits r
-    ∙ ap (λ b. b || filled_before visits r) (with_is (result_of v.node) filled r)
-    ∙ or_assoc (in_scope filled r) (is_this r (result_of v.node)) (filled_before visits r)
-
--- the list has what the visits fill
-pub known_filled : (visits : List Visit) → known (filled_from [] visits) ≡ filled_before visits
-known_filled visits i r = from_is [] visits r i
+pub with_is : (o : Option ℕ) (filled : Handles) (r : ℕ) → with_result filled o r ≡ (filled r || is_this r o)
+with_is None filled r = sym (or_false (filled r))
+with_is (Some q) filled r = or_chosen (q == r) (filled r)
 
 -- one visit more
-pub filled_more : (filled : List ℕ) (visits : List Visit) (v : Visit) → filled_from filled (visits ++ (v ∷ [])) ≡ with_result (filled_from filled visits) (result_of v.node)
-filled_more filled [] v = refl
-filled_more filled (w ∷ visits) v = filled_more (with_result filled (result_of w.node)) visits v
+pub filled_more : (visits : List Visit) (v : Visit) → filled_before (visits ++ (v ∷ [])) ≡ with_result (filled_before visits) (result_of v.node)
+filled_more visits v i r =
+    (list_any-append (λ w. fills r w.node) visits (v ∷ []) ∙ ap (λ b. filled_before visits r || b) (or_false (fills r v.node)) ∙ sym (with_is (result_of v.node) (filled_before visits) r)) i
 
 pub stages_more : (context : Context) (stages : ShaderStages) (visits : List Visit) (v : Visit) →
     stages_left context stages (visits ++ (v ∷ [])) ≡ stages_behind context (stages_left context stages visits) v.node

@@ -23,7 +23,7 @@ use Rattle.naga_valid.specs.FunctionLaw.{AcceptedIsSound, AcceptedFillsOnce, Acc
 use Rattle.naga_valid.specs.Judged.{FunctionOutcome, context_with, judged_with, declarations_step, expressions_known, lower_step, function_judgement}
 use Rattle.naga_valid.specs.Shapes.{HasWholeSwitches}
 use Rattle.naga_valid.specs.Stages.{meet}
-use Rattle.naga_valid.specs.State.{state_left}
+use Rattle.naga_valid.specs.walk.State.{state_left}
 use Rattle.naga_valid.specs.declared.trace.TraceState.{TraceState}
 use Rattle.naga_valid.proofs.Accepted.{IsAccepted, accepted, accepted_fills_once, accepted_stages_of_all, accepted_stages_are_met, among_all, among_meet, meet_among_first, meet_among_second}
 use Rattle.naga_valid.proofs.Guarded.{accepted_is_sound}

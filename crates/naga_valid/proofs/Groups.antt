@@ -20,9 +20,9 @@ use Rattle.naga_rules.specs.VaryingFaults.{VaryingFault}
 use Rattle.naga_rules.specs.Varyings.{Item, Placed, placed_parts, item_points, group_points, group_points_from, points_from, seen_at}
 use Rattle.naga_rules.specs.declared.varying.MeshOutputType.{MeshOutputType}
 use Rattle.naga_rules.specs.declared.varying.VaryingPlace.{VaryingPlace}
-use Rattle.naga_valid.specs.CodeGroups.{parts_of_all}
-use Rattle.naga_valid.specs.EntryFaults.{EntryFault, OfResult, Other, Judges}
-use Rattle.naga_valid.specs.EntryVaryings.{is_struct, output_points, place_of}
+use Rattle.naga_valid.specs.walk.Groups.{parts_of_all}
+use Rattle.naga_valid.specs.interface.Faults.{EntryFault, OfResult, Other, Judges}
+use Rattle.naga_valid.specs.interface.Varyings.{is_struct, output_points, place_of}
 use Rattle.naga_valid.specs.declared.interface.EntryPointError.{EntryPointError}
 use Rattle.naga_valid.specs.declared.interface.EntryPointError.TheVariants as fault
 

@@ -23,14 +23,14 @@ use Rattle.naga_runs.specs.Soundness.{Fit, Allowed, RunsAreSound}
 use Rattle.naga_runs.specs.Visits.{Place}
 use Rattle.naga_valid.specs.Blocks.{body_of}
 use Rattle.naga_valid.specs.Context.{Context, pre_emitted}
-use Rattle.naga_valid.specs.CodeSwitch.{cases_points}
-use Rattle.naga_valid.specs.Control.{emit_points_from, is_bool_scalar, is_integer, value_points, values_of, declared_type, is_returned_as}
+use Rattle.naga_valid.specs.walk.Switch.{cases_points}
+use Rattle.naga_valid.specs.checks.Control.{emit_points_from, is_bool_scalar, is_integer, value_points, values_of, declared_type, is_returned_as}
 use Rattle.naga_valid.specs.Judged.{body_judgement}
 use Rattle.naga_valid.specs.Points.{Points, use_point, put_point, may_use, is_in_scope}
 use Rattle.naga_valid.specs.Past.{Past}
-use Rattle.naga_valid.specs.Results.{is_result, result_of}
+use Rattle.naga_valid.specs.checks.Results.{is_result, result_of}
 use Rattle.naga_valid.specs.Rules.{statement_points, points_at}
-use Rattle.naga_valid.specs.State.{State, seen, kept_rules, begin_state, state_left}
+use Rattle.naga_valid.specs.walk.State.{State, seen, kept_rules, begin_state, state_left}
 use Rattle.naga_valid.specs.Types.{expression_at, type_at, scalar_kind_at}
 use Rattle.naga_valid.proofs.Atomics.{atomic_named, atomic_fits}
 use Rattle.naga_valid.proofs.Calls.{call_holds, call_fits}
@@ -108,13 +108,6 @@ node_fits context past place (StatementNode (Return (Some v))) made e =
     let able = first_holds place.abilities.can_return InvalidReturnSpot (use_point place v ∷ type_point ∷ []) e in
     ((use_fits place v (type_point ∷ []) able.1, tt), able.0)
 node_fits context past place (StatementNode Kill) made e = (tt, tt)
-
--- a result that a statement names is not filled yet
-pub names_unfilled : (context : Context) (past : Past) (place : Place) (x : Stmt) → first_fault (statement_points context past place x) ≡ None → IfSome (result_of (StatementNode x)) (λ r. past.filled r ≡ false)
-names_unfilled context past place (Leaf acts (ir.Call f xs (Some r)) span) e = unfilled context past.filled r (call_holds context past.filled place f xs r e).2
-names_unfilled context past place (Leaf acts (ir.Atomic p f v (Some r)) span) e =
-    unfilled context past.filled r (atomic_named context past.filled place p f v (Some r) e).fresh
-names_unfilled context past place _ e = tt
 
 pub guards : (context : Context) → ReadGuards (kept_rules context) no_operands
 guards context st v made e = node_fits context (seen st) v.place v.node made e

@@ -8,10 +8,10 @@ use Rattle.naga_below.specs.declared.ir.operations.AtomicFunction.{AtomicFunctio
 use Rattle.naga_rules.specs.declared.function.FunctionError.TheVariants.{InvalidImageAtomic}
 use Rattle.naga_runs.specs.Soundness.{Fit}
 use Rattle.naga_runs.specs.Visits.{Place}
-use Rattle.naga_valid.specs.CodeImages.{changed_value_points, changed_class_points}
+use Rattle.naga_valid.specs.walk.Image.{changed_value_points, changed_class_points}
 use Rattle.naga_valid.specs.Context.{Context}
-use Rattle.naga_valid.specs.ImageAtomics.{changed_shape, format_points, image_atomic_points}
-use Rattle.naga_valid.specs.Images.{array_index_points, stored_format}
+use Rattle.naga_valid.specs.checks.ImageAtomic.{changed_shape, format_points, image_atomic_points}
+use Rattle.naga_valid.specs.checks.Image.{array_index_points, stored_format}
 use Rattle.naga_valid.specs.Points.{may_use, is_in_scope}
 use Rattle.naga_valid.proofs.Flat.{holds_at, holds_behind}
 use Rattle.naga_valid.proofs.Images.{index_fits}

@@ -9,9 +9,9 @@ use Rattle.naga_rules.specs.declared.function.FunctionError.{FunctionError}
 use Rattle.naga_rules.specs.declared.function.FunctionError.TheVariants.{InvalidImageStore}
 use Rattle.naga_runs.specs.Soundness.{Fit}
 use Rattle.naga_runs.specs.Visits.{Place}
-use Rattle.naga_valid.specs.CodeImages.{texel_value_points}
+use Rattle.naga_valid.specs.walk.Image.{texel_value_points}
 use Rattle.naga_valid.specs.Context.{Context}
-use Rattle.naga_valid.specs.Images.{array_index_points, stored_format, stored_shape, image_store_points}
+use Rattle.naga_valid.specs.checks.Image.{array_index_points, stored_format, stored_shape, image_store_points}
 use Rattle.naga_valid.specs.Points.{may_use, is_in_scope}
 use Rattle.naga_valid.proofs.Flat.{holds_at, holds_behind}
 

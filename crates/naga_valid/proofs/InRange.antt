@@ -10,7 +10,7 @@ use Rattle.naga_below.specs.declared.ir.expressions.Expression.TheVariants as e
 use Rattle.naga_below.specs.declared.ir.types.Type.{«Type» as IrType}
 use Rattle.naga_below.specs.declared.proc.typifier.TypeResolution.{TypeResolution}
 use Rattle.naga_below.specs.declared.proc.typifier.TypeResolution.TheVariants.{Handle, Value}
-use Rattle.naga_valid.specs.Atomics.{result_type_of, result_type_at}
+use Rattle.naga_valid.specs.checks.Atomic.{result_type_of, result_type_at}
 use Rattle.naga_valid.specs.Context.{Context, ContextFits}
 use Rattle.naga_valid.specs.Types.{expression_at, resolution_at, type_at}
 

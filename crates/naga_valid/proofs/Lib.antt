@@ -1,4 +1,4 @@
-pub mod Scopes
+pub mod Columns
 pub mod Lists
 pub mod Flat
 pub mod Fillings

@@ -1,14 +1,17 @@
 -- A part of a body that is ready to be judged is ready.
-use Rattle.std.proofs.Common.{◌≡◌, ℕ, ◌+◌, ◌<◌, Bool, Option, List, ◌∷◌, drop, get_or, length, subst, sym, ap, ◌∙◌}
+use Rattle.std.proofs.Common.{◌≡◌, ℕ, ◌+◌, ◌<◌, Bool, Option, IfSome, List, ◌∷◌, drop, get_or, length, subst, sym, ap, ◌∙◌}
 use Rattle.std.proofs.lemmas.List.{at_drop_more}
 use Rattle.naga_below.specs.Fits.{FitsFunction}
-use Rattle.naga_below.specs.FitsBody.{CalleeFits}
+use Rattle.naga_below.specs.FitsBody.{LeafFits}
 use Rattle.naga_below.specs.Tree.{Act, Stmt, Leaf, Block, Branch, Switch, Loop, Body, Then, Cases, OneCase}
 use Rattle.naga_below.specs.declared.ir.statements.Located.{Located}
 use Rattle.naga_below.specs.declared.ir.statements.Statement as ir
+use Rattle.naga_below.specs.declared.ir.statements.Statement.{Statement}
 use Rattle.naga_below.specs.declared.span.Span.{Span}
 use Rattle.naga_below.specs.declared.ir.statements.SwitchCase.{SwitchCase, out-SwitchCase}
 use Rattle.naga_below.specs.declared.ir.statements.SwitchValue.{SwitchValue}
+use Rattle.naga_runs.specs.Positions.{StatementNode}
+use Rattle.naga_valid.specs.checks.Results.{result_of}
 use Rattle.naga_valid.specs.Blocks.{tree_of, body_of, block_of, list_of, cases_of}
 use Rattle.naga_valid.specs.Context.{Context}
 use Rattle.naga_valid.specs.Ready.{IsStatementReady, IsBodyReady, AreCasesReady}
@@ -30,9 +33,16 @@ module _ (context : Context) where
   unfolding IsStatementReady IsBodyReady
   in_lists b d q r = (r.0, r.1)
 
-  pub in_call : (acts : List Act) (f : ℕ) (xs : List ℕ) (r : Option ℕ) (span : Span) → IsStatementReady context (Leaf acts (ir.Call f xs r) span) → CalleeFits context.program f
+  pub in_leaf : (acts : List Act) (statement : Statement) (span : Span) → IsStatementReady context (Leaf acts statement span) → LeafFits context.program (length context.fun.expressions) (length context.earlier.functions) statement
   unfolding IsStatementReady
-  in_call acts f xs r span ready = ready.1
+  in_leaf acts statement span ready = ready
+
+  -- the result that it fills is there
+  pub in_result : (x : Stmt) → IsStatementReady context x → IfSome (result_of (StatementNode x)) (λ r. r < length context.fun.expressions)
+  unfolding IsStatementReady
+  in_result (Leaf acts (ir.Call f xs r) span) ready = ready.3
+  in_result (Leaf acts (ir.Atomic p fun v r) span) ready = ready.3
+  in_result _ ready = tt
 
   first_and_rest : (x : Stmt) (b : Body) → IsBodyReady context (Then x b) → IsStatementReady context x × IsBodyReady context b
   unfolding IsStatementReady IsBodyReady

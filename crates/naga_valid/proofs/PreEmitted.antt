@@ -1,68 +1,49 @@
--- What is in scope before the first statement: as a list that a loop makes, and as the set that the judgement
--- begins with.
-use Rattle.std.proofs.Common.{◌≡◌, ℕ, zero, suc, ◌+◌, ◌<◌, ◌≤◌, ◌==◌, Some, Bool, true, false, ◌||◌, List, [], ◌∷◌, ◌++◌, length, take, get_or, slice_get, refl, ap, ◌∙◌, arith, length-take}
+-- What is in scope before the first statement, as a loop over the expressions puts it.
+use Rattle.std.proofs.Common.{◌≡◌, ℕ, zero, suc, ◌+◌, ◌<◌, ◌≤◌, ◌==◌, Some, None, Bool, true, false, List, [], ◌∷◌, length, take, get_or, slice_get, refl, sym, ap, ◌∙◌, arith}
+use Rattle.std.specs.Prelude.{if◌then◌else◌}
 use Rattle.std.proofs.lemmas.Bool.Decides.{nat_tests}
-use Rattle.std.proofs.lemmas.List.{take_more}
-use Rattle.naga_valid.specs.Context.{Context, if_pre_emitted, pre_emitted}
-use Rattle.naga_valid.specs.Scope.{in_scope, known}
-use Rattle.naga_valid.specs.Walk.{pick, pre_emitted_from}
 use Rattle.naga_below.specs.declared.ir.expressions.Expression.{Expression}
+use Rattle.naga_runs.specs.Handles.{Handles, with_handle}
+use Rattle.naga_valid.specs.Context.{if_pre_emitted}
 
-in_pick : (b : Bool) (h k : ℕ) (rest : List ℕ) → (h == k) ≡ false → in_scope (pick b h rest) k ≡ in_scope rest k
-in_pick true h k rest e = ap (λ c. c || in_scope rest k) e
-in_pick false h k rest e = refl
+-- those of these expressions that are in scope before the first statement
+abbrev pub pre_emitted_in : List Expression → Handles
+pre_emitted_in es h = if_pre_emitted (slice_get es h)
 
--- none is below the first handle, and none past the last
-below : (h k : ℕ) (es : List Expression) → k < h → in_scope (pre_emitted_from h es) k ≡ false
-below h k [] lt = refl
-below h k (e ∷ es) lt =
-    let other : (h == k) ≡ false = grind (arith, nat_tests) in
-    in_pick (if_pre_emitted (Some e)) h k (pre_emitted_from (h + 1) es) other ∙ below (h + 1) k es (omega arith)
+-- none of the first i is the one behind them
+pub is_new : (es : List Expression) (i : ℕ) → pre_emitted_in (take i es) i ≡ false
+is_new es zero = refl
+is_new [] (suc i) = refl
+is_new (e ∷ es) (suc i) = is_new es i
 
-past : (h k : ℕ) (es : List Expression) → h + length es ≤ k → in_scope (pre_emitted_from h es) k ≡ false
-past h k [] le = refl
-past h k (e ∷ es) le =
-    let other : (h == k) ≡ false = grind (arith, nat_tests) in
-    in_pick (if_pre_emitted (Some e)) h k (pre_emitted_from (h + 1) es) other ∙ past (h + 1) k es (omega arith)
+abbrev with_next : Bool → Bool → Bool → Bool
+with_next here b c = if here then b else c
 
-here : (b : Bool) (h : ℕ) (rest : List ℕ) → in_scope rest h ≡ false → in_scope (pick b h rest) h ≡ b
-here true h rest e = let same : (h == h) ≡ true = grind (arith, nat_tests) in ap (λ c. c || in_scope rest h) same
-here false h rest e = e
+step : (es : List Expression) (i h : ℕ) (d : Expression) → i < length es → pre_emitted_in (take (suc i) es) h ≡ with_next (i == h) (if_pre_emitted (Some (get_or es i d))) (pre_emitted_in (take i es) h)
+step [] i h d lt = absurd (omega arith)
+step (e ∷ es) zero zero d lt = refl
+step (e ∷ es) zero (suc h) d lt =
+    let other : (0 == suc h) ≡ false = grind (arith, nat_tests) in sym (ap (λ b. with_next b (if_pre_emitted (Some e)) false) other)
+step (e ∷ es) (suc i) zero d lt =
+    let other : (suc i == 0) ≡ false = grind (arith, nat_tests) in
+    sym (ap (λ b. with_next b (if_pre_emitted (Some (get_or es i d))) (if_pre_emitted (Some e))) other)
+step (e ∷ es) (suc i) (suc h) d lt =
+    let same : (i == h) ≡ (suc i == suc h) = grind (arith, nat_tests) in
+    step es i h d (omega arith) ∙ ap (λ b. with_next b (if_pre_emitted (Some (get_or es i d))) (pre_emitted_in (take i es) h)) same
 
-at_place : (h k : ℕ) (es : List Expression) → in_scope (pre_emitted_from h es) (h + k) ≡ if_pre_emitted (slice_get es k)
-at_place h k [] = refl
-at_place h zero (e ∷ es) =
-    let same : h + 0 ≡ h = omega arith in
-    ap (in_scope (pre_emitted_from h (e ∷ es))) same ∙ here (if_pre_emitted (Some e)) h (pre_emitted_from (h + 1) es) (below (h + 1) h es (omega arith))
-at_place h (suc k) (e ∷ es) =
-    let other : (h == h + suc k) ≡ false = grind (arith, nat_tests) in
-    let same : h + suc k ≡ (h + 1) + k = omega arith in
-    in_pick (if_pre_emitted (Some e)) h (h + suc k) (pre_emitted_from (h + 1) es) other ∙ ap (in_scope (pre_emitted_from (h + 1) es)) same ∙ at_place (h + 1) k es
+module _ (es : List Expression) (i : ℕ) (d : Expression) (lt : i < length es) where
+  one : (h : ℕ) (b : Bool) → if_pre_emitted (Some (get_or es i d)) ≡ b → pre_emitted_in (take (i + 1) es) h ≡ with_next (i == h) b (pre_emitted_in (take i es) h)
+  one h b e =
+      let next : i + 1 ≡ suc i = omega arith in
+      ap (λ k. pre_emitted_in (take k es) h) next ∙ step es i h d lt ∙ ap (λ c. with_next (i == h) c (pre_emitted_in (take i es) h)) e
 
-pub known_pre_emitted : (context : Context) → known (pre_emitted_from 0 context.fun.expressions) ≡ pre_emitted context
-known_pre_emitted context i k =
-    (let same : k ≡ 0 + k = omega arith in ap (in_scope (pre_emitted_from 0 context.fun.expressions)) same ∙ at_place 0 k context.fun.expressions) i
+  pub one_more : if_pre_emitted (Some (get_or es i d)) ≡ true → with_handle (pre_emitted_in (take i es)) i ≡ pre_emitted_in (take (i + 1) es)
+  one_more e j h = sym (one h true e) j
 
-pick_more : (b : Bool) (h : ℕ) (rest more : List ℕ) → pick b h (rest ++ more) ≡ pick b h rest ++ more
-pick_more true h rest more = refl
-pick_more false h rest more = refl
+  unchanged : (here b : Bool) → (here ≡ true → b ≡ false) → with_next here false b ≡ b
+  unchanged true b is = sym (is refl)
+  unchanged false b is = refl
 
-more : (h : ℕ) (es : List Expression) (e : Expression) → pre_emitted_from h (es ++ (e ∷ [])) ≡ pre_emitted_from h es ++ pick (if_pre_emitted (Some e)) (h + length es) []
-more h [] e = let same : h ≡ h + 0 = omega arith in ap (λ x. pick (if_pre_emitted (Some e)) x []) same
-more h (x ∷ es) e =
-    let same : (h + 1) + length es ≡ h + suc (length es) = omega arith in
-    ap (pick (if_pre_emitted (Some x)) h) (more (h + 1) es e ∙ ap (λ k. pre_emitted_from (h + 1) es ++ pick (if_pre_emitted (Some e)) k []) same)
-    ∙ pick_more (if_pre_emitted (Some x)) h (pre_emitted_from (h + 1) es) (pick (if_pre_emitted (Some e)) (h + suc (length es)) [])
-
-module _ (es : List Expression) (i : ℕ) (lt : i < length es) where
-  count : 0 + length (take i es) ≡ i
-  count = omega (arith, length-take {A = Expression})
-
-  pub is_new : in_scope (pre_emitted_from 0 (take i es)) i ≡ false
-  is_new = past 0 i (take i es) (omega (arith, count))
-
-  pub one_more : (d : Expression) (b : Bool) → if_pre_emitted (Some (get_or es i d)) ≡ b → pre_emitted_from 0 (take (i + 1) es) ≡ pre_emitted_from 0 (take i es) ++ pick b i []
-  one_more d b e =
-      ap (pre_emitted_from 0) (take_more es i d lt)
-      ∙ more 0 (take i es) (get_or es i d)
-      ∙ (λ j. pre_emitted_from 0 (take i es) ++ pick (e j) (count j) [])
+  pub none_more : if_pre_emitted (Some (get_or es i d)) ≡ false → pre_emitted_in (take i es) ≡ pre_emitted_in (take (i + 1) es)
+  none_more e j h =
+      sym (one h false e ∙ unchanged (i == h) (pre_emitted_in (take i es) h) (λ same. let is : i ≡ h = grind (arith, nat_tests) in ap (pre_emitted_in (take i es)) (sym is) ∙ is_new es i)) j

@@ -9,7 +9,7 @@ use Rattle.naga_runs.specs.Soundness.{Fit}
 use Rattle.naga_runs.specs.Visits.{Place}
 use Rattle.naga_valid.specs.Context.{Context}
 use Rattle.naga_valid.specs.Points.{may_use, is_in_scope}
-use Rattle.naga_valid.specs.RayQueries.{is_set, query_flag_at, query_function_points, ray_query_points}
+use Rattle.naga_valid.specs.checks.RayQuery.{is_set, query_flag_at, query_function_points, ray_query_points}
 use Rattle.naga_valid.proofs.Flat.{holds_at, holds_behind}
 
 module _ (context : Context) (place : Place) where

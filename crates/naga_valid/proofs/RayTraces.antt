@@ -7,7 +7,7 @@ use Rattle.naga_runs.specs.Soundness.{Fit}
 use Rattle.naga_runs.specs.Visits.{Place}
 use Rattle.naga_valid.specs.Context.{Context}
 use Rattle.naga_valid.specs.Points.{may_use, is_in_scope}
-use Rattle.naga_valid.specs.RayTraces.{trace_ray_points}
+use Rattle.naga_valid.specs.checks.RayTrace.{trace_ray_points}
 use Rattle.naga_valid.proofs.Flat.{holds_at}
 
 -- its uses are in scope

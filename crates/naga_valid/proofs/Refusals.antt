@@ -8,7 +8,7 @@ use Rattle.naga_below.specs.declared.span.Refusal.TheVariants as refusal
 use Rattle.naga_rules.specs.Answers.{Refuses}
 use Rattle.naga_rules.specs.declared.function.FunctionError.{FunctionError}
 use Rattle.naga_below.specs.Points.{and_then, Point, first_fault}
-use Rattle.naga_valid.specs.CodeAnswers.{AnswersPoints, AnswersLeaving, IsFirstFault, IsRefusalFor}
+use Rattle.naga_valid.specs.walk.Answers.{AnswersPoints, AnswersLeaving, IsFirstFault, IsRefusalFor}
 use Rattle.naga_valid.specs.Points.{Points}
 use Rattle.naga_valid.proofs.Lists.{first_fault-append}
 

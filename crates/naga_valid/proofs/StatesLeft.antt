@@ -4,17 +4,17 @@ use Rattle.naga_runs.specs.Positions.{Node, NoNode, StatementNode, BreakIfNode}
 use Rattle.naga_runs.specs.Visits.{Visit}
 use Rattle.naga_valid.specs.Context.{Context}
 use Rattle.naga_valid.specs.Past.{past_of}
-use Rattle.naga_valid.specs.Results.{result_of}
+use Rattle.naga_valid.specs.checks.Results.{result_of, filled_before}
 use Rattle.naga_valid.specs.Rules.{stages_behind}
-use Rattle.naga_valid.specs.State.{State, seen, with_result, state_behind, begin_state, state_left}
+use Rattle.naga_valid.specs.walk.State.{State, seen, with_result, state_behind, begin_state, state_left}
 use Rattle.naga_valid.specs.Traces.{payload_before, with_trace}
-use Rattle.naga_valid.proofs.Fillings.{known_filled, filled_more, stages_more}
+use Rattle.naga_valid.proofs.Fillings.{filled_more, stages_more}
 use Rattle.naga_valid.proofs.Traces.{no_trace, trace_more}
 
 -- the check lists are asked with the same
 pub seen_is : (context : Context) (visits : List Visit) → seen (state_left context visits) ≡ past_of context visits
 seen_is context visits i =
-    record { filled = known_filled visits i; payload = payload_before context.trace context visits }
+    record { filled = filled_before visits; payload = payload_before context.trace context visits }
 
 -- no visits leave what a body begins with
 pub left_by_none : (context : Context) → begin_state context ≡ state_left context []
@@ -35,5 +35,5 @@ behind context state (BreakIfNode h) = λ i. record state { trace = no_trace sta
 
 pub state_more : (context : Context) (visits : List Visit) (v : Visit) → state_left context (visits ++ (v ∷ [])) ≡ state_behind context (state_left context visits) v.node
 state_more context visits v =
-    (λ i. record { stages = stages_more context context.info.available_stages visits v i; filled = filled_more [] visits v i; trace = trace_more context.trace context visits v i })
+    (λ i. record { stages = stages_more context context.info.available_stages visits v i; filled = filled_more visits v i; trace = trace_more context.trace context visits v i })
     ∙ behind context (state_left context visits) v.node

@@ -11,7 +11,7 @@ use Rattle.naga_below.specs.Points.{first_fault}
 use Rattle.naga_runs.specs.Soundness.{Fit}
 use Rattle.naga_valid.specs.Context.{Context}
 use Rattle.naga_valid.specs.Points.{may_use, is_in_scope}
-use Rattle.naga_valid.specs.Stores.{access_base, root_within, store_points}
+use Rattle.naga_valid.specs.checks.Store.{access_base, root_within, store_points}
 use Rattle.naga_valid.proofs.Flat.{holds_at}
 
 module _ (es : List IrExpression) (earlier : NameEarlierExpressions es) where

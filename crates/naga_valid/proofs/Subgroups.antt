@@ -10,10 +10,10 @@ use Rattle.naga_below.specs.declared.ir.operations.GatherMode.TheVariants as gat
 use Rattle.naga_below.specs.declared.ir.operations.SubgroupOperation.{SubgroupOperation}
 use Rattle.naga_runs.specs.Soundness.{Fit}
 use Rattle.naga_runs.specs.Visits.{Place}
-use Rattle.naga_valid.specs.CodeSubgroups.{gathered_points}
+use Rattle.naga_valid.specs.walk.Subgroup.{gathered_points}
 use Rattle.naga_valid.specs.Context.{Context}
 use Rattle.naga_valid.specs.Points.{may_use, is_in_scope}
-use Rattle.naga_valid.specs.Subgroups.{ballot_points, collective_points, index_of, is_broadcast, index_points, gather_points}
+use Rattle.naga_valid.specs.checks.Subgroup.{ballot_points, collective_points, index_of, is_broadcast, index_points, gather_points}
 use Rattle.naga_valid.proofs.Flat.{holds_at, holds_behind}
 
 module _ (context : Context) (place : Place) where

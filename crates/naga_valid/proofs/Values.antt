@@ -16,7 +16,7 @@ use Rattle.naga_valid.specs.Blocks.{case_list}
 use Rattle.naga_below.specs.declared.ir.types.ScalarKind.{ScalarKind}
 use Rattle.naga_rules.specs.declared.function.FunctionError.{FunctionError}
 use Rattle.naga_rules.specs.declared.function.FunctionError.TheVariants.{ConflictingCaseType}
-use Rattle.naga_valid.specs.Control.{same_value, value_points, values_of, has_signedness_of, repeated_fault}
+use Rattle.naga_valid.specs.checks.Control.{same_value, value_points, values_of, has_signedness_of, repeated_fault}
 
 nats_by_order : (m n : ℕ) → is_eq (nat_cmp m n) ≡ (m == n)
 nats_by_order m n = grind (arith, nat_tests)

@@ -1,10 +1,8 @@
--- The judgement by the tree over the scope's list: one equation for each form of statement.
+-- The judgement by the tree over what is in scope: one equation for each form of statement.
 use Rattle.std.proofs.Common.{◌≡◌, ℕ, ◌+◌, ◌<◌, ◌≤◌, Bool, true, false, Option, Some, None, Result, Ok, List, [], ◌∷◌, ◌++◌, drop, get_or, length, refl, sym, ap, ◌∙◌, append-nil, append_assoc}
 use Rattle.std.proofs.lemmas.List.{at_drop_more, at_drop_all}
-use Rattle.std.proofs.lemmas.List.Folds.{list_any-append}
-use Rattle.std.specs.Prelude.{◌||◌, ◌==◌, if◌then◌else◌}
 use Rattle.naga_below.specs.Tree.{Act, Use, Put, Stmt, Leaf, Block, Branch, Switch, Loop, Break, Continue, Return, Kill, Body, Done, Then, Cases, NoCase, OneCase}
-use Rattle.naga_valid.specs.State.{State, seen, kept_rules, with_statement}
+use Rattle.naga_valid.specs.walk.State.{State, seen, kept_rules, with_statement}
 use Rattle.naga_below.specs.View as view
 use Rattle.naga_below.specs.View.{no_operands}
 use Rattle.naga_below.specs.declared.ir.statements.Block.{Block as Block_of}
@@ -20,73 +18,64 @@ use Rattle.naga_below.specs.declared.ir.statements.SwitchValue.{SwitchValue}
 use Rattle.naga_runs.specs.declared.Abilities.{Abilities}
 use Rattle.naga_runs.specs.Handles.{Handles, no_handles, with_handle}
 use Rattle.naga_runs.specs.Must.{with_sure}
-use Rattle.naga_runs.specs.PutsAndUses.{with_acts, with_body, acts_of}
+use Rattle.naga_runs.specs.PutsAndUses.{with_acts, with_body, acts_of, puts_of}
 use Rattle.naga_below.specs.Points.{first_fault, answer, and_then}
 use Rattle.naga_runs.specs.ByTree.{judge_visits, judge_body, judge_stmt, judge_parts, judge_cases, judge_break_if, IgnoresMust, case_abilities, loop_abilities, continuing_abilities}
 use Rattle.naga_runs.proofs.Judgements.{judge_done, judge_more, judge_own, judge_block, judge_branch, judge_switch, judge_loop, judge_no_case, judge_one_case}
 use Rattle.naga_runs.proofs.WithoutMust.{must_is_free}
 use Rattle.naga_rules.specs.Answers.{Refuses}
-use Rattle.naga_valid.specs.CodeAnswers.{IsFirstFault}
+use Rattle.naga_valid.specs.walk.Answers.{IsFirstFault}
 use Rattle.naga_valid.specs.Blocks.{emitted_operands, tree_of, block_of, list_of, cases_of}
 use Rattle.naga_valid.specs.Context.{Context}
-use Rattle.naga_valid.specs.Control.{break_if_points}
+use Rattle.naga_valid.specs.checks.Control.{break_if_points}
 use Rattle.naga_valid.specs.Rules.{statement_points}
-use Rattle.naga_valid.specs.CodePlace.{place_at}
-use Rattle.naga_valid.specs.Scope.{in_scope, known}
-use Rattle.naga_valid.specs.Walk.{puts_of, puts, body_puts, place, own_answer, parts_answer, stmt_answer, body_answer, cases_answer, break_if_answer}
+use Rattle.naga_valid.specs.walk.Place.{place_at}
+use Rattle.naga_valid.specs.walk.Table.{with_all}
+use Rattle.naga_valid.specs.walk.Walk.{puts, body_puts, place, own_answer, parts_answer, stmt_answer, body_answer, cases_answer, break_if_answer}
+use Rattle.naga_valid.proofs.Columns.{all-append}
 use Rattle.naga_valid.proofs.Refusals.{passes, stops_first, stops_next, answers_next}
 use Rattle.naga_rules.specs.declared.function.FunctionError.{FunctionError}
 
-or_put : (b c : Bool) → (c || (b || false)) ≡ (if b then true else c)
-or_put true true = refl
-or_put true false = refl
-or_put false true = refl
-or_put false false = refl
+acts_put : (acts : List Act) (s : Handles) → with_acts s acts ≡ with_all s (puts_of acts)
+acts_put [] s = refl
+acts_put (Use h ∷ acts) s = acts_put acts s
+acts_put (Put h ∷ acts) s = acts_put acts (with_handle s h)
 
-known_put : (s : List ℕ) (h : ℕ) → known (s ++ h ∷ []) ≡ with_handle (known s) h
-known_put s h i x = (list_any-append (λ y. y == x) s (h ∷ []) ∙ or_put (h == x) (in_scope s x)) i
-
-known_acts : (acts : List Act) (s : List ℕ) → known (s ++ puts_of acts) ≡ with_acts (known s) acts
-known_acts [] s = ap known (append-nil s)
-known_acts (Use h ∷ acts) s = known_acts acts s
-known_acts (Put h ∷ acts) s =
-    ap known (sym (append_assoc s (h ∷ []) (puts_of acts))) ∙ known_acts acts (s ++ h ∷ []) ∙ ap (λ k. with_acts k acts) (known_put s h)
-
-known_body : (b : Body) (s : List ℕ) → known (s ++ body_puts b) ≡ with_body (known s) b
+body_put : (b : Body) (s : Handles) → with_body s b ≡ with_all s (body_puts b)
 unfolding body_puts
-known_body Done s = ap known (append-nil s)
-known_body (Then x b) s =
-    ap known (sym (append_assoc s (puts x) (body_puts b))) ∙ known_body b (s ++ puts x) ∙ ap (λ k. with_body k b) (known_acts (acts_of x) s)
+body_put Done s = refl
+body_put (Then x b) s =
+    ap (λ t. with_body t b) (acts_put (acts_of x) s) ∙ body_put b (with_all s (puts x)) ∙ sym (all-append (puts x) (body_puts b) s)
 
 module _ (context : Context) where
   ignores : IgnoresMust (kept_rules context)
   ignores = record { points = λ st a s m n x. refl; advance = λ st a s m n x. refl }
 
   -- at another spelling of the scope, whatever every run has put
-  pub moved : (k : State) (a : Abilities) (s : List ℕ) (t m : Handles) (b : Body) → known s ≡ t →
+  pub moved : (k : State) (a : Abilities) (s t m : Handles) (b : Body) → s ≡ t →
       judge_body (kept_rules context) k (record { abilities = a; scope = t; must = m }) b ≡ body_answer context k a s b
   unfolding body_answer
   moved k a s t m b e =
       ap (λ h. judge_body (kept_rules context) k (record { abilities = a; scope = h; must = m }) b) (sym e)
-      ∙ must_is_free.body (kept_rules context) ignores k a (known s) m no_handles b
+      ∙ must_is_free.body (kept_rules context) ignores k a s m no_handles b
 
-  moved_break_if : (k : State) (a : Abilities) (s : List ℕ) (t m : Handles) (q : Option ℕ) → known s ≡ t →
+  moved_break_if : (k : State) (a : Abilities) (s t m : Handles) (q : Option ℕ) → s ≡ t →
       judge_break_if (kept_rules context) k (record { abilities = a; scope = t; must = m }) q ≡ break_if_answer context k a s q
   unfolding break_if_answer judge_break_if judge_visits Rattle.naga_runs.specs.ByTree.judge
   moved_break_if k a s t m None e = refl
   moved_break_if k a s t m q e =
       ap (λ h. judge_break_if (kept_rules context) k (record { abilities = a; scope = h; must = no_handles }) q) (sym e)
 
-module _ (context : Context) (k : State) (a : Abilities) (s : List ℕ) where
+module _ (context : Context) (k : State) (a : Abilities) (s : Handles) where
   pub body_done : body_answer context k a s Done ≡ Ok k
   unfolding body_answer
   body_done = judge_done (kept_rules context) k (place a s)
 
-  pub body_more : (x : Stmt) (b : Body) → body_answer context k a s (Then x b) ≡ and_then (stmt_answer context k a s x) (λ l. body_answer context l a (s ++ puts x) b)
+  pub body_more : (x : Stmt) (b : Body) → body_answer context k a s (Then x b) ≡ and_then (stmt_answer context k a s x) (λ l. body_answer context l a (with_all s (puts x)) b)
   unfolding body_answer stmt_answer
   body_more x b =
       judge_more (kept_rules context) k (place a s) x b
-      ∙ ap (λ (f : State → Result State FunctionError). and_then (judge_stmt (kept_rules context) k (place a s) x) f) (λ i l. moved context l a (s ++ puts x) (with_acts (known s) (acts_of x)) (with_acts no_handles (acts_of x)) b (known_acts (acts_of x) s) i)
+      ∙ ap (λ (f : State → Result State FunctionError). and_then (judge_stmt (kept_rules context) k (place a s) x) f) (λ i l. moved context l a (with_all s (puts x)) (with_acts s (acts_of x)) (with_acts no_handles (acts_of x)) b (sym (acts_put (acts_of x) s)) i)
 
   pub stmt_more : (x : Stmt) → stmt_answer context k a s x ≡ and_then (own_answer context k a s x) (λ l. parts_answer context l a s x)
   unfolding own_answer parts_answer stmt_answer
@@ -105,11 +94,11 @@ module _ (context : Context) (k : State) (a : Abilities) (s : List ℕ) where
   parts_switch h cs = judge_switch (kept_rules context) k (place a s) h cs
 
   pub parts_loop : (b d : Body) (q : Option ℕ) → parts_answer context k a s (Loop b d q)
-      ≡ and_then (body_answer context k (loop_abilities a) s b) (λ l. and_then (body_answer context l continuing_abilities (s ++ body_puts b) d) (λ m. break_if_answer context m a ((s ++ body_puts b) ++ body_puts d) q))
+      ≡ and_then (body_answer context k (loop_abilities a) s b) (λ l. and_then (body_answer context l continuing_abilities (with_all s (body_puts b)) d) (λ m. break_if_answer context m a (with_all (with_all s (body_puts b)) (body_puts d)) q))
   unfolding parts_answer body_answer
   parts_loop b d q =
       judge_loop (kept_rules context) k (place a s) b d q
-      ∙ ap (λ (f : State → Result State FunctionError). and_then (body_answer context k (loop_abilities a) s b) f) (λ i l. and_then (moved context l continuing_abilities (s ++ body_puts b) (with_body (known s) b) (with_sure no_handles b) d (known_body b s) i) (λ m. moved_break_if context m a ((s ++ body_puts b) ++ body_puts d) (with_body (with_body (known s) b) d) (with_body (with_sure no_handles b) d) q (known_body d (s ++ body_puts b) ∙ ap (λ t. with_body t d) (known_body b s)) i))
+      ∙ ap (λ (f : State → Result State FunctionError). and_then (body_answer context k (loop_abilities a) s b) f) (λ i l. and_then (moved context l continuing_abilities (with_all s (body_puts b)) (with_body s b) (with_sure no_handles b) d (sym (body_put b s)) i) (λ m. moved_break_if context m a (with_all (with_all s (body_puts b)) (body_puts d)) (with_body (with_body s b) d) (with_body (with_sure no_handles b) d) q (sym (ap (λ t. with_body t d) (body_put b s) ∙ body_put d (with_all s (body_puts b)))) i))
 
   pub cases_done : cases_answer context k a s NoCase ≡ Ok k
   unfolding cases_answer
@@ -120,22 +109,22 @@ module _ (context : Context) (k : State) (a : Abilities) (s : List ℕ) where
   cases_more v f b cs = judge_one_case (kept_rules context) k (place a s) v f b cs
 
   -- a statement with parts puts nothing itself
-  pub parts_later : (x : Stmt) → parts_answer context k a (s ++ puts x) x ≡ parts_answer context k a s x
+  pub parts_later : (x : Stmt) → parts_answer context k a (with_all s (puts x)) x ≡ parts_answer context k a s x
   unfolding parts_answer judge_parts judge_visits
   parts_later (Leaf acts st span) = refl
   parts_later (Return v) = refl
-  parts_later (Block b) = ap (λ l. parts_answer context k a l (Block b)) (append-nil s)
-  parts_later (Branch h p q) = ap (λ l. parts_answer context k a l (Branch h p q)) (append-nil s)
-  parts_later (Switch h cs) = ap (λ l. parts_answer context k a l (Switch h cs)) (append-nil s)
-  parts_later (Loop b d q) = ap (λ l. parts_answer context k a l (Loop b d q)) (append-nil s)
+  parts_later (Block b) = refl
+  parts_later (Branch h p q) = refl
+  parts_later (Switch h cs) = refl
+  parts_later (Loop b d q) = refl
   parts_later Break = refl
   parts_later Continue = refl
   parts_later Kill = refl
 
 -- what is left of a list, one step on and at the end
 module _ (context : Context) (xs : List Located) (i : ℕ) where
-  pub body_turn : (k : State) (a : Abilities) (s : List ℕ) (x : Located) → i < length xs → x ≡ get_or xs i x →
-      body_answer context k a s (list_of context (drop i xs)) ≡ and_then (stmt_answer context k a s (tree_of context x)) (λ l. body_answer context l a (s ++ puts (tree_of context x)) (list_of context (drop (i + 1) xs)))
+  pub body_turn : (k : State) (a : Abilities) (s : Handles) (x : Located) → i < length xs → x ≡ get_or xs i x →
+      body_answer context k a s (list_of context (drop i xs)) ≡ and_then (stmt_answer context k a s (tree_of context x)) (λ l. body_answer context l a (with_all s (puts (tree_of context x))) (list_of context (drop (i + 1) xs)))
   body_turn k a s x lt e =
       at_drop_more (λ l. body_answer context k a s (list_of context l)) xs i x lt
       ∙ ap (λ z. body_answer context k a s (list_of context (z ∷ drop (i + 1) xs))) (sym e)
@@ -151,22 +140,22 @@ module _ (context : Context) (xs : List Located) (i : ℕ) where
   unfolding body_puts
   puts_end le = at_drop_all (λ l. body_puts (list_of context l)) xs i le
 
-  pub body_end : (k : State) (a : Abilities) (s : List ℕ) → length xs ≤ i → body_answer context k a s (list_of context (drop i xs)) ≡ Ok k
+  pub body_end : (k : State) (a : Abilities) (s : Handles) → length xs ≤ i → body_answer context k a s (list_of context (drop i xs)) ≡ Ok k
   body_end k a s le = at_drop_all (λ l. body_answer context k a s (list_of context l)) xs i le ∙ body_done context k a s
 
 module _ (context : Context) (cs : List SwitchCase) (i : ℕ) where
-  pub cases_turn : (k : State) (a : Abilities) (s : List ℕ) (c : SwitchCase) → i < length cs → c ≡ get_or cs i c →
+  pub cases_turn : (k : State) (a : Abilities) (s : Handles) (c : SwitchCase) → i < length cs → c ≡ get_or cs i c →
       cases_answer context k a s (cases_of context (drop i cs)) ≡ and_then (body_answer context k a s (block_of context (out-SwitchCase c).body)) (λ l. cases_answer context l a s (cases_of context (drop (i + 1) cs)))
   cases_turn k a s c lt e =
       at_drop_more (λ l. cases_answer context k a s (cases_of context l)) cs i c lt
       ∙ ap (λ z. cases_answer context k a s (cases_of context (z ∷ drop (i + 1) cs))) (sym e)
       ∙ cases_more context k a s (out-SwitchCase c).value (out-SwitchCase c).fall_through (block_of context (out-SwitchCase c).body) (cases_of context (drop (i + 1) cs))
 
-  pub cases_end : (k : State) (a : Abilities) (s : List ℕ) → length cs ≤ i → cases_answer context k a s (cases_of context (drop i cs)) ≡ Ok k
+  pub cases_end : (k : State) (a : Abilities) (s : Handles) → length cs ≤ i → cases_answer context k a s (cases_of context (drop i cs)) ≡ Ok k
   cases_end k a s le = at_drop_all (λ l. cases_answer context k a s (cases_of context l)) cs i le ∙ cases_done context k a s
 
 -- a statement's own check list, and what it leaves
-module _ (context : Context) (k : State) (a : Abilities) (s : List ℕ) (x : Stmt) where
+module _ (context : Context) (k : State) (a : Abilities) (s : Handles) (x : Stmt) where
   pub own_passes : first_fault (statement_points context (seen k) (place a s) x) ≡ None → own_answer context k a s x ≡ Ok (with_statement context k x)
   unfolding own_answer Rattle.naga_runs.specs.ByTree.judge
   own_passes e = ap (λ o. answer o (with_statement context k x)) e
@@ -177,19 +166,19 @@ module _ (context : Context) (k : State) (a : Abilities) (s : List ℕ) (x : Stm
   own_refuses refusal.Memory h = tt
 
 -- a break condition
-pub break_if_passes : (context : Context) (k : State) (a : Abilities) (s : List ℕ) (q : Option ℕ) → first_fault (break_if_points context (place_at s) q) ≡ None → break_if_answer context k a s q ≡ Ok k
+pub break_if_passes : (context : Context) (k : State) (a : Abilities) (s : Handles) (q : Option ℕ) → first_fault (break_if_points context (place_at s) q) ≡ None → break_if_answer context k a s q ≡ Ok k
 unfolding break_if_answer judge_break_if judge_visits Rattle.naga_runs.specs.ByTree.judge
 break_if_passes context k a s None e = refl
 break_if_passes context k a s (Some h) e = ap (λ o. and_then (answer o k) (λ st. Ok st)) e
 
-pub break_if_refuses : (context : Context) (k : State) (a : Abilities) (s : List ℕ) (q : Option ℕ) (e : Refusal FunctionError) → IsFirstFault (break_if_points context (place_at s) q) e → Refuses (break_if_answer context k a s q) e
+pub break_if_refuses : (context : Context) (k : State) (a : Abilities) (s : Handles) (q : Option ℕ) (e : Refusal FunctionError) → IsFirstFault (break_if_points context (place_at s) q) e → Refuses (break_if_answer context k a s q) e
 unfolding break_if_answer judge_break_if judge_visits Rattle.naga_runs.specs.ByTree.judge
 break_if_refuses context k a s None (refusal.Fault f) i = ap (λ o. answer o k) i
 break_if_refuses context k a s (Some h) (refusal.Fault f) i = ap (λ o. and_then (answer o k) (λ st. Ok st)) i
 break_if_refuses context k a s q refusal.Memory i = tt
 
 -- a statement that is none of the kinds with parts
-pub no_parts : (context : Context) (k : State) (a : Abilities) (s : List ℕ) (st : Statement) (span : Span) →
+pub no_parts : (context : Context) (k : State) (a : Abilities) (s : Handles) (st : Statement) (span : Span) →
     ((b : Block_of) → st ≡ ir.Block b → ⊥) → ((h : ℕ) (p q : Block_of) → st ≡ ir.If h p q → ⊥) → ((h : ℕ) (cases : List SwitchCase) → st ≡ ir.Switch h cases → ⊥) → ((p q : Block_of) (last : Option ℕ) → st ≡ ir.Loop p q last → ⊥) →
     parts_answer context k a s (view.tree_of (emitted_operands context.fun) st span) ≡ Ok k
 unfolding parts_answer judge_parts judge_visits

@@ -10,7 +10,7 @@ use Rattle.naga_below.specs.declared.valid.info.ModuleInfo.{ModuleInfo}
 use Rattle.naga_runs.specs.Positions.{Node, StatementNode, node_at}
 use Rattle.naga_runs.specs.VisitOrder.{positions}
 use Rattle.naga_valid.specs.Blocks.{body_of}
-use Rattle.naga_valid.specs.Results.{is_this}
+use Rattle.naga_valid.specs.checks.Results.{is_this}
 use Rattle.naga_valid.specs.Rules.{callee_stages, stages_of}
 use Rattle.naga_valid.specs.Stages.{meet}
 

@@ -20,7 +20,7 @@ use Rattle.naga_valid.specs.Declarations.{declaration_points}
 use Rattle.naga_valid.specs.Expressions.{with_stages, expressions_step}
 use Rattle.naga_valid.specs.WhatIsChecked.{checks_blocks}
 use Rattle.naga_valid.specs.Points.{Points}
-use Rattle.naga_valid.specs.Results.{filled_before, filled_points}
+use Rattle.naga_valid.specs.checks.Results.{filled_before, filled_points}
 use Rattle.naga_valid.specs.Rules.{body_rules, stages_left}
 use Rattle.naga_valid.specs.Traces.{trace_after}
 use Rattle.naga_valid.specs.declared.trace.TraceState.{TraceState}

@@ -1,36 +1,16 @@
 pub mod Context
 pub mod Types
+pub mod Pointers
 pub mod Stages
-pub mod State
-pub mod Scope
+pub mod walk
 pub mod Points
 pub mod Rules
-pub mod CodeAnswers
-pub mod CodePlace
-pub mod Walk
-pub mod Control
-pub mod CodeSwitch
+pub mod checks
 pub mod WhatIsChecked
-pub mod Results
 pub mod Past
-pub mod Calls
-pub mod Atomics
-pub mod CodeAtomics
-pub mod Stores
-pub mod Loads
-pub mod Cooperative
-pub mod RayQueries
-pub mod RayTraces
 pub mod Traces
-pub mod Images
-pub mod ImageAtomics
-pub mod CodeImages
-pub mod Subgroups
-pub mod CodeSubgroups
-pub mod Barriers
 pub mod Ready
 pub mod Blocks
-pub mod Seen
 pub mod Judged
 pub mod Parts
 pub mod Accepted
@@ -39,17 +19,7 @@ pub mod FunctionLaw
 pub mod InOrder
 pub mod Declarations
 pub mod Expressions
-pub mod EntryPoints
-pub mod EntryStart
-pub mod EntryUses
-pub mod EntryGlobals
-pub mod CodeBindings
-pub mod CodeGroups
-pub mod EntryFaults
-pub mod EntryVaryings
-pub mod EntryMesh
-pub mod EntryJudged
-pub mod EntryFacts
+pub mod interface
 pub mod Chains
 pub use Rattle.naga_below.specs.Fits.{FitsTypes, FitsGlobals, FitsFunction, FitsEntry}
 pub use Rattle.naga_rules.specs.Answers.{Answers, Refuses}
@@ -65,5 +35,7 @@ pub use Rattle.naga_valid.specs.Judged.{FunctionOutcome, AnswersTracing}
 pub use Rattle.naga_valid.specs.Parts.{AreInfosOf}
 pub use Rattle.naga_valid.specs.WhatIsChecked.{checks_blocks, checks_expressions}
 unfoldable pub use Rattle.naga_valid.specs.Judged.{function_judgement}
-pub mod GlobalPoints
-pub mod EntryChains
+pub use Rattle.naga_valid.specs.interface.Chains.{AcceptedEntryIsSound, AcceptedEntryKeepsItsStage}
+pub use Rattle.naga_valid.specs.interface.Facts.{BindingsAreDistinct, BuiltInsAreDistinct, GroupsAreDistinct, ReturnsPosition}
+pub use Rattle.naga_valid.specs.interface.Judged.{HasPayloadSizes, AnswersEntry}
+unfoldable pub use Rattle.naga_valid.specs.interface.Judged.{entry_judgement}

@@ -3,7 +3,7 @@ use Rattle.std.specs.Prelude.{ℕ, List, Option}
 use Rattle.naga_runs.specs.Handles.{Handles}
 use Rattle.naga_runs.specs.Visits.{Visit}
 use Rattle.naga_valid.specs.Context.{Context}
-use Rattle.naga_valid.specs.Results.{filled_before}
+use Rattle.naga_valid.specs.checks.Results.{filled_before}
 use Rattle.naga_valid.specs.Traces.{payload_before}
 
 -- the results that they fill, and the payload type so far

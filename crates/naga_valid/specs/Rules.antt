@@ -12,22 +12,22 @@ use Rattle.naga_rules.specs.declared.function.FunctionError.{FunctionError}
 use Rattle.naga_runs.specs.Judgement.{Rules, by_earlier}
 use Rattle.naga_runs.specs.Positions.{Node, NoNode, StatementNode, BreakIfNode}
 use Rattle.naga_runs.specs.Visits.{Place, Visit}
-use Rattle.naga_valid.specs.Atomics.{atomic_points}
+use Rattle.naga_valid.specs.checks.Atomic.{atomic_points}
 use Rattle.naga_valid.specs.Past.{Past, past_of}
-use Rattle.naga_valid.specs.Barriers.{barrier_points}
-use Rattle.naga_valid.specs.Calls.{call_points}
+use Rattle.naga_valid.specs.checks.Barrier.{barrier_points}
+use Rattle.naga_valid.specs.checks.Call.{call_points}
 use Rattle.naga_valid.specs.Context.{Context}
-use Rattle.naga_valid.specs.Control.{emit_points, condition_points, switch_points, return_points, break_points, continue_points}
-use Rattle.naga_valid.specs.Cooperative.{cooperative_points}
-use Rattle.naga_valid.specs.ImageAtomics.{image_atomic_points}
-use Rattle.naga_valid.specs.Images.{image_store_points}
-use Rattle.naga_valid.specs.Loads.{load_points}
+use Rattle.naga_valid.specs.checks.Control.{emit_points, condition_points, switch_points, return_points, break_points, continue_points}
+use Rattle.naga_valid.specs.checks.Cooperative.{cooperative_points}
+use Rattle.naga_valid.specs.checks.ImageAtomic.{image_atomic_points}
+use Rattle.naga_valid.specs.checks.Image.{image_store_points}
+use Rattle.naga_valid.specs.checks.Load.{load_points}
 use Rattle.naga_valid.specs.Points.{Points}
-use Rattle.naga_valid.specs.RayQueries.{ray_query_points}
-use Rattle.naga_valid.specs.RayTraces.{trace_ray_points}
+use Rattle.naga_valid.specs.checks.RayQuery.{ray_query_points}
+use Rattle.naga_valid.specs.checks.RayTrace.{trace_ray_points}
 use Rattle.naga_valid.specs.Stages.{meet}
-use Rattle.naga_valid.specs.Stores.{store_points}
-use Rattle.naga_valid.specs.Subgroups.{ballot_points, collective_points, gather_points}
+use Rattle.naga_valid.specs.checks.Store.{store_points}
+use Rattle.naga_valid.specs.checks.Subgroup.{ballot_points, collective_points, gather_points}
 
 -- the check list of a statement that is neither a jump nor holds others, behind what the visits before it did
 abbrev pub leaf_points : Context → Past → Place → Statement → Points

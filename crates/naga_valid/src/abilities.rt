@@ -2,7 +2,7 @@
 
 ghost use Rattle.std.specs.Prelude.{◌≡◌};
 ghost use Rattle.naga_runs.specs.ByTree.{case_abilities, loop_abilities, continuing_abilities};
-ghost use Rattle.naga_valid.specs.Walk.{body_abilities};
+ghost use Rattle.naga_valid.specs.walk.Walk.{body_abilities};
 
 use naga_runs::Abilities;
 

@@ -35,7 +35,7 @@ pub struct BlockContext<'a> {
 }
 
 impl BlockContext<'_> {
-    ghost use Rattle.naga_valid.specs.Seen.{context_of};
+    ghost use Rattle.naga_valid.specs.walk.Seen.{context_of};
     ghost use Rattle.naga_valid.specs.Types.{expression_at, resolution_at, type_at, scalar_kind_at};
 
     /// The expression at a handle.

@@ -1,128 +1,148 @@
 //! The judgement of a body of statements: naga's `validate_block`.
 
-ghost use Rattle.std.specs.Prelude.{◌≡◌, ◌++◌, [], OnOk};
+ghost use Rattle.std.specs.Prelude.{◌≡◌, OnOk, length};
+ghost use Rattle.naga_runs.specs.Handles.{no_handles};
 ghost use Rattle.naga_runs.specs.Judgement.{viewed};
 ghost use Rattle.naga_rules.specs.Answers.{Answers};
-ghost use Rattle.naga_valid.specs.CodeAnswers.{AnswersLeaving};
+ghost use Rattle.naga_valid.specs.walk.Answers.{AnswersLeaving, AnswersState};
 ghost use Rattle.naga_valid.specs.Blocks.{tree_of, body_of, block_of, cases_of};
-ghost use Rattle.naga_valid.specs.Context.{ContextFits};
+ghost use Rattle.naga_valid.specs.Context.{ContextFits, pre_emitted};
 ghost use Rattle.naga_valid.specs.Judged.{body_judgement};
 ghost use Rattle.naga_valid.specs.Ready.{IsStatementReady, IsBodyReady, AreCasesReady};
-ghost use Rattle.naga_valid.specs.Seen.{context_of};
-ghost use Rattle.naga_valid.specs.State.{state_left, body_left};
-ghost use Rattle.naga_valid.specs.Walk.{pre_emitted_from, puts, body_puts, parts_answer, stmt_answer, body_answer, cases_answer};
+ghost use Rattle.naga_valid.specs.walk.Seen.{context_of};
+ghost use Rattle.naga_valid.specs.walk.State.{kept, state_left, body_left};
+ghost use Rattle.naga_valid.specs.walk.Table.{HasPut, IsTableOf, count, known, shown};
+ghost use Rattle.naga_valid.specs.walk.Walk.{puts, body_puts, parts_answer, stmt_answer, body_answer, cases_answer};
 
 use crate::abilities::{at_begin, in_case, in_continuing, in_loop};
 use crate::checks::refuse::answer_of_function;
 use crate::checks::results::check_filled;
-use crate::checks::statement::{check_break_if, check_points};
+use crate::checks::statement::{check_break_if, validate_points};
 use crate::context::BlockContext;
-use crate::handle_set::HandleSet;
-use crate::state::{BodyOutcome, BodyState, advance};
+use crate::refused::Refused;
+use crate::state::{BodyOutcome, advance};
+use crate::table::{ScopeColumn, Table};
 use naga_below::arena::handle::Handle;
 use naga_below::ir::statements::{Block, Located, Statement, SwitchCase};
 use naga_below::span::Refusal;
 use naga_rules::function::FunctionError;
 use naga_runs::Abilities;
-use std::alloc::{AllocError, Global};
+use std::alloc::Global;
 
 /// Judges the body of a function: the first fault in visit order, else the lowest result that is not filled, else what
-/// is left.
+/// is left. A table is kept for later functions, for its memory alone.
 pub fn validate_function_body(
     alloc: Global,
+    kept: &mut Option<Table>,
     context: &BlockContext,
 ) -> Result<BodyOutcome, Refusal<FunctionError>>
     requires context { ContextFits (context_of context.now) }
     requires ready { IsBodyReady (context_of context.now) (body_of (context_of context.now).fun) }
     ensures { Answers (body_left (context_of context.now) (body_judgement (context_of context.now))) result }
 {
-    let state = validate_body_statements(alloc, context)?;
-    answer_of_function(alloc, check_filled(&state.filled, context))?;
-    Ok(BodyOutcome {
-        stages: state.stages,
-        trace: state.trace,
-    })
+    let mut table = Table::take_or_new(alloc, kept)?;
+    let judged = validate_body(alloc, &mut table, context);
+    *kept = Some(table);
+    match judged {
+        Ok(outcome) => Ok(outcome),
+        Err(refused) => Err(refused.into_refusal()),
+    }
+}
+
+/// Judges a body over a table, of which nothing is read that was there before.
+fn validate_body(
+    alloc: Global,
+    table: &mut Table,
+    context: &BlockContext,
+) -> Result<BodyOutcome, Refused>
+    requires context { ContextFits (context_of context.now) }
+    requires ready { IsBodyReady (context_of context.now) (body_of (context_of context.now).fun) }
+    ensures { Answers (body_left (context_of context.now) (body_judgement (context_of context.now))) result }
+{
+    let state = validate_body_statements(table, context)?;
+    answer_of_function(alloc, check_filled(&table.filled, context))?;
+    Ok(state)
 }
 
 /// Judges the statements of a function's body.
 fn validate_body_statements(
-    alloc: Global,
+    table: &mut Table,
     context: &BlockContext,
-) -> Result<BodyState, Refusal<FunctionError>>
+) -> Result<BodyOutcome, Refused>
     requires context { ContextFits (context_of context.now) }
     requires ready { IsBodyReady (context_of context.now) (body_of (context_of context.now).fun) }
-    ensures { Answers (viewed (state_left (context_of context.now)) (body_judgement (context_of context.now))) result }
+    ensures { AnswersState (viewed (state_left (context_of context.now)) (body_judgement (context_of context.now)))
+        (kept table.new.filled) result }
 {
-    let mut scope = HandleSet::new(alloc);
-    put_pre_emitted(&mut scope, context)?;
-    let mut state = BodyState {
+    let count = context.fun.expressions.len();
+    table.scope.begin(count)?;
+    table.filled.begin(count)?;
+    put_pre_emitted(&mut table.scope, context);
+    let mut state = BodyOutcome {
         stages: context.info.available_stages,
-        filled: HandleSet::new(alloc),
         trace: context.trace,
     };
     let abilities = at_begin();
-    validate_statements(
-        &mut scope,
-        &mut state,
-        context,
-        abilities,
-        &context.fun.body,
-    )?;
+    validate_statements(table, &mut state, context, abilities, &context.fun.body)?;
     Ok(state)
 }
 
 /// Puts in scope what is there before the first statement.
-fn put_pre_emitted(scope: &mut HandleSet, context: &BlockContext) -> Result<(), AllocError>
-    requires { scope.old ≡ [] }
-    ensures { OnOk result (scope.new ≡ pre_emitted_from 0 (context_of context.now).fun.expressions) }
+fn put_pre_emitted(scope: &mut ScopeColumn, context: &BlockContext)
+    requires none { known scope.old ≡ no_handles }
+    requires count { count scope.old ≡ length (context_of context.now).fun.expressions }
+    ensures known { known scope.new ≡ pre_emitted (context_of context.now) }
+    ensures count { count scope.new ≡ count scope.old }
 {
     let count = context.fun.expressions.len() as u32;
     for index in 0..count {
         let handle = Handle::new(index);
         if context.fun.expressions[handle].needs_pre_emit() {
-            scope.put(handle)?;
+            scope.put(handle);
         }
     }
-    Ok(())
 }
 
 /// The parts of a statement.
 #[tactic(auto, using(crate::proofs::Walk::walking))]
 #[cycle(walk)]
 fn validate_parts(
-    scope: &mut HandleSet,
-    state: &mut BodyState,
+    table: &mut Table,
+    state: &mut BodyOutcome,
     context: &BlockContext,
     abilities: Abilities,
     located: &Located,
-) -> Result<(), Refusal<FunctionError>>
+) -> Result<(), Refused>
     requires context { ContextFits (context_of context.now) }
     requires ready { IsStatementReady (context_of context.now) (tree_of (context_of context.now) located.now) }
+    requires table { IsTableOf (context_of context.now) table.old }
     ensures fault { AnswersLeaving
-        (parts_answer (context_of context.now) state.old abilities scope.old (tree_of (context_of context.now) located.now))
-        state.new result }
-    ensures scope { OnOk result (scope.new ≡ scope.old) }
+        (parts_answer (context_of context.now) (kept table.old.filled state.old) abilities (known table.old.scope)
+        (tree_of (context_of context.now) located.now))
+        (kept table.new.filled state.new) result }
+    ensures table { OnOk result (IsTableOf (context_of context.now) table.new) }
+    ensures scope { OnOk result (shown table.new.scope ≡ shown table.old.scope) }
 {
     match &located.statement {
-        Statement::Block(body) => validate_block(scope, state, context, abilities, body),
+        Statement::Block(body) => validate_block(table, state, context, abilities, body),
         Statement::If { accept, reject, .. } => {
-            validate_block(scope, state, context, abilities, accept)?;
-            validate_block(scope, state, context, abilities, reject)
+            validate_block(table, state, context, abilities, accept)?;
+            validate_block(table, state, context, abilities, reject)
         }
         Statement::Switch { cases, .. } => {
             let abilities = in_case(abilities);
-            validate_cases(scope, state, context, abilities, cases.as_slice())
+            validate_cases(table, state, context, abilities, cases.as_slice())
         }
         Statement::Loop {
             body,
             continuing,
             break_if,
         } => {
-            let mark = scope.len();
-            validate_statements(scope, state, context, in_loop(abilities), body)?;
-            validate_statements(scope, state, context, in_continuing(), continuing)?;
-            check_break_if(scope, context, *break_if, located.span)?;
-            scope.shorten(mark);
+            let outer = table.scope.enter()?;
+            validate_statements(table, state, context, in_loop(abilities), body)?;
+            validate_statements(table, state, context, in_continuing(), continuing)?;
+            check_break_if(&table.scope, context, *break_if, located.span)?;
+            table.scope.leave(outer);
             Ok(())
         }
         _ => Ok(()),
@@ -132,21 +152,24 @@ fn validate_parts(
 /// A list of statements, whose puts stay in scope: naga's `validate_block_impl`.
 #[cycle(walk)]
 fn validate_statements(
-    scope: &mut HandleSet,
-    state: &mut BodyState,
+    table: &mut Table,
+    state: &mut BodyOutcome,
     context: &BlockContext,
     abilities: Abilities,
     block: &Block,
-) -> Result<(), Refusal<FunctionError>>
+) -> Result<(), Refused>
     requires context { ContextFits (context_of context.now) }
     requires ready { IsBodyReady (context_of context.now) (block_of (context_of context.now) block.now) }
+    requires table { IsTableOf (context_of context.now) table.old }
     ensures fault { AnswersLeaving
-        (body_answer (context_of context.now) state.old abilities scope.old (block_of (context_of context.now) block.now))
-        state.new result }
-    ensures scope { OnOk result (scope.new ≡ scope.old ++ body_puts (block_of (context_of context.now) block.now)) }
+        (body_answer (context_of context.now) (kept table.old.filled state.old) abilities (known table.old.scope)
+        (block_of (context_of context.now) block.now))
+        (kept table.new.filled state.new) result }
+    ensures table { OnOk result (IsTableOf (context_of context.now) table.new) }
+    ensures scope { OnOk result (HasPut table.old.scope table.new.scope (body_puts (block_of (context_of context.now) block.now))) }
 {
     for located in block.list.as_slice() {
-        validate_statement(scope, state, context, abilities, located)?;
+        validate_statement(table, state, context, abilities, located)?;
     }
     Ok(())
 }
@@ -154,64 +177,73 @@ fn validate_statements(
 /// One statement: its own check list, its stages, and then its parts.
 #[cycle(walk)]
 fn validate_statement(
-    scope: &mut HandleSet,
-    state: &mut BodyState,
+    table: &mut Table,
+    state: &mut BodyOutcome,
     context: &BlockContext,
     abilities: Abilities,
     located: &Located,
-) -> Result<(), Refusal<FunctionError>>
+) -> Result<(), Refused>
     requires context { ContextFits (context_of context.now) }
     requires ready { IsStatementReady (context_of context.now) (tree_of (context_of context.now) located.now) }
+    requires table { IsTableOf (context_of context.now) table.old }
     ensures fault { AnswersLeaving
-        (stmt_answer (context_of context.now) state.old abilities scope.old (tree_of (context_of context.now) located.now))
-        state.new result }
-    ensures scope { OnOk result (scope.new ≡ scope.old ++ puts (tree_of (context_of context.now) located.now)) }
+        (stmt_answer (context_of context.now) (kept table.old.filled state.old) abilities (known table.old.scope)
+        (tree_of (context_of context.now) located.now))
+        (kept table.new.filled state.new) result }
+    ensures table { OnOk result (IsTableOf (context_of context.now) table.new) }
+    ensures scope { OnOk result (HasPut table.old.scope table.new.scope (puts (tree_of (context_of context.now) located.now))) }
 {
-    check_points(scope, state, context, abilities, located)?;
-    advance(state, context, located)?;
-    validate_parts(scope, state, context, abilities, located)
+    validate_points(table, state, context, abilities, located)?;
+    advance(&mut table.filled, state, context, located);
+    validate_parts(table, state, context, abilities, located)
 }
 
 /// A list of statements in a scope of its own: naga's `validate_block`.
 #[cycle(walk)]
 fn validate_block(
-    scope: &mut HandleSet,
-    state: &mut BodyState,
+    table: &mut Table,
+    state: &mut BodyOutcome,
     context: &BlockContext,
     abilities: Abilities,
     block: &Block,
-) -> Result<(), Refusal<FunctionError>>
+) -> Result<(), Refused>
     requires context { ContextFits (context_of context.now) }
     requires ready { IsBodyReady (context_of context.now) (block_of (context_of context.now) block.now) }
+    requires table { IsTableOf (context_of context.now) table.old }
     ensures fault { AnswersLeaving
-        (body_answer (context_of context.now) state.old abilities scope.old (block_of (context_of context.now) block.now))
-        state.new result }
-    ensures scope { OnOk result (scope.new ≡ scope.old) }
+        (body_answer (context_of context.now) (kept table.old.filled state.old) abilities (known table.old.scope)
+        (block_of (context_of context.now) block.now))
+        (kept table.new.filled state.new) result }
+    ensures table { OnOk result (IsTableOf (context_of context.now) table.new) }
+    ensures scope { OnOk result (shown table.new.scope ≡ shown table.old.scope) }
 {
-    let mark = scope.len();
-    validate_statements(scope, state, context, abilities, block)?;
-    scope.shorten(mark);
+    let outer = table.scope.enter()?;
+    validate_statements(table, state, context, abilities, block)?;
+    table.scope.leave(outer);
     Ok(())
 }
 
 /// The bodies of a Switch's cases, in order.
 #[cycle(walk)]
 fn validate_cases(
-    scope: &mut HandleSet,
-    state: &mut BodyState,
+    table: &mut Table,
+    state: &mut BodyOutcome,
     context: &BlockContext,
     abilities: Abilities,
     cases: &[SwitchCase],
-) -> Result<(), Refusal<FunctionError>>
+) -> Result<(), Refused>
     requires context { ContextFits (context_of context.now) }
     requires ready { AreCasesReady (context_of context.now) (cases_of (context_of context.now) cases.now) }
+    requires table { IsTableOf (context_of context.now) table.old }
     ensures fault { AnswersLeaving
-        (cases_answer (context_of context.now) state.old abilities scope.old (cases_of (context_of context.now) cases.now))
-        state.new result }
-    ensures scope { OnOk result (scope.new ≡ scope.old) }
+        (cases_answer (context_of context.now) (kept table.old.filled state.old) abilities (known table.old.scope)
+        (cases_of (context_of context.now) cases.now))
+        (kept table.new.filled state.new) result }
+    ensures table { OnOk result (IsTableOf (context_of context.now) table.new) }
+    ensures scope { OnOk result (shown table.new.scope ≡ shown table.old.scope) }
 {
     for case in cases {
-        validate_block(scope, state, context, abilities, &case.body)?;
+        validate_block(table, state, context, abilities, &case.body)?;
     }
     Ok(())
 }

@@ -6,12 +6,14 @@ mod checks;
 mod context;
 mod declarations;
 mod function;
-mod handle_set;
 pub mod interface;
 pub mod laws;
 mod outcome;
+mod pointers;
+mod refused;
 mod stages;
 mod state;
+mod table;
 pub mod trace;
 pub mod validator;
 

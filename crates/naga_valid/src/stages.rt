@@ -3,7 +3,7 @@
 ghost use Rattle.std.specs.Prelude.{◌≡◌};
 ghost use Rattle.naga_valid.specs.Blocks.{tree_of};
 ghost use Rattle.naga_valid.specs.Rules.{callee_stages, stages_in};
-ghost use Rattle.naga_valid.specs.Seen.{context_of};
+ghost use Rattle.naga_valid.specs.walk.Seen.{context_of};
 
 use crate::context::BlockContext;
 use naga_below::arena::handle::Handle;

@@ -1,43 +1,31 @@
-//! What goes along the statements of a body.
+//! What goes along the statements of a body, beside the table.
 
-ghost use Rattle.std.specs.Prelude.{◌≡◌, ℕ, List, OnOk, IfSome, false};
+ghost use Rattle.std.specs.Prelude.{◌≡◌, ◌<◌, ℕ, List, IfSome};
 ghost use Rattle.naga_runs.specs.Positions.{StatementNode};
 ghost use Rattle.naga_below.specs.View.{tree_of};
 ghost use Rattle.naga_valid.specs.Blocks as in_context;
-ghost use Rattle.naga_valid.specs.Results.{result_of};
-ghost use Rattle.naga_valid.specs.Scope.{in_scope};
-ghost use Rattle.naga_valid.specs.Seen.{context_of};
-ghost use Rattle.naga_valid.specs.State.{with_statement};
+ghost use Rattle.naga_valid.specs.checks.Results.{result_of};
+ghost use Rattle.naga_valid.specs.walk.Seen.{context_of};
+ghost use Rattle.naga_valid.specs.walk.State.{kept, with_statement};
+ghost use Rattle.naga_valid.specs.walk.Table.{marked};
 
 use crate::checks::ray_trace::trace_of;
 use crate::context::BlockContext;
-use crate::handle_set::HandleSet;
 use crate::stages::stages_of;
+use crate::table::FilledColumn;
 use crate::trace::TraceState;
 use bitflags::Flags;
 use naga_below::arena::handle::Handle;
 use naga_below::arena::tag;
 use naga_below::ir::statements::{Located, Statement};
 use naga_below::valid::flags::ShaderStages;
-use std::alloc::AllocError;
 
-/// What the statements so far leave.
-#[derive(Drop)]
-pub struct BodyState {
-    /// The stages that all of them may run in.
-    pub stages: ShaderStages,
-    /// The results that they fill, none of them twice.
-    pub filled: HandleSet,
-    /// What ray traces leave, those of earlier functions too.
-    pub trace: TraceState,
-}
-
-/// What an accepted body leaves.
+/// What the statements so far leave, and behind the last one what an accepted body leaves.
 #[derive(Clone, Copy)]
 pub struct BodyOutcome {
-    /// The stages that the function may run in.
+    /// The stages that all of them may run in.
     pub stages: ShaderStages,
-    /// What ray traces leave.
+    /// What ray traces leave, those of earlier functions too.
     pub trace: TraceState,
 }
 
@@ -54,20 +42,22 @@ fn result_of(located: &Located) -> Option<Handle<tag::Expression>>
 
 /// What a statement leaves where none of its checks fails.
 pub fn advance(
-    state: &mut BodyState,
+    filled: &mut FilledColumn,
+    state: &mut BodyOutcome,
     context: &BlockContext,
     located: &Located,
-) -> Result<(), AllocError>
+)
     requires { IfSome
         (result_of (StatementNode (in_context.tree_of (context_of context.now) located.now)))
-        (λ r. in_scope state.old.filled r ≡ false) }
-    ensures { OnOk result (state.new
-        ≡ with_statement (context_of context.now) state.old (in_context.tree_of (context_of context.now) located.now)) }
+        (λ r. r < marked filled.old) }
+    ensures state { kept filled.new state.new
+        ≡ with_statement (context_of context.now) (kept filled.old state.old)
+        (in_context.tree_of (context_of context.now) located.now) }
+    ensures count { marked filled.new ≡ marked filled.old }
 {
     if let Some(handle) = result_of(located) {
-        state.filled.put(handle)?;
+        filled.fill(handle);
     }
     state.stages = state.stages.intersection(stages_of(context, located));
     state.trace = trace_of(context, state.trace, located);
-    Ok(())
 }

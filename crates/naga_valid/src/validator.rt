@@ -13,6 +13,7 @@ mod mesh;
 mod varyings;
 mod whole;
 
+use crate::table::Table;
 use crate::trace::{TraceRayVertexReturnState, TraceState};
 use bitflags::Flags;
 use naga_below::ir::module::Module;
@@ -32,6 +33,8 @@ pub struct Validator<B> {
     // none until they are given
     types: Option<Sequence<TypeInfo>>,
     trace: TraceState,
+    // kept from function to function for its memory alone, and none before the first
+    table: Option<Table>,
 }
 
 impl<B> Model for Validator<B> {
@@ -59,6 +62,7 @@ impl<B: Below> Validator<B> {
                 payload: None,
                 vertex_return: TraceRayVertexReturnState::NoTraceRays,
             },
+            table: None,
         }
     }
 
@@ -73,12 +77,14 @@ impl<B: Below> Validator<B> {
             settings,
             types: _,
             trace,
+            table,
         } = self;
         Validator {
             below,
             settings,
             types: Some(Sequence::from(types)),
             trace,
+            table,
         }
     }
 

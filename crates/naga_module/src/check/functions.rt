@@ -17,7 +17,7 @@ use naga_valid::validator::Validator;
 use std::alloc::Global;
 
 /// Judges the next function of a module, with the infos of those before it, and puts its info last.
-pub fn judge_function<B: Below>(
+fn judge_function<B: Below>(
     alloc: Global,
     validator: &mut Validator<B>,
     module: &Module,
@@ -32,6 +32,7 @@ pub fn judge_function<B: Below>(
         validator.old.trace infos.old (drop handle «module».now.functions)
         validator.new.trace infos.new (drop (handle + 1) «module».now.functions)) }
     ensures place { OnOk result (length infos.new.functions ≡ handle + 1) }
+    ensures entries { OnOk result (infos.new.entry_points ≡ infos.old.entry_points) }
     ensures refused { IfErr result (λ told. Stops (B.meaning validator.old.below) validator.old.settings validator.old.types «module».now
         validator.old.trace infos.old (drop handle «module».now.functions) told) }
     ensures kept { validator.new ≡ record validator.old { trace = validator.new.trace } }
@@ -64,6 +65,7 @@ pub fn judge_functions<B: Below>(
     ensures judged { OnOk result (Leads (B.meaning validator.old.below) validator.old.settings validator.old.types «module».now
         validator.old.trace infos.old «module».now.functions
         validator.new.trace infos.new []) }
+    ensures entries { OnOk result (infos.new.entry_points ≡ infos.old.entry_points) }
     ensures refused { IfErr result (λ told. Stops (B.meaning validator.old.below) validator.old.settings validator.old.types «module».now
         validator.old.trace infos.old «module».now.functions told) }
     ensures kept { validator.new ≡ record validator.old { trace = validator.new.trace } }

@@ -83,7 +83,14 @@ fn payload_use(stage: ShaderStage) -> GlobalUse
 {
     match stage {
         ShaderStage::Task => memory_use(),
-        _ => GlobalUse::READ.union(GlobalUse::QUERY),
+        ShaderStage::Vertex
+        | ShaderStage::Fragment
+        | ShaderStage::Compute
+        | ShaderStage::Mesh
+        | ShaderStage::RayGeneration
+        | ShaderStage::AnyHit
+        | ShaderStage::ClosestHit
+        | ShaderStage::Miss => GlobalUse::READ.union(GlobalUse::QUERY),
     }
 }
 

@@ -6,9 +6,9 @@ ghost use Rattle.naga_below.specs.FitsBody.{FitsCount};
 ghost use Rattle.naga_below.specs.Types.{NameEachOther};
 ghost use Rattle.naga_rules.specs.Answers.{AnswersPoints};
 ghost use Rattle.naga_rules.specs.CodeVaryings.{seen_less, seen_more, with_location};
-ghost use Rattle.naga_rules.specs.Locations.{checks_bindings};
+ghost use Rattle.naga_rules.specs.WhatIsChecked.{checks_bindings};
 ghost use Rattle.naga_rules.specs.declared.interface.VaryingError.TheVariants.{MissingBinding};
-ghost use Rattle.naga_rules.specs.VaryingFaults.{AnswersVaryings, Plain};
+ghost use Rattle.naga_rules.specs.VaryingFaults.{AnswersVaryings, Itself};
 ghost use Rattle.naga_rules.specs.Varyings.{Bound, bound_points, blend_points, member_part, member_parts, part_points, parts_of, points_behind, points_from, seen_in, seen_with};
 
 use crate::interface::VaryingError;
@@ -117,7 +117,7 @@ fn check_unbound_item(
 
 /// An item without binding that is no struct.
 fn check_unbound(context: &VaryingContext) -> Result<(), Refusal<VaryingError>>
-    ensures { AnswersVaryings ((not (checks_bindings context.now.place.now.flags), Plain MissingBinding) ∷ []) result }
+    ensures { AnswersVaryings ((not (checks_bindings context.now.place.now.flags), Itself MissingBinding) ∷ []) result }
 {
     if context.place.flags.contains(ValidationFlags::BINDINGS) {
         return Err(context.refusal(VaryingError::MissingBinding));

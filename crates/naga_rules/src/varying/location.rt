@@ -4,7 +4,8 @@ ghost use Rattle.std.specs.Prelude.{◌≡◌, ◌<◌, ◌||◌, ◌++◌, not,
 ghost use Rattle.std.specs.Result.{result_err};
 ghost use Rattle.naga_below.specs.Points.{first_fault};
 ghost use Rattle.naga_below.specs.Types.{NameEachOther, inner_at};
-ghost use Rattle.naga_rules.specs.Locations.{carried_type, checks_bindings, combination_points, go_together, interpolation_points, is_array_of_three, is_fragment_input, is_interpolated, kind_points, location_points, may_take, per_vertex_points, sharing_points};
+ghost use Rattle.naga_rules.specs.Locations.{carried_type, combination_points, go_together, interpolation_points, is_array_of_three, is_fragment_input, is_interpolated, kind_points, location_points, may_take, per_vertex_points, sharing_points};
+ghost use Rattle.naga_rules.specs.WhatIsChecked.{checks_bindings};
 ghost use Rattle.naga_rules.specs.Varyings.{seen_in};
 
 use crate::interface::VaryingError;

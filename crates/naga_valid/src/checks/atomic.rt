@@ -1,16 +1,16 @@
 //! The check list of Atomic.
 
-ghost use Rattle.std.specs.Prelude.{◌≡◌, ◌++◌, OnOk, Some, is_some};
+ghost use Rattle.std.specs.Prelude.{◌≡◌, ◌<◌, OnOk, IfSome, Some, is_some};
 ghost use Rattle.std.specs.Option.{option_copied};
 ghost use Rattle.naga_below.specs.View.{put_if};
-ghost use Rattle.naga_valid.specs.CodeAnswers.{Finds, AnswersPoints};
-ghost use Rattle.naga_valid.specs.Atomics.{atomic_scalar_at, is_int64, is_float32, is_min_or_max, is_plain_exchange, is_done_on_floats, is_storage, int64_capability, scalar_points, is_atomic_result, is_comparison, result_type_at, atomic_result_points, atomic_points};
-ghost use Rattle.naga_valid.specs.CodeAtomics.{operated_points, compared_points, uncompared_points};
+ghost use Rattle.naga_runs.specs.PutsAndUses.{puts_of};
+ghost use Rattle.naga_valid.specs.walk.Answers.{Finds, AnswersPoints};
+ghost use Rattle.naga_valid.specs.checks.Atomic.{atomic_scalar_at, is_int64, is_float32, is_min_or_max, is_plain_exchange, is_done_on_floats, is_storage, int64_capability, scalar_points, is_atomic_result, is_comparison, result_type_at, atomic_result_points, atomic_points};
+ghost use Rattle.naga_valid.specs.walk.Atomic.{operated_points, compared_points, uncompared_points};
 ghost use Rattle.naga_valid.specs.Context.{ContextFits};
-ghost use Rattle.naga_valid.specs.Scope.{known};
-ghost use Rattle.naga_valid.specs.CodePlace.{place_at};
-ghost use Rattle.naga_valid.specs.Seen.{context_of};
-ghost use Rattle.naga_valid.specs.Walk.{puts_of};
+ghost use Rattle.naga_valid.specs.walk.Place.{place_at};
+ghost use Rattle.naga_valid.specs.walk.Seen.{context_of};
+ghost use Rattle.naga_valid.specs.walk.Table.{HasPut, count, filled_in, known};
 
 use crate::checks::control::is_integer;
 use crate::checks::image::inner_at;
@@ -18,57 +18,63 @@ use crate::checks::refuse::{answer, check_put, check_use};
 use crate::checks::results::is_fresh;
 use crate::checks::types::{is_equivalent, is_exchange_struct, is_scalar};
 use crate::context::BlockContext;
-use crate::handle_set::HandleSet;
+use crate::refused::Refused;
+use crate::table::{FilledColumn, ScopeColumn};
 use naga_below::arena::handle::Handle;
 use naga_below::arena::tag;
 use naga_below::ir::expressions::Expression;
 use naga_below::ir::operations::AtomicFunction;
 use naga_below::ir::types::{AddressSpace, Scalar, ScalarKind, TypeInner};
-use naga_below::span::{Refusal, Span};
+use naga_below::span::Span;
 use naga_below::valid::capabilities::Capabilities;
 use naga_rules::function::{AtomicError, FunctionError};
 
+/// An atomic operation: where the atomic is, what is done to it, with which value, and the result that is named, if one is.
+#[derive(Clone, Copy)]
+pub struct AtomicOperation {
+    pub pointer: Handle<tag::Expression>,
+    pub fun: AtomicFunction,
+    pub value: Handle<tag::Expression>,
+    pub named: Option<Handle<tag::Expression>>,
+}
+
 /// Atomic: its pointer, its value and its result, which is in scope afterwards.
-pub fn check_atomic(
-    scope: &mut HandleSet,
-    filled: &HandleSet,
+pub fn validate_atomic(
+    scope: &mut ScopeColumn,
+    filled: &FilledColumn,
     context: &BlockContext,
-    pointer: Handle<tag::Expression>,
-    fun: &AtomicFunction,
-    value: Handle<tag::Expression>,
-    named: &Option<Handle<tag::Expression>>,
+    operation: &AtomicOperation,
     span: Span,
-) -> Result<(), Refusal<FunctionError>>
-    requires { ContextFits (context_of context.now) }
+) -> Result<(), Refused>
+    requires context { ContextFits (context_of context.now) }
+    requires result { IfSome operation.now.named (λ r. r < count scope.old) }
     ensures fault { AnswersPoints
-        (atomic_points (context_of context.now) (known filled.now) (place_at scope.old) pointer fun.now value named.now)
+        (atomic_points (context_of context.now) (filled_in filled.now) (place_at (known scope.old)) operation.now.pointer operation.now.fun operation.now.value operation.now.named)
         result }
-    ensures scope { OnOk result (scope.new ≡ scope.old ++ puts_of (put_if named.now)) }
+    ensures scope { OnOk result (HasPut scope.old scope.new (puts_of (put_if operation.now.named))) }
 {
     let alloc = scope.allocator();
-    let checked = validate_atomic(scope, filled, context, pointer, fun, value, *named);
+    let checked = check_atomic(scope, filled, context, operation);
     answer(alloc, checked, span)?;
-    if let Some(handle) = named {
-        scope.put(*handle)?;
+    if let Some(handle) = &operation.named {
+        scope.put(*handle);
     }
     Ok(())
 }
 
 /// All that is checked of an atomic operation. Its result stays out of scope.
-fn validate_atomic(
-    scope: &HandleSet,
-    filled: &HandleSet,
+fn check_atomic(
+    scope: &ScopeColumn,
+    filled: &FilledColumn,
     context: &BlockContext,
-    pointer: Handle<tag::Expression>,
-    fun: &AtomicFunction,
-    value: Handle<tag::Expression>,
-    named: Option<Handle<tag::Expression>>,
+    operation: &AtomicOperation,
 ) -> Result<(), FunctionError>
     requires { ContextFits (context_of context.now) }
     ensures { Finds
-        (atomic_points (context_of context.now) (known filled.now) (place_at scope.now) pointer fun.now value named)
+        (atomic_points (context_of context.now) (filled_in filled.now) (place_at (known scope.now)) operation.now.pointer operation.now.fun operation.now.value operation.now.named)
         result }
 {
+    let AtomicOperation { pointer, value, .. } = *operation;
     check_use(scope, pointer)?;
     let Some(TypeInner::Pointer { base, space }) = context.type_inner(pointer) else {
         return Err(FunctionError::InvalidAtomic(AtomicError::InvalidPointer(pointer)));
@@ -80,7 +86,7 @@ fn validate_atomic(
     if !is_scalar(*scalar, context.type_inner(value)) {
         return Err(FunctionError::InvalidAtomic(AtomicError::InvalidOperand(value)));
     }
-    check_operation(scope, filled, context, *scalar, *space, fun, value, named)
+    check_operation(scope, filled, context, *scalar, *space, operation)
 }
 
 /// The scalar of the atomic that an expression points to.
@@ -99,28 +105,26 @@ pub fn atomic_scalar(context: &BlockContext, pointer: Handle<tag::Expression>) -
 /// What the atomic's scalar asks for, and the result.
 #[tactic(auto, using(crate::proofs::Lists::appended))]
 fn check_operation(
-    scope: &HandleSet,
-    filled: &HandleSet,
+    scope: &ScopeColumn,
+    filled: &FilledColumn,
     context: &BlockContext,
     scalar: Scalar,
     space: AddressSpace,
-    fun: &AtomicFunction,
-    value: Handle<tag::Expression>,
-    named: Option<Handle<tag::Expression>>,
+    operation: &AtomicOperation,
 ) -> Result<(), FunctionError>
     requires { ContextFits (context_of context.now) }
     ensures { Finds
-        (operated_points (context_of context.now) (known filled.now) (place_at scope.now) scalar space fun.now value named)
+        (operated_points (context_of context.now) (filled_in filled.now) (place_at (known scope.now)) scalar space operation.now.fun operation.now.value operation.now.named)
         result }
 {
     check_scalar(
         context.settings.capabilities,
         scalar,
         &space,
-        fun,
-        named.is_some(),
+        &operation.fun,
+        operation.named.is_some(),
     )?;
-    check_atomic_result(scope, filled, context, scalar, fun, value, named)
+    check_atomic_result(scope, filled, context, scalar, operation)
 }
 
 /// What the atomic's scalar asks for.
@@ -200,23 +204,21 @@ fn is_done_on_floats(fun: &AtomicFunction) -> bool
 
 /// The result. An exchange that compares nothing has one.
 fn check_atomic_result(
-    scope: &HandleSet,
-    filled: &HandleSet,
+    scope: &ScopeColumn,
+    filled: &FilledColumn,
     context: &BlockContext,
     scalar: Scalar,
-    fun: &AtomicFunction,
-    value: Handle<tag::Expression>,
-    named: Option<Handle<tag::Expression>>,
+    operation: &AtomicOperation,
 ) -> Result<(), FunctionError>
     requires { ContextFits (context_of context.now) }
     ensures { Finds
-        (atomic_result_points (context_of context.now) (known filled.now) (place_at scope.now) scalar fun.now value named)
+        (atomic_result_points (context_of context.now) (filled_in filled.now) (place_at (known scope.now)) scalar operation.now.fun operation.now.value operation.now.named)
         result }
 {
-    match named {
-        Some(handle) => check_named(scope, filled, context, scalar, fun, value, handle),
+    match operation.named {
+        Some(handle) => check_named(scope, filled, context, scalar, operation, handle),
         None => {
-            if is_plain_exchange(fun) {
+            if is_plain_exchange(&operation.fun) {
                 return Err(FunctionError::InvalidAtomic(AtomicError::MissingReturnValue));
             }
             Ok(())
@@ -233,17 +235,16 @@ fn is_plain_exchange(fun: &AtomicFunction) -> bool
 
 /// The result that is named: an atomic result, fresh, of the right type, and not in scope yet.
 fn check_named(
-    scope: &HandleSet,
-    filled: &HandleSet,
+    scope: &ScopeColumn,
+    filled: &FilledColumn,
     context: &BlockContext,
     scalar: Scalar,
-    fun: &AtomicFunction,
-    value: Handle<tag::Expression>,
+    operation: &AtomicOperation,
     handle: Handle<tag::Expression>,
 ) -> Result<(), FunctionError>
     requires { ContextFits (context_of context.now) }
     ensures { Finds
-        (atomic_result_points (context_of context.now) (known filled.now) (place_at scope.now) scalar fun.now value (Some handle))
+        (atomic_result_points (context_of context.now) (filled_in filled.now) (place_at (known scope.now)) scalar operation.now.fun operation.now.value (Some handle))
         result }
 {
     if !is_atomic_result(context.expression(handle)) {
@@ -253,7 +254,8 @@ fn check_named(
     if !is_fresh(filled, context, handle) {
         return Err(FunctionError::InvalidAtomic(AtomicError::ResultAlreadyPopulated(handle)));
     }
-    match fun {
+    let value = operation.value;
+    match &operation.fun {
         AtomicFunction::Exchange {
             compare: Some(compare),
         } => check_compared(scope, context, scalar, *compare, value, handle),
@@ -269,7 +271,7 @@ fn is_atomic_result(expression: Option<&Expression>) -> bool
 
 /// Of a compare exchange: what is compared with, and a result of the struct that it gives, not in scope yet.
 fn check_compared(
-    scope: &HandleSet,
+    scope: &ScopeColumn,
     context: &BlockContext,
     scalar: Scalar,
     compare: Handle<tag::Expression>,
@@ -277,7 +279,7 @@ fn check_compared(
     handle: Handle<tag::Expression>,
 ) -> Result<(), FunctionError>
     requires { ContextFits (context_of context.now) }
-    ensures { Finds (compared_points (context_of context.now) (place_at scope.now) scalar compare value handle) result }
+    ensures { Finds (compared_points (context_of context.now) (place_at (known scope.now)) scalar compare value handle) result }
 {
     check_use(scope, compare)?;
     let program = context.program;
@@ -300,13 +302,13 @@ fn check_compared(
 
 /// Of any other operation: a result of the value's type, not in scope yet.
 fn check_uncompared(
-    scope: &HandleSet,
+    scope: &ScopeColumn,
     context: &BlockContext,
     value: Handle<tag::Expression>,
     handle: Handle<tag::Expression>,
 ) -> Result<(), FunctionError>
     requires { ContextFits (context_of context.now) }
-    ensures { Finds (uncompared_points (context_of context.now) (place_at scope.now) value handle) result }
+    ensures { Finds (uncompared_points (context_of context.now) (place_at (known scope.now)) value handle) result }
 {
     let program = context.program;
     if !is_equivalent(

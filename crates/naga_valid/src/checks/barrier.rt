@@ -1,19 +1,35 @@
 //! The check list of ControlBarrier and of MemoryBarrier.
 
 ghost use Rattle.std.specs.Prelude.{◌≡◌};
-ghost use Rattle.naga_valid.specs.CodeAnswers.{Finds};
-ghost use Rattle.naga_valid.specs.Barriers.{barrier_capabilities, barrier_points};
+ghost use Rattle.naga_valid.specs.walk.Answers.{AnswersPoints, Finds};
+ghost use Rattle.naga_valid.specs.checks.Barrier.{barrier_capabilities, barrier_points};
 
+use crate::checks::refuse::answer;
 use crate::checks::subgroup::check_operations;
+use crate::refused::Refused;
 use bitflags::Flags;
 use naga_below::ir::flags::Barrier;
+use naga_below::span::Span;
 use naga_below::valid::capabilities::Capabilities;
 use naga_below::valid::flags::SubgroupOperationSet;
 use naga_below::valid::settings::Settings;
 use naga_rules::function::FunctionError;
+use std::alloc::Global;
 
-/// ControlBarrier and MemoryBarrier: one of a subgroup needs what the target has.
-pub fn check_barrier(settings: &Settings, barrier: Barrier) -> Result<(), FunctionError>
+/// ControlBarrier and MemoryBarrier.
+pub fn check_barrier(
+    alloc: Global,
+    settings: &Settings,
+    barrier: Barrier,
+    span: Span,
+) -> Result<(), Refused>
+    ensures { AnswersPoints (barrier_points settings.now barrier) result }
+{
+    answer(alloc, check_barrier_points(settings, barrier), span)
+}
+
+/// A barrier of a subgroup needs what the target has.
+fn check_barrier_points(settings: &Settings, barrier: Barrier) -> Result<(), FunctionError>
     ensures { Finds (barrier_points settings.now barrier) result }
 {
     if !barrier.contains(Barrier::SUB_GROUP) {

@@ -1,55 +1,63 @@
 //! The check list of Call.
 
-ghost use Rattle.std.specs.Prelude.{◌≡◌, ◌<◌, ◌++◌, OnOk, All, length};
+ghost use Rattle.std.specs.Prelude.{◌≡◌, ◌<◌, OnOk, IfSome, All, length};
 ghost use Rattle.std.specs.Result.{result_err};
 ghost use Rattle.std.specs.Option.{option_copied, option_map};
 ghost use Rattle.naga_below.specs.FitsBody.{CalleeFits};
 ghost use Rattle.naga_below.specs.View.{put_if};
 ghost use Rattle.naga_rules.specs.declared.function.FunctionError.TheVariants.{InvalidCall};
-ghost use Rattle.naga_valid.specs.CodeAnswers.{Finds, AnswersPoints};
-ghost use Rattle.naga_valid.specs.Calls.{is_passed_as, argument_points, arguments_points, is_call_result_of, call_result_points, callee_points, call_points};
+ghost use Rattle.naga_runs.specs.PutsAndUses.{puts_of};
+ghost use Rattle.naga_valid.specs.walk.Answers.{Finds, AnswersPoints};
+ghost use Rattle.naga_valid.specs.checks.Call.{is_passed_as, argument_points, arguments_points, is_call_result_of, call_result_points, callee_points, call_points};
 ghost use Rattle.naga_valid.specs.Context.{ContextFits};
-ghost use Rattle.naga_valid.specs.Scope.{known};
-ghost use Rattle.naga_valid.specs.CodePlace.{place_at};
-ghost use Rattle.naga_valid.specs.Seen.{context_of};
-ghost use Rattle.naga_valid.specs.Walk.{puts_of};
+ghost use Rattle.naga_valid.specs.walk.Place.{place_at};
+ghost use Rattle.naga_valid.specs.walk.Seen.{context_of};
+ghost use Rattle.naga_valid.specs.walk.Table.{HasPut, count, filled_in, known};
 
 use crate::checks::refuse::answer;
 use crate::checks::results::is_fresh;
 use crate::context::BlockContext;
-use crate::handle_set::HandleSet;
+use crate::refused::Refused;
+use crate::table::{FilledColumn, ScopeColumn};
 use naga_below::arena::handle::Handle;
 use naga_below::arena::tag;
 use naga_below::ir::expressions::Expression;
 use naga_below::ir::functions::FunctionArgument;
 use naga_below::proc::type_methods::compare_types;
 use naga_below::proc::typifier::TypeResolution;
-use naga_below::span::{Refusal, Span};
+use naga_below::span::Span;
 use naga_below::valid::expression_error::ExpressionError;
 use naga_rules::function::{CallError, FunctionError};
 
+/// What a Call calls, and the result that it names, if it names one.
+#[derive(Clone, Copy)]
+pub struct CallSite {
+    pub function: Handle<tag::Function>,
+    pub named: Option<Handle<tag::Expression>>,
+}
+
 /// Call: its arguments and its result, which is in scope afterwards.
-pub fn check_call(
-    scope: &mut HandleSet,
-    filled: &HandleSet,
+pub fn validate_call(
+    scope: &mut ScopeColumn,
+    filled: &FilledColumn,
     context: &BlockContext,
-    function: Handle<tag::Function>,
+    site: &CallSite,
     arguments: &[Handle<tag::Expression>],
-    named: &Option<Handle<tag::Expression>>,
     span: Span,
-) -> Result<(), Refusal<FunctionError>>
+) -> Result<(), Refused>
     requires context { ContextFits (context_of context.now) }
-    requires callee { CalleeFits (context_of context.now).program function }
+    requires callee { CalleeFits (context_of context.now).program site.now.function }
+    requires result { IfSome site.now.named (λ r. r < count scope.old) }
     ensures fault { AnswersPoints
-        (call_points (context_of context.now) (known filled.now) (place_at scope.old) function arguments.now named.now)
+        (call_points (context_of context.now) (filled_in filled.now) (place_at (known scope.old)) site.now.function arguments.now site.now.named)
         result }
-    ensures scope { OnOk result (scope.new ≡ scope.old ++ puts_of (put_if named.now)) }
+    ensures scope { OnOk result (HasPut scope.old scope.new (puts_of (put_if site.now.named))) }
 {
     let alloc = scope.allocator();
-    let checked = validate_call(scope, filled, context, function, arguments, *named);
-    answer(alloc, in_call(function, checked), span)?;
-    if let Some(handle) = named {
-        scope.put(*handle)?;
+    let checked = check_call(scope, filled, context, site, arguments);
+    answer(alloc, in_call(site.function, checked), span)?;
+    if let Some(handle) = &site.named {
+        scope.put(*handle);
     }
     Ok(())
 }
@@ -68,39 +76,38 @@ fn in_call(
 }
 
 /// The arguments and the result of a call, which stays out of scope.
-fn validate_call(
-    scope: &HandleSet,
-    filled: &HandleSet,
+fn check_call(
+    scope: &ScopeColumn,
+    filled: &FilledColumn,
     context: &BlockContext,
-    function: Handle<tag::Function>,
+    site: &CallSite,
     arguments: &[Handle<tag::Expression>],
-    named: Option<Handle<tag::Expression>>,
 ) -> Result<(), CallError>
     requires context { ContextFits (context_of context.now) }
-    requires callee { CalleeFits (context_of context.now).program function }
+    requires callee { CalleeFits (context_of context.now).program site.now.function }
     ensures { Finds
-        (callee_points (context_of context.now) (known filled.now) (place_at scope.now) function arguments.now named)
+        (callee_points (context_of context.now) (filled_in filled.now) (place_at (known scope.now)) site.now.function arguments.now site.now.named)
         result }
 {
-    let callee = &context.program.functions[function];
+    let callee = &context.program.functions[site.function];
     let checked = check_arguments(scope, context, callee.arguments.as_slice(), arguments);
     if checked.is_err() {
         return checked;
     }
     let returns = callee.result.is_some();
-    check_call_result(scope, filled, context, function, returns, named)
+    check_call_result(scope, filled, context, site, returns)
 }
 
 /// As many arguments as are declared, each in scope and of its declared type.
 fn check_arguments(
-    scope: &HandleSet,
+    scope: &ScopeColumn,
     context: &BlockContext,
     declared: &[FunctionArgument],
     given: &[Handle<tag::Expression>],
 ) -> Result<(), CallError>
     requires context { ContextFits (context_of context.now) }
     requires types { All (λ argument. argument.ty < length (context_of context.now).program.types) declared.now }
-    ensures { Finds (arguments_points (context_of context.now) (place_at scope.now) declared.now given.now) result }
+    ensures { Finds (arguments_points (context_of context.now) (place_at (known scope.now)) declared.now given.now) result }
 {
     if declared.len() != given.len() {
         return Err(CallError::ArgumentCount {
@@ -116,7 +123,7 @@ fn check_arguments(
 
 /// An argument: in scope, and of its declared type.
 fn check_argument(
-    scope: &HandleSet,
+    scope: &ScopeColumn,
     context: &BlockContext,
     index: usize,
     declared: Handle<tag::Type>,
@@ -124,7 +131,7 @@ fn check_argument(
 ) -> Result<(), CallError>
     requires context { ContextFits (context_of context.now) }
     requires declared { declared < length (context_of context.now).program.types }
-    ensures { Finds (argument_points (context_of context.now) (place_at scope.now) index declared given) result }
+    ensures { Finds (argument_points (context_of context.now) (place_at (known scope.now)) index declared given) result }
 {
     if !scope.contains(given) {
         return Err(CallError::Argument {
@@ -165,23 +172,22 @@ fn is_passed_as(
 /// The result that a call names: not in scope yet, of the called function, which returns one, and fresh. A call that
 /// names none is of a function that returns none.
 fn check_call_result(
-    scope: &HandleSet,
-    filled: &HandleSet,
+    scope: &ScopeColumn,
+    filled: &FilledColumn,
     context: &BlockContext,
-    function: Handle<tag::Function>,
+    site: &CallSite,
     returns: bool,
-    named: Option<Handle<tag::Expression>>,
 ) -> Result<(), CallError>
     ensures { Finds
-        (call_result_points (context_of context.now) (known filled.now) (place_at scope.now) function returns named)
+        (call_result_points (context_of context.now) (filled_in filled.now) (place_at (known scope.now)) site.now.function returns site.now.named)
         result }
 {
-    match named {
+    match site.named {
         Some(handle) => {
             if scope.contains(handle) {
                 return Err(CallError::ResultAlreadyInScope(handle));
             }
-            if !is_call_result_of(function, context.expression(handle)) || !returns {
+            if !is_call_result_of(site.function, context.expression(handle)) || !returns {
                 return Err(CallError::ExpressionMismatch(Some(handle)));
             }
             if !is_fresh(filled, context, handle) {

@@ -1,22 +1,25 @@
 //! The check lists of Emit, If, Switch, Return, Break and Continue, and of a break condition.
 
-ghost use Rattle.std.specs.Prelude.{◌≡◌, ◌++◌, [], ◌∷◌, OnOk};
+ghost use Rattle.std.specs.Prelude.{◌≡◌, ◌≤◌, ◌++◌, [], ◌∷◌, OnOk};
 ghost use Rattle.std.specs.List.{list_any};
 ghost use Rattle.std.specs.Option.{option_copied};
-ghost use Rattle.naga_valid.specs.CodeSwitch.{selector_points, cases_points};
-ghost use Rattle.naga_valid.specs.Control.{emit_points, is_bool_scalar, condition_points, is_integer, has_signedness_of, is_default, repeated_fault, value_points, values_of, last_falls_through, switch_points, declared_type, is_returned_as, return_points, break_points, continue_points};
-ghost use Rattle.naga_valid.specs.Results.{is_result};
-ghost use Rattle.naga_valid.specs.CodePlace.{place_at};
-ghost use Rattle.naga_valid.specs.Walk.{handles_between, place};
-ghost use Rattle.naga_valid.specs.CodeAnswers.{Finds, AnswersPoints};
+ghost use Rattle.naga_valid.specs.walk.Switch.{selector_points, cases_points};
+ghost use Rattle.naga_valid.specs.checks.Control.{emit_points, is_bool_scalar, condition_points, is_integer, has_signedness_of, is_default, repeated_fault, value_points, values_of, last_falls_through, switch_points, declared_type, is_returned_as, return_points, break_points, continue_points};
+ghost use Rattle.naga_valid.specs.checks.Results.{is_result};
+ghost use Rattle.naga_valid.specs.walk.Place.{place_at};
+ghost use Rattle.naga_valid.specs.walk.Walk.{handles_between, place};
+ghost use Rattle.naga_runs.specs.Handles.{no_handles};
+ghost use Rattle.naga_valid.specs.walk.Answers.{Finds, AnswersPoints};
 ghost use Rattle.naga_valid.specs.Context.{ContextFits};
-ghost use Rattle.naga_valid.specs.Seen.{context_of};
+ghost use Rattle.naga_valid.specs.walk.Seen.{context_of};
 ghost use Rattle.naga_valid.specs.Blocks.{case_list};
+ghost use Rattle.naga_valid.specs.walk.Table.{HasPut, count, known};
 ghost use Rattle.naga_below.specs.declared.ir.statements.SwitchCase.{out-SwitchCase};
 
-use crate::checks::refuse::{answer, check_use, refusal};
+use crate::checks::refuse::{answer, check_use};
 use crate::context::BlockContext;
-use crate::handle_set::HandleSet;
+use crate::refused::Refused;
+use crate::table::ScopeColumn;
 use naga_below::arena::handle::Handle;
 use naga_below::arena::range::Range;
 use naga_below::arena::tag;
@@ -25,32 +28,33 @@ use naga_below::ir::statements::{SwitchCase, SwitchValue};
 use naga_below::ir::types::{Scalar, ScalarKind, TypeInner};
 use naga_below::proc::type_methods::compare_types;
 use naga_below::proc::typifier::TypeResolution;
-use naga_below::span::{Refusal, Span};
+use naga_below::span::Span;
 use naga_rules::function::FunctionError;
 use naga_runs::Abilities;
 use std::alloc::Global;
 use std::collections::BTreeSet;
 
 /// Emit: puts the expressions of a range in scope.
-pub fn check_emit(
-    scope: &mut HandleSet,
+pub fn validate_emit(
+    scope: &mut ScopeColumn,
     context: &BlockContext,
     range: Range,
     span: Span,
-) -> Result<(), Refusal<FunctionError>>
-    ensures fault { AnswersPoints (emit_points (context_of context.now) (place_at scope.old) range.start range.end) result }
-    ensures scope { OnOk result (scope.new ≡ scope.old ++ handles_between range.start range.end) }
+) -> Result<(), Refused>
+    requires { range.end ≤ count scope.old }
+    ensures fault { AnswersPoints (emit_points (context_of context.now) (place_at (known scope.old)) range.start range.end) result }
+    ensures scope { OnOk result (HasPut scope.old scope.new (handles_between range.start range.end)) }
 {
     for index in range.start..range.end {
         let handle = Handle::new(index);
         if is_result(context.expression(handle)) {
-            return Err(refusal(scope.allocator(), FunctionError::EmitResult(handle), span));
+            return Err(Refused::placed(scope.allocator(), FunctionError::EmitResult(handle), span));
         }
         if scope.contains(handle) {
             let fault = FunctionError::ExpressionAlreadyInScope(handle);
-            return Err(refusal(scope.allocator(), fault, span));
+            return Err(Refused::placed(scope.allocator(), fault, span));
         }
-        scope.put(handle)?;
+        scope.put(handle);
     }
     Ok(())
 }
@@ -74,11 +78,23 @@ fn is_result(expression: Option<&Expression>) -> bool
 
 /// If, and the break condition of a Loop: a boolean in scope.
 pub fn check_condition(
-    scope: &HandleSet,
+    scope: &ScopeColumn,
+    context: &BlockContext,
+    condition: Handle<tag::Expression>,
+    span: Span,
+) -> Result<(), Refused>
+    ensures { AnswersPoints (condition_points (context_of context.now) (place_at (known scope.now)) condition) result }
+{
+    let checked = check_condition_points(scope, context, condition);
+    answer(scope.allocator(), checked, span)
+}
+
+fn check_condition_points(
+    scope: &ScopeColumn,
     context: &BlockContext,
     condition: Handle<tag::Expression>,
 ) -> Result<(), FunctionError>
-    ensures { Finds (condition_points (context_of context.now) (place_at scope.now) condition) result }
+    ensures { Finds (condition_points (context_of context.now) (place_at (known scope.now)) condition) result }
 {
     check_use(scope, condition)?;
     if !is_bool_scalar(context.type_inner(condition)) {
@@ -101,13 +117,27 @@ fn is_bool_scalar(inner: Option<&TypeInner>) -> bool
 
 /// Return: allowed here, and its value in scope and of the function's result type.
 pub fn check_return(
-    scope: &HandleSet,
+    scope: &ScopeColumn,
+    context: &BlockContext,
+    abilities: Abilities,
+    value: Option<Handle<tag::Expression>>,
+    span: Span,
+) -> Result<(), Refused>
+    requires { ContextFits (context_of context.now) }
+    ensures { AnswersPoints (return_points (context_of context.now) (place abilities (known scope.now)) value) result }
+{
+    let checked = check_return_points(scope, context, abilities, value);
+    answer(scope.allocator(), checked, span)
+}
+
+fn check_return_points(
+    scope: &ScopeColumn,
     context: &BlockContext,
     abilities: Abilities,
     value: Option<Handle<tag::Expression>>,
 ) -> Result<(), FunctionError>
     requires { ContextFits (context_of context.now) }
-    ensures { Finds (return_points (context_of context.now) (place abilities scope.now) value) result }
+    ensures { Finds (return_points (context_of context.now) (place abilities (known scope.now)) value) result }
 {
     if !abilities.can_return {
         return Err(FunctionError::InvalidReturnSpot);
@@ -168,34 +198,36 @@ fn is_returned_as(
 }
 
 /// Break: allowed here.
-pub fn check_break(abilities: Abilities) -> Result<(), FunctionError>
-    ensures { Finds (break_points (place abilities [])) result }
+pub fn check_break(alloc: Global, abilities: Abilities, span: Span) -> Result<(), Refused>
+    ensures { AnswersPoints (break_points (place abilities no_handles)) result }
 {
     if !abilities.can_break {
-        return Err(FunctionError::BreakOutsideOfLoopOrSwitch);
+        let fault = FunctionError::BreakOutsideOfLoopOrSwitch;
+        return Err(Refused::placed(alloc, fault, span));
     }
     Ok(())
 }
 
 /// Continue: allowed here.
-pub fn check_continue(abilities: Abilities) -> Result<(), FunctionError>
-    ensures { Finds (continue_points (place abilities [])) result }
+pub fn check_continue(alloc: Global, abilities: Abilities, span: Span) -> Result<(), Refused>
+    ensures { AnswersPoints (continue_points (place abilities no_handles)) result }
 {
     if !abilities.can_continue {
-        return Err(FunctionError::ContinueOutsideOfLoop);
+        let fault = FunctionError::ContinueOutsideOfLoop;
+        return Err(Refused::placed(alloc, fault, span));
     }
     Ok(())
 }
 
 /// Switch: its selector, each case value, and the cases as a whole.
 pub fn check_switch(
-    scope: &HandleSet,
+    scope: &ScopeColumn,
     context: &BlockContext,
     selector: Handle<tag::Expression>,
     cases: &[SwitchCase],
     span: Span,
-) -> Result<(), Refusal<FunctionError>>
-    ensures { AnswersPoints (switch_points (context_of context.now) (place_at scope.now) selector (case_list cases.now)) result }
+) -> Result<(), Refused>
+    ensures { AnswersPoints (switch_points (context_of context.now) (place_at (known scope.now)) selector (case_list cases.now)) result }
 {
     let alloc = scope.allocator();
     answer(alloc, check_selector(scope, context, selector), span)?;
@@ -204,11 +236,11 @@ pub fn check_switch(
 }
 
 fn check_selector(
-    scope: &HandleSet,
+    scope: &ScopeColumn,
     context: &BlockContext,
     selector: Handle<tag::Expression>,
 ) -> Result<(), FunctionError>
-    ensures { Finds (selector_points (context_of context.now) (place_at scope.now) selector) result }
+    ensures { Finds (selector_points (context_of context.now) (place_at (known scope.now)) selector) result }
 {
     check_use(scope, selector)?;
     if !is_integer(context.scalar_kind(selector)) {
@@ -230,17 +262,17 @@ fn check_values(
     selector: Option<ScalarKind>,
     cases: &[SwitchCase],
     span: Span,
-) -> Result<(), Refusal<FunctionError>>
+) -> Result<(), Refused>
     ensures { AnswersPoints (value_points selector [] (values_of (case_list cases.now))) result }
 {
     let mut earlier = BTreeSet::new(alloc);
     for case in cases {
         if !has_signedness_of(selector, case.value) {
-            return Err(refusal(alloc, FunctionError::ConflictingCaseType, span));
+            return Err(Refused::placed(alloc, FunctionError::ConflictingCaseType, span));
         }
         let is_new = earlier.insert(case.value)?;
         if !is_new {
-            return Err(refusal(alloc, repeated_fault(case.value), span));
+            return Err(Refused::placed(alloc, repeated_fault(case.value), span));
         }
     }
     Ok(())

@@ -1,30 +1,48 @@
 //! The check list of CooperativeStore.
 
 ghost use Rattle.std.specs.Prelude.{◌≡◌};
-ghost use Rattle.naga_valid.specs.CodeAnswers.{Finds};
+ghost use Rattle.naga_valid.specs.walk.Answers.{AnswersPoints, Finds};
 ghost use Rattle.naga_valid.specs.Context.{ContextFits};
-ghost use Rattle.naga_valid.specs.Cooperative.{matrix_scalar_at, base_scalar_at, cooperative_points};
-ghost use Rattle.naga_valid.specs.CodePlace.{place_at};
-ghost use Rattle.naga_valid.specs.Seen.{context_of};
+ghost use Rattle.naga_valid.specs.checks.Cooperative.{matrix_scalar_at, base_scalar_at, cooperative_points};
+ghost use Rattle.naga_valid.specs.walk.Place.{place_at};
+ghost use Rattle.naga_valid.specs.walk.Seen.{context_of};
+ghost use Rattle.naga_valid.specs.walk.Table.{known};
 
-use crate::checks::refuse::check_use;
-use crate::checks::store::{base_type, is_writable};
+use crate::checks::refuse::{answer, check_use};
 use crate::context::BlockContext;
-use crate::handle_set::HandleSet;
+use crate::pointers::{base_type, is_writable};
+use crate::refused::Refused;
+use crate::table::ScopeColumn;
 use naga_below::arena::handle::Handle;
 use naga_below::arena::tag;
 use naga_below::ir::types::{Scalar, TypeInner};
+use naga_below::span::Span;
 use naga_rules::function::FunctionError;
 
-/// CooperativeStore: its target, a cooperative matrix; the pointer points to its scalar, and its space takes stores.
+/// CooperativeStore: its target and its pointer.
 pub fn check_cooperative_store(
-    scope: &HandleSet,
+    scope: &ScopeColumn,
+    context: &BlockContext,
+    target: Handle<tag::Expression>,
+    pointer: Handle<tag::Expression>,
+    span: Span,
+) -> Result<(), Refused>
+    requires { ContextFits (context_of context.now) }
+    ensures { AnswersPoints (cooperative_points (context_of context.now) (place_at (known scope.now)) target pointer) result }
+{
+    let checked = check_cooperative_store_points(scope, context, target, pointer);
+    answer(scope.allocator(), checked, span)
+}
+
+/// A target, which is a cooperative matrix; the pointer points to its scalar, and its space takes stores.
+fn check_cooperative_store_points(
+    scope: &ScopeColumn,
     context: &BlockContext,
     target: Handle<tag::Expression>,
     pointer: Handle<tag::Expression>,
 ) -> Result<(), FunctionError>
     requires { ContextFits (context_of context.now) }
-    ensures { Finds (cooperative_points (context_of context.now) (place_at scope.now) target pointer) result }
+    ensures { Finds (cooperative_points (context_of context.now) (place_at (known scope.now)) target pointer) result }
 {
     check_use(scope, target)?;
     let Some(scalar) = matrix_scalar(context, target) else {

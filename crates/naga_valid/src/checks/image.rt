@@ -3,18 +3,19 @@
 ghost use Rattle.std.specs.Prelude.{◌≡◌};
 ghost use Rattle.std.specs.Option.{option_copied};
 ghost use Rattle.naga_below.specs.Types.{inner_at};
-ghost use Rattle.naga_valid.specs.CodeAnswers.{Finds};
-ghost use Rattle.naga_valid.specs.CodeImages.{image_fault, coordinate_points, texel_points};
+ghost use Rattle.naga_valid.specs.walk.Answers.{Finds};
+ghost use Rattle.naga_valid.specs.walk.Image.{image_fault, coordinate_points, texel_points};
 ghost use Rattle.naga_rules.specs.Globals.{element_of};
-ghost use Rattle.naga_valid.specs.Images.{global_type_at, image_global_at, is_dimension, is_integer_scalar, array_index_points};
-ghost use Rattle.naga_valid.specs.CodePlace.{place_at};
-ghost use Rattle.naga_valid.specs.Seen.{context_of};
+ghost use Rattle.naga_valid.specs.checks.Image.{global_type_at, image_global_at, is_dimension, is_integer_scalar, array_index_points};
+ghost use Rattle.naga_valid.specs.walk.Place.{place_at};
+ghost use Rattle.naga_valid.specs.walk.Seen.{context_of};
+ghost use Rattle.naga_valid.specs.walk.Table.{known};
 
 use crate::checks::control::is_integer;
 use crate::checks::refuse::check_use;
 use crate::checks::store::access_base;
 use crate::context::BlockContext;
-use crate::handle_set::HandleSet;
+use crate::table::ScopeColumn;
 use naga_below::arena::handle::Handle;
 use naga_below::arena::tag;
 use naga_below::ir::expressions::Expression;
@@ -101,14 +102,14 @@ pub fn element_of(inner: Option<&TypeInner>) -> Option<Handle<tag::Type>>
 #[tactic(auto, using(crate::proofs::Lists::appended))]
 pub fn check_texel(
     statement: ImageStatement,
-    scope: &HandleSet,
+    scope: &ScopeColumn,
     context: &BlockContext,
     dim: ImageDimension,
     arrayed: bool,
     texel: Texel,
 ) -> Result<(), FunctionError>
     ensures { Finds
-        (texel_points statement (context_of context.now) (place_at scope.now) dim arrayed texel.coordinate texel.array_index)
+        (texel_points statement (context_of context.now) (place_at (known scope.now)) dim arrayed texel.coordinate texel.array_index)
         result }
 {
     check_coordinate(statement, scope, context, dim, texel.coordinate)?;
@@ -118,12 +119,12 @@ pub fn check_texel(
 /// The coordinate: in scope, and of the image's dimension.
 fn check_coordinate(
     statement: ImageStatement,
-    scope: &HandleSet,
+    scope: &ScopeColumn,
     context: &BlockContext,
     dim: ImageDimension,
     coordinate: Handle<tag::Expression>,
 ) -> Result<(), FunctionError>
-    ensures { Finds (coordinate_points statement (context_of context.now) (place_at scope.now) dim coordinate) result }
+    ensures { Finds (coordinate_points statement (context_of context.now) (place_at (known scope.now)) dim coordinate) result }
 {
     check_use(scope, coordinate)?;
     let given = match context.type_inner(coordinate) {
@@ -149,13 +150,13 @@ fn is_dimension(dim: ImageDimension, given: Option<ImageDimension>) -> bool
 /// The array index: there where the image is arrayed, in scope, and an integer.
 fn check_array_index(
     statement: ImageStatement,
-    scope: &HandleSet,
+    scope: &ScopeColumn,
     context: &BlockContext,
     arrayed: bool,
     array_index: Option<Handle<tag::Expression>>,
 ) -> Result<(), FunctionError>
     ensures { Finds
-        (array_index_points (image_fault statement) (context_of context.now) (place_at scope.now) arrayed array_index)
+        (array_index_points (image_fault statement) (context_of context.now) (place_at (known scope.now)) arrayed array_index)
         result }
 {
     match array_index {

@@ -3,31 +3,52 @@
 ghost use Rattle.std.specs.Prelude.{◌≡◌, ◌++◌};
 ghost use Rattle.std.specs.Option.{option_copied};
 ghost use Rattle.naga_below.specs.Types.{inner_at};
-ghost use Rattle.naga_valid.specs.CodeAnswers.{Finds};
-ghost use Rattle.naga_valid.specs.CodeImages.{changed_points, changed_format_points, changed_value_points, changed_class_points};
-ghost use Rattle.naga_valid.specs.ImageAtomics.{element_or_itself, is_done_on_texels, operation_points, format_points, image_atomic_points};
-ghost use Rattle.naga_valid.specs.CodePlace.{place_at};
-ghost use Rattle.naga_valid.specs.Seen.{context_of};
+ghost use Rattle.naga_valid.specs.walk.Answers.{AnswersPoints, Finds};
+ghost use Rattle.naga_valid.specs.walk.Image.{changed_points, changed_format_points, changed_value_points, changed_class_points};
+ghost use Rattle.naga_valid.specs.checks.ImageAtomic.{element_or_itself, is_done_on_texels, operation_points, format_points, image_atomic_points};
+ghost use Rattle.naga_valid.specs.walk.Place.{place_at};
+ghost use Rattle.naga_valid.specs.walk.Seen.{context_of};
+ghost use Rattle.naga_valid.specs.walk.Table.{known};
 
 use crate::checks::atomic::is_min_or_max;
 use crate::checks::image::{ImageStatement, Texel, check_texel, image_global, inner_at};
-use crate::checks::refuse::check_use;
+use crate::checks::refuse::{answer, check_use};
 use crate::checks::types::is_scalar;
 use crate::context::BlockContext;
-use crate::handle_set::HandleSet;
+use crate::refused::Refused;
+use crate::table::ScopeColumn;
 use naga_below::arena::handle::Handle;
 use naga_below::arena::tag;
 use naga_below::ir::flags::StorageAccess;
 use naga_below::ir::operations::AtomicFunction;
 use naga_below::ir::types::{ImageClass, ImageDimension, Scalar, StorageFormat, TypeInner};
+use naga_below::span::Span;
 use naga_below::valid::capabilities::Capabilities;
 use naga_below::valid::expression_error::ExpressionError;
 use naga_rules::function::FunctionError;
 
 /// ImageAtomic: its image, the texel, the operation, and the value.
-#[tactic(auto, using(crate::proofs::Lists::appended))]
 pub fn check_image_atomic(
-    scope: &HandleSet,
+    scope: &ScopeColumn,
+    context: &BlockContext,
+    image: Handle<tag::Expression>,
+    texel: Texel,
+    fun: &AtomicFunction,
+    value: Handle<tag::Expression>,
+    span: Span,
+) -> Result<(), Refused>
+    ensures { AnswersPoints
+        (image_atomic_points (context_of context.now) (place_at (known scope.now)) image texel.coordinate texel.array_index fun.now value)
+        result }
+{
+    let checked = check_image_atomic_points(scope, context, image, texel, fun, value);
+    answer(scope.allocator(), checked, span)
+}
+
+/// All that is checked of an operation on a texel.
+#[tactic(auto, using(crate::proofs::Lists::appended))]
+fn check_image_atomic_points(
+    scope: &ScopeColumn,
     context: &BlockContext,
     image: Handle<tag::Expression>,
     texel: Texel,
@@ -35,7 +56,7 @@ pub fn check_image_atomic(
     value: Handle<tag::Expression>,
 ) -> Result<(), FunctionError>
     ensures { Finds
-        (image_atomic_points (context_of context.now) (place_at scope.now) image texel.coordinate texel.array_index fun.now value)
+        (image_atomic_points (context_of context.now) (place_at (known scope.now)) image texel.coordinate texel.array_index fun.now value)
         result }
 {
     let Some(ty) = image_global(context, image) else {
@@ -70,7 +91,7 @@ fn changed_type<'a>(context: &BlockContext<'a>, ty: Handle<tag::Type>) -> Option
 /// The texel, which comes before what is asked of the image.
 #[tactic(auto, using(crate::proofs::Lists::appended))]
 fn check_changed_image(
-    scope: &HandleSet,
+    scope: &ScopeColumn,
     context: &BlockContext,
     dim: ImageDimension,
     arrayed: bool,
@@ -80,7 +101,7 @@ fn check_changed_image(
     value: Handle<tag::Expression>,
 ) -> Result<(), FunctionError>
     ensures { Finds
-        (changed_points (context_of context.now) (place_at scope.now) dim arrayed texel.coordinate texel.array_index
+        (changed_points (context_of context.now) (place_at (known scope.now)) dim arrayed texel.coordinate texel.array_index
         class fun.now value)
         result }
 {
@@ -90,13 +111,13 @@ fn check_changed_image(
 
 /// The class of the image, its access, the operation, and the value.
 fn check_class(
-    scope: &HandleSet,
+    scope: &ScopeColumn,
     context: &BlockContext,
     class: ImageClass,
     fun: &AtomicFunction,
     value: Handle<tag::Expression>,
 ) -> Result<(), FunctionError>
-    ensures { Finds (changed_class_points (context_of context.now) (place_at scope.now) class fun.now value) result }
+    ensures { Finds (changed_class_points (context_of context.now) (place_at (known scope.now)) class fun.now value) result }
 {
     let ImageClass::Storage { format, access } = class else {
         let error = ExpressionError::InvalidImageClass(class);
@@ -112,13 +133,13 @@ fn check_class(
 /// The format and the value.
 #[tactic(auto, using(crate::proofs::Lists::appended))]
 fn check_changed(
-    scope: &HandleSet,
+    scope: &ScopeColumn,
     context: &BlockContext,
     fun: &AtomicFunction,
     value: Handle<tag::Expression>,
     format: StorageFormat,
 ) -> Result<(), FunctionError>
-    ensures { Finds (changed_format_points (context_of context.now) (place_at scope.now) format fun.now value) result }
+    ensures { Finds (changed_format_points (context_of context.now) (place_at (known scope.now)) format fun.now value) result }
 {
     check_format(context.settings.capabilities, format, fun)?;
     check_value(scope, context, format, value)
@@ -183,12 +204,12 @@ fn is_done_on_texels(fun: &AtomicFunction) -> bool
 
 /// The value: in scope, and the format's scalar.
 fn check_value(
-    scope: &HandleSet,
+    scope: &ScopeColumn,
     context: &BlockContext,
     format: StorageFormat,
     value: Handle<tag::Expression>,
 ) -> Result<(), FunctionError>
-    ensures { Finds (changed_value_points (context_of context.now) (place_at scope.now) format value) result }
+    ensures { Finds (changed_value_points (context_of context.now) (place_at (known scope.now)) format value) result }
 {
     check_use(scope, value)?;
     if !is_scalar(Scalar::from(format), context.type_inner(value)) {

@@ -3,12 +3,13 @@
 ghost use Rattle.std.specs.Prelude.{◌≡◌, ◌++◌, IfOk, IfSome, IsOk};
 ghost use Rattle.std.specs.Option.{option_copied};
 ghost use Rattle.naga_below.specs.Types.{HasNoMembers};
-ghost use Rattle.naga_valid.specs.CodeAnswers.{Finds, AnswersPoints};
-ghost use Rattle.naga_valid.specs.CodeImages.{stored_points, texel_value_points};
-ghost use Rattle.naga_valid.specs.Images.{stored_type, image_store_points};
-ghost use Rattle.naga_valid.specs.CodePlace.{place_at};
-ghost use Rattle.naga_valid.specs.Seen.{context_of};
+ghost use Rattle.naga_valid.specs.walk.Answers.{Finds, AnswersPoints};
+ghost use Rattle.naga_valid.specs.walk.Image.{stored_points, texel_value_points};
+ghost use Rattle.naga_valid.specs.checks.Image.{stored_type, image_store_points};
+ghost use Rattle.naga_valid.specs.walk.Place.{place_at};
+ghost use Rattle.naga_valid.specs.walk.Seen.{context_of};
 ghost use Rattle.naga_valid.specs.Types.{type_at};
+ghost use Rattle.naga_valid.specs.walk.Table.{known};
 
 use crate::checks::image::{
     ImageStatement, Texel, check_texel, element_of, image_global, inner_at,
@@ -16,33 +17,34 @@ use crate::checks::image::{
 use crate::checks::refuse::{answer, check_use};
 use crate::checks::store::access_base;
 use crate::context::BlockContext;
-use crate::handle_set::HandleSet;
+use crate::refused::Refused;
+use crate::table::ScopeColumn;
 use naga_below::arena::handle::Handle;
 use naga_below::arena::tag;
 use naga_below::ir::types::{
     ImageClass, ImageDimension, Scalar, StorageFormat, TypeInner, VectorSize,
 };
-use naga_below::span::{Refusal, Span};
+use naga_below::span::Span;
 use naga_below::valid::expression_error::ExpressionError;
 use naga_rules::function::FunctionError;
 use std::alloc::{AllocError, Global};
 
 /// ImageStore: its image, the texel, and the value.
 pub fn check_image_store(
-    scope: &HandleSet,
+    scope: &ScopeColumn,
     context: &BlockContext,
     image: Handle<tag::Expression>,
     texel: Texel,
     value: Handle<tag::Expression>,
     span: Span,
-) -> Result<(), Refusal<FunctionError>>
+) -> Result<(), Refused>
     ensures { AnswersPoints
-        (image_store_points (context_of context.now) (place_at scope.now) image texel.coordinate texel.array_index value)
+        (image_store_points (context_of context.now) (place_at (known scope.now)) image texel.coordinate texel.array_index value)
         result }
 {
     let alloc = scope.allocator();
     let given = type_of(alloc, context, value)?;
-    let checked = validate_image_store(scope, context, image, texel, value, given);
+    let checked = check_store_of_type(scope, context, image, texel, value, given);
     answer(alloc, checked, span)
 }
 
@@ -62,8 +64,8 @@ fn type_of(
 }
 
 /// All that is checked of an image store.
-fn validate_image_store(
-    scope: &HandleSet,
+fn check_store_of_type(
+    scope: &ScopeColumn,
     context: &BlockContext,
     image: Handle<tag::Expression>,
     texel: Texel,
@@ -72,7 +74,7 @@ fn validate_image_store(
 ) -> Result<(), FunctionError>
     requires { given ≡ type_at (context_of context.now) value }
     ensures { Finds
-        (image_store_points (context_of context.now) (place_at scope.now) image texel.coordinate texel.array_index value)
+        (image_store_points (context_of context.now) (place_at (known scope.now)) image texel.coordinate texel.array_index value)
         result }
 {
     let Some(ty) = image_global(context, image) else {
@@ -123,7 +125,7 @@ fn stored_type<'a>(
 /// The texel and the value.
 #[tactic(auto, using(crate::proofs::Lists::appended))]
 fn check_stored(
-    scope: &HandleSet,
+    scope: &ScopeColumn,
     context: &BlockContext,
     dim: ImageDimension,
     arrayed: bool,
@@ -134,7 +136,7 @@ fn check_stored(
 ) -> Result<(), FunctionError>
     requires { given ≡ type_at (context_of context.now) value }
     ensures { Finds
-        (stored_points (context_of context.now) (place_at scope.now) dim arrayed texel.coordinate texel.array_index format value)
+        (stored_points (context_of context.now) (place_at (known scope.now)) dim arrayed texel.coordinate texel.array_index format value)
         result }
 {
     check_texel(ImageStatement::Store, scope, context, dim, arrayed, texel)?;
@@ -143,14 +145,14 @@ fn check_stored(
 
 /// The value: in scope, and what a texel holds.
 fn check_texel_value(
-    scope: &HandleSet,
+    scope: &ScopeColumn,
     context: &BlockContext,
     format: StorageFormat,
     value: Handle<tag::Expression>,
     given: Option<TypeInner>,
 ) -> Result<(), FunctionError>
     requires { given ≡ type_at (context_of context.now) value }
-    ensures { Finds (texel_value_points (context_of context.now) (place_at scope.now) format value) result }
+    ensures { Finds (texel_value_points (context_of context.now) (place_at (known scope.now)) format value) result }
 {
     check_use(scope, value)?;
     let expected_ty = TypeInner::Vector {

@@ -1,63 +1,63 @@
 //! The check lists of the statements that are neither jumps nor hold others.
 
-ghost use Rattle.std.specs.Prelude.{◌≡◌, ◌++◌, OnOk};
-ghost use Rattle.naga_valid.specs.CodeAnswers.{AnswersPoints};
+ghost use Rattle.std.specs.Prelude.{◌≡◌, OnOk};
+ghost use Rattle.naga_valid.specs.walk.Answers.{AnswersPoints};
 ghost use Rattle.naga_valid.specs.Blocks.{tree_of};
 ghost use Rattle.naga_valid.specs.Context.{ContextFits};
 ghost use Rattle.naga_valid.specs.Ready.{IsStatementReady};
 ghost use Rattle.naga_valid.specs.Rules.{leaf_points};
-ghost use Rattle.naga_valid.specs.CodePlace.{place_at};
-ghost use Rattle.naga_valid.specs.Seen.{context_of};
-ghost use Rattle.naga_valid.specs.State.{seen};
-ghost use Rattle.naga_valid.specs.Walk.{puts};
+ghost use Rattle.naga_valid.specs.walk.Place.{place_at};
+ghost use Rattle.naga_valid.specs.walk.Seen.{context_of};
+ghost use Rattle.naga_valid.specs.walk.State.{kept, seen};
+ghost use Rattle.naga_valid.specs.walk.Walk.{puts};
+ghost use Rattle.naga_valid.specs.walk.Table.{HasPut, IsTableOf, known};
 
-use crate::checks::atomic::check_atomic;
+use crate::checks::atomic::{AtomicOperation, validate_atomic};
 use crate::checks::barrier::check_barrier;
-use crate::checks::call::check_call;
+use crate::checks::call::{CallSite, validate_call};
 use crate::checks::control;
 use crate::checks::cooperative::check_cooperative_store;
 use crate::checks::image::Texel;
 use crate::checks::image_atomic::check_image_atomic;
 use crate::checks::image_store::check_image_store;
-use crate::checks::load::check_load;
-use crate::checks::ray_query::check_ray_query;
+use crate::checks::load::validate_load;
+use crate::checks::ray_query::validate_ray_query;
 use crate::checks::ray_trace::check_trace_ray;
-use crate::checks::refuse::answer;
 use crate::checks::store::check_store;
-use crate::checks::subgroup::check_ballot;
-use crate::checks::subgroup_collective::check_collective;
-use crate::checks::subgroup_gather::check_gather;
+use crate::checks::subgroup::validate_ballot;
+use crate::checks::subgroup_collective::{Collective, validate_collective};
+use crate::checks::subgroup_gather::validate_gather;
 use crate::context::BlockContext;
-use crate::handle_set::HandleSet;
-use crate::state::BodyState;
+use crate::refused::Refused;
+use crate::state::BodyOutcome;
+use crate::table::Table;
 use naga_below::ir::operations::RayPipelineFunction;
 use naga_below::ir::statements::{Located, Statement};
-use naga_below::span::Refusal;
-use naga_rules::function::FunctionError;
 
 /// The check list of a statement that is neither a jump nor holds others; of the others it is empty. What the statement
 /// puts is in scope afterwards.
-pub fn check_leaf(
-    scope: &mut HandleSet,
-    state: &BodyState,
+pub fn validate_leaf(
+    table: &mut Table,
+    state: &BodyOutcome,
     context: &BlockContext,
     located: &Located,
-) -> Result<(), Refusal<FunctionError>>
+) -> Result<(), Refused>
     requires context { ContextFits (context_of context.now) }
     requires statement { IsStatementReady (context_of context.now) (tree_of (context_of context.now) located.now) }
+    requires table { IsTableOf (context_of context.now) table.old }
     ensures fault { AnswersPoints
-        (leaf_points (context_of context.now) (seen state.now) (place_at scope.old) located.now.statement)
+        (leaf_points (context_of context.now) (seen (kept table.old.filled state.now)) (place_at (known table.old.scope))
+        located.now.statement)
         result }
-    ensures scope { OnOk result (scope.new ≡ scope.old ++ puts (tree_of (context_of context.now) located.now)) }
+    ensures scope { OnOk result (HasPut table.old.scope table.new.scope (puts (tree_of (context_of context.now) located.now))) }
+    ensures filled { table.new.filled ≡ table.old.filled }
 {
     let span = located.span;
-    let alloc = scope.allocator();
+    let scope = &mut table.scope;
+    let filled = &table.filled;
     match &located.statement {
-        Statement::Emit(range) => control::check_emit(scope, context, *range, span),
-        Statement::Store { pointer, value } => {
-            let checked = check_store(scope, context, *pointer, *value);
-            answer(alloc, checked, span)
-        }
+        Statement::Emit(range) => control::validate_emit(scope, context, *range, span),
+        Statement::Store { pointer, value } => check_store(scope, context, *pointer, *value, span),
         Statement::ImageStore {
             image,
             coordinate,
@@ -75,16 +75,15 @@ pub fn check_leaf(
             fun,
             value,
             result,
-        } => check_atomic(
-            scope,
-            &state.filled,
-            context,
-            *pointer,
-            fun,
-            *value,
-            result,
-            span,
-        ),
+        } => {
+            let operation = AtomicOperation {
+                pointer: *pointer,
+                fun: *fun,
+                value: *value,
+                named: *result,
+            };
+            validate_atomic(scope, filled, context, &operation, span)
+        }
         Statement::ImageAtomic {
             image,
             coordinate,
@@ -96,34 +95,29 @@ pub fn check_leaf(
                 coordinate: *coordinate,
                 array_index: *array_index,
             };
-            let checked = check_image_atomic(scope, context, *image, texel, fun, *value);
-            answer(alloc, checked, span)
+            check_image_atomic(scope, context, *image, texel, fun, *value, span)
         }
         Statement::WorkGroupUniformLoad { pointer, result } => {
-            check_load(scope, context, *pointer, *result, span)
+            validate_load(scope, context, *pointer, *result, span)
         }
         Statement::Call {
             function,
             arguments,
             result,
-        } => check_call(
-            scope,
-            &state.filled,
-            context,
-            *function,
-            arguments.as_slice(),
-            result,
-            span,
-        ),
+        } => {
+            let site = CallSite {
+                function: *function,
+                named: *result,
+            };
+            validate_call(scope, filled, context, &site, arguments.as_slice(), span)
+        }
         Statement::CooperativeStore { target, source } => {
-            let checked = check_cooperative_store(scope, context, *target, source.pointer);
-            answer(alloc, checked, span)
+            check_cooperative_store(scope, context, *target, source.pointer, span)
         }
         Statement::ControlBarrier(barrier) | Statement::MemoryBarrier(barrier) => {
-            let checked = check_barrier(&context.settings, *barrier);
-            answer(alloc, checked, span)
+            check_barrier(scope.allocator(), &context.settings, *barrier, span)
         }
-        Statement::RayQuery { query, fun } => check_ray_query(scope, context, *query, fun, span),
+        Statement::RayQuery { query, fun } => validate_ray_query(scope, context, *query, fun, span),
         Statement::RayPipelineFunction(
             RayPipelineFunction::TraceRay {
                 acceleration_structure: structure,
@@ -132,38 +126,38 @@ pub fn check_leaf(
             },
         ) => {
             let so_far = &state.trace.payload;
-            let checked = check_trace_ray(
+            check_trace_ray(
                 scope,
                 context,
                 so_far,
                 *structure,
                 *descriptor,
                 *payload,
-            );
-            answer(alloc, checked, span)
+                span,
+            )
         }
         Statement::SubgroupBallot { result, predicate } => {
-            check_ballot(scope, context, *result, predicate, span)
+            validate_ballot(scope, context, *result, predicate, span)
         }
         Statement::SubgroupGather {
             mode,
             argument,
             result,
-        } => check_gather(scope, context, mode, *argument, *result, span),
+        } => validate_gather(scope, context, mode, *argument, *result, span),
         Statement::SubgroupCollectiveOperation {
             op,
             collective_op,
             argument,
             result,
-        } => check_collective(
-            scope,
-            context,
-            *op,
-            *collective_op,
-            *argument,
-            *result,
-            span,
-        ),
+        } => {
+            let collective = Collective {
+                operation: *op,
+                part: *collective_op,
+                argument: *argument,
+                combined: *result,
+            };
+            validate_collective(scope, context, &collective, span)
+        }
         Statement::Block(_)
         | Statement::If { .. }
         | Statement::Switch { .. }

@@ -1,54 +1,57 @@
 //! The check list of WorkGroupUniformLoad.
 
-ghost use Rattle.std.specs.Prelude.{◌≡◌, ◌<◌, ◌++◌, ◌∷◌, [], OnOk, IfSome, length};
+ghost use Rattle.std.specs.Prelude.{◌≡◌, ◌<◌, ◌∷◌, [], OnOk, IfSome, length};
 ghost use Rattle.std.specs.Option.{option_copied};
-ghost use Rattle.naga_valid.specs.CodeAnswers.{Finds, AnswersPoints};
+ghost use Rattle.naga_valid.specs.walk.Answers.{Finds, AnswersPoints};
 ghost use Rattle.naga_valid.specs.Context.{ContextFits};
-ghost use Rattle.naga_valid.specs.Loads.{is_work_group, loaded_type_at, points_to, load_points};
-ghost use Rattle.naga_valid.specs.CodePlace.{place_at};
-ghost use Rattle.naga_valid.specs.Seen.{context_of};
+ghost use Rattle.naga_valid.specs.checks.Load.{is_work_group, loaded_type_at, points_to, load_points};
+ghost use Rattle.naga_valid.specs.walk.Place.{place_at};
+ghost use Rattle.naga_valid.specs.walk.Seen.{context_of};
+ghost use Rattle.naga_valid.specs.walk.Table.{HasPut, count, known};
 
 use crate::checks::atomic::atomic_scalar;
 use crate::checks::refuse::{answer, check_put, check_use};
-use crate::checks::store::space;
 use crate::checks::types::{is_equivalent, is_scalar};
 use crate::context::BlockContext;
-use crate::handle_set::HandleSet;
+use crate::pointers::space;
+use crate::refused::Refused;
+use crate::table::ScopeColumn;
 use naga_below::arena::handle::Handle;
 use naga_below::arena::tag;
 use naga_below::ir::expressions::Expression;
 use naga_below::ir::types::{AddressSpace, TypeInner};
-use naga_below::span::{Refusal, Span};
+use naga_below::span::Span;
 use naga_rules::function::FunctionError;
 
 /// WorkGroupUniformLoad: its pointer and its result, which is in scope afterwards.
-pub fn check_load(
-    scope: &mut HandleSet,
+pub fn validate_load(
+    scope: &mut ScopeColumn,
     context: &BlockContext,
     pointer: Handle<tag::Expression>,
     loaded: Handle<tag::Expression>,
     span: Span,
-) -> Result<(), Refusal<FunctionError>>
-    requires { ContextFits (context_of context.now) }
-    ensures fault { AnswersPoints (load_points (context_of context.now) (place_at scope.old) pointer loaded) result }
-    ensures scope { OnOk result (scope.new ≡ scope.old ++ loaded ∷ []) }
+) -> Result<(), Refused>
+    requires context { ContextFits (context_of context.now) }
+    requires result { loaded < count scope.old }
+    ensures fault { AnswersPoints (load_points (context_of context.now) (place_at (known scope.old)) pointer loaded) result }
+    ensures scope { OnOk result (HasPut scope.old scope.new (loaded ∷ [])) }
 {
     let alloc = scope.allocator();
-    let checked = validate_load(scope, context, pointer, loaded);
+    let checked = check_load(scope, context, pointer, loaded);
     answer(alloc, checked, span)?;
-    scope.put(loaded)?;
+    scope.put(loaded);
     Ok(())
 }
 
 /// All that is checked of a load. Its result stays out of scope.
-fn validate_load(
-    scope: &HandleSet,
+fn check_load(
+    scope: &ScopeColumn,
     context: &BlockContext,
     pointer: Handle<tag::Expression>,
     loaded: Handle<tag::Expression>,
 ) -> Result<(), FunctionError>
     requires { ContextFits (context_of context.now) }
-    ensures { Finds (load_points (context_of context.now) (place_at scope.now) pointer loaded) result }
+    ensures { Finds (load_points (context_of context.now) (place_at (known scope.now)) pointer loaded) result }
 {
     check_use(scope, pointer)?;
     if !is_work_group(space(context, pointer)) {

@@ -1,58 +1,62 @@
 //! The check list of RayQuery.
 
-ghost use Rattle.std.specs.Prelude.{◌≡◌, ◌++◌, ◌∷◌, [], OnOk};
+ghost use Rattle.std.specs.Prelude.{◌≡◌, ◌∷◌, [], OnOk};
 ghost use Rattle.std.specs.Option.{option_copied};
+ghost use Rattle.naga_below.specs.FitsBody.{QueryFits};
 ghost use Rattle.naga_below.specs.View.{query_acts};
-ghost use Rattle.naga_valid.specs.CodeAnswers.{Finds, AnswersPoints};
+ghost use Rattle.naga_runs.specs.PutsAndUses.{puts_of};
+ghost use Rattle.naga_valid.specs.walk.Answers.{Finds, AnswersPoints};
 ghost use Rattle.naga_below.specs.declared.ir.operations.RayQueryFunction.TheVariants.{Initialize};
-ghost use Rattle.naga_valid.specs.RayQueries.{local_type_at, query_flag_of, structure_flag_at, descriptor_type, descriptor_points, is_float_scalar, query_function_points, ray_query_points};
-ghost use Rattle.naga_valid.specs.CodePlace.{place_at};
-ghost use Rattle.naga_valid.specs.Seen.{context_of};
+ghost use Rattle.naga_valid.specs.checks.RayQuery.{local_type_at, query_flag_of, structure_flag_at, descriptor_type, descriptor_points, is_float_scalar, query_function_points, ray_query_points};
+ghost use Rattle.naga_valid.specs.walk.Place.{place_at};
+ghost use Rattle.naga_valid.specs.walk.Seen.{context_of};
 ghost use Rattle.naga_below.specs.TypeTests.{both_are, is_same_inner};
 ghost use Rattle.naga_valid.specs.Types.{type_at};
-ghost use Rattle.naga_valid.specs.Walk.{puts_of};
+ghost use Rattle.naga_valid.specs.walk.Table.{HasPut, count, known};
 
 use crate::checks::image::inner_at;
 use crate::checks::refuse::{answer, check_put, check_use};
 use crate::checks::types::are_same_inners;
 use crate::context::BlockContext;
-use crate::handle_set::HandleSet;
+use crate::refused::Refused;
+use crate::table::ScopeColumn;
 use naga_below::arena::handle::Handle;
 use naga_below::arena::tag;
 use naga_below::ir::expressions::Expression;
 use naga_below::ir::operations::RayQueryFunction;
 use naga_below::ir::types::{ScalarKind, TypeInner};
-use naga_below::span::{Refusal, Span};
+use naga_below::span::Span;
 use naga_rules::function::FunctionError;
 
 /// RayQuery: its query, a local, and what is done with it. The result of a Proceed is in scope afterwards.
-pub fn check_ray_query(
-    scope: &mut HandleSet,
+pub fn validate_ray_query(
+    scope: &mut ScopeColumn,
     context: &BlockContext,
     query: Handle<tag::Expression>,
     fun: &RayQueryFunction,
     span: Span,
-) -> Result<(), Refusal<FunctionError>>
-    ensures fault { AnswersPoints (ray_query_points (context_of context.now) (place_at scope.old) query fun.now) result }
-    ensures scope { OnOk result (scope.new ≡ scope.old ++ puts_of (query_acts fun.now)) }
+) -> Result<(), Refused>
+    requires { QueryFits (count scope.old) fun.now }
+    ensures fault { AnswersPoints (ray_query_points (context_of context.now) (place_at (known scope.old)) query fun.now) result }
+    ensures scope { OnOk result (HasPut scope.old scope.new (puts_of (query_acts fun.now))) }
 {
     let alloc = scope.allocator();
-    let checked = validate_ray_query(scope, context, query, fun);
+    let checked = check_ray_query(scope, context, query, fun);
     answer(alloc, checked, span)?;
     if let RayQueryFunction::Proceed { result } = fun {
-        scope.put(*result)?;
+        scope.put(*result);
     }
     Ok(())
 }
 
 /// All that is checked of a ray query. The result of a Proceed stays out of scope.
-fn validate_ray_query(
-    scope: &HandleSet,
+fn check_ray_query(
+    scope: &ScopeColumn,
     context: &BlockContext,
     query: Handle<tag::Expression>,
     fun: &RayQueryFunction,
 ) -> Result<(), FunctionError>
-    ensures { Finds (ray_query_points (context_of context.now) (place_at scope.now) query fun.now) result }
+    ensures { Finds (ray_query_points (context_of context.now) (place_at (known scope.now)) query fun.now) result }
 {
     let Some(ty) = local_type(context, query) else {
         return Err(FunctionError::InvalidRayQueryExpression(query));
@@ -93,13 +97,13 @@ fn query_flag_of(inner: Option<&TypeInner>) -> Option<bool>
 
 /// What is done with a query.
 fn check_query_function(
-    scope: &HandleSet,
+    scope: &ScopeColumn,
     context: &BlockContext,
     query: Handle<tag::Expression>,
     vertex_return: bool,
     fun: &RayQueryFunction,
 ) -> Result<(), FunctionError>
-    ensures { Finds (query_function_points (context_of context.now) (place_at scope.now) query vertex_return fun.now) result }
+    ensures { Finds (query_function_points (context_of context.now) (place_at (known scope.now)) query vertex_return fun.now) result }
 {
     match fun {
         RayQueryFunction::Initialize {
@@ -127,7 +131,7 @@ fn check_query_function(
 
 /// A query begins: its acceleration structure, which has the flag where the query has it, and its descriptor.
 fn check_initialize(
-    scope: &HandleSet,
+    scope: &ScopeColumn,
     context: &BlockContext,
     query: Handle<tag::Expression>,
     vertex_return: bool,
@@ -135,7 +139,7 @@ fn check_initialize(
     descriptor: Handle<tag::Expression>,
 ) -> Result<(), FunctionError>
     ensures { Finds
-        (query_function_points (context_of context.now) (place_at scope.now) query vertex_return
+        (query_function_points (context_of context.now) (place_at (known scope.now)) query vertex_return
         (Initialize structure descriptor))
         result }
 {
@@ -161,11 +165,11 @@ pub fn structure_flag(context: &BlockContext, structure: Handle<tag::Expression>
 
 /// The descriptor of a ray: in scope, and of the module's type of ray descriptors.
 pub fn check_descriptor(
-    scope: &HandleSet,
+    scope: &ScopeColumn,
     context: &BlockContext,
     descriptor: Handle<tag::Expression>,
 ) -> Result<(), FunctionError>
-    ensures { Finds (descriptor_points (context_of context.now) (place_at scope.now) descriptor) result }
+    ensures { Finds (descriptor_points (context_of context.now) (place_at (known scope.now)) descriptor) result }
 {
     check_use(scope, descriptor)?;
     if !is_descriptor(context, descriptor) {

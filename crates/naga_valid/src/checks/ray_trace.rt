@@ -3,18 +3,20 @@
 ghost use Rattle.std.specs.Prelude.{◌≡◌, true};
 ghost use Rattle.std.specs.Option.{option_copied, option_or};
 ghost use Rattle.naga_runs.specs.Positions.{StatementNode};
-ghost use Rattle.naga_valid.specs.CodeAnswers.{Finds};
+ghost use Rattle.naga_valid.specs.walk.Answers.{AnswersPoints, Finds};
 ghost use Rattle.naga_valid.specs.Blocks.{tree_of};
-ghost use Rattle.naga_valid.specs.RayTraces.{is_payload_space, is_global, trace_ray_points};
-ghost use Rattle.naga_valid.specs.CodePlace.{place_at};
-ghost use Rattle.naga_valid.specs.Seen.{context_of};
+ghost use Rattle.naga_valid.specs.checks.RayTrace.{is_payload_space, is_global, trace_ray_points};
+ghost use Rattle.naga_valid.specs.walk.Place.{place_at};
+ghost use Rattle.naga_valid.specs.walk.Seen.{context_of};
 ghost use Rattle.naga_valid.specs.Traces.{payload_type_at, lacks_vertex_return, span_where, vertex_return_by, with_trace};
 ghost use Rattle.naga_valid.specs.Types.{type_at};
+ghost use Rattle.naga_valid.specs.walk.Table.{known};
 
 use crate::checks::ray_query::{check_descriptor, structure_flag};
-use crate::checks::refuse::check_use;
+use crate::checks::refuse::{answer, check_use};
 use crate::context::BlockContext;
-use crate::handle_set::HandleSet;
+use crate::refused::Refused;
+use crate::table::ScopeColumn;
 use crate::trace::{TraceRayVertexReturnState, TraceState};
 use naga_below::arena::handle::Handle;
 use naga_below::arena::tag;
@@ -27,7 +29,25 @@ use naga_rules::function::FunctionError;
 
 /// TraceRay: its acceleration structure, its payload and then its descriptor.
 pub fn check_trace_ray(
-    scope: &HandleSet,
+    scope: &ScopeColumn,
+    context: &BlockContext,
+    so_far: &Option<Handle<tag::Type>>,
+    structure: Handle<tag::Expression>,
+    descriptor: Handle<tag::Expression>,
+    payload: Handle<tag::Expression>,
+    span: Span,
+) -> Result<(), Refused>
+    ensures { AnswersPoints
+        (trace_ray_points (context_of context.now) so_far.now (place_at (known scope.now)) structure descriptor payload)
+        result }
+{
+    let checked = check_trace_ray_points(scope, context, so_far, structure, descriptor, payload);
+    answer(scope.allocator(), checked, span)
+}
+
+/// All that is checked of a ray that is traced.
+fn check_trace_ray_points(
+    scope: &ScopeColumn,
     context: &BlockContext,
     so_far: &Option<Handle<tag::Type>>,
     structure: Handle<tag::Expression>,
@@ -35,7 +55,7 @@ pub fn check_trace_ray(
     payload: Handle<tag::Expression>,
 ) -> Result<(), FunctionError>
     ensures { Finds
-        (trace_ray_points (context_of context.now) so_far.now (place_at scope.now) structure descriptor payload)
+        (trace_ray_points (context_of context.now) so_far.now (place_at (known scope.now)) structure descriptor payload)
         result }
 {
     check_use(scope, structure)?;

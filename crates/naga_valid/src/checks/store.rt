@@ -3,35 +3,53 @@
 ghost use Rattle.std.specs.Prelude.{◌≡◌, ◌∷◌, [], not, IfSome, Some, length};
 ghost use Rattle.std.specs.Option.{option_copied};
 ghost use Rattle.naga_below.specs.Types.{ResolutionFits};
-ghost use Rattle.naga_valid.specs.CodeAnswers.{Finds};
+ghost use Rattle.naga_valid.specs.walk.Answers.{Finds, AnswersPoints};
 ghost use Rattle.naga_valid.specs.Context.{ContextFits};
-ghost use Rattle.naga_valid.specs.CodePlace.{place_at};
-ghost use Rattle.naga_valid.specs.Seen.{context_of};
-ghost use Rattle.naga_valid.specs.Stores.{access_base, root_at, is_variable, base_type_at, space_at, is_writable, texture_point, is_stored_as, store_points};
+ghost use Rattle.naga_valid.specs.walk.Place.{place_at};
+ghost use Rattle.naga_valid.specs.walk.Seen.{context_of};
+ghost use Rattle.naga_valid.specs.checks.Store.{access_base, root_at, is_variable, texture_point, is_stored_as, store_points};
+ghost use Rattle.naga_valid.specs.walk.Table.{known};
 
-use crate::checks::refuse::check_use;
+use crate::checks::refuse::{answer, check_use};
 use crate::checks::types::is_scalar;
 use crate::context::BlockContext;
-use crate::handle_set::HandleSet;
+use crate::pointers::{base_type, is_writable};
+use crate::refused::Refused;
+use crate::table::ScopeColumn;
 use naga_below::arena::handle::Handle;
 use naga_below::arena::tag;
 use naga_below::ir::expressions::Expression;
-use naga_below::ir::flags::StorageAccess;
-use naga_below::ir::types::{AddressSpace, TypeInner};
+use naga_below::ir::types::TypeInner;
 use naga_below::proc::type_methods::compare_types;
 use naga_below::proc::typifier::TypeResolution;
+use naga_below::span::Span;
 use naga_rules::function::FunctionError;
 
-/// Store: its pointer leads back to a variable or an argument; its value, which is no texture; the type that is pointed
-/// to holds it, and its space takes stores.
+/// Store: its pointer and its value.
 pub fn check_store(
-    scope: &HandleSet,
+    scope: &ScopeColumn,
+    context: &BlockContext,
+    pointer: Handle<tag::Expression>,
+    value: Handle<tag::Expression>,
+    span: Span,
+) -> Result<(), Refused>
+    requires { ContextFits (context_of context.now) }
+    ensures { AnswersPoints (store_points (context_of context.now) (place_at (known scope.now)) pointer value) result }
+{
+    let checked = check_store_points(scope, context, pointer, value);
+    answer(scope.allocator(), checked, span)
+}
+
+/// A pointer that leads back to a variable or an argument; a value, which is no texture; the type that is pointed to holds
+/// it, and its space takes stores.
+fn check_store_points(
+    scope: &ScopeColumn,
     context: &BlockContext,
     pointer: Handle<tag::Expression>,
     value: Handle<tag::Expression>,
 ) -> Result<(), FunctionError>
     requires { ContextFits (context_of context.now) }
-    ensures { Finds (store_points (context_of context.now) (place_at scope.now) pointer value) result }
+    ensures { Finds (store_points (context_of context.now) (place_at (known scope.now)) pointer value) result }
 {
     let root = root_of(context, pointer);
     if !is_variable(context.expression(root)) {
@@ -114,38 +132,6 @@ fn check_texture(
         actual: value,
         actual_ty,
     })
-}
-
-/// The type that a pointer points to.
-pub fn base_type(context: &BlockContext, pointer: Handle<tag::Expression>) -> Option<TypeResolution>
-    requires { ContextFits (context_of context.now) }
-    ensures is { result ≡ base_type_at (context_of context.now) pointer }
-    ensures fits { IfSome result (ResolutionFits (length (context_of context.now).program.types)) }
-{
-    match context.type_inner(pointer) {
-        Some(inner) => inner.pointer_base_type(),
-        None => None,
-    }
-}
-
-/// Whether the space that a pointer points into takes stores.
-pub fn is_writable(context: &BlockContext, pointer: Handle<tag::Expression>) -> bool
-    ensures { result ≡ is_writable (context_of context.now) pointer }
-{
-    match space(context, pointer) {
-        Some(space) => space.access().contains(StorageAccess::STORE),
-        None => false,
-    }
-}
-
-/// The space that a pointer points into.
-pub fn space(context: &BlockContext, pointer: Handle<tag::Expression>) -> Option<AddressSpace>
-    ensures { result ≡ space_at (context_of context.now) pointer }
-{
-    match context.type_inner(pointer) {
-        Some(inner) => inner.pointer_space(),
-        None => None,
-    }
 }
 
 /// Whether a value is what this type holds: an atomic its scalar, any other a value of the type.

@@ -1,22 +1,24 @@
 //! What the check lists of subgroup statements share; then the list of SubgroupBallot.
 
-ghost use Rattle.std.specs.Prelude.{◌≡◌, ◌++◌, ◌∷◌, [], OnOk};
+ghost use Rattle.std.specs.Prelude.{◌≡◌, ◌<◌, ◌∷◌, [], OnOk};
 ghost use Rattle.std.specs.Option.{option_copied};
-ghost use Rattle.naga_valid.specs.CodeAnswers.{Finds, AnswersPoints};
-ghost use Rattle.naga_valid.specs.CodePlace.{place_at};
-ghost use Rattle.naga_valid.specs.CodeSubgroups.{combined_points};
-ghost use Rattle.naga_valid.specs.Seen.{context_of};
-ghost use Rattle.naga_valid.specs.Subgroups.{operations_point, subgroups_point, predicate_points, ballot_points, is_number_kind, combined_type_at};
+ghost use Rattle.naga_valid.specs.walk.Answers.{Finds, AnswersPoints};
+ghost use Rattle.naga_valid.specs.walk.Place.{place_at};
+ghost use Rattle.naga_valid.specs.walk.Subgroup.{combined_points};
+ghost use Rattle.naga_valid.specs.walk.Seen.{context_of};
+ghost use Rattle.naga_valid.specs.checks.Subgroup.{operations_point, subgroups_point, predicate_points, ballot_points, is_number_kind, combined_type_at};
+ghost use Rattle.naga_valid.specs.walk.Table.{HasPut, count, known};
 
 use crate::checks::refuse::{answer, check_put, check_use};
 use crate::checks::types::{are_same_inners, is_scalar};
 use crate::context::BlockContext;
-use crate::handle_set::HandleSet;
+use crate::refused::Refused;
+use crate::table::ScopeColumn;
 use naga_below::arena::handle::Handle;
 use naga_below::arena::tag;
 use naga_below::ir::expressions::Expression;
 use naga_below::ir::types::{Scalar, ScalarKind, TypeInner};
-use naga_below::span::{Refusal, Span};
+use naga_below::span::Span;
 use naga_below::valid::capabilities::Capabilities;
 use naga_below::valid::flags::SubgroupOperationSet;
 use naga_below::valid::settings::Settings;
@@ -48,32 +50,33 @@ pub fn check_subgroups(settings: &Settings) -> Result<(), FunctionError>
 }
 
 /// SubgroupBallot: its predicate and its result, which is in scope afterwards.
-pub fn check_ballot(
-    scope: &mut HandleSet,
+pub fn validate_ballot(
+    scope: &mut ScopeColumn,
     context: &BlockContext,
     ballot: Handle<tag::Expression>,
     predicate: &Option<Handle<tag::Expression>>,
     span: Span,
-) -> Result<(), Refusal<FunctionError>>
-    ensures fault { AnswersPoints (ballot_points (context_of context.now) (place_at scope.old) ballot predicate.now) result }
-    ensures scope { OnOk result (scope.new ≡ scope.old ++ ballot ∷ []) }
+) -> Result<(), Refused>
+    requires { ballot < count scope.old }
+    ensures fault { AnswersPoints (ballot_points (context_of context.now) (place_at (known scope.old)) ballot predicate.now) result }
+    ensures scope { OnOk result (HasPut scope.old scope.new (ballot ∷ [])) }
 {
     let alloc = scope.allocator();
-    let checked = validate_ballot(scope, context, ballot, predicate);
+    let checked = check_ballot(scope, context, ballot, predicate);
     answer(alloc, checked, span)?;
-    scope.put(ballot)?;
+    scope.put(ballot);
     Ok(())
 }
 
 /// All that is checked of a ballot. Its result stays out of scope.
 #[tactic(auto, using(crate::proofs::Lists::appended))]
-fn validate_ballot(
-    scope: &HandleSet,
+fn check_ballot(
+    scope: &ScopeColumn,
     context: &BlockContext,
     ballot: Handle<tag::Expression>,
     predicate: &Option<Handle<tag::Expression>>,
 ) -> Result<(), FunctionError>
-    ensures { Finds (ballot_points (context_of context.now) (place_at scope.now) ballot predicate.now) result }
+    ensures { Finds (ballot_points (context_of context.now) (place_at (known scope.now)) ballot predicate.now) result }
 {
     check_subgroups(&context.settings)?;
     check_operations(&context.settings, SubgroupOperationSet::BALLOT)?;
@@ -83,11 +86,11 @@ fn validate_ballot(
 
 /// The predicate, if there is one: in scope, and a bool of one byte.
 fn check_predicate(
-    scope: &HandleSet,
+    scope: &ScopeColumn,
     context: &BlockContext,
     predicate: &Option<Handle<tag::Expression>>,
 ) -> Result<(), FunctionError>
-    ensures { Finds (predicate_points (context_of context.now) (place_at scope.now) predicate.now) result }
+    ensures { Finds (predicate_points (context_of context.now) (place_at (known scope.now)) predicate.now) result }
 {
     match predicate {
         Some(handle) => {
@@ -114,12 +117,12 @@ pub fn is_number_kind(kind: ScalarKind) -> bool
 
 /// The result of a collective operation or a gather: it is not in scope yet, and of the argument's type.
 pub fn check_combined(
-    scope: &HandleSet,
+    scope: &ScopeColumn,
     context: &BlockContext,
     argument: Handle<tag::Expression>,
     combined: Handle<tag::Expression>,
 ) -> Result<(), FunctionError>
-    ensures { Finds (combined_points (context_of context.now) (place_at scope.now) argument combined) result }
+    ensures { Finds (combined_points (context_of context.now) (place_at (known scope.now)) argument combined) result }
 {
     check_put(scope, combined)?;
     if !are_same_inners(

@@ -1,57 +1,71 @@
 //! The check list of SubgroupCollectiveOperation.
 
-ghost use Rattle.std.specs.Prelude.{◌≡◌, ◌++◌, ◌∷◌, [], OnOk};
+ghost use Rattle.std.specs.Prelude.{◌≡◌, ◌<◌, ◌∷◌, [], OnOk};
 ghost use Rattle.std.specs.Option.{option_copied};
-ghost use Rattle.naga_valid.specs.CodeAnswers.{Finds, AnswersPoints};
-ghost use Rattle.naga_valid.specs.CodePlace.{place_at};
-ghost use Rattle.naga_valid.specs.Seen.{context_of};
-ghost use Rattle.naga_valid.specs.Subgroups.{is_wide_integer, is_combined_by, takes_vectors, is_operand_of, is_scanned, is_done_over, collective_points};
+ghost use Rattle.naga_valid.specs.walk.Answers.{Finds, AnswersPoints};
+ghost use Rattle.naga_valid.specs.walk.Place.{place_at};
+ghost use Rattle.naga_valid.specs.walk.Seen.{context_of};
+ghost use Rattle.naga_valid.specs.checks.Subgroup.{is_wide_integer, is_combined_by, takes_vectors, is_operand_of, is_scanned, is_done_over, collective_points};
+ghost use Rattle.naga_valid.specs.walk.Table.{HasPut, count, known};
 
 use crate::checks::control::is_integer;
 use crate::checks::refuse::{answer, check_use};
 use crate::checks::subgroup::{check_combined, check_operations, check_subgroups, is_number_kind};
 use crate::context::BlockContext;
-use crate::handle_set::HandleSet;
+use crate::refused::Refused;
+use crate::table::ScopeColumn;
 use naga_below::arena::handle::Handle;
 use naga_below::arena::tag;
 use naga_below::ir::operations::{CollectiveOperation, SubgroupOperation};
 use naga_below::ir::types::{Scalar, ScalarKind, TypeInner};
-use naga_below::span::{Refusal, Span};
+use naga_below::span::Span;
 use naga_rules::function::{FunctionError, SubgroupError};
 
+/// A collective operation: over which invocations it is done, on which argument, and its result.
+#[derive(Clone, Copy)]
+pub struct Collective {
+    pub operation: SubgroupOperation,
+    pub part: CollectiveOperation,
+    pub argument: Handle<tag::Expression>,
+    pub combined: Handle<tag::Expression>,
+}
+
 /// SubgroupCollectiveOperation: its argument, its operation, and its result, which is in scope afterwards.
-pub fn check_collective(
-    scope: &mut HandleSet,
+pub fn validate_collective(
+    scope: &mut ScopeColumn,
     context: &BlockContext,
-    operation: SubgroupOperation,
-    part: CollectiveOperation,
-    argument: Handle<tag::Expression>,
-    combined: Handle<tag::Expression>,
+    collective: &Collective,
     span: Span,
-) -> Result<(), Refusal<FunctionError>>
+) -> Result<(), Refused>
+    requires { collective.now.combined < count scope.old }
     ensures fault { AnswersPoints
-        (collective_points (context_of context.now) (place_at scope.old) operation part argument combined)
+        (collective_points (context_of context.now) (place_at (known scope.old)) collective.now.operation collective.now.part collective.now.argument collective.now.combined)
         result }
-    ensures scope { OnOk result (scope.new ≡ scope.old ++ combined ∷ []) }
+    ensures scope { OnOk result (HasPut scope.old scope.new (collective.now.combined ∷ [])) }
 {
     let alloc = scope.allocator();
-    let checked = validate_collective(scope, context, operation, part, argument, combined);
+    let checked = check_collective(scope, context, collective);
     answer(alloc, checked, span)?;
-    scope.put(combined)?;
+    scope.put(collective.combined);
     Ok(())
 }
 
 /// All that is checked of a collective operation. Its result stays out of scope.
-fn validate_collective(
-    scope: &HandleSet,
+fn check_collective(
+    scope: &ScopeColumn,
     context: &BlockContext,
-    operation: SubgroupOperation,
-    part: CollectiveOperation,
-    argument: Handle<tag::Expression>,
-    combined: Handle<tag::Expression>,
+    collective: &Collective,
 ) -> Result<(), FunctionError>
-    ensures { Finds (collective_points (context_of context.now) (place_at scope.now) operation part argument combined) result }
+    ensures { Finds
+        (collective_points (context_of context.now) (place_at (known scope.now)) collective.now.operation collective.now.part collective.now.argument collective.now.combined)
+        result }
 {
+    let Collective {
+        operation,
+        part,
+        argument,
+        combined,
+    } = *collective;
     check_subgroups(&context.settings)?;
     check_operations(&context.settings, operation.required_operations())?;
     check_use(scope, argument)?;

@@ -1,56 +1,59 @@
 //! The check list of SubgroupGather.
 
-ghost use Rattle.std.specs.Prelude.{◌≡◌, ◌++◌, ◌∷◌, [], OnOk, Some};
+ghost use Rattle.std.specs.Prelude.{◌≡◌, ◌<◌, ◌∷◌, [], OnOk, Some};
 ghost use Rattle.std.specs.Option.{option_copied};
-ghost use Rattle.naga_valid.specs.CodeAnswers.{Finds, AnswersPoints};
-ghost use Rattle.naga_valid.specs.CodePlace.{place_at};
-ghost use Rattle.naga_valid.specs.CodeSubgroups.{indexed_points, gathered_points};
-ghost use Rattle.naga_valid.specs.Seen.{context_of};
-ghost use Rattle.naga_valid.specs.Subgroups.{index_of, is_broadcast, is_const_at, index_points, is_gathered, gather_points};
+ghost use Rattle.naga_valid.specs.walk.Answers.{Finds, AnswersPoints};
+ghost use Rattle.naga_valid.specs.walk.Place.{place_at};
+ghost use Rattle.naga_valid.specs.walk.Subgroup.{indexed_points, gathered_points};
+ghost use Rattle.naga_valid.specs.walk.Seen.{context_of};
+ghost use Rattle.naga_valid.specs.checks.Subgroup.{index_of, is_broadcast, is_const_at, index_points, is_gathered, gather_points};
+ghost use Rattle.naga_valid.specs.walk.Table.{HasPut, count, known};
 
 use crate::checks::refuse::{answer, check_use};
 use crate::checks::subgroup::{check_combined, check_operations, check_subgroups, is_number_kind};
 use crate::checks::types::is_scalar;
 use crate::context::BlockContext;
-use crate::handle_set::HandleSet;
+use crate::refused::Refused;
+use crate::table::ScopeColumn;
 use naga_below::arena::handle::Handle;
 use naga_below::arena::tag;
 use naga_below::ir::operations::GatherMode;
 use naga_below::ir::types::{Scalar, TypeInner};
-use naga_below::span::{Refusal, Span};
+use naga_below::span::Span;
 use naga_rules::function::{FunctionError, SubgroupError};
 
 /// SubgroupGather: its index, its argument, and its result, which is in scope afterwards.
-pub fn check_gather(
-    scope: &mut HandleSet,
+pub fn validate_gather(
+    scope: &mut ScopeColumn,
     context: &BlockContext,
     mode: &GatherMode,
     argument: Handle<tag::Expression>,
     gathered: Handle<tag::Expression>,
     span: Span,
-) -> Result<(), Refusal<FunctionError>>
+) -> Result<(), Refused>
+    requires { gathered < count scope.old }
     ensures fault { AnswersPoints
-        (gather_points (context_of context.now) (place_at scope.old) mode.now argument gathered)
+        (gather_points (context_of context.now) (place_at (known scope.old)) mode.now argument gathered)
         result }
-    ensures scope { OnOk result (scope.new ≡ scope.old ++ gathered ∷ []) }
+    ensures scope { OnOk result (HasPut scope.old scope.new (gathered ∷ [])) }
 {
     let alloc = scope.allocator();
-    let checked = validate_gather(scope, context, mode, argument, gathered);
+    let checked = check_gather(scope, context, mode, argument, gathered);
     answer(alloc, checked, span)?;
-    scope.put(gathered)?;
+    scope.put(gathered);
     Ok(())
 }
 
 /// All that is checked of a gather. Its result stays out of scope.
 #[tactic(auto, using(crate::proofs::Lists::appended))]
-fn validate_gather(
-    scope: &HandleSet,
+fn check_gather(
+    scope: &ScopeColumn,
     context: &BlockContext,
     mode: &GatherMode,
     argument: Handle<tag::Expression>,
     gathered: Handle<tag::Expression>,
 ) -> Result<(), FunctionError>
-    ensures { Finds (gather_points (context_of context.now) (place_at scope.now) mode.now argument gathered) result }
+    ensures { Finds (gather_points (context_of context.now) (place_at (known scope.now)) mode.now argument gathered) result }
 {
     check_subgroups(&context.settings)?;
     check_operations(&context.settings, mode.required_operations())?;
@@ -60,13 +63,13 @@ fn validate_gather(
 /// The index, the argument and the result.
 #[tactic(auto, using(crate::proofs::Lists::appended))]
 fn check_indexed(
-    scope: &HandleSet,
+    scope: &ScopeColumn,
     context: &BlockContext,
     mode: &GatherMode,
     argument: Handle<tag::Expression>,
     gathered: Handle<tag::Expression>,
 ) -> Result<(), FunctionError>
-    ensures { Finds (indexed_points (context_of context.now) (place_at scope.now) mode.now argument gathered) result }
+    ensures { Finds (indexed_points (context_of context.now) (place_at (known scope.now)) mode.now argument gathered) result }
 {
     if let Some(index) = index_of(mode) {
         check_index(scope, context, is_broadcast(mode), argument, index)?;
@@ -101,13 +104,13 @@ fn is_broadcast(mode: &GatherMode) -> bool
 
 /// The index: in scope, a u32, and in a broadcast const. What is no u32 is told of the argument, as naga does.
 fn check_index(
-    scope: &HandleSet,
+    scope: &ScopeColumn,
     context: &BlockContext,
     broadcasts: bool,
     argument: Handle<tag::Expression>,
     index: Handle<tag::Expression>,
 ) -> Result<(), FunctionError>
-    ensures { Finds (index_points (context_of context.now) (place_at scope.now) broadcasts argument (Some index)) result }
+    ensures { Finds (index_points (context_of context.now) (place_at (known scope.now)) broadcasts argument (Some index)) result }
 {
     check_use(scope, index)?;
     if !is_scalar(Scalar::U32, context.type_inner(index)) {
@@ -130,12 +133,12 @@ fn is_const_at(context: &BlockContext, handle: Handle<tag::Expression>) -> bool
 
 /// The argument, then the result.
 fn check_gathered(
-    scope: &HandleSet,
+    scope: &ScopeColumn,
     context: &BlockContext,
     argument: Handle<tag::Expression>,
     gathered: Handle<tag::Expression>,
 ) -> Result<(), FunctionError>
-    ensures { Finds (gathered_points (context_of context.now) (place_at scope.now) argument gathered) result }
+    ensures { Finds (gathered_points (context_of context.now) (place_at (known scope.now)) argument gathered) result }
 {
     check_use(scope, argument)?;
     if !is_gathered(context.type_inner(argument)) {

@@ -1,9 +1,9 @@
 //! The bindings of the globals that an entry point uses.
 
 ghost use Rattle.std.specs.Prelude.{◌≡◌, ◌+◌, OnOk};
-ghost use Rattle.naga_valid.specs.CodeAnswers.{Finds};
-ghost use Rattle.naga_valid.specs.CodeBindings.{AreTaken};
-ghost use Rattle.naga_valid.specs.EntryGlobals.{binding_at, binding_points};
+ghost use Rattle.naga_valid.specs.walk.Answers.{Finds};
+ghost use Rattle.naga_valid.specs.walk.Bindings.{AreTaken};
+ghost use Rattle.naga_valid.specs.interface.Globals.{binding_at, binding_points};
 
 use crate::interface::EntryPointError;
 use crate::interface::globals::is_used;

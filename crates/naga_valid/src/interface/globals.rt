@@ -3,9 +3,9 @@
 ghost use Rattle.std.specs.Prelude.{◌≡◌, ◌++◌, length, slice_get};
 ghost use Rattle.std.specs.Option.{option_copied};
 ghost use Rattle.naga_below.specs.Types.{inner_at};
-ghost use Rattle.naga_valid.specs.CodeAnswers.{Finds};
-ghost use Rattle.naga_valid.specs.EntryGlobals.{is_used, is_used_immediate, used_immediates, immediate_points, image_access, access_in, ray_points, is_within, allowed_points};
-ghost use Rattle.naga_valid.specs.EntryUses.{is_task_payload};
+ghost use Rattle.naga_valid.specs.walk.Answers.{Finds};
+ghost use Rattle.naga_valid.specs.interface.Globals.{is_used, is_used_immediate, used_immediates, immediate_points, image_access, access_in, ray_points, is_within, allowed_points};
+ghost use Rattle.naga_rules.specs.Spaces.{is_task_payload};
 
 use crate::interface::EntryPointError;
 use bitflags::Flags;
@@ -102,7 +102,16 @@ fn check_ray(stage: ShaderStage, space: AddressSpace) -> Result<(), EntryPointEr
         AddressSpace::IncomingRayPayload if !takes_payload(stage) => Err(
             EntryPointError::IncomingRayPayloadInInvalidStage(stage),
         ),
-        _ => Ok(()),
+        AddressSpace::Function
+        | AddressSpace::Private
+        | AddressSpace::WorkGroup
+        | AddressSpace::Uniform
+        | AddressSpace::Storage { .. }
+        | AddressSpace::Handle
+        | AddressSpace::Immediate
+        | AddressSpace::TaskPayload
+        | AddressSpace::RayPayload
+        | AddressSpace::IncomingRayPayload => Ok(()),
     }
 }
 

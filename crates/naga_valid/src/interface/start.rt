@@ -2,8 +2,8 @@
 
 ghost use Rattle.std.specs.Prelude.{◌≡◌};
 ghost use Rattle.std.specs.List.{list_all};
-ghost use Rattle.naga_valid.specs.CodeAnswers.{Finds};
-ghost use Rattle.naga_valid.specs.EntryStart.{needed_by, needed_points, is_fragment, depth_points, has_work_groups, is_group_size, is_zero, size_points, mesh_info_points, start_points};
+ghost use Rattle.naga_valid.specs.walk.Answers.{Finds};
+ghost use Rattle.naga_valid.specs.interface.Start.{needed_by, needed_points, is_fragment, depth_points, has_work_groups, is_group_size, is_zero, size_points, mesh_info_points, start_points};
 
 use crate::interface::EntryPointError;
 use naga_below::ir::module::{EarlyDepthTest, EntryPoint, MeshStageInfo, ShaderStage};
@@ -34,7 +34,7 @@ fn needed_by(stage: ShaderStage) -> Option<Capabilities>
         | ShaderStage::AnyHit
         | ShaderStage::ClosestHit
         | ShaderStage::Miss => Some(Capabilities::RAY_TRACING_PIPELINE),
-        _ => None,
+        ShaderStage::Vertex | ShaderStage::Fragment | ShaderStage::Compute => None,
     }
 }
 
@@ -131,7 +131,14 @@ fn check_mesh_info(stage: ShaderStage, info: Option<MeshStageInfo>) -> Result<()
         ShaderStage::Mesh => if info.is_none() {
             return Err(EntryPointError::ExpectedMeshShaderAttributes);
         },
-        _ => if info.is_some() {
+        ShaderStage::Vertex
+        | ShaderStage::Fragment
+        | ShaderStage::Compute
+        | ShaderStage::Task
+        | ShaderStage::RayGeneration
+        | ShaderStage::AnyHit
+        | ShaderStage::ClosestHit
+        | ShaderStage::Miss => if info.is_some() {
             return Err(EntryPointError::UnexpectedMeshShaderAttributes);
         },
     }

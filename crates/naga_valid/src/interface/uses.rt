@@ -1,8 +1,9 @@
 //! The task payload of an entry point, what the entry point itself does with globals, and its stage.
 
 ghost use Rattle.std.specs.Prelude.{◌≡◌, ◌<◌, IfSome, length};
-ghost use Rattle.naga_valid.specs.CodeAnswers.{Finds};
-ghost use Rattle.naga_valid.specs.EntryUses.{is_task_payload, lies_in, place_points, made_points, taken_points, payload_points, with_use_of, output_variable_of, with_own_uses, only, stage_points};
+ghost use Rattle.naga_rules.specs.Spaces.{is_task_payload};
+ghost use Rattle.naga_valid.specs.walk.Answers.{Finds};
+ghost use Rattle.naga_valid.specs.interface.Uses.{lies_in, place_points, made_points, taken_points, payload_points, with_use_of, output_variable_of, with_own_uses, only, stage_points};
 
 use crate::interface::EntryPointError;
 use bitflags::Flags;
@@ -20,7 +21,13 @@ pub fn check_payload(module: &Module, ep: &EntryPoint) -> Result<(), EntryPointE
     match ep.stage {
         ShaderStage::Task => check_made(module, ep.task_payload),
         ShaderStage::Mesh => check_taken(module, ep.task_payload),
-        _ => match ep.task_payload {
+        ShaderStage::Vertex
+        | ShaderStage::Fragment
+        | ShaderStage::Compute
+        | ShaderStage::RayGeneration
+        | ShaderStage::AnyHit
+        | ShaderStage::ClosestHit
+        | ShaderStage::Miss => match ep.task_payload {
             Some(_) => Err(EntryPointError::UnexpectedTaskPayload),
             None => Ok(()),
         },
@@ -87,7 +94,13 @@ pub fn insert_own_uses(info: &mut FunctionInfo, ep: &EntryPoint)
             insert_use(info, ep.task_payload, GlobalUse::READ);
             insert_use(info, output_variable_of(ep.mesh_info), GlobalUse::READ);
         }
-        _ => {}
+        ShaderStage::Vertex
+        | ShaderStage::Fragment
+        | ShaderStage::Compute
+        | ShaderStage::RayGeneration
+        | ShaderStage::AnyHit
+        | ShaderStage::ClosestHit
+        | ShaderStage::Miss => {}
     }
 }
 

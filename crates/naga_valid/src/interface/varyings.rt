@@ -9,9 +9,9 @@ ghost use Rattle.naga_below.specs.declared.ir.built_in.BuiltIn.TheVariants.{Poin
 ghost use Rattle.naga_rules.specs.TypeInfos.{type_has};
 ghost use Rattle.naga_rules.specs.VaryingFaults.{IsFirstVaryingFault, VaryingFault as Given};
 ghost use Rattle.naga_rules.specs.Varyings.{seen_in};
-ghost use Rattle.naga_valid.specs.CodeAnswers.{Finds};
-ghost use Rattle.naga_valid.specs.EntryFaults.{IsForFirstFault, OfArgument, OfResult};
-ghost use Rattle.naga_valid.specs.EntryVaryings.{is_struct, is_three_counts, returns_counts, is_one_of_three, returned_points, are_blend_sources, with_blending};
+ghost use Rattle.naga_valid.specs.walk.Answers.{Finds};
+ghost use Rattle.naga_valid.specs.interface.Faults.{IsForFirstFault, OfArgument, OfResult};
+ghost use Rattle.naga_valid.specs.interface.Varyings.{is_struct, is_three_counts, returns_counts, is_one_of_three, returned_points, are_blend_sources, with_blending};
 
 use crate::interface::EntryPointError;
 use crate::interface::answers::refusal;
@@ -68,7 +68,15 @@ pub fn check_returned(
         ShaderStage::Task if !returns_counts(module, declared) => Err(
             EntryPointError::WrongTaskShaderEntryResult,
         ),
-        _ => Ok(()),
+        ShaderStage::Vertex
+        | ShaderStage::Fragment
+        | ShaderStage::Compute
+        | ShaderStage::Mesh
+        | ShaderStage::Task
+        | ShaderStage::RayGeneration
+        | ShaderStage::AnyHit
+        | ShaderStage::ClosestHit
+        | ShaderStage::Miss => Ok(()),
     }
 }
 

@@ -3,9 +3,9 @@
 ghost use Rattle.std.specs.Prelude.{◌≡◌, length};
 ghost use Rattle.naga_below.specs.Fits.{FitsTypes, FitsFunction, FitsEntry};
 ghost use Rattle.naga_below.specs.FitsBody.{SignatureFits};
-ghost use Rattle.naga_valid.specs.EntryFaults.{AnswersFault, Judges};
-ghost use Rattle.naga_valid.specs.EntryJudged.{HasPayloadSizes, entry_judgement, interface_step, used_points, AnswersOutcome};
-ghost use Rattle.naga_valid.specs.EntryStart.{start_points};
+ghost use Rattle.naga_valid.specs.interface.Faults.{AnswersFault, Judges};
+ghost use Rattle.naga_valid.specs.interface.Judged.{HasPayloadSizes, entry_judgement, interface_step, used_points, AnswersOutcome};
+ghost use Rattle.naga_valid.specs.interface.Start.{start_points};
 ghost use Rattle.naga_valid.specs.Parts.{AreInfosOf};
 
 use crate::interface::EntryPointError;
@@ -14,6 +14,7 @@ use crate::interface::start::check_start;
 use crate::interface::uses::{check_payload, check_stage, insert_own_uses};
 use crate::interface::varyings::set_blending;
 use crate::outcome::FunctionOutcome;
+use crate::table::Table;
 use crate::validator::Validator;
 use naga_below::ir::module::{EntryPoint, Module};
 use naga_below::span::Refusal;
@@ -26,6 +27,7 @@ impl<B: Below> Validator<B> {
     pub fn judge_entry_point(
         &self,
         alloc: Global,
+        table: &mut Option<Table>,
         ep: &EntryPoint,
         module: &Module,
         mod_info: &ModuleInfo,
@@ -40,7 +42,7 @@ impl<B: Below> Validator<B> {
         if let Err(fault) = check_start(self.settings.capabilities, ep) {
             return Err(refusal(alloc, fault));
         }
-        let function = self.judge_function(alloc, &ep.function, module, mod_info, true);
+        let function = self.judge_function(alloc, table, &ep.function, module, mod_info, true);
         let outcome = answer_of_function(function)?;
         self.judge_interface(alloc, ep, module, outcome)
     }

@@ -4,17 +4,20 @@ ghost use Rattle.std.specs.Prelude.{◌≡◌, true, OnOk, OnErr, IfOk, length};
 ghost use Rattle.naga_below.specs.Fits.{FitsTypes, FitsFunction, FitsEntry};
 ghost use Rattle.naga_below.specs.declared.ir.module.ShaderStage.TheVariants.{Vertex};
 ghost use Rattle.naga_runs.specs.Soundness.{RunsAreSound};
-ghost use Rattle.naga_rules.specs.Locations.{checks_bindings};
+ghost use Rattle.naga_rules.specs.WhatIsChecked.{checks_bindings};
 ghost use Rattle.naga_valid.specs.Accepted.{ResultsAreFilledOnce, StagesAreOfAll};
 ghost use Rattle.naga_valid.specs.Blocks.{body_of};
+ghost use Rattle.naga_valid.specs.Chains.{AreVetted, ChainsKeepTo};
 ghost use Rattle.naga_valid.specs.Context.{pre_emitted_of};
-ghost use Rattle.naga_valid.specs.EntryJudged.{HasPayloadSizes, entry_judgement, AnswersEntry};
-ghost use Rattle.naga_valid.specs.EntryFacts.{argument_parts, BindingsAreDistinct, BuiltInsAreDistinct, GroupsAreDistinct, ReturnsPosition};
-ghost use Rattle.naga_valid.specs.EntryStart.{start_points};
+ghost use Rattle.naga_valid.specs.interface.Judged.{HasPayloadSizes, entry_judgement, AnswersEntry, AnswersOutcome};
+ghost use Rattle.naga_valid.specs.interface.Facts.{argument_parts, BindingsAreDistinct, BuiltInsAreDistinct, GroupsAreDistinct, ReturnsPosition};
+ghost use Rattle.naga_valid.specs.interface.Start.{start_points};
+ghost use Rattle.naga_valid.specs.interface.Uses.{only};
 ghost use Rattle.naga_valid.specs.Parts.{AreInfosOf};
 ghost use Rattle.naga_valid.specs.WhatIsChecked.{checks_blocks, checks_expressions};
 
 use crate::interface::EntryPointError;
+use crate::outcome::FunctionOutcome;
 use crate::validator::Validator;
 use naga_below::ir::module::{EntryPoint, Module};
 use naga_below::span::Refusal;
@@ -72,12 +75,38 @@ impl<B: Below> Validator<B> {
         // At the vertex stage a position is returned.
         ensures position { OnOk result (ep.now.stage ≡ Vertex → ReturnsPosition «module».now.types ep.now.function.result) }
 
+        // Where bodies were looked at and the infos of the functions are vetted, the entry point keeps to its stage through
+        // all chains of calls.
+        ensures chains { OnOk result (checks_blocks self.old.settings.flags ≡ true → AreVetted (B.meaning self.old.below) self.old.settings self.old.types «module».now mod_info.now → ChainsKeepTo (B.meaning self.old.below) self.old.settings self.old.types «module».now mod_info.now ep.now.function (only ep.now.stage)) }
+
         // Nothing but what ray traces leave may differ, and that only where the entry point is accepted.
         ensures kept { self.new ≡ record self.old { trace = self.new.trace } }
         ensures refused { OnErr result (self.new ≡ self.old) }
     {
-        let outcome = self.judge_entry_point(alloc, ep, module, mod_info)?;
+        let outcome = self.judge_entry_over_kept(alloc, ep, module, mod_info)?;
         self.trace = outcome.trace;
         Ok(outcome.info)
+    }
+
+    /// The judgement of an entry point, over the table that is kept.
+    fn judge_entry_over_kept(
+        &mut self,
+        alloc: Global,
+        ep: &EntryPoint,
+        module: &Module,
+        mod_info: &ModuleInfo,
+    ) -> Result<FunctionOutcome, Refusal<EntryPointError>>
+        requires infos { AreInfosOf «module».now self.old.types }
+        requires types { FitsTypes «module».now }
+        requires function { FitsFunction ep.now.function «module».now (length mod_info.now.functions) }
+        requires entry { FitsEntry ep.now «module».now }
+        requires sizes { HasPayloadSizes (B.meaning self.old.below) «module».now }
+        ensures judged { AnswersOutcome (start_points self.old.settings.capabilities ep.now) (entry_judgement (B.meaning self.old.below) self.old.settings self.old.types self.old.trace «module».now mod_info.now ep.now) result }
+        ensures kept { self.new ≡ self.old }
+    {
+        let mut table = self.table.take();
+        let judged = self.judge_entry_point(alloc, &mut table, ep, module, mod_info);
+        self.table = table;
+        judged
     }
 }

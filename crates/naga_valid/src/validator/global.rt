@@ -4,7 +4,7 @@ ghost use Rattle.std.specs.Prelude.{◌≡◌, Contains, length};
 ghost use Rattle.std.specs.Result.{result_err};
 ghost use Rattle.naga_below.specs.Fits.{FitsTypes, FitsGlobals};
 ghost use Rattle.naga_below.specs.Points.{first_fault};
-ghost use Rattle.naga_valid.specs.GlobalPoints.{module_global_points};
+ghost use Rattle.naga_valid.specs.interface.GlobalPoints.{module_global_points};
 ghost use Rattle.naga_valid.specs.Parts.{AreInfosOf};
 
 use crate::validator::Validator;

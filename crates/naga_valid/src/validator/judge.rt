@@ -7,12 +7,13 @@ ghost use Rattle.naga_rules.specs.Answers.{Answers};
 ghost use Rattle.naga_valid.specs.Context.{ContextFits};
 ghost use Rattle.naga_valid.specs.Judged.{judged_with};
 ghost use Rattle.naga_valid.specs.Parts.{AreInfosOf};
-ghost use Rattle.naga_valid.specs.Seen.{asked_by, known_by, judgement_by};
+ghost use Rattle.naga_valid.specs.walk.Seen.{asked_by, known_by, judgement_by};
 
 use crate::context::BlockContext;
 use crate::declarations::check_declarations;
 use crate::function::validate_function_body;
 use crate::outcome::FunctionOutcome;
+use crate::table::Table;
 use crate::validator::Validator;
 use naga_below::ir::functions::Function;
 use naga_below::ir::module::Module;
@@ -25,10 +26,12 @@ use naga_rules::function::FunctionError;
 use std::alloc::Global;
 
 impl<B: Below> Validator<B> {
-    /// What is known of a function where it is accepted, else its first fault.
+    /// What is known of a function where it is accepted, else its first fault. The table is begun anew, and
+    /// kept for its memory alone.
     pub fn judge_function(
         &self,
         alloc: Global,
+        table: &mut Option<Table>,
         fun: &Function,
         module: &Module,
         mod_info: &ModuleInfo,
@@ -47,7 +50,7 @@ impl<B: Below> Validator<B> {
         let info = below.process_function(alloc, fun, module, mod_info, flags, capabilities)?;
         let kinds = below.kinds(alloc, &fun.expressions)?;
         let info = self.check_known(alloc, fun, module, mod_info, &kinds, info, entry_point)?;
-        self.judge_body(alloc, fun, module, mod_info, &kinds, info)
+        self.judge_body(alloc, table, fun, module, mod_info, &kinds, info)
     }
 
     /// The declarations of a function, and its expressions where they are looked at: its info with the stages that they
@@ -90,6 +93,7 @@ impl<B: Below> Validator<B> {
     fn judge_body(
         &self,
         alloc: Global,
+        table: &mut Option<Table>,
         fun: &Function,
         module: &Module,
         mod_info: &ModuleInfo,
@@ -111,7 +115,7 @@ impl<B: Below> Validator<B> {
                 settings: self.settings,
                 trace,
             };
-            let left = validate_function_body(alloc, &context)?;
+            let left = validate_function_body(alloc, table, &context)?;
             info.available_stages = left.stages;
             trace = left.trace;
         }

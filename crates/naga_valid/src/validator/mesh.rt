@@ -2,9 +2,9 @@
 
 ghost use Rattle.std.specs.Prelude.{◌≡◌};
 ghost use Rattle.naga_below.specs.Points.{within};
-ghost use Rattle.naga_valid.specs.EntryFaults.{Judges};
-ghost use Rattle.naga_valid.specs.EntryMesh.{said_points};
-ghost use Rattle.naga_valid.specs.EntryPoints.{Meets};
+ghost use Rattle.naga_valid.specs.interface.Faults.{Judges};
+ghost use Rattle.naga_valid.specs.interface.Mesh.{said_points};
+ghost use Rattle.naga_valid.specs.interface.Points.{Meets};
 
 use crate::interface::EntryPointError;
 use crate::interface::answers::answer;

@@ -9,9 +9,9 @@ ghost use Rattle.naga_below.specs.Types.{inner_at};
 ghost use Rattle.naga_below.specs.declared.ir.built_in.BuiltIn.TheVariants.{Position};
 ghost use Rattle.naga_rules.specs.Varyings.{nothing_seen, parts_of, placed_parts, points_from, seen_at, seen_in, seen_with};
 ghost use Rattle.naga_rules.specs.declared.varying.MeshOutputType.TheVariants as which;
-ghost use Rattle.naga_valid.specs.EntryFaults.{Judges, OfArgument, OfResult, Other};
-ghost use Rattle.naga_valid.specs.EntryMesh.{mesh_points};
-ghost use Rattle.naga_valid.specs.EntryVaryings.{argument_points, declared_points, has_built_in, is_struct, output_item, output_points, outputs_points, place_of, primitive_points, result_parts, result_points, vertex_points};
+ghost use Rattle.naga_valid.specs.interface.Faults.{Judges, OfArgument, OfResult, Other};
+ghost use Rattle.naga_valid.specs.interface.Mesh.{mesh_points};
+ghost use Rattle.naga_valid.specs.interface.Varyings.{argument_points, declared_points, has_built_in, is_struct, output_item, output_points, outputs_points, place_of, primitive_points, result_parts, result_points, vertex_points};
 ghost use Rattle.naga_valid.specs.Parts.{AreInfosOf};
 ghost use Rattle.naga_valid.specs.declared.interface.EntryPointError.TheVariants as fault;
 

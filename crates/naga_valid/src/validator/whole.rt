@@ -3,6 +3,7 @@
 ghost use Rattle.std.specs.Prelude.{◌≡◌, true, OnOk, OnErr, IfOk, length};
 ghost use Rattle.naga_below.specs.Fits.{FitsTypes, FitsFunction};
 ghost use Rattle.naga_runs.specs.Soundness.{RunsAreSound};
+ghost use Rattle.naga_rules.specs.Answers.{Answers};
 ghost use Rattle.naga_valid.specs.Accepted.{ResultsAreFilledOnce, StagesAreOfAll};
 ghost use Rattle.naga_valid.specs.Blocks.{body_of};
 ghost use Rattle.naga_valid.specs.Context.{pre_emitted_of};
@@ -10,7 +11,9 @@ ghost use Rattle.naga_valid.specs.WhatIsChecked.{checks_blocks, checks_expressio
 ghost use Rattle.naga_valid.specs.Judged.{function_judgement, AnswersTracing};
 ghost use Rattle.naga_valid.specs.Parts.{AreInfosOf};
 ghost use Rattle.naga_valid.specs.Shapes.{HasNoReturnInContinuing, HasWholeSwitches};
+ghost use Rattle.naga_valid.specs.walk.Seen.{judgement_by};
 
+use crate::outcome::FunctionOutcome;
 use crate::validator::Validator;
 use naga_below::ir::functions::Function;
 use naga_below::ir::module::Module;
@@ -72,8 +75,31 @@ impl<B: Below> Validator<B> {
         ensures kept { self.new ≡ record self.old { trace = self.new.trace } }
         ensures refused { OnErr result (self.new ≡ self.old) }
     {
-        let outcome = self.judge_function(alloc, fun, module, mod_info, entry_point)?;
+        let outcome = self.judge_over_kept(alloc, fun, module, mod_info, entry_point)?;
         self.trace = outcome.trace;
         Ok(outcome.info)
+    }
+
+    /// The judgement of a function, over the table that is kept.
+    fn judge_over_kept(
+        &mut self,
+        alloc: Global,
+        fun: &Function,
+        module: &Module,
+        mod_info: &ModuleInfo,
+        entry_point: bool,
+    ) -> Result<FunctionOutcome, Refusal<FunctionError>>
+        requires infos { AreInfosOf «module».now self.old.types }
+        requires types { FitsTypes «module».now }
+        requires function { FitsFunction fun.now «module».now (length mod_info.now.functions) }
+        ensures judged { Answers
+            (judgement_by self.old (B.meaning self.old.below) «module».now mod_info.now fun.now entry_point)
+            result }
+        ensures kept { self.new ≡ self.old }
+    {
+        let mut table = self.table.take();
+        let judged = self.judge_function(alloc, &mut table, fun, module, mod_info, entry_point);
+        self.table = table;
+        judged
     }
 }

@@ -1,15 +1,20 @@
-use Rattle.std.proofs.Common.{Some, ◌++◌, ◌∷◌, [], sym, ap, ◌∙◌, append-nil}
+use Rattle.std.proofs.Common.{Some, arith, length, take, ◌∷◌, [], ◌≡◌, sym, ap, ◌∙◌}
 use Rattle.std.proofs.lemmas.Option.{get_or_from_slice_get}
+use Rattle.std.proofs.lemmas.List.{take_all}
 use Rattle.naga_valid.specs.Context.{if_pre_emitted}
-use Rattle.naga_valid.specs.Scope.{in_scope}
-use Rattle.naga_valid.proofs.PreEmitted.{is_new, one_more}
+use Rattle.naga_valid.specs.walk.Table.{count, known, with_all}
+use Rattle.naga_valid.proofs.PreEmitted.{pre_emitted_in, is_new, one_more, none_more}
 use Rattle.naga_valid.proofs.function.put_pre_emitted.Goals as goal
-use Rattle.naga_valid.proofs.function.put_pre_emitted.Goals.{then-needs_pre_emit+in_ok-put, else-needs_pre_emit}
+use Rattle.naga_valid.proofs.function.put_pre_emitted.Goals.{then-needs_pre_emit, else-needs_pre_emit}
 
-pub put-requires : goal.put-requires
-put-requires c =
+pub put-requires-clause-there : goal.put-requires-clause-there
+put-requires-clause-there c =
     let lt = rw c.len-count.ensures.len at c.loop-index-test.true in
-    (λ j. in_scope (c.loop-index.invariant j) (c.new-handle.ensures j)) ∙ is_new c.args.context.now.fun.now.expressions c.loop-index.index lt
+    omega (arith, c.new-handle.ensures, c.loop-index.invariant.count, c.requires.count, lt)
+
+pub put-requires-clause-new : goal.put-requires-clause-new
+put-requires-clause-new c =
+    (λ j. c.loop-index.invariant.known j (c.new-handle.ensures j)) ∙ is_new c.args.context.now.fun.now.expressions c.loop-index.index
 
 pub loop-index-preserved : goal.loop-index-preserved
 loop-index-preserved c =
@@ -20,10 +25,12 @@ loop-index-preserved c =
     let here = get_or_from_slice_get es i x x (rw c.new-handle.ensures at c.index.ensures) in
     let needs = ap (λ z. if_pre_emitted (Some z)) here ∙ sym c.needs_pre_emit.ensures in
     elim c.if-needs_pre_emit.branch [
-      | then-needs_pre_emit+in_ok-put w ↦
-          let turn = one_more es i lt x _ (needs ∙ w.if-needs_pre_emit.true) in
-          w.scope-is ∙ w.in_ok-put.ensures.put ∙ (λ j. c.loop-index.invariant j ++ (c.new-handle.ensures j ∷ [])) ∙ sym turn
-      | else-needs_pre_emit w ↦
-          let turn = one_more es i lt x _ (needs ∙ w.if-needs_pre_emit.false) in
-          w.scope-is ∙ c.loop-index.invariant ∙ sym (turn ∙ append-nil _)
+      | then-needs_pre_emit w ↦ record {
+        known = ap known w.scope-is ∙ w.put.ensures.inside ∙ (λ j. with_all (c.loop-index.invariant.known j) (c.new-handle.ensures j ∷ [])) ∙ one_more es i x lt (needs ∙ w.if-needs_pre_emit.true);
+        count = ap count w.scope-is ∙ w.put.ensures.as_many ∙ c.loop-index.invariant.count;
+      }
+      | else-needs_pre_emit w ↦ record {
+        known = ap known w.scope-is ∙ c.loop-index.invariant.known ∙ none_more es i x lt (needs ∙ w.if-needs_pre_emit.false);
+        count = ap count w.scope-is ∙ c.loop-index.invariant.count;
+      }
     ]

@@ -1,6 +1,10 @@
 use Rattle.std.proofs.Common.{◌≡◌, take}
-use Rattle.naga_valid.specs.Walk.{pre_emitted_from}
+use Rattle.naga_valid.specs.walk.Table.{count, known}
+use Rattle.naga_valid.proofs.PreEmitted.{pre_emitted_in}
 use Rattle.naga_valid.proofs.function.put_pre_emitted.Given as goal
 
 abbrev pub invariant-loop-index : goal.invariant-loop-index
-invariant-loop-index l = l.scope ≡ pre_emitted_from 0 (take l.index l.context.fun.now.expressions)
+invariant-loop-index l = record {
+  known : known l.scope ≡ pre_emitted_in (take l.index l.context.fun.now.expressions);
+  count : count l.scope ≡ count l.initial.scope;
+}

@@ -1,4 +1,5 @@
 use Rattle.naga_valid.proofs.EntryBuiltIns.{accepted_built_ins}
+use Rattle.naga_valid.proofs.EntryChains.{entry_is_sound, entry_keeps_its_stage}
 use Rattle.naga_valid.proofs.EntryGroups.{accepted_locations}
 use Rattle.naga_valid.proofs.EntryFacts.{accepted_bindings, accepted_position, accepted_function}
 use Rattle.naga_valid.proofs.laws.entry_law.Goals as goal
@@ -17,3 +18,9 @@ returns-clause-locations c = accepted_locations
 
 pub returns-clause-built_ins : goal.returns-clause-built_ins
 returns-clause-built_ins c = accepted_built_ins
+
+pub returns-clause-sound : goal.returns-clause-sound
+returns-clause-sound c = entry_is_sound
+
+pub returns-clause-chains : goal.returns-clause-chains
+returns-clause-chains c = entry_keeps_its_stage

@@ -1,4 +1,4 @@
-use Rattle.std.proofs.Common.{◌≡◌, ◌+◌, ℕ, List, Err, inr, drop, length, refl, sym, subst}
+use Rattle.std.proofs.Common.{◌+◌, List, Err, inr, drop, length, refl, sym, subst}
 use Rattle.naga_below.specs.Fits.{FitsFunction}
 use Rattle.naga_below.specs.declared.valid.info.FunctionInfo.{FunctionInfo}
 use Rattle.naga_module.specs.CodeModule.{Leads}

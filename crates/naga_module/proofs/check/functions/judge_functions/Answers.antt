@@ -1,4 +1,4 @@
-use Rattle.std.proofs.Common.{◌≡◌, ◌+◌, ◌∙◌, ℕ, List, [], Err, drop, length, refl, sym, ap, subst}
+use Rattle.std.proofs.Common.{◌+◌, ◌∙◌, List, drop, length, refl, sym, ap, subst}
 use Rattle.std.proofs.lemmas.Result.{err_from_is_err_and}
 use Rattle.naga_below.specs.declared.ir.functions.Function.{Function}
 use Rattle.naga_valid.specs.Parts.{Parts, AreInfosOf}
@@ -7,7 +7,7 @@ use Rattle.naga_module.proofs.Modules.{leads_on, stops_behind, none_left}
 use Rattle.naga_module.proofs.check.functions.judge_functions.Goals as goal
 
 pub loop-index-init : goal.loop-index-init
-loop-index-init g c = record { place = ap length c.requires.first; kept = refl; leads = λ r a. a }
+loop-index-init g c = record { place = ap length c.requires.first; entries = refl; kept = refl; leads = λ r a. a }
 
 pub judge_function-requires-clause-infos : goal.judge_function-requires-clause-infos
 judge_function-requires-clause-infos g c =
@@ -43,6 +43,7 @@ loop-index-preserved g c =
     (subst (λ (w : Parts g.row.B.Denot). Leads (g.B.Below.meaning w.below) w.settings w.types m c.loop-index.validator.trace c.loop-index.infos (drop c.new.result m.functions) left more (drop (c.new.result + 1) m.functions)) c.loop-index.invariant.kept c.in_ok-judge_function.ensures.judged) in
     record {
       place = c.in_ok-judge_function.ensures.place ∙ ap (λ i. i + 1) c.new.ensures;
+      entries = c.in_ok-judge_function.ensures.entries ∙ c.loop-index.invariant.entries;
       kept = c.judge_function.ensures.kept ∙ ap (λ (v : Parts g.row.B.Denot). record v { trace = left }) c.loop-index.invariant.kept;
       leads = leads_on (g.B.Below.meaning v.below) v.settings v.types m v.trace c.args.infos.now m.functions c.loop-index.validator.trace c.loop-index.infos (drop c.loop-index.index m.functions) c.loop-index.invariant.leads left more (drop (c.loop-index.index + 1) m.functions) on;
     }
@@ -56,3 +57,6 @@ returns-clause-judged g c =
 
 pub returns-clause-kept : goal.returns-clause-kept
 returns-clause-kept g c = c.loop-index.invariant.kept
+
+pub returns-clause-entries : goal.returns-clause-entries
+returns-clause-entries g c = c.loop-index.invariant.entries

@@ -1,7 +1,7 @@
 use Rattle.std.proofs.Common.{length, sym, subst}
 use Rattle.std.specs.Prelude.{IfSome}
 use Rattle.naga_below.specs.Types.{NamesTypesBelow}
-use Rattle.naga_valid.specs.Seen.{context_of}
+use Rattle.naga_valid.specs.walk.Seen.{context_of}
 use Rattle.naga_valid.proofs.InRange.{type_fits, result_type_fits}
 use Rattle.naga_valid.proofs.checks.atomic.check_uncompared.Goals as goal
 

@@ -2,7 +2,7 @@ use Rattle.std.proofs.Common.{◌≡◌, true, false, take, refl, sym, ◌∙◌
 use Rattle.std.specs.List.{list_any}
 use Rattle.naga_below.specs.declared.ir.statements.SwitchCase.{out-SwitchCase}
 use Rattle.naga_valid.specs.Blocks.{case_list}
-use Rattle.naga_valid.specs.Control.{has_signedness_of, same_value, values_of}
+use Rattle.naga_valid.specs.checks.Control.{has_signedness_of, same_value, values_of}
 use Rattle.naga_valid.proofs.Values.{value_passes, has_none, has_more, not_held}
 use Rattle.naga_valid.proofs.checks.control.check_values.Goals as goal
 

@@ -1,7 +1,7 @@
 use Rattle.std.proofs.Common.{◌≡◌, [], take, drop}
 use Rattle.naga_below.specs.Points.{first_fault}
 use Rattle.naga_valid.specs.Blocks.{case_list}
-use Rattle.naga_valid.specs.Control.{value_points, values_of}
+use Rattle.naga_valid.specs.checks.Control.{value_points, values_of}
 use Rattle.naga_valid.proofs.Values.{HasValues}
 use Rattle.naga_valid.proofs.checks.control.check_values.Given as goal
 

@@ -1,6 +1,6 @@
 use Rattle.std.proofs.Common.{sym, ap, ◌∙◌}
 use Rattle.std.specs.Option.{option_copied}
-use Rattle.naga_valid.specs.Seen.{context_of}
+use Rattle.naga_valid.specs.walk.Seen.{context_of}
 use Rattle.naga_valid.proofs.InRange.{types_fit, resolution_fits}
 use Rattle.naga_valid.proofs.checks.control.is_returned_as.Goals as goal
 

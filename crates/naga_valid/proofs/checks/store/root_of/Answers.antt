@@ -1,5 +1,5 @@
 use Rattle.std.proofs.Common.{sym, ap, ◌∙◌}
-use Rattle.naga_valid.specs.Stores.{access_base}
+use Rattle.naga_valid.specs.checks.Store.{access_base}
 use Rattle.naga_valid.proofs.Stores.{base_is_earlier, root_of_base, root_of_itself}
 use Rattle.naga_valid.proofs.checks.store.root_of.Goals as goal
 

@@ -1,6 +1,6 @@
 use Rattle.std.proofs.Common.{◌≡◌}
-use Rattle.naga_valid.specs.Seen.{context_of}
-use Rattle.naga_valid.specs.Stores.{root_at}
+use Rattle.naga_valid.specs.walk.Seen.{context_of}
+use Rattle.naga_valid.specs.checks.Store.{root_at}
 use Rattle.naga_valid.proofs.checks.store.root_of.Given as goal
 
 -- the walk from here stops where the whole does

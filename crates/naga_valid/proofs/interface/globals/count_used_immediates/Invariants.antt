@@ -1,5 +1,5 @@
 use Rattle.std.proofs.Common.{◌≡◌, ◌≤◌}
-use Rattle.naga_valid.specs.EntryGlobals.{used_immediates}
+use Rattle.naga_valid.specs.interface.Globals.{used_immediates}
 use Rattle.naga_valid.proofs.interface.globals.count_used_immediates.Given as goal
 
 abbrev pub invariant-loop-index : goal.invariant-loop-index

@@ -3,7 +3,7 @@ use Rattle.naga_below.specs.Points.{first_fault}
 use Rattle.naga_below.specs.declared.valid.types.TypeInfo.{TypeInfo}
 use Rattle.naga_rules.specs.VaryingFaults.{IsFirstVaryingFault}
 use Rattle.naga_rules.specs.Varyings.{points_from, seen_in}
-use Rattle.naga_valid.specs.EntryFaults.{OfArgument}
+use Rattle.naga_valid.specs.interface.Faults.{OfArgument}
 use Rattle.naga_valid.proofs.Groups.{passes_within}
 use Rattle.naga_valid.proofs.validator.Validator.check_argument.Goals as goal
 

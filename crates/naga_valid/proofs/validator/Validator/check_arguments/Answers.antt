@@ -8,9 +8,9 @@ use Rattle.naga_rules.specs.Seen.{Seen}
 use Rattle.naga_rules.specs.Varyings.{group_points, parts_of, points_from, seen_at, seen_in, seen_with}
 use Rattle.naga_rules.specs.declared.varying.MeshOutputType.TheVariants.{Neither}
 use Rattle.naga_rules.specs.declared.varying.VaryingPlace.{VaryingPlace}
-use Rattle.naga_valid.specs.CodeGroups.{parts_of_all}
-use Rattle.naga_valid.specs.EntryFaults.{OfArgument, Judges}
-use Rattle.naga_valid.specs.EntryVaryings.{argument_item, place_of}
+use Rattle.naga_valid.specs.walk.Groups.{parts_of_all}
+use Rattle.naga_valid.specs.interface.Faults.{OfArgument, Judges}
+use Rattle.naga_valid.specs.interface.Varyings.{argument_item, place_of}
 use Rattle.naga_valid.proofs.Groups.{group_stops, group_goes_on, group_ends, parts_taken, seen_by_position}
 use Rattle.naga_valid.proofs.validator.Validator.check_arguments.Goals as goal
 

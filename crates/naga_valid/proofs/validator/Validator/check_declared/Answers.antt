@@ -6,8 +6,8 @@ use Rattle.naga_rules.specs.Seen.{Seen}
 use Rattle.naga_rules.specs.Varyings.{points_from, parts_of, seen_in, seen_with}
 use Rattle.naga_rules.specs.declared.varying.VaryingPlace.{VaryingPlace}
 use Rattle.naga_rules.specs.declared.varying.MeshOutputType.TheVariants.{Neither}
-use Rattle.naga_valid.specs.EntryFaults.{OfResult, Judges}
-use Rattle.naga_valid.specs.EntryVaryings.{declared_points, has_built_in, place_of, result_item, result_parts}
+use Rattle.naga_valid.specs.interface.Faults.{OfResult, Judges}
+use Rattle.naga_valid.specs.interface.Varyings.{declared_points, has_built_in, place_of, result_item, result_parts}
 use Rattle.naga_valid.proofs.Groups.{one_item, seen_by_position}
 use Rattle.naga_valid.proofs.validator.Validator.check_declared.Goals as goal
 

@@ -1,10 +1,10 @@
 use Rattle.std.proofs.Common.{rules, ◌++◌}
 use Rattle.naga_below.specs.Points.{within}
-use Rattle.naga_valid.specs.EntryFaults.{fault_of, Judges}
-use Rattle.naga_valid.specs.EntryGlobals.{globals_points}
-use Rattle.naga_valid.specs.EntryMesh.{mesh_points}
-use Rattle.naga_valid.specs.EntryUses.{stage_points}
-use Rattle.naga_valid.specs.EntryVaryings.{argument_points, result_points}
+use Rattle.naga_valid.specs.interface.Faults.{fault_of, Judges}
+use Rattle.naga_valid.specs.interface.Globals.{globals_points}
+use Rattle.naga_valid.specs.interface.Mesh.{mesh_points}
+use Rattle.naga_valid.specs.interface.Uses.{stage_points}
+use Rattle.naga_valid.specs.interface.Varyings.{argument_points, result_points}
 use Rattle.naga_valid.proofs.EntrySteps.{judges_first, judges_second}
 use Rattle.naga_valid.proofs.validator.Validator.check_interface.Goals as goal
 

@@ -7,8 +7,8 @@ use Rattle.naga_rules.proofs.Seeing.{sees_locations_alone}
 use Rattle.naga_rules.specs.Seen.{Seen}
 use Rattle.naga_rules.specs.Varyings.{parts_of, placed_parts, points_from, seen_in, seen_with}
 use Rattle.naga_rules.specs.declared.varying.MeshOutputType.TheVariants.{VertexOutput, PrimitiveOutput}
-use Rattle.naga_valid.specs.EntryFaults.{OfResult, Other, Judges}
-use Rattle.naga_valid.specs.EntryVaryings.{has_one_of_indices, is_one_of_three, is_struct, output_item, output_points, place_of}
+use Rattle.naga_valid.specs.interface.Faults.{OfResult, Other, Judges}
+use Rattle.naga_valid.specs.interface.Varyings.{has_one_of_indices, is_one_of_three, is_struct, output_item, output_points, place_of}
 use Rattle.naga_valid.specs.declared.interface.EntryPointError.TheVariants as fault
 use Rattle.naga_valid.proofs.EntrySteps.{judges_first}
 use Rattle.naga_valid.proofs.Groups.{last_fails, last_holds, output_by_position}

@@ -1,6 +1,6 @@
 use Rattle.std.proofs.Common.{rules, ◌≡◌, true, None, Some}
 use Rattle.naga_below.specs.Points.{first_fault}
-use Rattle.naga_valid.specs.EntryStart.{start_points}
+use Rattle.naga_valid.specs.interface.Start.{start_points}
 use Rattle.naga_valid.specs.Judged.{function_judgement}
 use Rattle.naga_valid.proofs.EntryJudgement.{start_refuses, function_refuses, interface_decides, function_passes}
 use Rattle.naga_valid.proofs.EntryUses.{one_use_each}

@@ -1,8 +1,8 @@
 use Rattle.std.proofs.Common.{rules, ◌++◌}
 use Rattle.naga_below.specs.Points.{within}
-use Rattle.naga_valid.specs.EntryFaults.{fault_of, Judges}
-use Rattle.naga_valid.specs.EntryJudged.{used_points, outcome_of}
-use Rattle.naga_valid.specs.EntryUses.{payload_points, with_own_uses}
+use Rattle.naga_valid.specs.interface.Faults.{fault_of, Judges}
+use Rattle.naga_valid.specs.interface.Judged.{used_points, outcome_of}
+use Rattle.naga_valid.specs.interface.Uses.{payload_points, with_own_uses}
 use Rattle.naga_valid.proofs.EntryJudgement.{points_refuse}
 use Rattle.naga_valid.proofs.EntrySteps.{judges_first}
 use Rattle.naga_valid.proofs.validator.Validator.judge_interface.Goals as goal

@@ -1,0 +1,226 @@
+//! The cases, by name. The letters are those of the bench that the names are shared with: a straight bodies, b nesting, c
+//! blocks and switches, d whole functions, entry points and modules.
+
+use crate::bodies::{Holder, Shape};
+
+/// What is judged.
+#[derive(Clone, Copy)]
+pub enum Subject {
+    /// A function of a shape.
+    Body(Shape),
+    /// The same, by a validator that judged one of a million expressions before.
+    AfterLarge(Shape),
+    /// So many functions of a shape, one behind the other.
+    Functions(Shape, u32),
+    /// An entry point that takes in varyings, from a location on, and uses globals.
+    Entry {
+        location: u32,
+        varyings: u32,
+        globals: u32,
+    },
+}
+
+/// A case. A Switch's statements are those of its cases and its own, and an entry point counts as one.
+#[derive(Clone, Copy)]
+pub struct Case {
+    pub name: &'static str,
+    pub statements: usize,
+    pub subject: Subject,
+}
+
+pub static CASES: [Case; 32] = [
+    Case {
+        name: "a emit 1000",
+        statements: 1000,
+        subject: Subject::Body(Shape::Emits(1000)),
+    },
+    Case {
+        name: "a emit 10000",
+        statements: 10000,
+        subject: Subject::Body(Shape::Emits(10000)),
+    },
+    Case {
+        name: "a emit 100000",
+        statements: 100000,
+        subject: Subject::Body(Shape::Emits(100000)),
+    },
+    Case {
+        name: "a emit 1000000",
+        statements: 1000000,
+        subject: Subject::Body(Shape::Emits(1000000)),
+    },
+    Case {
+        name: "a store 1000",
+        statements: 1000,
+        subject: Subject::Body(Shape::Stores(1000)),
+    },
+    Case {
+        name: "a store 10000",
+        statements: 10000,
+        subject: Subject::Body(Shape::Stores(10000)),
+    },
+    Case {
+        name: "a store 100000",
+        statements: 100000,
+        subject: Subject::Body(Shape::Stores(100000)),
+    },
+    Case {
+        name: "a store 1000000",
+        statements: 1000000,
+        subject: Subject::Body(Shape::Stores(1000000)),
+    },
+    Case {
+        name: "a call 1000",
+        statements: 1000,
+        subject: Subject::Body(Shape::Calls(1000)),
+    },
+    Case {
+        name: "a call 10000",
+        statements: 10000,
+        subject: Subject::Body(Shape::Calls(10000)),
+    },
+    Case {
+        name: "a call 100000",
+        statements: 100000,
+        subject: Subject::Body(Shape::Calls(100000)),
+    },
+    Case {
+        name: "a call 1000000",
+        statements: 1000000,
+        subject: Subject::Body(Shape::Calls(1000000)),
+    },
+    Case {
+        name: "a mix 1000",
+        statements: 1000,
+        subject: Subject::Body(Shape::Mix(1000)),
+    },
+    Case {
+        name: "a mix 10000",
+        statements: 10000,
+        subject: Subject::Body(Shape::Mix(10000)),
+    },
+    Case {
+        name: "a mix 100000",
+        statements: 100000,
+        subject: Subject::Body(Shape::Mix(100000)),
+    },
+    Case {
+        name: "a mix 1000000",
+        statements: 1000000,
+        subject: Subject::Body(Shape::Mix(1000000)),
+    },
+    Case {
+        name: "b block depth 200 width 100",
+        statements: 40400,
+        subject: Subject::Body(Shape::Nest {
+            holder: Holder::Block,
+            depth: 200,
+            width: 100,
+        }),
+    },
+    Case {
+        name: "b if depth 200 width 100",
+        statements: 40400,
+        subject: Subject::Body(Shape::Nest {
+            holder: Holder::If,
+            depth: 200,
+            width: 100,
+        }),
+    },
+    Case {
+        name: "b loop depth 200 width 100",
+        statements: 40400,
+        subject: Subject::Body(Shape::Nest {
+            holder: Holder::Loop,
+            depth: 200,
+            width: 100,
+        }),
+    },
+    Case {
+        name: "b mix depth 200 width 100",
+        statements: 40400,
+        subject: Subject::Body(Shape::Nest {
+            holder: Holder::Mix,
+            depth: 200,
+            width: 100,
+        }),
+    },
+    Case {
+        name: "c own 10000 blocks of 10",
+        statements: 30000,
+        subject: Subject::Body(Shape::Own {
+            blocks: 10000,
+            loads: 10,
+        }),
+    },
+    Case {
+        name: "c stores 10000 blocks of 10",
+        statements: 110000,
+        subject: Subject::Body(Shape::Blocks {
+            blocks: 10000,
+            stores: 10,
+        }),
+    },
+    Case {
+        name: "c switch 1000",
+        statements: 1002,
+        subject: Subject::Body(Shape::Switch(1000)),
+    },
+    Case {
+        name: "c switch 10000",
+        statements: 10002,
+        subject: Subject::Body(Shape::Switch(10000)),
+    },
+    Case {
+        name: "c switch 100000",
+        statements: 100002,
+        subject: Subject::Body(Shape::Switch(100000)),
+    },
+    Case {
+        name: "c switch 1000000",
+        statements: 1000002,
+        subject: Subject::Body(Shape::Switch(1000000)),
+    },
+    Case {
+        name: "d small after large",
+        statements: 1000,
+        subject: Subject::AfterLarge(Shape::Mix(1000)),
+    },
+    Case {
+        name: "d small alone",
+        statements: 1000,
+        subject: Subject::Body(Shape::Mix(1000)),
+    },
+    Case {
+        name: "d module of 10000 functions",
+        statements: 80000,
+        subject: Subject::Functions(Shape::Mix(8), 10000),
+    },
+    Case {
+        name: "d entry 32 varyings 100 globals",
+        statements: 1,
+        subject: Subject::Entry {
+            location: 0,
+            varyings: 32,
+            globals: 100,
+        },
+    },
+    Case {
+        name: "d entry location 0",
+        statements: 1,
+        subject: Subject::Entry {
+            location: 0,
+            varyings: 1,
+            globals: 0,
+        },
+    },
+    Case {
+        name: "d entry location 4294967295",
+        statements: 1,
+        subject: Subject::Entry {
+            location: 4294967295,
+            varyings: 1,
+            globals: 0,
+        },
+    },
+];

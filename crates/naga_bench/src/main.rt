@@ -1,0 +1,217 @@
+//! Times the validator over bodies of many shapes and sizes, by the clock. Without an argument it prints the names of the
+//! cases, with one it runs those whose names begin so, and with `all` every one. A line has the case, its statements, the
+//! fastest judgement of many, the lower layer alone and the tests of the conditions in nanoseconds, and the judgement's
+//! own share (without the lower layer) for each statement.
+#![tactic(auto)]
+
+mod bodies;
+mod cases;
+mod modules;
+mod timing;
+
+use crate::bodies::Shape;
+use crate::cases::{CASES, Case, Subject};
+use crate::modules::{module, with_globals};
+use crate::timing::{Times, validator};
+use naga_below::{EntryPoint, Module, ModuleInfo, fits_function, fits_types};
+use naga_module::Plain;
+use naga_valid::Validator;
+use std::alloc::{AllocError, Global};
+use std::time::Clock;
+use std::{env, io};
+
+/// How many types each module has.
+const TYPES: usize = 3;
+
+/// How often a case of so many statements is timed.
+fn repetitions(statements: usize) -> u64 {
+    match statements {
+        0..5_000 => 2000,
+        5_000..50_000 => 300,
+        50_000..500_000 => 40,
+        _ => 10,
+    }
+}
+
+/// The infos of a module's first function, which the others may call; `None` where it is refused.
+fn infos_of_first(
+    alloc: Global,
+    validator: &mut Validator<Plain>,
+    module: &Module,
+) -> Result<Option<ModuleInfo>, AllocError> {
+    let mut infos = ModuleInfo::new(alloc);
+    let Some(fun) = module.functions.as_slice().first() else {
+        return Ok(None);
+    };
+    if !validator.has_types_of(module) || !fits_types(module) || !fits_function(fun, module, 0) {
+        return Ok(None);
+    }
+    match validator.validate_function(alloc, fun, module, &infos, false) {
+        Ok(info) => {
+            infos.functions.push(info)?;
+            Ok(Some(infos))
+        }
+        Err(_) => Ok(None),
+    }
+}
+
+/// One judgement of each function of a module behind the first; the times together.
+fn once<C: Clock>(
+    clock: &C,
+    alloc: Global,
+    validator: &mut Validator<Plain>,
+    module: &Module,
+    infos: &ModuleInfo,
+) -> io::Result<Option<Times>> {
+    let mut times = Times::ZERO;
+    for fun in module.functions.as_slice().iter().skip(1) {
+        match timing::function(clock, alloc, validator, fun, module, infos)? {
+            Some(next) => times = times.plus(next),
+            None => return Ok(None),
+        }
+    }
+    Ok(Some(times))
+}
+
+/// The fastest of many.
+fn functions<C: Clock>(
+    clock: &C,
+    alloc: Global,
+    validator: &mut Validator<Plain>,
+    module: &Module,
+    count: u64,
+) -> io::Result<Option<Times>> {
+    let Some(infos) = infos_of_first(alloc, validator, module)? else {
+        return Ok(None);
+    };
+    let mut times = Times::NONE;
+    for _ in 0..count {
+        match once(clock, alloc, validator, module, &infos)? {
+            Some(next) => times = times.fastest(next),
+            None => return Ok(None),
+        }
+    }
+    Ok(Some(times))
+}
+
+fn entry_point<C: Clock>(
+    clock: &C,
+    alloc: Global,
+    validator: &mut Validator<Plain>,
+    ep: &EntryPoint,
+    module: &Module,
+) -> io::Result<Option<Times>> {
+    let infos = ModuleInfo::new(alloc);
+    let mut times = Times::NONE;
+    for _ in 0..2000u64 {
+        match timing::entry_point(clock, alloc, validator, ep, module, &infos)? {
+            Some(next) => times = times.fastest(next),
+            None => return Ok(None),
+        }
+    }
+    Ok(Some(times))
+}
+
+/// So many functions of a shape.
+fn shape<C: Clock>(
+    clock: &C,
+    alloc: Global,
+    validator: &mut Validator<Plain>,
+    shape: Shape,
+    of: u32,
+    count: u64,
+) -> io::Result<Option<Times>> {
+    let module = module(alloc, shape, of)?;
+    functions(clock, alloc, validator, &module, count)
+}
+
+/// An entry point with so many varyings, from a location on, and so many globals.
+fn entry<C: Clock>(
+    clock: &C,
+    alloc: Global,
+    validator: &mut Validator<Plain>,
+    location: u32,
+    varyings: u32,
+    globals: u32,
+) -> io::Result<Option<Times>> {
+    let ep = modules::entry_point(alloc, location, varyings, globals)?;
+    let module = with_globals(alloc, globals)?;
+    entry_point(clock, alloc, validator, &ep, &module)
+}
+
+/// The times of a case, `None` where something is refused.
+fn times_of<C: Clock>(
+    clock: &C,
+    alloc: Global,
+    validator: &mut Validator<Plain>,
+    case: Case,
+) -> io::Result<Option<Times>> {
+    let count = repetitions(case.statements);
+    match case.subject {
+        Subject::Body(body) => shape(clock, alloc, validator, body, 1, count),
+        Subject::AfterLarge(body) => {
+            shape(clock, alloc, validator, Shape::Emits(1_000_000), 1, 1)?;
+            shape(clock, alloc, validator, body, 1, count)
+        }
+        Subject::Functions(body, of) => shape(clock, alloc, validator, body, of, count),
+        Subject::Entry {
+            location,
+            varyings,
+            globals,
+        } => entry(clock, alloc, validator, location, varyings, globals),
+    }
+}
+
+/// A tenth of a nanosecond a statement.
+fn tenths_each(nanos: u64, statements: usize) -> u64 {
+    match nanos.wrapping_mul(10).checked_div(statements as u64) {
+        Some(each) => each,
+        None => 0,
+    }
+}
+
+fn print(rt: &HostRuntime, case: Case, times: Option<Times>) -> io::Result<()> {
+    match times {
+        Some(times) => {
+            let own = tenths_each(times.whole.saturating_sub(times.lower), case.statements);
+            println!(rt;
+                "{:<34} {:>7} {:>11} {:>11} {:>11} {:>7}.{}",
+                case.name,
+                case.statements,
+                times.whole,
+                times.lower,
+                times.conditions,
+                own / 10,
+                own % 10
+            )
+        }
+        None => println!(rt; "{}: refused", case.name),
+    }
+}
+
+fn run(rt: &HostRuntime, case: Case) -> io::Result<()> {
+    let alloc = rt.alloc();
+    let mut validator = validator(alloc, TYPES)?;
+    let times = times_of(rt, alloc, &mut validator, case)?;
+    print(rt, case, times)
+}
+
+/// Whether a case is asked for by this word.
+fn is_chosen(case: Case, word: &str) -> bool {
+    word == "all" || case.name.starts_with(word)
+}
+
+fn main(rt: HostRuntime) -> io::Result<()> {
+    let chosen = env::args(&rt)?.nth(1);
+    for case in &CASES {
+        match &chosen {
+            Some(word) => {
+                if is_chosen(*case, word.as_str()) {
+                    run(&rt, *case)?;
+                }
+            }
+            None => println!(rt; "{}", case.name)?,
+        }
+    }
+    Ok(())
+}

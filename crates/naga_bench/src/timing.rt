@@ -1,0 +1,165 @@
+//! What is timed: a judgement, the tests of its conditions before it, and the lower layer alone.
+
+use bitflags::Flags;
+use naga_below::{
+    Capabilities, EntryPoint, Function, Module, ModuleInfo, ShaderStages, SubgroupOperationSet,
+    TypeFlags, TypeInfo, ValidationFlags, fits_entry, fits_function, fits_types,
+};
+use naga_module::Plain;
+use naga_rules::Below;
+use naga_valid::Validator;
+use std::alloc::{AllocError, Global};
+use std::io;
+use std::time::{Clock, Duration, Instant};
+
+/// What is known of a type that can be used for everything, and whose layouts are good.
+const INFO: TypeInfo = TypeInfo {
+    flags: TypeFlags::ALL,
+    storage_layout: Ok(4),
+    uniform_layout: Ok(4),
+    immediates_compatibility: Ok(()),
+};
+
+/// A validator over the plain layer, with all flags, capabilities and subgroup settings, and an info for each of so many
+/// types.
+pub fn validator(alloc: Global, types: usize) -> Result<Validator<Plain>, AllocError> {
+    let infos = vec![in alloc; INFO; types]?;
+    let below = Plain::without_mesh_shaders();
+    let validator = Validator::new(below, ValidationFlags::all(), Capabilities::all());
+    let mut validator = validator.with_types(infos);
+    validator.subgroup_stages(ShaderStages::all());
+    validator.subgroup_operations(SubgroupOperationSet::all());
+    Ok(validator)
+}
+
+/// Times in nanoseconds.
+#[derive(Clone, Copy)]
+pub struct Times {
+    pub whole: u64,
+    pub lower: u64,
+    pub conditions: u64,
+}
+
+impl Times {
+    /// Nothing timed yet, of times that are added.
+    pub const ZERO: Times = Times {
+        whole: 0,
+        lower: 0,
+        conditions: 0,
+    };
+
+    /// Nothing timed yet, of which the fastest counts.
+    pub const NONE: Times = Times {
+        whole: u64::MAX,
+        lower: u64::MAX,
+        conditions: u64::MAX,
+    };
+
+    /// Both, one behind the other.
+    pub fn plus(self, other: Times) -> Times {
+        Times {
+            whole: self.whole.saturating_add(other.whole),
+            lower: self.lower.saturating_add(other.lower),
+            conditions: self.conditions.saturating_add(other.conditions),
+        }
+    }
+
+    /// The shorter of each.
+    pub fn fastest(self, other: Times) -> Times {
+        Times {
+            whole: self.whole.min(other.whole),
+            lower: self.lower.min(other.lower),
+            conditions: self.conditions.min(other.conditions),
+        }
+    }
+}
+
+fn nanos(duration: Duration) -> u64 {
+    duration
+        .as_secs()
+        .wrapping_mul(1_000_000_000)
+        .wrapping_add(u64::from(duration.subsec_nanos()))
+}
+
+/// The lower layer alone: types, uses and kinds.
+fn lower<C: Clock>(
+    clock: &C,
+    alloc: Global,
+    fun: &Function,
+    module: &Module,
+    infos: &ModuleInfo,
+) -> io::Result<u64> {
+    let below = Plain::without_mesh_shaders();
+    let flags = ValidationFlags::all();
+    let start = Instant::now(clock)?;
+    let info = below.process_function(alloc, fun, module, infos, flags, Capabilities::all());
+    let kinds = below.kinds(alloc, &fun.expressions);
+    let time = nanos(start.elapsed(clock)?);
+    let good = info.is_ok() && kinds.is_ok();
+    Ok(if good { time } else { u64::MAX })
+}
+
+/// One judgement of a function, `None` where it is refused. What it answers is dropped behind the clock.
+pub fn function<C: Clock>(
+    clock: &C,
+    alloc: Global,
+    validator: &mut Validator<Plain>,
+    fun: &Function,
+    module: &Module,
+    infos: &ModuleInfo,
+) -> io::Result<Option<Times>> {
+    let start = Instant::now(clock)?;
+    if !validator.has_types_of(module) || !fits_types(module) {
+        return Ok(None);
+    }
+    if !fits_function(fun, module, infos.functions.len()) {
+        return Ok(None);
+    }
+    let conditions = nanos(start.elapsed(clock)?);
+    let start = Instant::now(clock)?;
+    let answer = validator.validate_function(alloc, fun, module, infos, false);
+    let whole = nanos(start.elapsed(clock)?);
+    if answer.is_err() {
+        return Ok(None);
+    }
+    let lower = lower(clock, alloc, fun, module, infos)?;
+    Ok(Some(Times {
+        whole,
+        lower,
+        conditions,
+    }))
+}
+
+/// One judgement of an entry point, `None` where it is refused.
+pub fn entry_point<C: Clock>(
+    clock: &C,
+    alloc: Global,
+    validator: &mut Validator<Plain>,
+    ep: &EntryPoint,
+    module: &Module,
+    infos: &ModuleInfo,
+) -> io::Result<Option<Times>> {
+    let start = Instant::now(clock)?;
+    if !validator.has_types_of(module) || !fits_types(module) || !fits_entry(ep, module) {
+        return Ok(None);
+    }
+    if !fits_function(&ep.function, module, infos.functions.len()) {
+        return Ok(None);
+    }
+    if !validator.has_payload_sizes(module) {
+        return Ok(None);
+    }
+    let conditions = nanos(start.elapsed(clock)?);
+    let start = Instant::now(clock)?;
+    let answer = validator.validate_entry_point(alloc, ep, module, infos);
+    let whole = nanos(start.elapsed(clock)?);
+    if answer.is_err() {
+        return Ok(None);
+    }
+    let lower = lower(clock, alloc, &ep.function, module, infos)?;
+    Ok(Some(Times {
+        whole,
+        lower,
+        conditions,
+    }))
+}

@@ -1,0 +1,104 @@
+//! From a text to its verdict.
+
+ghost use Rattle.naga_judge.specs.Judges.{Judges, IsJudged};
+ghost use Rattle.naga_judge.specs.ReadsDocument.{ReadsDocument};
+
+use crate::document::{Document, KnownFacts};
+use crate::read::error::{ReadError, Unreadable};
+use crate::read::from_json::FromJson;
+use naga_below::ModuleInfo;
+use naga_module::{Facts, Given, ModuleFault, Recorded, check_module};
+use serde_json::Value;
+use std::alloc::Global;
+
+/// How many bytes a document may have.
+pub const MOST_BYTES: usize = 16777216;
+
+/// What is said of a document.
+#[derive(Drop)]
+pub enum Verdict {
+    /// The module is accepted; these are its infos.
+    Ok(ModuleInfo),
+    /// The module has this fault, which is not want of memory.
+    Refused(ModuleFault),
+    /// The text is no document.
+    Unreadable(Unreadable),
+    /// There was no memory.
+    Memory,
+}
+
+impl Verdict {
+    /// The exit status: 0 accepted, 1 refused, 2 unreadable, 3 memory.
+    pub fn status(&self) -> u8 {
+        match self {
+            Verdict::Ok(_) => 0,
+            Verdict::Refused(_) => 1,
+            Verdict::Unreadable(_) => 2,
+            Verdict::Memory => 3,
+        }
+    }
+}
+
+/// The document that a text is.
+fn read_document(alloc: Global, text: &[u8]) -> Result<Document, ReadError>
+    ensures { ReadsDocument text.now result }
+{
+    if text.len() > MOST_BYTES {
+        return Err(ReadError::expected(alloc, "a document of at most 16777216 bytes"));
+    }
+    match Value::from_slice(alloc, text) {
+        Ok(value) => Document::from_json(alloc, &value),
+        Err(error) if error.is_memory() => Err(ReadError::Memory),
+        Err(_) => Err(ReadError::expected(
+            alloc,
+            "JSON in UTF-8, whose brackets nest at most 127 deep",
+        )),
+    }
+}
+
+/// The judgement of a document's module, over its facts, with its settings.
+fn judge_document(alloc: Global, document: Document) -> Result<ModuleInfo, ModuleFault>
+    ensures { IsJudged document result }
+{
+    let KnownFacts {
+        type_infos,
+        global_types,
+        sizes,
+        mesh_analyses,
+        functions,
+        entry_points,
+    } = document.facts;
+    let facts = Facts {
+        sizes,
+        mesh_analyses,
+        functions,
+        entry_points,
+    };
+    let given = Given {
+        types: type_infos.into_vec(),
+        global_types: global_types.into_vec(),
+    };
+    check_module(
+        alloc,
+        Recorded { facts },
+        document.settings,
+        given,
+        &document.module,
+    )
+}
+
+/// The verdict of a text.
+pub fn judge(alloc: Global, text: &[u8]) -> Verdict
+    ensures { Judges text.now result }
+{
+    let document = match read_document(alloc, text) {
+        Ok(document) => document,
+        Err(ReadError::Unreadable(unreadable)) => return Verdict::Unreadable(unreadable),
+        Err(ReadError::Memory) => return Verdict::Memory,
+    };
+    match judge_document(alloc, document) {
+        Ok(info) => Verdict::Ok(info),
+        Err(ModuleFault::Memory) => Verdict::Memory,
+        Err(fault) => Verdict::Refused(fault),
+    }
+}

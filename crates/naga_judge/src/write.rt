@@ -1,0 +1,7 @@
+//! Writing verdicts as JSON.
+
+pub mod expression;
+pub mod function;
+pub mod interface;
+pub mod json;
+pub mod types;

@@ -1,0 +1,193 @@
+//! What the tests of statements share: a module and a function from their parts, and what the validator answers to them
+//! over a lower layer, mostly the plain one.
+
+use naga_below::arena::Arena;
+use naga_below::arena::unique_arena::UniqueArena;
+use naga_below::fits::function::fits_function;
+use naga_below::fits::types::fits_types;
+use naga_below::ir::expressions::Expression;
+use naga_below::ir::functions::{Function, LocalVariable};
+use naga_below::ir::module::{GlobalVariable, Module};
+use naga_below::ir::statements::{Block, Located, Statement};
+use naga_below::ir::types::{Type, TypeInner};
+use naga_below::sequence::Sequence;
+use naga_below::span::{Refusal, Span};
+use naga_below::valid::capabilities::Capabilities;
+use naga_below::valid::flags::{ShaderStages, SubgroupOperationSet, TypeFlags, ValidationFlags};
+use naga_below::valid::info::ModuleInfo;
+use naga_below::valid::types::TypeInfo;
+use naga_module::plain::Plain;
+use naga_rules::below::Below;
+use naga_rules::function::FunctionError;
+use naga_valid::validator::Validator;
+use std::alloc::{AllocError, Global};
+use std::process::Abort;
+
+/// Where nothing is.
+pub const NOWHERE: Span = Span::UNDEFINED;
+
+/// Where statements are.
+pub const HERE: Span = Span { start: 3, end: 7 };
+
+/// What is known of a type that can be used for everything, and whose layouts are good.
+pub const GOOD: TypeInfo = TypeInfo {
+    flags: TypeFlags::ALL,
+    storage_layout: Ok(4),
+    uniform_layout: Ok(4),
+    immediates_compatibility: Ok(()),
+};
+
+/// Every check, by its bits: a call of `all` or `difference` of `bitflags` takes a minute and more to prove.
+pub const ALL_CHECKS: ValidationFlags = ValidationFlags(0xf);
+
+/// All capabilities, all stages and all groups of operations.
+pub const EVERYTHING: Target = Target {
+    capabilities: Capabilities::ALL,
+    stages: ShaderStages::ALL,
+    operations: SubgroupOperationSet::ALL,
+};
+
+/// What the target can do.
+#[derive(Clone, Copy)]
+pub struct Target {
+    pub capabilities: Capabilities,
+    pub stages: ShaderStages,
+    pub operations: SubgroupOperationSet,
+}
+
+/// Puts a type without a name last.
+pub fn add_type(
+    rt: &(impl Abort + AllocGlobal),
+    types: &mut UniqueArena<Type>,
+    inner: TypeInner,
+) -> Result<(), AllocError> {
+    assert!(rt; types.len() < 16);
+    types.insert(Type { name: None, inner }, NOWHERE)?;
+    Ok(())
+}
+
+/// A module of these types, globals and functions, and whose ray descriptors are of no type.
+pub fn module_of(
+    alloc: Global,
+    types: UniqueArena<Type>,
+    global_variables: Arena<GlobalVariable>,
+    functions: Arena<Function>,
+) -> Module {
+    let mut module = Module::new(alloc);
+    module.types = types;
+    module.global_variables = global_variables;
+    module.functions = functions;
+    module
+}
+
+/// A function of these locals and expressions with this body, without arguments or result.
+pub fn function_of(
+    alloc: Global,
+    local_variables: Arena<LocalVariable>,
+    expressions: Arena<Expression>,
+    list: Sequence<Located>,
+) -> Function {
+    let mut fun = Function::new(alloc);
+    fun.local_variables = local_variables;
+    fun.expressions = expressions;
+    fun.body = Block { list };
+    fun
+}
+
+/// Puts a statement last.
+pub fn add(
+    list: &mut Sequence<Located>,
+    statement: Statement,
+    span: Span,
+) -> Result<(), AllocError> {
+    list.push(Located { statement, span })?;
+    Ok(())
+}
+
+/// No function and no global of a module is known.
+pub fn no_infos(alloc: Global) -> ModuleInfo {
+    ModuleInfo::new(alloc)
+}
+
+/// A validator with all flags for this target, and with a good info for each type of a module.
+pub fn validator_for(
+    rt: &(impl Abort + AllocGlobal),
+    target: Target,
+    module: &Module,
+) -> Validator<Plain> {
+    validator_over(rt, Plain::without_mesh_shaders(), target, module)
+}
+
+/// The same over a lower layer.
+pub fn validator_over<B: Below + Drop>(
+    rt: &(impl Abort + AllocGlobal),
+    below: B,
+    target: Target,
+    module: &Module,
+) -> Validator<B> {
+    let Ok(infos) = vec![in rt.alloc(); GOOD; module.types.len()] else {
+        panic!(rt; "no memory");
+    };
+    let mut validator = Validator::new(below, ALL_CHECKS, target.capabilities).with_types(infos);
+    validator.subgroup_stages(target.stages);
+    validator.subgroup_operations(target.operations);
+    validator
+}
+
+/// What is judged: the stages, or the fault.
+pub type Answer = Result<ShaderStages, FunctionError>;
+
+/// The stages that a validator leaves a function, or its fault, which must be at this place, or at none.
+pub fn judge<B: Below>(
+    rt: &(impl Abort + AllocGlobal),
+    validator: &mut Validator<B>,
+    fun: &Function,
+    module: &Module,
+    infos: &ModuleInfo,
+    place: Option<Span>,
+) -> Answer {
+    judge_as(rt, validator, fun, module, infos, place, false)
+}
+
+/// The same of a function that is an entry point's, or not.
+pub fn judge_as<B: Below>(
+    rt: &(impl Abort + AllocGlobal),
+    validator: &mut Validator<B>,
+    fun: &Function,
+    module: &Module,
+    infos: &ModuleInfo,
+    place: Option<Span>,
+    entry_point: bool,
+) -> Answer {
+    assert!(rt; validator.has_types_of(module));
+    assert!(rt; fits_types(module));
+    assert!(rt; fits_function(fun, module, infos.functions.len()));
+    match validator.validate_function(rt.alloc(), fun, module, infos, entry_point) {
+        Ok(info) => Ok(info.available_stages),
+        Err(Refusal::Fault(fault)) => {
+            match place {
+                Some(span) => assert!(rt; fault.spans() == [span].as_slice()),
+                None => assert!(rt; fault.spans().is_empty()),
+            }
+            Err(fault.into_inner())
+        }
+        Err(Refusal::Memory) => panic!(rt; "no memory"),
+    }
+}
+
+/// What a function of statements at `HERE` is answered for this target, in a module without functions before it.
+pub fn answer_for(
+    rt: &(impl Abort + AllocGlobal),
+    target: Target,
+    fun: &Function,
+    module: &Module,
+) -> Answer {
+    let infos = no_infos(rt.alloc());
+    let mut validator = validator_for(rt, target, module);
+    judge(rt, &mut validator, fun, module, &infos, Some(HERE))
+}
+
+/// An answer is the expected one.
+pub fn expect(rt: &(impl Abort + AllocGlobal), answer: Answer, expected: Answer) {
+    assert!(rt; answer == expected);
+}

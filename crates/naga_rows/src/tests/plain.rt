@@ -1,0 +1,316 @@
+//! The plain layer by itself, and the validator over it where no bench shows it.
+
+use crate::tests::bodies::{
+    Answer, EVERYTHING, HERE, add, expect, function_of, judge, module_of, no_infos, validator_for,
+};
+use bitflags::Flags;
+use naga_below::arena::Arena;
+use naga_below::arena::handle::Handle;
+use naga_below::arena::unique_arena::UniqueArena;
+use naga_below::ir::expressions::{Expression, Literal};
+use naga_below::ir::flags::MemoryDecorations;
+use naga_below::ir::functions::{Function, FunctionResult};
+use naga_below::ir::module::{GlobalVariable, Module};
+use naga_below::ir::statements::{Located, Statement};
+use naga_below::ir::types::{AddressSpace, ArraySize, Scalar, Type, TypeInner, VectorSize};
+use naga_below::proc::typifier::TypeResolution;
+use naga_below::sequence::Sequence;
+use naga_below::span::Span;
+use naga_below::valid::capabilities::Capabilities;
+use naga_below::valid::expression_error::ExpressionError;
+use naga_below::valid::flags::{GlobalUse, ShaderStages, ValidationFlags};
+use naga_below::valid::info::FunctionInfo;
+use naga_module::plain::Plain;
+use naga_rules::below::Below;
+use naga_rules::function::FunctionError;
+use std::alloc::{AllocError, Global};
+use std::num::NonZeroU32;
+use std::process::Abort;
+use std::test::Fail;
+
+/// A type without a name.
+fn type_of_scalar(scalar: Scalar) -> Type {
+    Type {
+        name: None,
+        inner: TypeInner::Scalar(scalar),
+    }
+}
+
+/// A module of types 0 bool, 1 u32 and 2 i32 alone.
+fn scalars_module(alloc: Global) -> Result<Module, AllocError> {
+    let mut types = UniqueArena::new(alloc);
+    types.insert(type_of_scalar(Scalar::BOOL), HERE)?;
+    types.insert(type_of_scalar(Scalar::U32), HERE)?;
+    types.insert(type_of_scalar(Scalar::I32), HERE)?;
+    Ok(module_of(alloc, types, Arena::new(alloc), Arena::new(alloc)))
+}
+
+const LITERAL: Expression = Expression::Literal(Literal {
+    scalar: Scalar::U32,
+    bits: 7,
+});
+
+/// A body that returns the literal where it returns something.
+fn body_of(alloc: Global, returns: bool) -> Result<Sequence<Located>, AllocError> {
+    let value = if returns { Some(Handle::new(0)) } else { None };
+    let mut list = Sequence::new(alloc);
+    add(&mut list, Statement::Return { value }, HERE)?;
+    Ok(list)
+}
+
+/// A function of this expression and a u32 literal before it, which returns the literal where a type is declared.
+fn function(
+    alloc: Global,
+    second: Expression,
+    declared: Option<u32>,
+) -> Result<Function, AllocError> {
+    let mut expressions = Arena::new(alloc);
+    expressions.append(LITERAL, HERE)?;
+    expressions.append(second, HERE)?;
+    let list = body_of(alloc, declared.is_some())?;
+    let mut fun = function_of(alloc, Arena::new(alloc), expressions, list);
+    if let Some(ty) = declared {
+        fun.result = Some(FunctionResult {
+            ty: Handle::new(ty),
+            binding: None,
+        });
+    }
+    Ok(fun)
+}
+
+/// A function has the expected answer in a module of scalars, a fault at this place.
+fn expect_of(
+    rt: &(impl Abort + AllocGlobal),
+    fun: &Function,
+    place: Option<Span>,
+    expected: Answer,
+) -> Result<(), AllocError> {
+    let module = scalars_module(rt.alloc())?;
+    let infos = no_infos(rt.alloc());
+    let mut validator = validator_for(rt, EVERYTHING, &module);
+    let answer = judge(rt, &mut validator, fun, &module, &infos, place);
+    expect(rt, answer, expected);
+    Ok(())
+}
+
+#[test]
+fn a_returned_literal_has_the_declared_type(rt: HostRuntime) -> Result<(), Fail> {
+    let fun = function(rt.alloc(), LITERAL, Some(1))?;
+    expect_of(&rt, &fun, None, Ok(ShaderStages::ALL))?;
+    Ok(())
+}
+
+#[test]
+fn a_returned_literal_has_another_type(rt: HostRuntime) -> Result<(), Fail> {
+    let fun = function(rt.alloc(), LITERAL, Some(2))?;
+    let declared = FunctionError::InvalidReturnType {
+        expression: Some(Handle::new(0)),
+        expected_ty: Some(Handle::new(2)),
+    };
+    expect_of(&rt, &fun, Some(HERE), Err(declared))?;
+    Ok(())
+}
+
+#[test]
+fn a_splat_has_no_type(rt: HostRuntime) -> Result<(), Fail> {
+    let splat = Expression::Splat {
+        operands: Sequence::new(rt.alloc()),
+        detail: 0,
+    };
+    let fun = function(rt.alloc(), splat, None)?;
+    let untyped = FunctionError::Expression {
+        handle: Handle::new(1),
+        source: ExpressionError::Lower(1),
+    };
+    expect_of(&rt, &fun, None, Err(untyped))?;
+    Ok(())
+}
+
+/// What the plain layer answers to a function, with no other before it.
+fn info_of(alloc: Global, fun: &Function, module: &Module) -> Option<FunctionInfo> {
+    let infos = no_infos(alloc);
+    let flags = ValidationFlags::empty();
+    let found = Plain::without_mesh_shaders().process_function(
+        alloc,
+        fun,
+        module,
+        &infos,
+        flags,
+        Capabilities::empty(),
+    );
+    match found {
+        Ok(info) => Some(info),
+        Err(_) => None,
+    }
+}
+
+/// The type of an expression in an info.
+fn type_in(
+    alloc: Global,
+    info: &FunctionInfo,
+    index: usize,
+) -> Result<Option<TypeResolution>, Fail> {
+    match info.expression_types.as_slice().get(index) {
+        Some(ty) => Ok(Some(ty.clone(alloc)?)),
+        None => Ok(None),
+    }
+}
+
+/// The type that the plain layer gives an expression behind a u32 literal; `None` where it has none for it.
+fn type_of(
+    alloc: Global,
+    module: &Module,
+    expression: Expression,
+) -> Result<Option<TypeResolution>, Fail> {
+    let fun = function(alloc, expression, None)?;
+    match info_of(alloc, &fun, module) {
+        Some(info) => type_in(alloc, &info, 1),
+        None => Ok(None),
+    }
+}
+
+#[test]
+fn types(rt: HostRuntime) -> Result<(), Fail> {
+    let alloc = rt.alloc();
+    let module = scalars_module(alloc)?;
+    let mut operands = Sequence::new(alloc);
+    operands.push(Handle::new(0))?;
+    let negated = Expression::Unary {
+        operands,
+        detail: 0,
+    };
+    let u32_value = TypeResolution::Value(TypeInner::Scalar(Scalar::U32));
+    assert_eq!(rt; type_of(alloc, &module, negated)?, Some(u32_value));
+    let composed = Expression::Compose {
+        ty: Handle::new(2),
+        components: Sequence::new(alloc),
+    };
+    let second = TypeResolution::Handle(Handle::new(2));
+    assert_eq!(rt; type_of(alloc, &module, composed)?, Some(second));
+    let ballot = TypeResolution::Value(TypeInner::Vector {
+        size: VectorSize::Quad,
+        scalar: Scalar::U32,
+    });
+    assert_eq!(rt;
+        type_of(alloc, &module, Expression::SubgroupBallotResult)?,
+        Some(ballot)
+    );
+    let bool_value = TypeResolution::Value(TypeInner::Scalar(Scalar::BOOL));
+    assert_eq!(rt;
+        type_of(alloc, &module, Expression::RayQueryProceedResult)?,
+        Some(bool_value)
+    );
+    assert_eq!(rt;
+        type_of(alloc, &module, Expression::ZeroValue(Handle::new(3)))?,
+        None
+    );
+    assert_eq!(rt;
+        type_of(alloc, &module, Expression::FunctionArgument(0))?,
+        None
+    );
+    Ok(())
+}
+
+fn global_u32() -> GlobalVariable {
+    GlobalVariable {
+        space: AddressSpace::Private,
+        binding: None,
+        ty: Handle::new(1),
+        init: None,
+        memory_decorations: MemoryDecorations::empty(),
+    }
+}
+
+/// The module of scalars with two globals.
+fn module_with_globals(alloc: Global) -> Result<Module, AllocError> {
+    let mut globals = Arena::new(alloc);
+    globals.append(global_u32(), HERE)?;
+    globals.append(global_u32(), HERE)?;
+    let mut module = scalars_module(alloc)?;
+    module.global_variables = globals;
+    Ok(module)
+}
+
+/// What the plain layer answers to a function in that module.
+fn info_with_globals(alloc: Global, fun: &Function) -> Result<Option<FunctionInfo>, AllocError> {
+    let module = module_with_globals(alloc)?;
+    Ok(info_of(alloc, fun, &module))
+}
+
+#[test]
+fn a_global_is_read_and_stands_for_a_pointer(rt: HostRuntime) -> Result<(), Fail> {
+    let alloc = rt.alloc();
+    let fun = function(alloc, Expression::GlobalVariable(Handle::new(1)), None)?;
+    let Some(info) = info_with_globals(alloc, &fun)? else {
+        panic!(rt; "refused");
+    };
+    assert_eq!(rt;
+        info.global_uses.as_slice(),
+        [GlobalUse::empty(), GlobalUse::READ].as_slice()
+    );
+    let pointer = TypeResolution::Value(TypeInner::Pointer {
+        base: Handle::new(1),
+        space: AddressSpace::Private,
+    });
+    assert_eq!(rt; type_in(alloc, &info, 1)?, Some(pointer));
+    Ok(())
+}
+
+#[test]
+fn kinds(rt: HostRuntime) -> Result<(), Fail> {
+    let alloc = rt.alloc();
+    let mut expressions = Arena::new(alloc);
+    expressions.append(LITERAL, HERE)?;
+    expressions.append(Expression::Override(Handle::new(0)), HERE)?;
+    let mut components = Sequence::new(alloc);
+    components.push(Handle::new(1))?;
+    components.push(Handle::new(0))?;
+    expressions.append(
+        Expression::Compose {
+            ty: Handle::new(0),
+            components,
+        },
+        HERE,
+    )?;
+    expressions.append(Expression::RayQueryProceedResult, HERE)?;
+    let kinds = Plain::without_mesh_shaders().kinds(alloc, &expressions)?;
+    assert_eq!(rt; kinds.len(), 4);
+    assert!(rt; kinds.is_const(Handle::new(0)));
+    assert!(rt; !kinds.is_const(Handle::new(2)) && kinds.is_const_or_override(Handle::new(2)));
+    assert!(rt; !kinds.is_const_or_override(Handle::new(3)));
+    Ok(())
+}
+
+/// The size that the plain layer gives a type.
+fn size_of(alloc: Global, inner: TypeInner) -> Result<Option<u32>, AllocError> {
+    let mut types = UniqueArena::new(alloc);
+    let handle = types.insert(Type { name: None, inner }, HERE)?;
+    let module = module_of(alloc, types, Arena::new(alloc), Arena::new(alloc));
+    Ok(Plain::without_mesh_shaders().type_size(&module, handle))
+}
+
+#[test]
+fn sizes(rt: HostRuntime) -> Result<(), Fail> {
+    let alloc = rt.alloc();
+    let vector = TypeInner::Vector {
+        size: VectorSize::Tri,
+        scalar: Scalar::F32,
+    };
+    assert_eq!(rt; size_of(alloc, vector)?, Some(12));
+    assert_eq!(rt; size_of(alloc, TypeInner::Atomic(Scalar::U64))?, Some(8));
+    let Some(count) = NonZeroU32::new(65536) else {
+        panic!(rt; "no count");
+    };
+    let array = |stride| TypeInner::Array {
+        base: Handle::new(0),
+        size: ArraySize::Constant(count),
+        stride,
+    };
+    assert_eq!(rt; size_of(alloc, array(65535))?, Some(4294901760));
+    assert_eq!(rt; size_of(alloc, array(65536))?, None);
+    assert_eq!(rt;
+        size_of(alloc, TypeInner::Sampler { comparison: false })?,
+        None
+    );
+    Ok(())
+}

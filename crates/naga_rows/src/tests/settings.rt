@@ -1,0 +1,82 @@
+//! What a validator is set to, and the type infos that it is given.
+
+use crate::tests::bodies::{
+    ALL_CHECKS, EVERYTHING, HERE, add, expect, function_of, judge, module_of, no_infos,
+    validator_for,
+};
+use bitflags::Flags;
+use naga_below::arena::Arena;
+use naga_below::arena::unique_arena::UniqueArena;
+use naga_below::ir::flags::Barrier;
+use naga_below::ir::functions::Function;
+use naga_below::ir::module::Module;
+use naga_below::ir::statements::Statement;
+use naga_below::sequence::Sequence;
+use naga_below::valid::flags::{ShaderStages, SubgroupOperationSet, TypeFlags};
+use naga_below::valid::types::TypeInfo;
+use naga_module::plain::Plain;
+use naga_rules::function::{FunctionError, SubgroupError};
+use naga_valid::trace::{TraceRayVertexReturnState, TraceState};
+use naga_valid::validator::Validator;
+use std::alloc::{AllocError, Global};
+use std::test::Fail;
+
+/// A module without anything.
+fn empty_module(alloc: Global) -> Module {
+    let types = UniqueArena::new(alloc);
+    module_of(alloc, types, Arena::new(alloc), Arena::new(alloc))
+}
+
+/// A function of a subgroup barrier.
+fn function(alloc: Global) -> Result<Function, AllocError> {
+    let mut list = Sequence::new(alloc);
+    add(
+        &mut list,
+        Statement::ControlBarrier(Barrier::SUB_GROUP),
+        HERE,
+    )?;
+    Ok(function_of(alloc, Arena::new(alloc), Arena::new(alloc), list))
+}
+
+#[test]
+fn settings_let_subgroups_be_used(rt: HostRuntime) -> Result<(), Fail> {
+    let fun = function(rt.alloc())?;
+    let module = empty_module(rt.alloc());
+    let infos = no_infos(rt.alloc());
+    let flags = ALL_CHECKS;
+    let mut validator = Validator::new(
+        Plain::without_mesh_shaders(),
+        flags,
+        EVERYTHING.capabilities,
+    );
+    let basic = SubgroupOperationSet::BASIC;
+    let error = SubgroupError::UnsupportedOperation(basic);
+    let before = judge(&rt, &mut validator, &fun, &module, &infos, Some(HERE));
+    expect(&rt, before, Err(FunctionError::InvalidSubgroup(error)));
+    validator.subgroup_stages(ShaderStages::COMPUTE);
+    validator.subgroup_operations(basic);
+    let behind = judge(&rt, &mut validator, &fun, &module, &infos, None);
+    expect(&rt, behind, Ok(ShaderStages::COMPUTE_LIKE));
+    let nothing = TraceState {
+        payload: None,
+        vertex_return: TraceRayVertexReturnState::NoTraceRays,
+    };
+    assert_eq!(rt; validator.trace_state(), nothing);
+    Ok(())
+}
+
+#[test]
+fn there_is_one_info_for_each_type(rt: HostRuntime) -> Result<(), Fail> {
+    let module = empty_module(rt.alloc());
+    let validator = validator_for(&rt, EVERYTHING, &module);
+    assert!(rt; validator.has_types_of(&module));
+    let info = TypeInfo {
+        flags: TypeFlags::DATA,
+        storage_layout: Ok(4),
+        uniform_layout: Ok(4),
+        immediates_compatibility: Ok(()),
+    };
+    let validator = validator.with_types(vec![in rt.alloc(); info]?);
+    assert!(rt; !validator.has_types_of(&module));
+    Ok(())
+}
