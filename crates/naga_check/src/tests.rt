@@ -176,7 +176,30 @@ const FAULTS_OF_CALLS_AND_STORES: [(&str, &str); 16] = [
     ),
 ];
 
-const UNREADABLE: [&str; 21] = [
+const ROWS_OF_OPERANDS: [(&str, u8, &str); 8] = [
+    ("D : emit e2", 1, "fault Expression/NotInScope 5\n"),
+    ("D : emit x1 .. e2", 0, "ok 1ff\n"),
+    (
+        "D : block { emit x1 } emit e2",
+        1,
+        "fault Expression/NotInScope 5\n",
+    ),
+    ("D : emit x1 block { emit e2 } emit e2", 0, "ok 1ff\n"),
+    (
+        "D : emit x1 emit e2 emit e2",
+        1,
+        "fault ExpressionAlreadyInScope 6\n",
+    ),
+    (
+        "D : loop { if t { continue } { } emit x1 } { emit e2 }",
+        0,
+        "ok 1ff\n",
+    ),
+    ("D :", 0, "ok 1ff\n"),
+    ("D -blocks : emit e2", 0, "ok 1ff\n"),
+];
+
+const UNREADABLE: [&str; 25] = [
     "",
     "P : emit",
     "P : emit r1",
@@ -197,7 +220,11 @@ const UNREADABLE: [&str; 21] = [
     "C : call f -> f",
     "C : call e1",
     "C : f",
-    "D :",
+    "E :",
+    "P : emit e2",
+    "C : emit e2",
+    "D : emit r1",
+    "D : call f",
 ];
 
 /// Whether a run over a writer that takes no memory gives this status and line, and no more. None where it says that a
@@ -252,6 +279,17 @@ fn fault_rows_of_calls_and_stores(rt: HostRuntime) -> Result<(), Fail> {
     for (input, line) in FAULTS_OF_CALLS_AND_STORES {
         assert!(rt;
             gets(rt.alloc(), input.as_bytes(), 1, line)?,
+            "at {input:?}"
+        );
+    }
+    Ok(())
+}
+
+#[test]
+fn rows_of_operands(rt: HostRuntime) -> Result<(), Fail> {
+    for (input, status, line) in ROWS_OF_OPERANDS {
+        assert!(rt;
+            gets(rt.alloc(), input.as_bytes(), status, line)?,
             "at {input:?}"
         );
     }

@@ -6,6 +6,7 @@ mod declarations;
 mod entry;
 mod entry_errors;
 mod globals;
+mod operands;
 mod picky;
 mod places;
 mod plain;

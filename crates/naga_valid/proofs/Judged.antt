@@ -10,16 +10,16 @@ use Rattle.naga_runs.proofs.Judgements.{by_tree, earlier_agrees}
 use Rattle.naga_below.specs.Points.{first_fault, answer}
 use Rattle.naga_runs.specs.Judgement.{Follows, judgement, viewed}
 use Rattle.naga_runs.specs.Visits.{Visit}
-use Rattle.naga_valid.specs.walk.Answers.{AnswersPoints}
-use Rattle.naga_valid.specs.Blocks.{body_of}
-use Rattle.naga_valid.specs.Context.{Context, pre_emitted}
-use Rattle.naga_valid.specs.Judged.{body_judgement}
-use Rattle.naga_valid.specs.Past.{past_of}
-use Rattle.naga_valid.specs.checks.Results.{filled_points}
-use Rattle.naga_valid.specs.Rules.{points_at, body_rules}
-use Rattle.naga_valid.specs.walk.State.{State, kept_rules, begin_state, state_left, body_outcome, body_left}
-use Rattle.naga_valid.specs.declared.state.BodyOutcome.{BodyOutcome}
-use Rattle.naga_valid.specs.walk.Walk.{body_answer, body_abilities}
+use Rattle.naga_checks.specs.walk.Answers.{AnswersPoints}
+use Rattle.naga_checks.specs.Blocks.{body_of}
+use Rattle.naga_checks.specs.Context.{Context, pre_emitted}
+use Rattle.naga_checks.specs.Judged.{body_judgement}
+use Rattle.naga_checks.specs.Past.{past_of}
+use Rattle.naga_checks.specs.checks.Results.{filled_points}
+use Rattle.naga_checks.specs.Rules.{points_at, body_rules}
+use Rattle.naga_checks.specs.walk.State.{State, kept_rules, begin_state, state_left, body_outcome, body_left}
+use Rattle.naga_checks.specs.declared.state.BodyOutcome.{BodyOutcome}
+use Rattle.naga_checks.specs.walk.Walk.{body_answer, body_abilities}
 use Rattle.naga_valid.proofs.StatesLeft.{seen_is, left_by_none, state_more}
 use Rattle.naga_valid.proofs.Walk.{moved}
 

@@ -2,9 +2,8 @@
 use Rattle.std.proofs.Common.{◌≡◌, ℕ, ◌+◌, ◌<◌, ◌≤◌, Bool, true, false, Option, Some, None, Result, Ok, List, [], ◌∷◌, ◌++◌, drop, get_or, length, refl, sym, ap, ◌∙◌, append-nil, append_assoc}
 use Rattle.std.proofs.lemmas.List.{at_drop_more, at_drop_all}
 use Rattle.naga_below.specs.Tree.{Act, Use, Put, Stmt, Leaf, Block, Branch, Switch, Loop, Break, Continue, Return, Kill, Body, Done, Then, Cases, NoCase, OneCase}
-use Rattle.naga_valid.specs.walk.State.{State, seen, kept_rules, with_statement}
+use Rattle.naga_checks.specs.walk.State.{State, seen, kept_rules, with_statement}
 use Rattle.naga_below.specs.View as view
-use Rattle.naga_below.specs.View.{no_operands}
 use Rattle.naga_below.specs.declared.ir.statements.Block.{Block as Block_of}
 use Rattle.naga_below.specs.declared.ir.statements.Statement as ir
 use Rattle.naga_below.specs.declared.ir.statements.Statement.{Statement, Switch'}
@@ -24,16 +23,16 @@ use Rattle.naga_runs.specs.ByTree.{judge_visits, judge_body, judge_stmt, judge_p
 use Rattle.naga_runs.proofs.Judgements.{judge_done, judge_more, judge_own, judge_block, judge_branch, judge_switch, judge_loop, judge_no_case, judge_one_case}
 use Rattle.naga_runs.proofs.WithoutMust.{must_is_free}
 use Rattle.naga_rules.specs.Answers.{Refuses}
-use Rattle.naga_valid.specs.walk.Answers.{IsFirstFault}
-use Rattle.naga_valid.specs.Blocks.{emitted_operands, tree_of, block_of, list_of, cases_of}
-use Rattle.naga_valid.specs.Context.{Context}
-use Rattle.naga_valid.specs.checks.Control.{break_if_points}
-use Rattle.naga_valid.specs.Rules.{statement_points}
-use Rattle.naga_valid.specs.walk.Place.{place_at}
-use Rattle.naga_valid.specs.walk.Table.{with_all}
-use Rattle.naga_valid.specs.walk.Walk.{puts, body_puts, place, own_answer, parts_answer, stmt_answer, body_answer, cases_answer, break_if_answer}
-use Rattle.naga_valid.proofs.Columns.{all-append}
-use Rattle.naga_valid.proofs.Refusals.{passes, stops_first, stops_next, answers_next}
+use Rattle.naga_checks.specs.walk.Answers.{IsFirstFault}
+use Rattle.naga_checks.specs.Blocks.{emitted_operands, tree_of, block_of, list_of, cases_of}
+use Rattle.naga_checks.specs.Context.{Context}
+use Rattle.naga_checks.specs.checks.Control.{break_if_points}
+use Rattle.naga_checks.specs.Rules.{statement_points}
+use Rattle.naga_checks.specs.walk.Place.{place_at}
+use Rattle.naga_checks.specs.walk.Table.{with_all}
+use Rattle.naga_checks.specs.walk.Walk.{puts, body_puts, place, own_answer, parts_answer, stmt_answer, body_answer, cases_answer, break_if_answer}
+use Rattle.naga_checks.proofs.Columns.{all-append}
+use Rattle.naga_checks.proofs.Refusals.{passes, stops_first, stops_next, answers_next}
 use Rattle.naga_rules.specs.declared.function.FunctionError.{FunctionError}
 
 acts_put : (acts : List Act) (s : Handles) → with_acts s acts ≡ with_all s (puts_of acts)

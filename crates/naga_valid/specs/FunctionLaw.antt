@@ -11,13 +11,13 @@ use Rattle.naga_below.specs.declared.valid.types.TypeInfo.{TypeInfo}
 use Rattle.naga_rules.specs.Meaning.{Meaning}
 use Rattle.naga_runs.specs.Soundness.{RunsAreSound}
 use Rattle.naga_valid.specs.Accepted.{nodes_of, ResultsAreFilledOnce, StagesAreOfAll, AreAmong, AreOfStatement}
-use Rattle.naga_valid.specs.Blocks.{body_of}
-use Rattle.naga_valid.specs.Context.{pre_emitted_of}
-use Rattle.naga_valid.specs.Expressions.{with_stages, expression_masks}
-use Rattle.naga_valid.specs.WhatIsChecked.{checks_blocks, checks_expressions}
-use Rattle.naga_valid.specs.Judged.{FunctionOutcome, context_with, lower_step, function_judgement}
+use Rattle.naga_checks.specs.Blocks.{body_of}
+use Rattle.naga_checks.specs.Context.{pre_emitted_of}
+use Rattle.naga_checks.specs.Expressions.{with_stages, expression_masks}
+use Rattle.naga_checks.specs.WhatIsChecked.{checks_blocks, checks_expressions}
+use Rattle.naga_checks.specs.Judged.{FunctionOutcome, context_with, lower_step, function_judgement}
 use Rattle.naga_valid.specs.Shapes.{HasNoReturnInContinuing, HasWholeSwitches}
-use Rattle.naga_valid.specs.declared.trace.TraceState.{TraceState}
+use Rattle.naga_checks.specs.declared.trace.TraceState.{TraceState}
 
 -- something holds of every function that the judgement accepts where bodies are looked at, of its module, and of what is
 -- known of it

@@ -20,7 +20,7 @@ use naga_below::span::Span;
 use naga_below::valid::flags::ShaderStages;
 use naga_below::valid::info::{FunctionInfo, ModuleInfo};
 use naga_rules::function::FunctionError;
-use naga_valid::trace::{TraceRayVertexReturnState, TraceState};
+use naga_checks::trace::{TraceRayVertexReturnState, TraceState};
 use std::alloc::{AllocError, Global};
 use std::process::Abort;
 use std::test::Fail;

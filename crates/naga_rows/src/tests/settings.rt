@@ -16,7 +16,7 @@ use naga_below::valid::flags::{ShaderStages, SubgroupOperationSet, TypeFlags};
 use naga_below::valid::types::TypeInfo;
 use naga_module::plain::Plain;
 use naga_rules::function::{FunctionError, SubgroupError};
-use naga_valid::trace::{TraceRayVertexReturnState, TraceState};
+use naga_checks::trace::{TraceRayVertexReturnState, TraceState};
 use naga_valid::validator::Validator;
 use std::alloc::{AllocError, Global};
 use std::test::Fail;

@@ -6,15 +6,15 @@ ghost use Rattle.naga_below.specs.declared.ir.module.ShaderStage.TheVariants.{Ve
 ghost use Rattle.naga_runs.specs.Soundness.{RunsAreSound};
 ghost use Rattle.naga_rules.specs.WhatIsChecked.{checks_bindings};
 ghost use Rattle.naga_valid.specs.Accepted.{ResultsAreFilledOnce, StagesAreOfAll};
-ghost use Rattle.naga_valid.specs.Blocks.{body_of};
+ghost use Rattle.naga_checks.specs.Blocks.{body_of};
 ghost use Rattle.naga_valid.specs.Chains.{AreVetted, ChainsKeepTo};
-ghost use Rattle.naga_valid.specs.Context.{pre_emitted_of};
+ghost use Rattle.naga_checks.specs.Context.{pre_emitted_of};
 ghost use Rattle.naga_valid.specs.interface.Judged.{HasPayloadSizes, entry_judgement, AnswersEntry, AnswersOutcome};
 ghost use Rattle.naga_valid.specs.interface.Facts.{argument_parts, BindingsAreDistinct, BuiltInsAreDistinct, GroupsAreDistinct, ReturnsPosition};
 ghost use Rattle.naga_valid.specs.interface.Start.{start_points};
 ghost use Rattle.naga_valid.specs.interface.Uses.{only};
-ghost use Rattle.naga_valid.specs.Parts.{AreInfosOf};
-ghost use Rattle.naga_valid.specs.WhatIsChecked.{checks_blocks, checks_expressions};
+ghost use Rattle.naga_checks.specs.Parts.{AreInfosOf};
+ghost use Rattle.naga_checks.specs.WhatIsChecked.{checks_blocks, checks_expressions};
 
 use crate::interface::EntryPointError;
 use crate::outcome::FunctionOutcome;

@@ -3,16 +3,16 @@ use Rattle.naga_below.specs.declared.ir.statements.Block.{the_lemmas}
 use Rattle.naga_below.proofs.Rows.{body_of-list, tree_of-switch}
 use Rattle.naga_below.specs.View as view
 use Rattle.naga_runs.specs.Positions.{StatementNode}
-use Rattle.naga_valid.specs.checks.Results.{result_of}
-use Rattle.naga_valid.specs.Blocks.{emitted_operands, tree_of, list_of, cases_of, block_of}
-use Rattle.naga_valid.specs.Ready.{IsStatementReady, IsBodyReady}
-use Rattle.naga_valid.specs.walk.Seen.{context_of}
-use Rattle.naga_valid.specs.walk.State.{kept, with_statement}
-use Rattle.naga_valid.specs.walk.Table.{HasPut, known, marked, shown}
-use Rattle.naga_valid.specs.walk.Walk.{place, puts, body_puts, body_answer, cases_answer}
-use Rattle.naga_valid.proofs.Columns.{both_put, put_nothing, same_known, stays_put, shows_before, may_leave}
-use Rattle.naga_valid.proofs.Parts.{in_block, in_branch, in_switch, in_lists, in_list, in_cases, in_result}
-use Rattle.naga_valid.proofs.Refusals.{next_is, stops_first, answers_next}
+use Rattle.naga_checks.specs.checks.Results.{result_of}
+use Rattle.naga_checks.specs.Blocks.{emitted_operands, tree_of, list_of, cases_of, block_of}
+use Rattle.naga_checks.specs.Ready.{IsStatementReady, IsBodyReady}
+use Rattle.naga_checks.specs.walk.Seen.{context_of}
+use Rattle.naga_checks.specs.walk.State.{kept, with_statement}
+use Rattle.naga_checks.specs.walk.Table.{HasPut, known, marked, shown}
+use Rattle.naga_checks.specs.walk.Walk.{place, puts, body_puts, body_answer, cases_answer}
+use Rattle.naga_checks.proofs.Columns.{both_put, put_nothing, same_known, stays_put, shows_before, may_leave}
+use Rattle.naga_checks.proofs.Parts.{in_block, in_branch, in_switch, in_lists, in_list, in_cases, in_result}
+use Rattle.naga_checks.proofs.Refusals.{next_is, stops_first, answers_next}
 use Rattle.naga_valid.proofs.Walk.{no_parts, own_passes, own_refuses, parts_later, parts_branch, parts_switch, stmt_more, body_turn, puts_turn, body_end, puts_end, cases_turn, cases_end}
 use Rattle.naga_valid.proofs.function.+walk.Goals as goal
 

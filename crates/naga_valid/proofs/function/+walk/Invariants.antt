@@ -1,11 +1,11 @@
 use Rattle.std.proofs.Common.{◌≡◌, drop}
-use Rattle.naga_valid.specs.Blocks.{block_of, list_of, cases_of}
-use Rattle.naga_valid.specs.Ready.{IsBodyReady, AreCasesReady}
-use Rattle.naga_valid.specs.walk.Seen.{context_of}
-use Rattle.naga_valid.specs.walk.State.{kept}
-use Rattle.naga_valid.specs.walk.Table.{IsTableOf, known, shown}
-use Rattle.naga_valid.specs.walk.Walk.{body_puts, body_answer, cases_answer}
-use Rattle.naga_valid.proofs.Columns.{PutsBefore}
+use Rattle.naga_checks.specs.Blocks.{block_of, list_of, cases_of}
+use Rattle.naga_checks.specs.Ready.{IsBodyReady, AreCasesReady}
+use Rattle.naga_checks.specs.walk.Seen.{context_of}
+use Rattle.naga_checks.specs.walk.State.{kept}
+use Rattle.naga_checks.specs.walk.Table.{IsTableOf, known, shown}
+use Rattle.naga_checks.specs.walk.Walk.{body_puts, body_answer, cases_answer}
+use Rattle.naga_checks.proofs.Columns.{PutsBefore}
 use Rattle.naga_valid.proofs.function.+walk.Given as goal
 
 abbrev pub invariant-validate_statements-loop-located :

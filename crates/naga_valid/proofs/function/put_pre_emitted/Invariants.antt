@@ -1,5 +1,5 @@
 use Rattle.std.proofs.Common.{◌≡◌, take}
-use Rattle.naga_valid.specs.walk.Table.{count, known}
+use Rattle.naga_checks.specs.walk.Table.{count, known}
 use Rattle.naga_valid.proofs.PreEmitted.{pre_emitted_in}
 use Rattle.naga_valid.proofs.function.put_pre_emitted.Given as goal
 
