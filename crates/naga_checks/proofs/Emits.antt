@@ -25,8 +25,8 @@ use Rattle.naga_checks.specs.checks.Control.{within_emit, emitted_points, emit_p
 use Rattle.naga_checks.specs.checks.Results.{is_result}
 use Rattle.naga_checks.specs.Types.{expression_at}
 use Rattle.naga_checks.specs.walk.Answers.{IsFirstFault}
-use Rattle.naga_checks.specs.walk.Place.{place_at}
-use Rattle.naga_checks.specs.walk.Table.{with_all}
+use Rattle.naga_checks.specs.walk.Place.{Sets, place_at}
+use Rattle.naga_checks.specs.walk.Table.{with_all, with_puts}
 use Rattle.naga_checks.specs.walk.Walk.{handles_from, handles_between}
 use Rattle.naga_checks.proofs.Calls.{call_puts}
 use Rattle.naga_checks.proofs.Lists.{first_fault-append, in_scope_before}
@@ -55,8 +55,9 @@ counted first (suc n) k s = counted (suc first) n k (with_handle s first) ∙ st
         ap (λ b. s k || b) same
 
 -- what is in scope before the handle h of a range
-within_is : (s : Handles) (start h : ℕ) → start ≤ h → with_all s (handles_between start h) ≡ (within_emit (place_at s) start h).scope
-within_is s start h le i k = (counted start (h - start) k s ∙ ap (λ n. s k || (nat_le start k && nat_lt k n)) last) i
+within_is : (s : Sets) (start h : ℕ) → start ≤ h → with_all s.must (handles_between start h) ≡ (within_emit (place_at s) start h).must
+within_is s start h le i k =
+    (counted start (h - start) k s.must ∙ ap (λ n. s.must k || (nat_le start k && nat_lt k n)) last) i
   where
     last : start + (h - start) ≡ h
     last = omega arith
@@ -74,7 +75,7 @@ within_more u start h k le = step (h == k) refl
         ap (λ b. u || b) same
 
 -- the points of a handle, as the code asks them: with what the handles before it put
-module _ (context : Context) (s : Handles) (start h : ℕ) (le : start ≤ h) where
+module _ (context : Context) (s : Sets) (start h : ℕ) (le : start ≤ h) where
   abbrev asked : Handles → Bool → Points
   asked inside put =
       (not (is_result (expression_at context h)), EmitResult h)
@@ -82,10 +83,10 @@ module _ (context : Context) (s : Handles) (start h : ℕ) (le : start ≤ h) wh
       ++ (not put, ExpressionAlreadyInScope h)
       ∷ []
 
-  pub asked_is : (t : Handles) → t ≡ with_all s (handles_between start h) → emitted_points context (place_at t) (place_at t) h ≡ emitted_points context (within_emit (place_at s) start h) (place_at s) h
+  pub asked_is : (t : Sets) → t ≡ with_puts s (handles_between start h) → emitted_points context (place_at t) (place_at t) h ≡ emitted_points context (within_emit (place_at s) start h) (place_at s) h
   asked_is t e =
-      ap (λ u. asked u (t h)) (e ∙ within_is s start h le)
-      ∙ ap (asked (within_emit (place_at s) start h).scope) (ap (λ u. u h) e ∙ in_scope_before s start h le)
+      ap (λ u. asked u (t.scope h)) (ap (λ u. u.must) e ∙ within_is s start h le)
+      ∙ ap (asked (within_emit (place_at s) start h).must) (ap (λ u. u.scope h) e ∙ in_scope_before s.scope start h le)
 
 -- the points of one handle, one after the other
 module _ (context : Context) (place : Place) (h : ℕ) where

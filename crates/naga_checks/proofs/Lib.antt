@@ -1,4 +1,5 @@
 pub mod Columns
+pub mod Divided
 pub mod Lists
 pub mod Emits
 pub mod Flat

@@ -10,9 +10,9 @@ use Rattle.naga_below.specs.Points.{Point}
 abbrev pub Points : Type 0
 Points = List (Point FunctionError)
 
--- what may be used at a place
+-- what may be used at a place: what every run has put where it comes there
 abbrev pub may_use : Place → Handles
-may_use place = place.scope
+may_use place = place.must
 
 -- what is in scope there, and so cannot be put
 abbrev pub is_in_scope : Place → Handles

@@ -14,6 +14,7 @@ mod rays;
 mod recorded;
 mod report;
 mod settings;
+mod skipped;
 mod steps;
 mod stores;
 mod subgroups;

@@ -26,7 +26,7 @@ use Rattle.naga_checks.specs.Stages.{meet}
 use Rattle.naga_checks.specs.walk.State.{state_left}
 use Rattle.naga_checks.specs.declared.trace.TraceState.{TraceState}
 use Rattle.naga_valid.proofs.Accepted.{IsAccepted, accepted, accepted_fills_once, accepted_stages_of_all, accepted_stages_are_met, among_all, among_meet, meet_among_first, meet_among_second}
-use Rattle.naga_valid.proofs.Guarded.{accepted_is_sound}
+use Rattle.naga_valid.proofs.Guarded.{accepted_is_sure}
 use Rattle.naga_valid.proofs.Shapes.{no_return_in_continuing, whole_switches}
 
 -- what expressions leave
@@ -106,7 +106,7 @@ pub is_sound : AcceptedIsSound
 is_sound below settings infos trace program earlier fun entry_point outcome e on =
     let k = known below settings infos trace program earlier fun entry_point outcome e on in
     let context = context_with below settings infos trace program earlier fun entry_point (with_stages k.info k.stages) in
-    accepted_is_sound context (state_left context k.of.visits) (ap (viewed (state_left context)) k.of.judged)
+    accepted_is_sure context (state_left context k.of.visits) (ap (viewed (state_left context)) k.of.judged)
 
 pub fills_once : AcceptedFillsOnce
 fills_once below settings infos trace program earlier fun entry_point outcome e on =

@@ -10,16 +10,16 @@ use Rattle.naga_below.specs.declared.ir.statements.Statement as ir
 use Rattle.naga_below.specs.declared.valid.expression_error.ExpressionError.TheVariants.{NotInScope}
 use Rattle.naga_rules.specs.declared.function.FunctionError.{FunctionError}
 use Rattle.naga_rules.specs.declared.function.FunctionError.TheVariants.{EmitResult, Expression, ExpressionAlreadyInScope, InvalidIfType, InvalidSwitchType, BreakOutsideOfLoopOrSwitch, ContinueOutsideOfLoop, InvalidReturnSpot, InvalidReturnType}
-use Rattle.naga_runs.proofs.Judgements.{accepted_block_is_sound}
+use Rattle.naga_runs.proofs.Judgements.{accepted_block_is_sure}
 use Rattle.naga_below.proofs.Points.{first_holds, both_hold, not_holds}
-use Rattle.naga_runs.specs.Guards.{ReadGuards, IsRead}
+use Rattle.naga_runs.specs.Guards.{SurelyReadGuards, IsRead}
 use Rattle.naga_runs.specs.Handles.{Handles, with_handle}
 use Rattle.naga_below.specs.Points.{Point, first_fault}
 use Rattle.naga_runs.specs.Judgement.{viewed}
 use Rattle.naga_runs.specs.Abilities.{node_jump}
 use Rattle.naga_runs.specs.Positions.{Node, NoNode, StatementNode, BreakIfNode}
 use Rattle.naga_runs.specs.PutsAndUses.{node_acts}
-use Rattle.naga_runs.specs.Soundness.{Fit, Allowed, RunsAreSound}
+use Rattle.naga_runs.specs.Soundness.{Fit, Allowed, RunsAreSure}
 use Rattle.naga_runs.specs.Visits.{Place}
 use Rattle.naga_checks.specs.Blocks.{body_of, emitted_operands}
 use Rattle.naga_checks.specs.Context.{Context, pre_emitted}
@@ -128,9 +128,9 @@ node_fits context past place (StatementNode (Return (Some v))) made e =
     ((use_fits place v (type_point ∷ []) able.1, tt), able.0)
 node_fits context past place (StatementNode Kill) made e = (tt, tt)
 
-pub guards : (context : Context) → ReadGuards (kept_rules context) (emitted_operands context.fun)
+pub guards : (context : Context) → SurelyReadGuards (kept_rules context) (emitted_operands context.fun)
 guards context st v made e = node_fits context (seen st) v.place v.node made e
 
-pub accepted_is_sound : (context : Context) (state : State) → viewed (state_left context) (body_judgement context) ≡ Ok state → RunsAreSound (pre_emitted context) (body_of context.fun)
-accepted_is_sound context state e =
-    (accepted_block_is_sound (kept_rules context) (emitted_operands context.fun) (guards context) (begin_state context) state (pre_emitted context) context.fun.body (kept context ∙ e)).1
+pub accepted_is_sure : (context : Context) (state : State) → viewed (state_left context) (body_judgement context) ≡ Ok state → RunsAreSure (pre_emitted context) (body_of context.fun)
+accepted_is_sure context state e =
+    (accepted_block_is_sure (kept_rules context) (emitted_operands context.fun) (guards context) (begin_state context) state (pre_emitted context) context.fun.body (kept context ∙ e)).1

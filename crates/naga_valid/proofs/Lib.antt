@@ -1,6 +1,7 @@
 pub mod Traces
 pub mod StatesLeft
 pub mod Walk
+pub mod LoopBody
 pub mod PreEmitted
 pub mod Judged
 pub mod Accepted

@@ -8,7 +8,7 @@ pub mod Chains
 pub use Rattle.naga_below.specs.Fits.{FitsTypes, FitsGlobals, FitsFunction, FitsEntry}
 pub use Rattle.naga_rules.specs.Answers.{Answers, Refuses}
 pub use Rattle.naga_rules.specs.Meaning.{Meaning}
-pub use Rattle.naga_runs.specs.Soundness.{RunsAreSound}
+pub use Rattle.naga_runs.specs.Soundness.{RunsAreSure}
 pub use Rattle.naga_valid.specs.Accepted.{ResultsAreFilledOnce, StagesAreOfAll}
 pub use Rattle.naga_checks.specs.Blocks.{body_of}
 pub use Rattle.naga_checks.specs.Context.{pre_emitted_of}

@@ -1,5 +1,5 @@
 -- Numbers of scopes: work of lemmas, which private functions alone cite.
-use Rattle.std.specs.Prelude.{ℕ, ◌≡◌, ◌<◌, Bool, true, false, List, All, length, slice_index_or}
+use Rattle.std.specs.Prelude.{ℕ, ◌≡◌, ◌<◌, List, All, length, slice_index_or}
 use Rattle.naga_checks.specs.declared.table.ScopeState.{ScopeState}
 use Rattle.naga_checks.specs.declared.table.ScopeState.TheVariants.{Closed, Open}
 
@@ -7,17 +7,13 @@ use Rattle.naga_checks.specs.declared.table.ScopeState.TheVariants.{Closed, Open
 abbrev pub number_at : List ℕ → ℕ → ℕ
 number_at numbers h = slice_index_or numbers h 0
 
-abbrev pub opens : ScopeState → Bool
-opens Closed = false
-opens Open = true
-
--- whether a number is that of an open scope
-abbrev pub is_open : List ScopeState → ℕ → Bool
-is_open states n = opens (slice_index_or states n Closed)
+-- the state of the scope of a number
+abbrev pub state_at : List ScopeState → ℕ → ScopeState
+state_at states n = slice_index_or states n Closed
 
 -- each number that an expression has has a state, 0 is that of no scope, 1 that of the body, and the innermost scope is open
 pub record IsSound (numbers : List ℕ) (states : List ScopeState) (inner : ℕ) : Type 0 where
   pub numbered : All (λ n. n < length states) numbers
-  pub nothing : is_open states 0 ≡ false
+  pub nothing : state_at states 0 ≡ Closed
   pub body : 1 < length states
-  pub innermost : is_open states inner ≡ true
+  pub innermost : state_at states inner ≡ Open

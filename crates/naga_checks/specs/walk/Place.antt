@@ -7,6 +7,14 @@ use Rattle.naga_runs.specs.declared.Abilities.{Abilities}
 abbrev pub no_abilities : Abilities
 no_abilities = record { can_return = false; can_break = false; can_continue = false }
 
--- the place where these are in scope. Only the lists of jumps ask for the abilities, and none what every run has put
-abbrev pub place_at : Handles → Place
-place_at scope = record { abilities = no_abilities; scope = scope; must = no_handles }
+-- what is in scope, and what of it every run has put
+pub record Sets : Type 0 where
+  pub scope : Handles
+  pub must : Handles
+
+abbrev pub no_sets : Sets
+no_sets = record { scope = no_handles; must = no_handles }
+
+-- the place where these are. Only the lists of jumps ask for the abilities
+abbrev pub place_at : Sets → Place
+place_at sets = record { abilities = no_abilities; scope = sets.scope; must = sets.must }

@@ -133,7 +133,7 @@ fn check_argument(
     requires declared { declared < length (context_of context.now).program.types }
     ensures { Finds (argument_points (context_of context.now) (place_at (known scope.now)) index declared given) result }
 {
-    if !scope.contains(given) {
+    if !scope.may_use(given) {
         return Err(CallError::Argument {
             index,
             source: ExpressionError::NotInScope,

@@ -6,9 +6,8 @@ ghost use Rattle.std.specs.Option.{option_copied};
 ghost use Rattle.naga_checks.specs.walk.Switch.{selector_points, cases_points};
 ghost use Rattle.naga_checks.specs.checks.Control.{emit_points, emitted_points, is_bool_scalar, condition_points, is_integer, has_signedness_of, is_default, repeated_fault, value_points, values_of, last_falls_through, switch_points, declared_type, is_returned_as, return_points, break_points, continue_points};
 ghost use Rattle.naga_checks.specs.checks.Results.{is_result};
-ghost use Rattle.naga_checks.specs.walk.Place.{place_at};
+ghost use Rattle.naga_checks.specs.walk.Place.{no_sets, place_at};
 ghost use Rattle.naga_checks.specs.walk.Walk.{handles_between, place};
-ghost use Rattle.naga_runs.specs.Handles.{no_handles};
 ghost use Rattle.naga_checks.specs.walk.Answers.{Finds, AnswersPoints};
 ghost use Rattle.naga_checks.specs.Context.{ContextFits};
 ghost use Rattle.naga_checks.specs.walk.Seen.{context_of};
@@ -236,7 +235,7 @@ fn is_returned_as(
 
 /// Break: allowed here.
 pub fn check_break(alloc: Global, abilities: Abilities, span: Span) -> Result<(), Refused>
-    ensures { AnswersPoints (break_points (place abilities no_handles)) result }
+    ensures { AnswersPoints (break_points (place abilities no_sets)) result }
 {
     if !abilities.can_break {
         let fault = FunctionError::BreakOutsideOfLoopOrSwitch;
@@ -247,7 +246,7 @@ pub fn check_break(alloc: Global, abilities: Abilities, span: Span) -> Result<()
 
 /// Continue: allowed here.
 pub fn check_continue(alloc: Global, abilities: Abilities, span: Span) -> Result<(), Refused>
-    ensures { AnswersPoints (continue_points (place abilities no_handles)) result }
+    ensures { AnswersPoints (continue_points (place abilities no_sets)) result }
 {
     if !abilities.can_continue {
         let fault = FunctionError::ContinueOutsideOfLoop;

@@ -15,11 +15,11 @@ use naga_below::valid::expression_error::ExpressionError;
 use naga_rules::function::FunctionError;
 use std::alloc::Global;
 
-/// A use: the expression is in scope.
+/// A use: every run has put the expression where it comes here.
 pub fn check_use(scope: &ScopeColumn, handle: Handle<tag::Expression>) -> Result<(), FunctionError>
     ensures { Finds (use_point (place_at (known scope.now)) handle ∷ []) result }
 {
-    if !scope.contains(handle) {
+    if !scope.may_use(handle) {
         return Err(FunctionError::Expression {
             handle,
             source: ExpressionError::NotInScope,

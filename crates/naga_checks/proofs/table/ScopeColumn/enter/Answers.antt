@@ -7,7 +7,7 @@ pub returns-clause-known : goal.returns-clause-known
 unfolding known shown
 returns-clause-known c =
     let t = c.args.self.now in
-    known_entered t.numbers.items t.states.items t.innermost t.sound _ c.in_ok-push.ensures.items
+    known_entered t.numbers.items t.states.items t.innermost t.sound _ c.in_ok-push.ensures.items c.len-number.result
 
 pub returns-clause-outside : goal.returns-clause-outside
 unfolding known shown
