@@ -81,12 +81,12 @@ module _ (f g : ℕ → List ℕ) where
   pub same_switch : (context : Context) (place : Place) (h : ℕ) (cs : List SwitchCase) → switch_points context place h (list_cases f cs) ≡ switch_points context place h (list_cases g cs)
   same_switch context place h cs =
       let points : List SwitchValue → Bool → Points = λ values last.
-          use_point place h
-          ∷ (is_integer (scalar_kind_at context h), InvalidSwitchType h)
-          ∷ value_points (scalar_kind_at context h) [] values
-          ++ (list_any is_default values, MissingDefaultCase)
-          ∷ (not last, LastCaseFallTrough)
-          ∷ []
+      use_point place h
+      ∷ (is_integer (scalar_kind_at context h), InvalidSwitchType h)
+      ∷ value_points (scalar_kind_at context h) [] values
+      ++ (list_any is_default values, MissingDefaultCase)
+      ∷ (not last, LastCaseFallTrough)
+      ∷ []
       in
       λ i. points (same_values cs i) (same_last cs i)
 

@@ -8,7 +8,6 @@ ghost use Rattle.naga_checks.specs.Context.{ContextFits};
 ghost use Rattle.naga_checks.specs.Declarations.{name_or_empty, variable_points, variables_points, takes_arguments, pointer_points, argument_points, arguments_points, result_points, declaration_points};
 ghost use Rattle.naga_checks.specs.walk.Seen.{context_of};
 
-use naga_checks::context::BlockContext;
 use naga_below::arena::handle::Handle;
 use naga_below::arena::tag;
 use naga_below::ir::functions::{FunctionArgument, FunctionResult, LocalVariable};
@@ -17,6 +16,7 @@ use naga_below::ir::types::AddressSpace;
 use naga_below::span::{Refusal, WithSpan};
 use naga_below::valid::flags::TypeFlags;
 use naga_below::valid::types::TypeInfo;
+use naga_checks::context::BlockContext;
 use naga_rules::function::FunctionError;
 use naga_rules::local::check_local;
 use std::alloc::{AllocError, Global};

@@ -10,5 +10,5 @@ pub mod validator;
 
 pub use crate::interface::EntryPointError;
 pub use crate::laws::{chains_law, function_law};
-pub use naga_checks::trace::{TraceRayVertexReturnState, TraceState};
 pub use crate::validator::Validator;
+pub use naga_checks::trace::{TraceRayVertexReturnState, TraceState};

@@ -14,11 +14,11 @@ use crate::interface::start::check_start;
 use crate::interface::uses::{check_payload, check_stage, insert_own_uses};
 use crate::interface::varyings::set_blending;
 use crate::outcome::FunctionOutcome;
-use naga_checks::table::Table;
 use crate::validator::Validator;
 use naga_below::ir::module::{EntryPoint, Module};
 use naga_below::span::Refusal;
 use naga_below::valid::info::{FunctionInfo, ModuleInfo};
+use naga_checks::table::Table;
 use naga_rules::below::Below;
 use std::alloc::Global;
 

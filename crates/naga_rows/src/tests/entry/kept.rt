@@ -11,8 +11,8 @@ use bitflags::Flags;
 use naga_below::arena::handle::Handle;
 use naga_below::ir::module::ShaderStage;
 use naga_below::valid::flags::GlobalUse;
-use naga_valid::interface::EntryPointError;
 use naga_checks::trace::{TraceRayVertexReturnState, TraceState};
+use naga_valid::interface::EntryPointError;
 use std::process::Abort;
 use std::test::Fail;
 
