@@ -230,6 +230,7 @@ module _ (numbers : List ℕ) (states : List ScopeState) (inner : ℕ) (sound : 
       where
         at : number_at after k ≡ (if k == h then inner else number_at numbers k)
         at = set_at numbers h k inner 0 there
+
         step : (b : Bool) → (h == k) ≡ b → f (number_at after k) ≡ (if b then here else f (number_at numbers k))
         step true e =
             let same : (k == h) ≡ true = grind (arith, nat_tests) in
@@ -258,6 +259,7 @@ module _ (numbers : List ℕ) (states : List ScopeState) (inner : ℕ) (sound : 
         none =
             let same : (inner == inner) ≡ true = grind (arith, nat_tests) in
             ap (unless_by inner) own ∙ ap (λ b. if b then None else Some inner) same
+
         step : (b : Bool) → (h == k) ≡ b → (if b then None else unless_by inner (by (number_at numbers k))) ≡ unless_by inner (by (number_at numbers k))
         step true e =
             let same : h ≡ k = grind (arith, nat_tests) in

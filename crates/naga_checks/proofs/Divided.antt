@@ -75,16 +75,16 @@ module _ {before after : ScopeColumn} {home : ℕ} {first later : List ℕ} (d :
   unfolding known
   looped end number is by n =
       let scope =
-          ap (λ (s : Shown). (known_in s).scope) is
-          ∙ ap (λ s. s.scope) d.later_put.inside
-          ∙ ap (λ s. with_all s.scope later) (d.same ∙ d.first_put.inside)
-          ∙ sym (all-append first later (known before).scope)
+      ap (λ (s : Shown). (known_in s).scope) is
+      ∙ ap (λ s. s.scope) d.later_put.inside
+      ∙ ap (λ s. with_all s.scope later) (d.same ∙ d.first_put.inside)
+      ∙ sym (all-append first later (known before).scope)
       in
       let must =
-          ap (λ (s : Shown). (known_in s).must) is
-          ∙ (λ i h. skipped_must (shown after) home ((shown after).put_by h) i)
-          ∙ ap (λ (s : Shown). (known_in s).must) back
-          ∙ ap (λ s. s.must) d.first_put.inside
+      ap (λ (s : Shown). (known_in s).must) is
+      ∙ (λ i h. skipped_must (shown after) home ((shown after).put_by h) i)
+      ∙ ap (λ (s : Shown). (known_in s).must) back
+      ∙ ap (λ s. s.must) d.first_put.inside
       in
       record {
         inside = λ i. record { scope = scope i; must = must i };

@@ -156,6 +156,10 @@ fn an_argument_that_was_skipped(rt: HostRuntime) -> Result<(), Fail> {
         source: ExpressionError::NotInScope,
     };
     let function = Handle::new(0);
-    gets(&rt, false, Err(FunctionError::InvalidCall { function, error }))?;
+    gets(
+        &rt,
+        false,
+        Err(FunctionError::InvalidCall { function, error }),
+    )?;
     Ok(())
 }

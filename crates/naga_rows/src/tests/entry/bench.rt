@@ -210,7 +210,7 @@ pub fn types_of(rt: &(impl Abort + AllocGlobal)) -> Result<UniqueArena<Type>, Al
 /// What is known of the types: of structs all but the one of sources are not shared between stages.
 pub fn infos_of_types(rt: &(impl Abort + AllocGlobal)) -> Result<Vec<TypeInfo>, AllocError> {
     let unshared = TypeInfo {
-        flags: TypeFlags::ALL.difference(TypeFlags::IO_SHAREABLE),
+        flags: TypeFlags(TypeFlags::ALL.0 & !TypeFlags::IO_SHAREABLE.0),
         ..GOOD
     };
     let mut infos = vec![in rt.alloc(); unshared; TYPES]?;
