@@ -1,7 +1,6 @@
 //! The operands of expressions, by a table.
 
 use crate::arena::handle::Handle;
-use crate::arena::tag;
 use crate::ir::expressions::{Expression, Literal, Operands};
 use crate::ir::types::Scalar;
 use crate::proc::operands::{operand, operand_count};
@@ -28,23 +27,17 @@ fn two(alloc: Global) -> Result<Operands, AllocError> {
     Ok(operands)
 }
 
-const BASE: Handle<tag::Expression> = Handle::new(5);
-
-const INDEX: Handle<tag::Expression> = Handle::new(2);
-
 #[test]
 fn operands_that_are_fields(rt: HostRuntime) {
+    let base = Handle::new(5);
     let access = Expression::Access {
-        base: BASE,
-        index: INDEX,
+        base,
+        index: Handle::new(2),
     };
     expect(&rt, &access, &[5, 2]);
-    let member = Expression::AccessIndex {
-        base: BASE,
-        index: 7,
-    };
+    let member = Expression::AccessIndex { base, index: 7 };
     expect(&rt, &member, &[5]);
-    expect(&rt, &Expression::Load { pointer: BASE }, &[5]);
+    expect(&rt, &Expression::Load { pointer: base }, &[5]);
 }
 
 #[test]

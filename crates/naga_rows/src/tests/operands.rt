@@ -229,11 +229,14 @@ fn access_expressions(alloc: Global) -> Result<Arena<Expression>, AllocError> {
 
 /// The facts of a function of those expressions.
 fn access_facts(alloc: Global) -> Result<Recorded, AllocError> {
-    let types = vec![in alloc; TypeResolution::Handle(Handle::new(0)); 4]?;
+    let mut types = Sequence::new(alloc);
+    for _ in 0..4 {
+        types.push(TypeResolution::Handle(Handle::new(0)))?;
+    }
     let stages = vec![in alloc; ExpressionFact::Stages(ShaderStages::ALL); 4]?;
     let mut facts = Facts::new(alloc);
     facts.entry_points.push(FunctionFact::Info(InfoFact {
-        types: Sequence::from(types),
+        types,
         uses: Sequence::new(alloc),
         stages: ShaderStages::ALL,
         dual_source_blending: false,
