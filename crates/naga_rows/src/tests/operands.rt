@@ -107,17 +107,20 @@ fn expressions_of(alloc: Global) -> Result<Arena<Expression>, AllocError> {
     Ok(expressions)
 }
 
+/// A local of this type.
+fn local(ty: u32) -> LocalVariable {
+    LocalVariable {
+        name: None,
+        ty: Handle::new(ty),
+        init: None,
+    }
+}
+
 /// Locals 0 of u32 and 1 a ray query.
 fn locals_of(alloc: Global) -> Result<Arena<LocalVariable>, AllocError> {
     let mut locals = Arena::new(alloc);
-    for ty in 0..2 {
-        let local = LocalVariable {
-            name: None,
-            ty: Handle::new(ty),
-            init: None,
-        };
-        locals.append(local, NOWHERE)?;
-    }
+    locals.append(local(0), NOWHERE)?;
+    locals.append(local(1), NOWHERE)?;
     Ok(locals)
 }
 
