@@ -3,7 +3,6 @@
 mod atomics;
 mod bodies;
 mod declarations;
-mod entry;
 mod entry_errors;
 mod globals;
 mod operands;

@@ -1,9 +1,7 @@
 //! One module for all rows of entry points, and what is answered of an entry point of it over the plain layer.
 
-use crate::tests::bodies::{GOOD, HERE, NOWHERE, add, function_of, module_of, no_infos};
-use crate::tests::entry::shape::{
-    Part, at_location, built_in, by_primitive, position, smooth, unbound,
-};
+use crate::tests::parts::{GOOD, HERE, NOWHERE, add, function_of, module_of, no_infos};
+use crate::tests::shape::{Part, at_location, built_in, by_primitive, position, smooth, unbound};
 use bitflags::Flags;
 use naga_below::arena::Arena;
 use naga_below::arena::handle::Handle;

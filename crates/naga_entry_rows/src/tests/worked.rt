@@ -1,10 +1,8 @@
 //! Rows that were worked out by hand, over one list of types.
 
-use crate::tests::entry::bench::{Bench, COLOR, CORNERS, KILLS, TWIN, U32, UNIFORM, make_bench};
-use crate::tests::entry::judged::{answer_of, fault_in, fault_of, validator};
-use crate::tests::entry::shape::{
-    Case, Part, Step, at_compute, at_fragment, at_vertex, built_in, smooth,
-};
+use crate::tests::bench::{Bench, COLOR, CORNERS, KILLS, TWIN, U32, UNIFORM, make_bench};
+use crate::tests::judged::{answer_of, fault_in, fault_of, validator};
+use crate::tests::shape::{Case, Part, Step, at_compute, at_fragment, at_vertex, built_in, smooth};
 use bitflags::Flags;
 use naga_below::arena::handle::Handle;
 use naga_below::ir::built_in::BuiltIn;

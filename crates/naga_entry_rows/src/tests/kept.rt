@@ -1,10 +1,10 @@
 //! What is known of an accepted entry point, and what ray traces leave.
 
-use crate::tests::entry::bench::{
+use crate::tests::bench::{
     Bench, COLOR, OUTPUT, PAYLOAD, RAY_PAYLOAD, SOURCES, STRUCTURE, TWIN, U32, UNIFORM, make_bench,
 };
-use crate::tests::entry::judged::{answer_of, fault_in, info_of, validator};
-use crate::tests::entry::shape::{
+use crate::tests::judged::{answer_of, fault_in, info_of, validator};
+use crate::tests::shape::{
     Case, Step, at, at_compute, at_fragment, at_mesh, at_task, smooth, unbound,
 };
 use bitflags::Flags;

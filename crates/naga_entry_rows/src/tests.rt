@@ -7,6 +7,7 @@ mod kept;
 mod mesh;
 mod modules;
 mod order;
+mod parts;
 mod shape;
 mod stages;
 mod worked;

@@ -1,7 +1,7 @@
 //! What an entry point of the rows is like: numbers for what it names in the module of `bench`.
 
-use crate::tests::bodies::ALL_CHECKS;
-use crate::tests::entry::bench::{COLOR, COUNTS, FACE, OUTPUT, PAYLOAD, VERTEX};
+use crate::tests::bench::{COLOR, COUNTS, FACE, OUTPUT, PAYLOAD, VERTEX};
+use crate::tests::parts::ALL_CHECKS;
 use naga_below::ir::built_in::BuiltIn;
 use naga_below::ir::module::{MeshOutputTopology, ShaderStage};
 use naga_below::ir::types::{Binding, Interpolation};

@@ -1,12 +1,12 @@
 //! Each fault of an entry point that the validator makes by itself, by a row that is wrong in nothing else. Those of meshes
 //! stand in `mesh`; `Conflict` is never made.
 
-use crate::tests::entry::bench::{
+use crate::tests::bench::{
     COUNTS, F32, IMMEDIATE, INCOMING, KILLS, OTHER_IMMEDIATE, OUTPUT, PAYLOAD, RAY_PAYLOAD,
     SHORT_PAYLOAD, SINK, TWIN, U32, UNIFORM, make_bench,
 };
-use crate::tests::entry::judged::refuses;
-use crate::tests::entry::shape::{
+use crate::tests::judged::refuses;
+use crate::tests::shape::{
     Case, Step, at, at_compute, at_fragment, at_location, at_mesh, at_task, at_vertex, in_groups,
     triangles, unbound,
 };

@@ -1,8 +1,8 @@
 //! An entry point from what it is like, and what is answered of it over the plain layer.
 
-use crate::tests::bodies::{HERE, NOWHERE, add, function_of};
-use crate::tests::entry::bench::{Bench, COLOR, made};
-use crate::tests::entry::shape::{Analysis, Case, Mesh, Part, Step};
+use crate::tests::bench::{Bench, COLOR, made};
+use crate::tests::parts::{HERE, NOWHERE, add, function_of};
+use crate::tests::shape::{Analysis, Case, Mesh, Part, Step};
 use naga_below::arena::Arena;
 use naga_below::arena::handle::Handle;
 use naga_below::fits::entry::fits_entry;

@@ -1,11 +1,11 @@
 //! What an entry point says of its mesh, and the outputs of the mesh.
 
-use crate::tests::entry::bench::{
+use crate::tests::bench::{
     COLLIDING, COLLIDING_FACELESS, FACELESS, PAYLOAD, PLACED, PLACELESS, ROUGH, SINK, SOURCES,
     TWO_FACED, U32, UNIFORM, make_bench,
 };
-use crate::tests::entry::judged::{accepts, refuses};
-use crate::tests::entry::shape::{Analysis, Case, Mesh, at_mesh, triangles};
+use crate::tests::judged::{accepts, refuses};
+use crate::tests::shape::{Analysis, Case, Mesh, at_mesh, triangles};
 use naga_below::arena::handle::Handle;
 use naga_below::ir::module::{MeshOutputTopology, ShaderStage};
 use naga_below::valid::capabilities::Capabilities;

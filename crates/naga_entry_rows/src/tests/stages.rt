@@ -1,10 +1,8 @@
 //! Each stage with what it needs and without, and the sizes of work groups.
 
-use crate::tests::entry::bench::{KILLS, RESTS, WAITS, make_bench};
-use crate::tests::entry::judged::{accepts, refuses};
-use crate::tests::entry::shape::{
-    Case, Step, at, at_compute, at_fragment, at_mesh, at_task, at_vertex,
-};
+use crate::tests::bench::{KILLS, RESTS, WAITS, make_bench};
+use crate::tests::judged::{accepts, refuses};
+use crate::tests::shape::{Case, Step, at, at_compute, at_fragment, at_mesh, at_task, at_vertex};
 use bitflags::Flags;
 use naga_below::ir::module::ShaderStage;
 use naga_below::valid::capabilities::Capabilities;

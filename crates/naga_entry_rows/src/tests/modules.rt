@@ -1,12 +1,12 @@
 //! Whole modules, judged over the plain layer.
 
-use crate::tests::bodies::{ALL_CHECKS, HERE, NOWHERE, module_of};
-use crate::tests::entry::bench::{
+use crate::tests::bench::{
     COLOR, F32, KILLS, STRUCTURE_TYPE, U32, global, infos_of, infos_of_types, made, make_bench,
     types_of,
 };
-use crate::tests::entry::judged::{accepts, entry_point, function};
-use crate::tests::entry::shape::{Case, Step, at, at_compute, at_fragment};
+use crate::tests::judged::{accepts, entry_point, function};
+use crate::tests::parts::{ALL_CHECKS, HERE, NOWHERE, module_of};
+use crate::tests::shape::{Case, Step, at, at_compute, at_fragment};
 use naga_below::arena::Arena;
 use naga_below::arena::handle::Handle;
 use naga_below::ir::functions::Function;

@@ -1,10 +1,10 @@
 //! The order of the steps: each entry point is wrong in two neighbouring ones, and the earlier answers.
 
-use crate::tests::entry::bench::{
+use crate::tests::bench::{
     F32, IMMEDIATE, KILLS, OTHER_IMMEDIATE, SHORT_PAYLOAD, SINK, TWIN, UNIFORM, WAITS, make_bench,
 };
-use crate::tests::entry::judged::refuses;
-use crate::tests::entry::shape::{
+use crate::tests::judged::refuses;
+use crate::tests::shape::{
     Case, Mesh, Step, at, at_compute, at_fragment, at_mesh, at_task, at_vertex, in_groups,
     triangles, unbound,
 };
