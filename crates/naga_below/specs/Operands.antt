@@ -39,3 +39,10 @@ operands_of (e.WorkGroupUniformLoadResult t) = []
 operands_of e.RayQueryProceedResult = []
 operands_of e.SubgroupBallotResult = []
 operands_of (e.SubgroupOperationResult t) = []
+
+-- those that an expression holds as a list
+abbrev pub listed_operands : Expression → List ℕ
+listed_operands (e.Access b i) = []
+listed_operands (e.AccessIndex b i) = []
+listed_operands (e.Load p) = []
+listed_operands x = operands_of x

@@ -43,6 +43,7 @@ pub use crate::ir::types::{
     Scalar, ScalarKind, StorageFormat, StructMember, Type, TypeInner, VectorSize,
 };
 pub use crate::proc::expression_kinds::{ExpressionKind, ExpressionKindTracker};
+pub use crate::proc::operands::{operand, operand_count};
 pub use crate::proc::type_methods::{compare_types, type_tests_law};
 pub use crate::proc::typifier::TypeResolution;
 pub use crate::sequence::Sequence;

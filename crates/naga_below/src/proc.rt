@@ -2,5 +2,6 @@
 
 pub mod expression_kinds;
 pub mod expressions;
+pub mod operands;
 pub mod type_methods;
 pub mod typifier;

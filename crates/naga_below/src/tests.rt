@@ -7,6 +7,7 @@ mod errors;
 mod flags;
 mod made;
 mod modules;
+mod operands;
 mod types;
 
 use crate::arena::Arena;

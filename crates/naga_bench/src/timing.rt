@@ -1,6 +1,5 @@
 //! What is timed: a judgement, the tests of its conditions before it, and the lower layer alone.
 
-use bitflags::Flags;
 use naga_below::{
     Capabilities, EntryPoint, Function, Module, ModuleInfo, ShaderStages, SubgroupOperationSet,
     TypeFlags, TypeInfo, ValidationFlags, fits_entry, fits_function, fits_types,
@@ -20,15 +19,18 @@ const INFO: TypeInfo = TypeInfo {
     immediates_compatibility: Ok(()),
 };
 
+/// Every check, by its bits: a call of `all` of `bitflags` takes a minute and more to prove.
+const ALL_CHECKS: ValidationFlags = ValidationFlags(0xf);
+
 /// A validator over the plain layer, with all flags, capabilities and subgroup settings, and an info for each of so many
 /// types.
 pub fn validator(alloc: Global, types: usize) -> Result<Validator<Plain>, AllocError> {
     let infos = vec![in alloc; INFO; types]?;
     let below = Plain::without_mesh_shaders();
-    let validator = Validator::new(below, ValidationFlags::all(), Capabilities::all());
+    let validator = Validator::new(below, ALL_CHECKS, Capabilities::ALL);
     let mut validator = validator.with_types(infos);
-    validator.subgroup_stages(ShaderStages::all());
-    validator.subgroup_operations(SubgroupOperationSet::all());
+    validator.subgroup_stages(ShaderStages::ALL);
+    validator.subgroup_operations(SubgroupOperationSet::ALL);
     Ok(validator)
 }
 
@@ -90,9 +92,9 @@ fn lower<C: Clock>(
     infos: &ModuleInfo,
 ) -> io::Result<u64> {
     let below = Plain::without_mesh_shaders();
-    let flags = ValidationFlags::all();
+    let flags = ALL_CHECKS;
     let start = Instant::now(clock)?;
-    let info = below.process_function(alloc, fun, module, infos, flags, Capabilities::all());
+    let info = below.process_function(alloc, fun, module, infos, flags, Capabilities::ALL);
     let kinds = below.kinds(alloc, &fun.expressions);
     let time = nanos(start.elapsed(clock)?);
     let good = info.is_ok() && kinds.is_ok();

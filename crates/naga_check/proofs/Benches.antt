@@ -13,7 +13,7 @@ use Rattle.naga_below.specs.declared.ir.statements.Block.{Block}
 use Rattle.naga_below.specs.Tree.{Stmt, Leaf, Block as Nested, Branch, Switch, Loop, Break, Continue, Return, Kill, Body, Done, Then, Cases, NoCase, OneCase}
 use Rattle.naga_below.specs.Types.{NamesTypesBelow, ResolutionFits}
 use Rattle.naga_below.specs.declared.ir.expressions.Expression.{Expression}
-use Rattle.naga_below.specs.declared.ir.expressions.Expression.TheVariants.{CallResult}
+use Rattle.naga_below.specs.declared.ir.expressions.Expression.TheVariants.{CallResult, Unary}
 use Rattle.naga_below.specs.declared.ir.functions.FunctionArgument.{FunctionArgument}
 use Rattle.naga_below.specs.declared.ir.module.Constant.{Constant}
 use Rattle.naga_below.specs.declared.ir.module.Module.{Module}
@@ -24,7 +24,7 @@ use Rattle.naga_below.specs.declared.ir.types.Type.{«Type» as IrType}
 use Rattle.naga_check.specs.Bench.{names_of, callees_of}
 use Rattle.naga_check.specs.BenchModule.{bench_types, shared_expressions, bench_expressions, bench_locals, bench_function, bench_functions, bench_module, callee_block, callee_function}
 use Rattle.naga_check.specs.Notation.Blocks.{list_of}
-use Rattle.naga_valid.specs.Parts.{NamesTypes, AreInfosOf}
+use Rattle.naga_checks.specs.Parts.{NamesTypes, AreInfosOf}
 use Rattle.naga_below.specs.declared.valid.settings.Settings.{Settings}
 use Rattle.naga_check.specs.Judged.{bench_infos, IsPlainAnswer}
 use Rattle.naga_module.specs.ModuleJudgement.{Answer, Fits, first_infos}
@@ -32,7 +32,7 @@ use Rattle.naga_module.specs.ModuleLaw.{IsToldOfFunctions, FunctionsAloneAreTold
 use Rattle.naga_module.specs.Plain.Meaning.{plain_meaning, plain_layer}
 use Rattle.naga_check.specs.Notation.Sayable.{is_sayable, is_sayable_statement, are_sayable_cases, is_below_if_any, is_sayable_leaf, is_empty}
 use Rattle.naga_check.specs.declared.bench.Bench.{Bench}
-use Rattle.naga_check.specs.declared.bench.Bench.TheVariants.{P, C}
+use Rattle.naga_check.specs.declared.bench.Bench.TheVariants.{P, C, D}
 use Rattle.naga_check.proofs.Reading.Trees.{block_tree}
 
 both_hold : (a b : Bool) → (a && b) ≡ true → (a ≡ true) × (b ≡ true)
@@ -117,11 +117,13 @@ shared_operands rest more =
 operands_fit : (bench : Bench) → NameEarlierExpressions (bench_expressions bench)
 operands_fit P = shared_operands [] tt
 operands_fit C = shared_operands (CallResult 0 ∷ []) (All-nil (λ h. h < 6), tt)
+operands_fit D = shared_operands (Unary (5 ∷ []) 0 ∷ []) (All-from_recursion (λ h. h < 6) (5 ∷ []) (omega arith, tt), tt)
 
 -- each name stands for an expression
 named : (bench : Bench) → length (bench_expressions bench) ≡ length (names_of bench)
 named P = refl
 named C = refl
+named D = refl
 
 -- in a bench's module whose functions to call are there
 module _ (block : Block) where
@@ -131,6 +133,8 @@ module _ (block : Block) where
       All-from_recursion (ReferencesFit (bench_module P block) (bench_function P block)) (bench_expressions P) (tt, (tt, (tt, (tt, (omega arith, (tt, tt))))))
   references_fit C callees =
       All-from_recursion (ReferencesFit (bench_module C block) (bench_function C block)) (bench_expressions C) (tt, (tt, (tt, (tt, (omega arith, (tt, (callees 0 (omega arith), tt)))))))
+  references_fit D callees =
+      All-from_recursion (ReferencesFit (bench_module D block) (bench_function D block)) (bench_expressions D) (tt, (tt, (tt, (tt, (omega arith, (tt, (tt, tt)))))))
 
   -- the bench's own function fits
   function_fits : (bench : Bench) → ((g : ℕ) → g < callees_of bench → CalleeFits (bench_module bench block) g) → is_sayable (length (names_of bench)) (callees_of bench) (body_of no_operands block) ≡ true → FitsFunction (bench_function bench block) (bench_module bench block) (callees_of bench)
@@ -174,6 +178,8 @@ module _ (block : Block) where
 functions_fit : (bench : Bench) (block : Block) → is_sayable (length (names_of bench)) (callees_of bench) (body_of no_operands block) ≡ true → EachAt (λ k f. FitsFunction f (bench_module bench block) k) (bench_module bench block).functions
 functions_fit P block sayable =
     (each_from (λ k f. FitsFunction f (bench_module P block) k) (bench_functions P block)).1 (function_fits block P (λ g lt. absurd (omega arith)) sayable, tt)
+functions_fit D block sayable =
+    (each_from (λ k f. FitsFunction f (bench_module D block) k) (bench_functions D block)).1 (function_fits block D (λ g lt. absurd (omega arith)) sayable, tt)
 functions_fit C block sayable =
     (each_from (λ k f. FitsFunction f (bench_module C block) k) (bench_functions C block)).1 (callee_fits block, (function_fits block C (callee_there block) sayable, tt))
 

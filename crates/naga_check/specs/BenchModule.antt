@@ -13,7 +13,7 @@ use Rattle.naga_below.specs.declared.ir.types.ScalarKind.TheVariants.{Sint, Uint
 use Rattle.naga_below.specs.declared.ir.types.Type.{«Type» as IrType}
 use Rattle.naga_below.specs.declared.ir.types.TypeInner.TheVariants.{Scalar as ScalarType}
 use Rattle.naga_check.specs.declared.bench.Bench.{Bench}
-use Rattle.naga_check.specs.declared.bench.Bench.TheVariants.{P, C}
+use Rattle.naga_check.specs.declared.bench.Bench.TheVariants.{P, C, D}
 use Rattle.naga_check.specs.Notation.Blocks.{block_of}
 
 abbrev pub u32_scalar : Scalar
@@ -46,10 +46,12 @@ shared_expressions =
     ∷ Load 4
     ∷ []
 
--- the expressions of the function; where there is a function to call also `r1`, a result of it
+-- the expressions of the function; where there is a function to call also `r1`, a result of it, and in the last bench also
+-- `e2`, which is made from `x1`
 abbrev pub bench_expressions : Bench → List Expression
 bench_expressions P = shared_expressions
 bench_expressions C = shared_expressions ++ CallResult 0 ∷ []
+bench_expressions D = shared_expressions ++ Unary (5 ∷ []) 0 ∷ []
 
 -- the function of the bench with this body: no arguments and no result
 abbrev pub bench_function : Bench → Block → Function
@@ -75,6 +77,7 @@ callee_function =
 abbrev pub bench_functions : Bench → Block → List Function
 bench_functions P block = bench_function P block ∷ []
 bench_functions C block = callee_function ∷ bench_function C block ∷ []
+bench_functions D block = bench_function D block ∷ []
 
 -- the module of the bench with this body
 abbrev pub bench_module : Bench → Block → Module

@@ -9,8 +9,10 @@ pub enum Bench {
     /// Types bool, u32 and i32; one function without arguments or result; expressions 0 `t` a bool literal, 1 `u` a u32
     /// literal, 2 `i` an i32 literal, 3 `e1` a Unary of `t`, 4 `v` a local of u32, 5 `x1` a Load of `v`.
     P,
-    /// The same with a function `f` before it, which returns a u32 literal, and 6 `r1`, a result of `f`.
+    /// `P` with a function `f` before it, which returns a u32 literal, and 6 `r1`, a result of `f`.
     C,
+    /// `P` with 6 `e2`, a Unary of `x1`.
+    D,
 }
 
 impl Bench {
@@ -22,6 +24,8 @@ impl Bench {
             Some(Bench::P)
         } else if word == b"C".as_slice() {
             Some(Bench::C)
+        } else if word == b"D".as_slice() {
+            Some(Bench::D)
         } else {
             None
         }
@@ -32,7 +36,7 @@ impl Bench {
         ensures { result ≡ has_callee self }
     {
         match self {
-            Bench::P => false,
+            Bench::P | Bench::D => false,
             Bench::C => true,
         }
     }
@@ -53,7 +57,9 @@ impl Bench {
             Some(4)
         } else if name == b"x1".as_slice() {
             Some(5)
-        } else if self.has_callee() && name == b"r1".as_slice() {
+        } else if self == Bench::C && name == b"r1".as_slice() {
+            Some(6)
+        } else if self == Bench::D && name == b"e2".as_slice() {
             Some(6)
         } else {
             None

@@ -1,8 +1,8 @@
 //! The modules of the benches.
 
-ghost use Rattle.std.specs.Prelude.{◌≡◌, IfOk};
+ghost use Rattle.std.specs.Prelude.{◌≡◌, [], ◌∷◌, IfOk};
 ghost use Rattle.naga_check.specs.BenchModule.{bench_types, bench_locals, shared_expressions, bench_expressions, type_of, bench_function, callee_block, callee_function, bench_functions, bench_module};
-ghost use Rattle.naga_below.specs.declared.ir.expressions.Expression.TheVariants.{Literal as LiteralOf};
+ghost use Rattle.naga_below.specs.declared.ir.expressions.Expression.TheVariants.{Literal as LiteralOf, Unary};
 
 use crate::bench::Bench;
 use naga_below::arena::Arena;
@@ -59,6 +59,18 @@ fn literal(scalar: Scalar, bits: u64) -> Expression
     Expression::Literal(Literal { scalar, bits })
 }
 
+/// A Unary of the expression at this index.
+fn unary(alloc: Global, operand: u32) -> Result<Expression, AllocError>
+    ensures { IfOk result (λ x. x ≡ Unary (operand ∷ []) 0) }
+{
+    let mut operands = Sequence::new(alloc);
+    operands.push(Handle::new(operand))?;
+    Ok(Expression::Unary {
+        operands,
+        detail: 0,
+    })
+}
+
 /// The expressions that all benches have.
 fn shared_expressions(alloc: Global) -> Result<Arena<Expression>, AllocError>
     ensures { IfOk result (λ expressions. expressions ≡ shared_expressions) }
@@ -67,15 +79,7 @@ fn shared_expressions(alloc: Global) -> Result<Arena<Expression>, AllocError>
     expressions.append(literal(Scalar::BOOL, 1), Span::UNDEFINED)?;
     expressions.append(literal(Scalar::U32, 0), Span::UNDEFINED)?;
     expressions.append(literal(Scalar::I32, 0), Span::UNDEFINED)?;
-    let mut operands = Sequence::new(alloc);
-    operands.push(Handle::new(0))?;
-    expressions.append(
-        Expression::Unary {
-            operands,
-            detail: 0,
-        },
-        Span::UNDEFINED,
-    )?;
+    expressions.append(unary(alloc, 0)?, Span::UNDEFINED)?;
     expressions.append(Expression::LocalVariable(Handle::new(0)), Span::UNDEFINED)?;
     expressions.append(
         Expression::Load {
@@ -95,6 +99,10 @@ fn bench_expressions(alloc: Global, bench: Bench) -> Result<Arena<Expression>, A
         Bench::P => Ok(expressions),
         Bench::C => {
             expressions.append(Expression::CallResult(Handle::new(0)), Span::UNDEFINED)?;
+            Ok(expressions)
+        }
+        Bench::D => {
+            expressions.append(unary(alloc, 5)?, Span::UNDEFINED)?;
             Ok(expressions)
         }
     }
@@ -145,7 +153,7 @@ fn bench_functions(alloc: Global, bench: Bench, body: Block) -> Result<Arena<Fun
 {
     let mut functions = Arena::new(alloc);
     match bench {
-        Bench::P => {
+        Bench::P | Bench::D => {
             functions.append(bench_function(alloc, bench, body)?, Span::UNDEFINED)?;
             Ok(functions)
         }

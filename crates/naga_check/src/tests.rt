@@ -6,7 +6,7 @@ use std::io;
 use std::io::Read;
 use std::test::Fail;
 
-const ACCEPTED: [(&str, &str); 31] = [
+const ACCEPTED: [(&str, &str); 30] = [
     ("P :", "ok 1ff\n"),
     (
         "P : loop { switch u { default { continue } } } { }",
@@ -17,10 +17,6 @@ const ACCEPTED: [(&str, &str); 31] = [
         "ok 1ff\n",
     ),
     ("P : if t { emit e1 } { emit e1 } emit e1", "ok 1ff\n"),
-    (
-        "P : loop { if t { continue } { } emit e1 } { } break_if e1",
-        "ok 1ff\n",
-    ),
     ("P : loop { break emit e1 if e1 { } { } } { }", "ok 1ff\n"),
     ("P : kill", "ok 002\n"),
     ("P : return", "ok 1ff\n"),
@@ -176,7 +172,124 @@ const FAULTS_OF_CALLS_AND_STORES: [(&str, &str); 16] = [
     ),
 ];
 
-const UNREADABLE: [&str; 21] = [
+const ROWS_OF_OPERANDS: [(&str, u8, &str); 8] = [
+    ("D : emit e2", 1, "fault Expression/NotInScope 5\n"),
+    ("D : emit x1 .. e2", 0, "ok 1ff\n"),
+    (
+        "D : block { emit x1 } emit e2",
+        1,
+        "fault Expression/NotInScope 5\n",
+    ),
+    ("D : emit x1 block { emit e2 } emit e2", 0, "ok 1ff\n"),
+    (
+        "D : emit x1 emit e2 emit e2",
+        1,
+        "fault ExpressionAlreadyInScope 6\n",
+    ),
+    (
+        "D : loop { if t { continue } { } emit x1 } { emit e2 }",
+        1,
+        "fault Expression/NotInScope 5\n",
+    ),
+    ("D :", 0, "ok 1ff\n"),
+    ("D -blocks : emit e2", 0, "ok 1ff\n"),
+];
+
+/// What a Continue may have skipped is in scope, so that nothing puts it, and may not be used.
+const ROWS_OF_SKIPPED: [(&str, u8, &str); 18] = [
+    (
+        "P : loop { if t { continue } { } emit e1 } { } break_if e1",
+        1,
+        "fault Expression/NotInScope 3\n",
+    ),
+    (
+        "P : loop { emit e1 if t { continue } { } } { } break_if e1",
+        0,
+        "ok 1ff\n",
+    ),
+    (
+        "P : loop { if t { continue } { } emit e1 if e1 { } { } } { }",
+        0,
+        "ok 1ff\n",
+    ),
+    (
+        "P : loop { if t { continue } { } emit e1 } { emit e1 }",
+        1,
+        "fault ExpressionAlreadyInScope 3\n",
+    ),
+    (
+        "P : loop { loop { continue } { } emit e1 } { } break_if e1",
+        0,
+        "ok 1ff\n",
+    ),
+    (
+        "P : loop { switch u { default { continue } } emit e1 } { } break_if e1",
+        1,
+        "fault Expression/NotInScope 3\n",
+    ),
+    (
+        "P : loop { break continue emit e1 } { } break_if e1",
+        1,
+        "fault Expression/NotInScope 3\n",
+    ),
+    (
+        "P : loop { if t { continue } { } emit e1 } { loop { if e1 { } { } } { } }",
+        1,
+        "fault Expression/NotInScope 3\n",
+    ),
+    (
+        "P : loop { if t { block { continue } } { } emit e1 } { } break_if e1",
+        1,
+        "fault Expression/NotInScope 3\n",
+    ),
+    (
+        "P : loop { loop { } { switch u { default { continue } } } emit e1 } { } break_if e1",
+        1,
+        "fault ContinueOutsideOfLoop\n",
+    ),
+    (
+        "P : loop { if t { return continue } { } emit e1 } { } break_if e1",
+        1,
+        "fault Expression/NotInScope 3\n",
+    ),
+    (
+        "P : loop { if t { continue } { } if t { continue } { } emit e1 } { } break_if e1",
+        1,
+        "fault Expression/NotInScope 3\n",
+    ),
+    (
+        "P : loop { emit e1 if t { continue } { } emit x1 } { if e1 { } { } switch x1 { default { } } }",
+        1,
+        "fault Expression/NotInScope 5\n",
+    ),
+    (
+        "P : loop { emit e1 if t { continue } { } emit x1 } { if e1 { } { } } break_if e1",
+        0,
+        "ok 1ff\n",
+    ),
+    (
+        "P : loop { emit e1 if t { continue } { } emit e1 } { }",
+        1,
+        "fault ExpressionAlreadyInScope 3\n",
+    ),
+    (
+        "P : loop { if t { continue } { } emit e1 } { loop { emit e1 } { } }",
+        1,
+        "fault ExpressionAlreadyInScope 3\n",
+    ),
+    (
+        "P : loop { if t { continue } { } emit e1 block { if e1 { } { } } } { }",
+        0,
+        "ok 1ff\n",
+    ),
+    (
+        "P : loop { if t { continue } { } emit e1 } { } emit e1",
+        0,
+        "ok 1ff\n",
+    ),
+];
+
+const UNREADABLE: [&str; 25] = [
     "",
     "P : emit",
     "P : emit r1",
@@ -197,7 +310,11 @@ const UNREADABLE: [&str; 21] = [
     "C : call f -> f",
     "C : call e1",
     "C : f",
-    "D :",
+    "E :",
+    "P : emit e2",
+    "C : emit e2",
+    "D : emit r1",
+    "D : call f",
 ];
 
 /// Whether a run over a writer that takes no memory gives this status and line, and no more. None where it says that a
@@ -252,6 +369,28 @@ fn fault_rows_of_calls_and_stores(rt: HostRuntime) -> Result<(), Fail> {
     for (input, line) in FAULTS_OF_CALLS_AND_STORES {
         assert!(rt;
             gets(rt.alloc(), input.as_bytes(), 1, line)?,
+            "at {input:?}"
+        );
+    }
+    Ok(())
+}
+
+#[test]
+fn rows_of_operands(rt: HostRuntime) -> Result<(), Fail> {
+    for (input, status, line) in ROWS_OF_OPERANDS {
+        assert!(rt;
+            gets(rt.alloc(), input.as_bytes(), status, line)?,
+            "at {input:?}"
+        );
+    }
+    Ok(())
+}
+
+#[test]
+fn rows_of_skipped_emissions(rt: HostRuntime) -> Result<(), Fail> {
+    for (input, status, line) in ROWS_OF_SKIPPED {
+        assert!(rt;
+            gets(rt.alloc(), input.as_bytes(), status, line)?,
             "at {input:?}"
         );
     }

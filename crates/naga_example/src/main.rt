@@ -4,7 +4,7 @@
 
 ghost use Rattle.std.specs.Prelude.{ℕ, ◌≡◌, OnOk, Some, slice_get};
 ghost use Rattle.naga_below.specs.declared.ir.module.EntryPoint.{EntryPoint};
-ghost use Rattle.naga_valid.specs.{RunsAreSound, body_of, pre_emitted_of};
+ghost use Rattle.naga_valid.specs.{RunsAreSure, body_of, pre_emitted_of};
 
 use bitflags::Flags;
 use naga_below::{
@@ -193,10 +193,10 @@ fn given(alloc: Global) -> Result<Given, AllocError> {
 }
 
 /// Judges a module over these facts: its infos, or its first fault. All runs of the body of each entry point that is accepted
-/// are sound.
+/// are sure: what they use is live.
 #[tactic(auto, unfolding(bitflags::proofs::OnLiterals::bitflags_on_literals))]
 fn judge(alloc: Global, module: &Module) -> Result<ModuleInfo, ModuleFault>
-    ensures { OnOk result ((k : ℕ) (ep : EntryPoint) → slice_get «module».now.entry_points k ≡ Some ep → RunsAreSound (pre_emitted_of ep.function) (body_of ep.function)) }
+    ensures { OnOk result ((k : ℕ) (ep : EntryPoint) → slice_get «module».now.entry_points k ≡ Some ep → RunsAreSure (pre_emitted_of ep.function) (body_of ep.function)) }
 {
     let below = Recorded {
         facts: facts(alloc)?,

@@ -18,10 +18,10 @@ use Rattle.naga_valid.specs.Chains.{AreVetted, ChainsKeepTo}
 use Rattle.naga_valid.specs.interface.Judged.{HasPayloadSizes, entry_judgement}
 use Rattle.naga_valid.specs.interface.Uses.{only}
 use Rattle.naga_valid.specs.InOrder.{with_info}
-use Rattle.naga_valid.specs.Judged.{FunctionOutcome, function_judgement}
-use Rattle.naga_valid.specs.Parts.{no_traces}
-use Rattle.naga_valid.specs.WhatIsChecked.{checks_blocks}
-use Rattle.naga_valid.specs.declared.trace.TraceState.{TraceState}
+use Rattle.naga_checks.specs.Judged.{FunctionOutcome, function_judgement}
+use Rattle.naga_checks.specs.Parts.{no_traces}
+use Rattle.naga_checks.specs.WhatIsChecked.{checks_blocks}
+use Rattle.naga_checks.specs.declared.trace.TraceState.{TraceState}
 use Rattle.naga_module.specs.ModuleJudgement.{Answer, Tested, Step, with_entry, first_infos, IsOfFunction, IsOfEntryPoint, EntriesAnswer, BehindFunctions, FunctionsAnswer, Fits, globals_step}
 use Rattle.naga_module.specs.ModuleLaw.{IsSoundFunction, infos_before, AcceptedModuleHolds}
 use Rattle.naga_module.specs.declared.check.ModuleFault.{ModuleFault}

@@ -7,7 +7,7 @@ use Rattle.naga_below.proofs.Rows.{body_of-list}
 use Rattle.naga_below.specs.Bits.{ALL_STAGES}
 use Rattle.naga_below.specs.Points.{and_then, answer, first_fault}
 use Rattle.naga_below.specs.Tree.{Body}
-use Rattle.naga_below.specs.View.{list_body, no_operands}
+use Rattle.naga_below.specs.View.{list_body}
 use Rattle.naga_below.specs.declared.ir.functions.Function.{Function}
 use Rattle.naga_below.specs.declared.ir.statements.Block.{out-roll-Block}
 use Rattle.naga_below.specs.declared.ir.statements.Statement.{Statement}
@@ -15,26 +15,26 @@ use Rattle.naga_below.specs.declared.ir.statements.Statement as ir
 use Rattle.naga_below.specs.declared.valid.info.FunctionInfo.{FunctionInfo}
 use Rattle.naga_rules.specs.declared.function.FunctionError.{FunctionError}
 use Rattle.naga_runs.specs.Judgement.{judgement, state_after}
-use Rattle.naga_valid.specs.Blocks.{body_of}
+use Rattle.naga_checks.specs.Blocks.{body_of, emitted_operands}
 use Rattle.naga_valid.specs.Chains.{Calls, Through, CallsBelow, infos_below, IsVettedInfo}
-use Rattle.naga_valid.specs.Context.{Context, pre_emitted}
-use Rattle.naga_valid.specs.Expressions.{stages_from}
+use Rattle.naga_checks.specs.Context.{Context, pre_emitted}
+use Rattle.naga_checks.specs.Expressions.{stages_from}
 use Rattle.naga_valid.specs.InOrder.{called_by}
-use Rattle.naga_valid.specs.Judged.{FunctionOutcome, body_judgement, context_with, function_judgement, unfilled_points, outcome_left}
-use Rattle.naga_valid.specs.Parts.{no_traces}
-use Rattle.naga_valid.specs.Rules.{body_rules}
+use Rattle.naga_checks.specs.Judged.{FunctionOutcome, body_judgement, context_with, function_judgement, unfilled_points, outcome_left}
+use Rattle.naga_checks.specs.Parts.{no_traces}
+use Rattle.naga_checks.specs.Rules.{body_rules}
 use Rattle.naga_module.specs.Plain.Meaning.{plain_meaning, plain_layer}
 use Rattle.naga_module.specs.Plain.Types.{types_from}
 use Rattle.naga_module.specs.Plain.Uses.{with_all_named}
 use Rattle.naga_module.specs.WorkedChain.{one, function_of, chain_module, chain_infos, chain_settings, of_fragments, placed, ChainRows}
 
 abbrev tree : Statement → Body
-tree x = list_body no_operands (placed x ∷ [])
+tree x = list_body (emitted_operands (function_of x)) (placed x ∷ [])
 
 tree_is : (x : Statement) → body_of (function_of x) ≡ tree x
 tree_is x =
-    body_of-list no_operands (one x)
-    ∙ ap (λ block. list_body no_operands block.list) (out-roll-Block (record { list = placed x ∷ [] }))
+    body_of-list (emitted_operands (function_of x)) (one x)
+    ∙ ap (λ block. list_body (emitted_operands (function_of x)) block.list) (out-roll-Block (record { list = placed x ∷ [] }))
 
 -- what function k is judged with, where it is this statement
 abbrev at : ℕ → Statement → Context

@@ -10,19 +10,19 @@ use Rattle.naga_below.specs.declared.valid.info.ModuleInfo.{ModuleInfo}
 use Rattle.naga_below.specs.declared.valid.settings.Settings.{Settings}
 use Rattle.naga_below.specs.declared.valid.types.TypeInfo.{TypeInfo}
 use Rattle.naga_rules.specs.Meaning.{Meaning}
-use Rattle.naga_runs.specs.Soundness.{RunsAreSound}
-use Rattle.naga_valid.specs.Blocks.{body_of}
+use Rattle.naga_runs.specs.Soundness.{RunsAreSure}
+use Rattle.naga_checks.specs.Blocks.{body_of}
 use Rattle.naga_valid.specs.Chains.{ChainsKeepTo}
-use Rattle.naga_valid.specs.Context.{pre_emitted_of}
+use Rattle.naga_checks.specs.Context.{pre_emitted_of}
 use Rattle.naga_valid.specs.interface.Uses.{only}
-use Rattle.naga_valid.specs.WhatIsChecked.{checks_blocks}
+use Rattle.naga_checks.specs.WhatIsChecked.{checks_blocks}
 use Rattle.naga_module.specs.ModuleJudgement.{Fits, IsJudgement, IsAnswered}
 use Rattle.naga_module.specs.declared.check.ModuleFault.{ModuleFault}
 use Rattle.naga_module.specs.declared.check.ModuleFault.TheVariants as fault
 
 -- all runs of a function's body are sound
 abbrev pub IsSoundFunction : Function → Type 0
-IsSoundFunction f = RunsAreSound (pre_emitted_of f) (body_of f)
+IsSoundFunction f = RunsAreSure (pre_emitted_of f) (body_of f)
 
 -- the infos of a module as they were before entry point k was judged
 abbrev pub infos_before : ℕ → ModuleInfo → ModuleInfo

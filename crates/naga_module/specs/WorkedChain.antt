@@ -10,7 +10,7 @@ use Rattle.naga_below.specs.declared.ir.statements.Statement as ir
 use Rattle.naga_below.specs.declared.valid.info.FunctionInfo.{FunctionInfo}
 use Rattle.naga_below.specs.declared.valid.info.ModuleInfo.{ModuleInfo}
 use Rattle.naga_below.specs.declared.valid.settings.Settings.{Settings}
-use Rattle.naga_valid.specs.Blocks.{body_of}
+use Rattle.naga_checks.specs.Blocks.{body_of}
 use Rattle.naga_valid.specs.Chains.{Reaches, AreVetted}
 use Rattle.naga_module.specs.Plain.Meaning.{plain_meaning, plain_layer}
 

@@ -4,9 +4,9 @@ ghost use Rattle.std.specs.Prelude.{◌≡◌, ◌↔◌, ◌⊎◌, [], Ok, Err
 ghost use Rattle.naga_module.specs.ModuleJudgement.{Fits, BehindTests, first_infos, IsAnswered};
 ghost use Rattle.naga_module.specs.ModuleLaw.{ModuleHolds};
 ghost use Rattle.naga_module.specs.declared.check.ModuleFault.TheVariants as fault;
-ghost use Rattle.naga_valid.specs.Parts.{AreInfosOf, no_traces};
+ghost use Rattle.naga_checks.specs.Parts.{AreInfosOf, no_traces};
 ghost use Rattle.naga_below.specs.Fits.{FitsTypes, FitsGlobals};
-ghost use Rattle.naga_valid.specs.WhatIsChecked.{checks_blocks};
+ghost use Rattle.naga_checks.specs.WhatIsChecked.{checks_blocks};
 
 mod entries;
 mod functions;

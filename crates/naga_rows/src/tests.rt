@@ -3,9 +3,9 @@
 mod atomics;
 mod bodies;
 mod declarations;
-mod entry;
 mod entry_errors;
 mod globals;
+mod operands;
 mod picky;
 mod places;
 mod plain;
@@ -13,6 +13,7 @@ mod rays;
 mod recorded;
 mod report;
 mod settings;
+mod skipped;
 mod steps;
 mod stores;
 mod subgroups;

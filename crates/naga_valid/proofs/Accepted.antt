@@ -23,21 +23,21 @@ use Rattle.naga_runs.specs.Positions.{Node, NoNode, StatementNode, BreakIfNode, 
 use Rattle.naga_runs.specs.VisitOrder.{positions}
 use Rattle.naga_runs.specs.Visits.{Visit, Place, visit_at, visits_of}
 use Rattle.naga_valid.specs.Accepted.{nodes_of, callee_filling, callees_filling, atomic_filling, atomics_filling, ResultsAreFilledOnce, AreAmong, AreOfStatement, AreOfCallee, StagesAreOfAll, AreOfStartAndAll}
-use Rattle.naga_valid.specs.checks.Atomic.{is_atomic_result}
-use Rattle.naga_valid.specs.Blocks.{body_of}
-use Rattle.naga_valid.specs.checks.Call.{is_call_result_of, has_result}
-use Rattle.naga_valid.specs.Context.{Context, pre_emitted}
-use Rattle.naga_valid.specs.WhatIsChecked.{checks_blocks, checks_expressions}
-use Rattle.naga_valid.specs.Judged.{FunctionOutcome, body_judgement, judged_with, outcome_left}
-use Rattle.naga_valid.specs.Past.{Past, past_of}
-use Rattle.naga_valid.specs.checks.Results.{is_to_fill, result_of, fills, filled_before, is_unfilled, filled_points_from, filled_points}
-use Rattle.naga_valid.specs.Rules.{points_at, stages_of, stages_behind, stages_left}
-use Rattle.naga_valid.specs.Stages.{meet}
-use Rattle.naga_valid.specs.walk.State.{State, seen, kept_rules, begin_state, state_behind, state_left}
-use Rattle.naga_valid.specs.Types.{expression_at}
-use Rattle.naga_valid.proofs.Atomics.{NamedHolds, atomic_named}
-use Rattle.naga_valid.proofs.Calls.{call_holds}
-use Rattle.naga_valid.proofs.Fillings.{or_false, with_is, unfilled}
+use Rattle.naga_checks.specs.checks.Atomic.{is_atomic_result}
+use Rattle.naga_checks.specs.Blocks.{body_of}
+use Rattle.naga_checks.specs.checks.Call.{is_call_result_of, has_result}
+use Rattle.naga_checks.specs.Context.{Context, pre_emitted}
+use Rattle.naga_checks.specs.WhatIsChecked.{checks_blocks, checks_expressions}
+use Rattle.naga_checks.specs.Judged.{FunctionOutcome, body_judgement, judged_with, outcome_left}
+use Rattle.naga_checks.specs.Past.{Past, past_of}
+use Rattle.naga_checks.specs.checks.Results.{is_to_fill, result_of, fills, filled_before, is_unfilled, filled_points_from, filled_points}
+use Rattle.naga_checks.specs.Rules.{points_at, stages_of, stages_behind, stages_left}
+use Rattle.naga_checks.specs.Stages.{meet}
+use Rattle.naga_checks.specs.walk.State.{State, seen, kept_rules, begin_state, state_behind, state_left}
+use Rattle.naga_checks.specs.Types.{expression_at}
+use Rattle.naga_checks.proofs.Atomics.{NamedHolds, atomic_named}
+use Rattle.naga_checks.proofs.Calls.{call_holds}
+use Rattle.naga_checks.proofs.Fillings.{or_false, with_is, unfilled}
 use Rattle.naga_valid.proofs.Judged.{kept}
 
 -- stages

@@ -30,20 +30,20 @@ use Rattle.naga_runs.specs.Positions.{Node, NoNode, StatementNode, BreakIfNode}
 use Rattle.naga_runs.specs.VisitOrder.{positions}
 use Rattle.naga_runs.specs.Visits.{Place, Visit, at_begin}
 use Rattle.naga_valid.specs.Accepted.{nodes_of, AreAmong, AreOfStatement}
-use Rattle.naga_valid.specs.Blocks.{body_of, emitted_operands}
+use Rattle.naga_checks.specs.Blocks.{body_of, emitted_operands}
 use Rattle.naga_valid.specs.Chains.{Reaches, Calls, Through, CallsBelow, infos_below, IsVettedInfo, AreVetted, masks_of, KeepsTo, ChainsAreKept, NoneIsVetted, OneMoreIsVetted, CallsOfFittingAreBelow}
-use Rattle.naga_valid.specs.Context.{Context}
-use Rattle.naga_valid.specs.Expressions.{mask_at, mask_and, masks_from}
+use Rattle.naga_checks.specs.Context.{Context}
+use Rattle.naga_checks.specs.Expressions.{mask_at, mask_and, masks_from}
 use Rattle.naga_valid.specs.InOrder.{callee_of, callees_of, called_by, with_info}
-use Rattle.naga_valid.specs.Judged.{FunctionOutcome, context_with, function_judgement}
-use Rattle.naga_valid.specs.Parts.{no_traces}
-use Rattle.naga_valid.specs.Rules.{recorded_stages, callee_stages, leaf_stages, stages_of}
-use Rattle.naga_valid.specs.Stages.{meet}
-use Rattle.naga_valid.specs.WhatIsChecked.{checks_blocks, checks_expressions}
-use Rattle.naga_valid.specs.declared.trace.TraceState.{TraceState}
+use Rattle.naga_checks.specs.Judged.{FunctionOutcome, context_with, function_judgement}
+use Rattle.naga_checks.specs.Parts.{no_traces}
+use Rattle.naga_checks.specs.Rules.{recorded_stages, callee_stages, leaf_stages, stages_of}
+use Rattle.naga_checks.specs.Stages.{meet}
+use Rattle.naga_checks.specs.WhatIsChecked.{checks_blocks, checks_expressions}
+use Rattle.naga_checks.specs.declared.trace.TraceState.{TraceState}
 use Rattle.naga_valid.proofs.Accepted.{among_all, nodes_are}
 use Rattle.naga_valid.proofs.FunctionLaw.{is_of_all_stages, stages_are_met}
-use Rattle.naga_valid.proofs.Lists.{in_first, in_second, of_each, taken, present}
+use Rattle.naga_checks.proofs.Lists.{in_first, in_second, of_each, taken, present}
 
 -- masks of statements: those with the infos below k are those with all infos, where what is called is below k
 module _ (subgroups : ShaderStages) (infos : ModuleInfo) (k : ℕ) where

@@ -7,8 +7,8 @@ use Rattle.naga_below.specs.Points.{first_fault, points_from}
 use Rattle.naga_below.specs.declared.span.Refusal.{Refusal}
 use Rattle.naga_below.specs.declared.span.Refusal.TheVariants as refusal
 use Rattle.naga_rules.specs.declared.function.FunctionError.{FunctionError}
-use Rattle.naga_valid.specs.walk.Answers.{AnswersPoints}
-use Rattle.naga_valid.specs.Points.{Points}
+use Rattle.naga_checks.specs.walk.Answers.{AnswersPoints}
+use Rattle.naga_checks.specs.Points.{Points}
 
 module _ {A : Type 0} (points : ℕ → A → Points) (xs : List A) (i : ℕ) where
   -- the fault of this item is that of all, where those before it have none

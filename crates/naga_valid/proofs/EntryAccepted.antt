@@ -21,8 +21,8 @@ use Rattle.naga_valid.specs.interface.Judged.{entry_judgement, of_function, inte
 use Rattle.naga_valid.specs.interface.Start.{start_points}
 use Rattle.naga_valid.specs.interface.Uses.{with_use_of, output_variable_of, with_own_uses, with_uses_at}
 use Rattle.naga_valid.specs.interface.Varyings.{are_blend_sources}
-use Rattle.naga_valid.specs.Judged.{FunctionOutcome, function_judgement}
-use Rattle.naga_valid.specs.declared.trace.TraceState.{TraceState}
+use Rattle.naga_checks.specs.Judged.{FunctionOutcome, function_judgement}
+use Rattle.naga_checks.specs.declared.trace.TraceState.{TraceState}
 
 module _ (below : Meaning) (settings : Settings) (infos : List TypeInfo) (trace : TraceState) (program : Module) (earlier : ModuleInfo) (ep : EntryPoint) (outcome : FunctionOutcome) where
   -- its function is accepted, and no point behind it fails

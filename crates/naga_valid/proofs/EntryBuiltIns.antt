@@ -35,7 +35,7 @@ use Rattle.naga_valid.specs.interface.Varyings.{argument_item, argument_points, 
 use Rattle.naga_valid.proofs.EntryAccepted.{accepted_entry}
 use Rattle.naga_valid.proofs.EntryGroups.{any_at, all_at, all_both, group_none, part_none}
 use Rattle.naga_valid.proofs.EntryFacts.{none_within, arguments_hold}
-use Rattle.naga_valid.proofs.Flat.{holds_at}
+use Rattle.naga_checks.proofs.Flat.{holds_at}
 
 -- there is a type where a part is bound
 abbrev HasType : List IrType → Part → Type 0

@@ -40,7 +40,7 @@ use Rattle.naga_valid.specs.interface.Mesh.{mesh_points}
 use Rattle.naga_valid.specs.interface.Uses.{payload_points, stage_points, with_own_uses}
 use Rattle.naga_valid.specs.interface.Facts.{IsUsedAt, BindingsAreDistinct, IsPosition, HasPositionMember, ReturnsPosition, AcceptedBindingsAreDistinct, AcceptedVertexHasPosition, AcceptedHasAcceptedFunction}
 use Rattle.naga_valid.specs.interface.Varyings.{are_blend_sources, argument_points, declared_points, has_built_in, result_parts, result_points, returned_points}
-use Rattle.naga_valid.specs.Judged.{FunctionOutcome}
+use Rattle.naga_checks.specs.Judged.{FunctionOutcome}
 use Rattle.naga_valid.specs.declared.interface.EntryPointError.TheVariants.{MissingVertexOutputPosition}
 use Rattle.naga_valid.proofs.EntryAccepted.{accepted_entry, stages_are}
 use Rattle.naga_valid.proofs.EntryGlobals.{points_are}

@@ -8,9 +8,9 @@ use Rattle.naga_below.specs.declared.valid.info.FunctionInfo.{FunctionInfo}
 use Rattle.naga_rules.specs.Answers.{Answers, Refuses}
 use Rattle.naga_rules.specs.Meaning.{Meaning}
 use Rattle.naga_rules.specs.declared.function.FunctionError.{FunctionError}
-use Rattle.naga_valid.specs.Context.{Context}
-use Rattle.naga_valid.specs.Expressions.{with_stages, of_expression, mask_at, stages_from}
-use Rattle.naga_valid.specs.Stages.{meet}
+use Rattle.naga_checks.specs.Context.{Context}
+use Rattle.naga_checks.specs.Expressions.{with_stages, of_expression, mask_at, stages_from}
+use Rattle.naga_checks.specs.Stages.{meet}
 
 module _ (below : Meaning) (context : Context) (n h : ℕ) (stages : ShaderStages) (whole : Result ShaderStages FunctionError) where
   one_more : h < n → stages_from below context stages h (n - h) ≡ and_then (mask_at below context stages h) (λ mask. stages_from below context (meet stages mask) (h + 1) (n - (h + 1)))

@@ -14,19 +14,19 @@ use Rattle.naga_rules.specs.Meaning.{Meaning}
 use Rattle.naga_rules.specs.declared.function.FunctionError.{FunctionError}
 use Rattle.naga_runs.specs.Judgement.{viewed}
 use Rattle.naga_valid.specs.Accepted.{nodes_of, AreAmong, AreOfStatement}
-use Rattle.naga_valid.specs.Blocks.{body_of}
-use Rattle.naga_valid.specs.Context.{Context}
-use Rattle.naga_valid.specs.Declarations.{declaration_points}
-use Rattle.naga_valid.specs.Expressions.{with_stages, mask_at, mask_and, stages_from, masks_from, expressions_step, expression_masks}
-use Rattle.naga_valid.specs.WhatIsChecked.{checks_blocks, checks_expressions}
+use Rattle.naga_checks.specs.Blocks.{body_of}
+use Rattle.naga_checks.specs.Context.{Context}
+use Rattle.naga_checks.specs.Declarations.{declaration_points}
+use Rattle.naga_checks.specs.Expressions.{with_stages, mask_at, mask_and, stages_from, masks_from, expressions_step, expression_masks}
+use Rattle.naga_checks.specs.WhatIsChecked.{checks_blocks, checks_expressions}
 use Rattle.naga_valid.specs.FunctionLaw.{AcceptedIsSound, AcceptedFillsOnce, AcceptedIsOfAllStages, AcceptedHasNoReturnInContinuing, AcceptedHasWholeSwitches, AcceptedKeepsInfo, AcceptedStagesAreMet}
-use Rattle.naga_valid.specs.Judged.{FunctionOutcome, context_with, judged_with, declarations_step, expressions_known, lower_step, function_judgement}
+use Rattle.naga_checks.specs.Judged.{FunctionOutcome, context_with, judged_with, declarations_step, expressions_known, lower_step, function_judgement}
 use Rattle.naga_valid.specs.Shapes.{HasWholeSwitches}
-use Rattle.naga_valid.specs.Stages.{meet}
-use Rattle.naga_valid.specs.walk.State.{state_left}
-use Rattle.naga_valid.specs.declared.trace.TraceState.{TraceState}
+use Rattle.naga_checks.specs.Stages.{meet}
+use Rattle.naga_checks.specs.walk.State.{state_left}
+use Rattle.naga_checks.specs.declared.trace.TraceState.{TraceState}
 use Rattle.naga_valid.proofs.Accepted.{IsAccepted, accepted, accepted_fills_once, accepted_stages_of_all, accepted_stages_are_met, among_all, among_meet, meet_among_first, meet_among_second}
-use Rattle.naga_valid.proofs.Guarded.{accepted_is_sound}
+use Rattle.naga_valid.proofs.Guarded.{accepted_is_sure}
 use Rattle.naga_valid.proofs.Shapes.{no_return_in_continuing, whole_switches}
 
 -- what expressions leave
@@ -106,7 +106,7 @@ pub is_sound : AcceptedIsSound
 is_sound below settings infos trace program earlier fun entry_point outcome e on =
     let k = known below settings infos trace program earlier fun entry_point outcome e on in
     let context = context_with below settings infos trace program earlier fun entry_point (with_stages k.info k.stages) in
-    accepted_is_sound context (state_left context k.of.visits) (ap (viewed (state_left context)) k.of.judged)
+    accepted_is_sure context (state_left context k.of.visits) (ap (viewed (state_left context)) k.of.judged)
 
 pub fills_once : AcceptedFillsOnce
 fills_once below settings infos trace program earlier fun entry_point outcome e on =

@@ -17,17 +17,17 @@ use Rattle.naga_rules.specs.Meaning.{Meaning}
 use Rattle.naga_rules.specs.declared.function.FunctionError.{FunctionError}
 use Rattle.naga_runs.specs.Judgement.{viewed}
 use Rattle.naga_runs.specs.Visits.{Visit}
-use Rattle.naga_valid.specs.Context.{Context, ContextFits}
-use Rattle.naga_valid.specs.walk.Answers.{IsFirstFault}
-use Rattle.naga_valid.specs.Declarations.{declaration_points}
-use Rattle.naga_valid.specs.Expressions.{with_stages, stages_from, expressions_step}
-use Rattle.naga_valid.specs.WhatIsChecked.{checks_blocks, checks_expressions}
-use Rattle.naga_valid.specs.Judged.{FunctionOutcome, body_judgement, outcome_left, judged_with, declarations_step, expressions_known, context_with, lower_step, function_judgement}
-use Rattle.naga_valid.specs.checks.Results.{filled_before, filled_points}
-use Rattle.naga_valid.specs.walk.Seen.{asked_context, known_behind}
-use Rattle.naga_valid.specs.walk.State.{body_outcome, body_left}
-use Rattle.naga_valid.specs.declared.state.BodyOutcome.{BodyOutcome}
-use Rattle.naga_valid.specs.declared.trace.TraceState.{TraceState}
+use Rattle.naga_checks.specs.Context.{Context, ContextFits}
+use Rattle.naga_checks.specs.walk.Answers.{IsFirstFault}
+use Rattle.naga_checks.specs.Declarations.{declaration_points}
+use Rattle.naga_checks.specs.Expressions.{with_stages, stages_from, expressions_step}
+use Rattle.naga_checks.specs.WhatIsChecked.{checks_blocks, checks_expressions}
+use Rattle.naga_checks.specs.Judged.{FunctionOutcome, body_judgement, outcome_left, judged_with, declarations_step, expressions_known, context_with, lower_step, function_judgement}
+use Rattle.naga_checks.specs.checks.Results.{filled_before, filled_points}
+use Rattle.naga_checks.specs.walk.Seen.{asked_context, known_behind}
+use Rattle.naga_checks.specs.walk.State.{body_outcome, body_left}
+use Rattle.naga_checks.specs.declared.state.BodyOutcome.{BodyOutcome}
+use Rattle.naga_checks.specs.declared.trace.TraceState.{TraceState}
 use Rattle.naga_valid.proofs.Accepted.{with_blocks}
 use Rattle.naga_valid.proofs.Traces.{no_trace}
 

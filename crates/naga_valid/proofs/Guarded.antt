@@ -1,74 +1,93 @@
 -- Where no point of a visit fails, its uses are in scope, its puts are not, and its jump is allowed; so the runs of
 -- an accepted body are sound.
-use Rattle.std.proofs.Common.{◌≡◌, ℕ, zero, suc, ◌≤◌, ◌==◌, ◌-◌, true, false, [], ◌∷◌, ◌++◌, None, Some, Ok, subst, refl, sym, ap, ◌∙◌, arith}
-use Rattle.std.specs.Prelude.{IfSome, not, is_none, if◌then◌else◌}
+use Rattle.std.proofs.Common.{◌≡◌, ℕ, zero, suc, ◌≤◌, ◌==◌, ◌&&◌, ◌||◌, nat_le, nat_lt, ◌-◌, true, false, List, [], ◌∷◌, ◌++◌, None, Some, Ok, subst, refl, sym, ap, ◌∙◌, arith}
+use Rattle.std.specs.Prelude.{IfSome, not, is_none, map, if◌then◌else◌}
 use Rattle.std.proofs.lemmas.Bool.Decides.{nat_tests}
-use Rattle.naga_below.specs.Tree.{Stmt, Leaf, Block, Branch, Switch, Loop, Break, Continue, Return, Kill}
-use Rattle.naga_below.specs.View.{emitted, no_operands}
+use Rattle.naga_below.specs.Tree.{Act, Use, Put, Stmt, Leaf, Block, Branch, Switch, Loop, Break, Continue, Return, Kill}
+use Rattle.naga_below.specs.View.{emitted}
 use Rattle.naga_below.specs.declared.ir.operations.RayPipelineFunction.TheVariants.{TraceRay}
 use Rattle.naga_below.specs.declared.ir.statements.Statement as ir
 use Rattle.naga_below.specs.declared.valid.expression_error.ExpressionError.TheVariants.{NotInScope}
 use Rattle.naga_rules.specs.declared.function.FunctionError.{FunctionError}
 use Rattle.naga_rules.specs.declared.function.FunctionError.TheVariants.{EmitResult, Expression, ExpressionAlreadyInScope, InvalidIfType, InvalidSwitchType, BreakOutsideOfLoopOrSwitch, ContinueOutsideOfLoop, InvalidReturnSpot, InvalidReturnType}
-use Rattle.naga_runs.proofs.Judgements.{accepted_block_is_sound}
-use Rattle.naga_below.proofs.Points.{first_holds, not_holds}
-use Rattle.naga_runs.specs.Guards.{ReadGuards, IsRead}
+use Rattle.naga_runs.proofs.Judgements.{accepted_block_is_sure}
+use Rattle.naga_below.proofs.Points.{first_holds, both_hold, not_holds}
+use Rattle.naga_runs.specs.Guards.{SurelyReadGuards, IsRead}
 use Rattle.naga_runs.specs.Handles.{Handles, with_handle}
 use Rattle.naga_below.specs.Points.{Point, first_fault}
 use Rattle.naga_runs.specs.Judgement.{viewed}
 use Rattle.naga_runs.specs.Abilities.{node_jump}
 use Rattle.naga_runs.specs.Positions.{Node, NoNode, StatementNode, BreakIfNode}
 use Rattle.naga_runs.specs.PutsAndUses.{node_acts}
-use Rattle.naga_runs.specs.Soundness.{Fit, Allowed, RunsAreSound}
+use Rattle.naga_runs.specs.Soundness.{Fit, Allowed, RunsAreSure}
 use Rattle.naga_runs.specs.Visits.{Place}
-use Rattle.naga_valid.specs.Blocks.{body_of}
-use Rattle.naga_valid.specs.Context.{Context, pre_emitted}
-use Rattle.naga_valid.specs.walk.Switch.{cases_points}
-use Rattle.naga_valid.specs.checks.Control.{emit_points_from, is_bool_scalar, is_integer, value_points, values_of, declared_type, is_returned_as}
-use Rattle.naga_valid.specs.Judged.{body_judgement}
-use Rattle.naga_valid.specs.Points.{Points, use_point, put_point, may_use, is_in_scope}
-use Rattle.naga_valid.specs.Past.{Past}
-use Rattle.naga_valid.specs.checks.Results.{is_result, result_of}
-use Rattle.naga_valid.specs.Rules.{statement_points, points_at}
-use Rattle.naga_valid.specs.walk.State.{State, seen, kept_rules, begin_state, state_left}
-use Rattle.naga_valid.specs.Types.{expression_at, type_at, scalar_kind_at}
-use Rattle.naga_valid.proofs.Atomics.{atomic_named, atomic_fits}
-use Rattle.naga_valid.proofs.Calls.{call_holds, call_fits}
-use Rattle.naga_valid.proofs.Fillings.{unfilled}
-use Rattle.naga_valid.proofs.ImageAtomics.{image_atomic_fits}
-use Rattle.naga_valid.proofs.Images.{image_store_fits}
+use Rattle.naga_checks.specs.Blocks.{body_of, emitted_operands}
+use Rattle.naga_checks.specs.Context.{Context, pre_emitted}
+use Rattle.naga_checks.specs.walk.Switch.{cases_points}
+use Rattle.naga_checks.specs.checks.Control.{within_emit, emitted_points, emit_points_from, is_bool_scalar, is_integer, value_points, values_of, declared_type, is_returned_as}
+use Rattle.naga_checks.specs.Judged.{body_judgement}
+use Rattle.naga_checks.specs.Points.{Points, use_point, put_point, may_use, is_in_scope}
+use Rattle.naga_checks.specs.Past.{Past}
+use Rattle.naga_checks.specs.checks.Results.{is_result, result_of}
+use Rattle.naga_checks.specs.Rules.{statement_points, points_at}
+use Rattle.naga_checks.specs.walk.State.{State, seen, kept_rules, begin_state, state_left}
+use Rattle.naga_checks.specs.Types.{expression_at, type_at, scalar_kind_at}
+use Rattle.naga_checks.proofs.Atomics.{atomic_named, atomic_fits}
+use Rattle.naga_checks.proofs.Calls.{call_holds, call_fits}
+use Rattle.naga_checks.proofs.Emits.{or_false, within_more}
+use Rattle.naga_checks.proofs.Fillings.{unfilled}
+use Rattle.naga_checks.proofs.ImageAtomics.{image_atomic_fits}
+use Rattle.naga_checks.proofs.Images.{image_store_fits}
 use Rattle.naga_valid.proofs.Judged.{kept}
-use Rattle.naga_valid.proofs.Cooperative.{cooperative_fits}
-use Rattle.naga_valid.proofs.Loads.{load_fits}
-use Rattle.naga_valid.proofs.RayQueries.{ray_query_fits}
-use Rattle.naga_valid.proofs.RayTraces.{trace_ray_fits}
-use Rattle.naga_valid.proofs.Stores.{store_fits}
-use Rattle.naga_valid.proofs.Subgroups.{ballot_fits, collective_fits, gather_fits}
+use Rattle.naga_checks.proofs.Cooperative.{cooperative_fits}
+use Rattle.naga_checks.proofs.Loads.{load_fits}
+use Rattle.naga_checks.proofs.RayQueries.{ray_query_fits}
+use Rattle.naga_checks.proofs.RayTraces.{trace_ray_fits}
+use Rattle.naga_checks.proofs.Stores.{store_fits}
+use Rattle.naga_checks.proofs.Subgroups.{ballot_fits, collective_fits, gather_fits}
 
--- the handles of an Emit are new, each also beside those before it
-emit_fits : (context : Context) (place : Place) (n first : ℕ) (s t : Handles) → ((k : ℕ) → first ≤ k → t k ≡ is_in_scope place k) → first_fault (emit_points_from context place first n) ≡ None → Fit s t (emitted no_operands first n)
-emit_fits context place zero first s t same e = tt
-emit_fits context place (suc n) first s t same e =
-    let rest = emit_points_from context place (suc first) n in
-    let kind = first_holds (not (is_result (expression_at context first))) (EmitResult first) (put_point place first ∷ rest) e in
-    let new = first_holds (not (is_in_scope place first)) (ExpressionAlreadyInScope first) rest kind.1 in (
-      same first (omega arith) ∙ not_holds (is_in_scope place first) new.0,
-      emit_fits context place n (suc first) (with_handle s first) (with_handle t first) (λ k le. later (is_in_scope place) t first k le same) new.1,
-    )
+-- the operands of an expression may be used in front of it
+operands_fit : (place : Place) (hs : List ℕ) (rest : Points) (s t : Handles) (acts : List Act) → ((k : ℕ) → s k ≡ may_use place k) → first_fault (map (use_point place) hs ++ rest) ≡ None →
+    (first_fault rest ≡ None → Fit s t acts) → Fit s t (map Use hs ++ acts)
+operands_fit place [] rest s t acts same e next = next e
+operands_fit place (h ∷ hs) rest s t acts same e next =
+    let here = first_holds (may_use place h) (Expression h NotInScope) (map (use_point place) hs ++ rest) e in
+    (same h ∙ here.0, operands_fit place hs rest s t acts same here.1 next)
+
+-- of an Emit each handle is new, also beside those before it, which its operands may be
+emit_fits : (context : Context) (place : Place) (start n h : ℕ) (s t : Handles) → start ≤ h → ((k : ℕ) → s k ≡ may_use (within_emit place start h) k) → ((k : ℕ) → h ≤ k → t k ≡ is_in_scope place k) →
+    first_fault (emit_points_from context place start h n) ≡ None → Fit s t (emitted (emitted_operands context.fun) h n)
+emit_fits context place start zero h s t le inside same e = tt
+emit_fits context place start (suc n) h s t le inside same e =
+    let rest = emit_points_from context place start (suc h) n in
+    let operands = emitted_operands context.fun h in
+    let both = both_hold (emitted_points context (within_emit place start h) place h) rest e in
+    let kind = first_holds (not (is_result (expression_at context h))) (EmitResult h) (map (use_point (within_emit place start h)) operands ++ put_point place h ∷ []) both.0 in
+    operands_fit (within_emit place start h) operands (put_point place h ∷ []) s t (Put h ∷ emitted (emitted_operands context.fun) (suc h) n) inside kind.1 (λ last.
+    let new = first_holds (not (is_in_scope place h)) (ExpressionAlreadyInScope h) [] last in (
+      same h (omega arith) ∙ not_holds (is_in_scope place h) new.0,
+      emit_fits context place start n (suc h) (with_handle s h) (with_handle t h) (omega (arith, le)) (λ k. ap (λ b. if h == k then true else b) (inside k) ∙ within_more (may_use place k) start h k le) (λ k more. later (is_in_scope place) t h k more same) both.1,
+    ))
   where
-    later : (s t : Handles) (first k : ℕ) → suc first ≤ k → ((j : ℕ) → first ≤ j → t j ≡ s j) → with_handle t first k ≡ s k
-    later s t first k le same =
-        let other : (first == k) ≡ false = grind (arith, nat_tests) in
+    later : (s t : Handles) (h k : ℕ) → suc h ≤ k → ((j : ℕ) → h ≤ j → t j ≡ s j) → with_handle t h k ≡ s k
+    later s t h k more same =
+        let other : (h == k) ≡ false = grind (arith, nat_tests) in
         ap (λ b. if b then true else t k) other ∙ same k (omega arith)
+
+-- in front of the first handle of a range nothing is added
+before_first : (place : Place) (start k : ℕ) → may_use place k ≡ may_use (within_emit place start start) k
+before_first place start k =
+    let none : (nat_le start k && nat_lt k start) ≡ false = grind (arith, nat_tests) in
+    sym (ap (λ b. may_use place k || b) none ∙ or_false (may_use place k))
 
 use_fits : (place : Place) (h : ℕ) (ps : Points) → first_fault (use_point place h ∷ ps) ≡ None → (may_use place h ≡ true)
 use_fits place h ps e = (first_holds (may_use place h) (Expression h NotInScope) ps e).0
 
-node_fits : (context : Context) (past : Past) (place : Place) (node : Node) → IsRead no_operands node → first_fault (points_at context past place node) ≡ None → Fit (may_use place) (is_in_scope place) (node_acts node) × Allowed (node_jump node) place.abilities.can_return place.abilities.can_break place.abilities.can_continue
+node_fits : (context : Context) (past : Past) (place : Place) (node : Node) → IsRead (emitted_operands context.fun) node → first_fault (points_at context past place node) ≡ None → Fit (may_use place) (is_in_scope place) (node_acts node) × Allowed (node_jump node) place.abilities.can_return place.abilities.can_break place.abilities.can_continue
 node_fits context past place NoNode made e = (tt, tt)
 node_fits context past place (BreakIfNode h) made e = ((use_fits place h ((is_bool_scalar (type_at context h), InvalidIfType h) ∷ []) e, tt), tt)
 node_fits context past place (StatementNode (Leaf acts (ir.Emit r) span)) made e =
-    (subst (Fit (may_use place) (is_in_scope place)) (sym made) (emit_fits context place (r.end - r.start) r.start (may_use place) (is_in_scope place) (λ k le. refl) e), tt)
+    (subst (Fit (may_use place) (is_in_scope place)) (sym made) (emit_fits context place r.start (r.end - r.start) r.start (may_use place) (is_in_scope place) (omega arith) (before_first place r.start) (λ k le. refl) e), tt)
 node_fits context past place (StatementNode (Leaf acts (ir.Call f xs r) span)) made e =
     (subst (Fit (may_use place) (is_in_scope place)) (sym made) (call_fits context past.filled place f xs r e), tt)
 node_fits context past place (StatementNode (Leaf acts (ir.Atomic p f v r) span)) made e =
@@ -109,9 +128,9 @@ node_fits context past place (StatementNode (Return (Some v))) made e =
     ((use_fits place v (type_point ∷ []) able.1, tt), able.0)
 node_fits context past place (StatementNode Kill) made e = (tt, tt)
 
-pub guards : (context : Context) → ReadGuards (kept_rules context) no_operands
+pub guards : (context : Context) → SurelyReadGuards (kept_rules context) (emitted_operands context.fun)
 guards context st v made e = node_fits context (seen st) v.place v.node made e
 
-pub accepted_is_sound : (context : Context) (state : State) → viewed (state_left context) (body_judgement context) ≡ Ok state → RunsAreSound (pre_emitted context) (body_of context.fun)
-accepted_is_sound context state e =
-    (accepted_block_is_sound (kept_rules context) no_operands (guards context) (begin_state context) state (pre_emitted context) context.fun.body (kept context ∙ e)).1
+pub accepted_is_sure : (context : Context) (state : State) → viewed (state_left context) (body_judgement context) ≡ Ok state → RunsAreSure (pre_emitted context) (body_of context.fun)
+accepted_is_sure context state e =
+    (accepted_block_is_sure (kept_rules context) (emitted_operands context.fun) (guards context) (begin_state context) state (pre_emitted context) context.fun.body (kept context ∙ e)).1

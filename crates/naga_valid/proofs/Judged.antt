@@ -10,18 +10,18 @@ use Rattle.naga_runs.proofs.Judgements.{by_tree, earlier_agrees}
 use Rattle.naga_below.specs.Points.{first_fault, answer}
 use Rattle.naga_runs.specs.Judgement.{Follows, judgement, viewed}
 use Rattle.naga_runs.specs.Visits.{Visit}
-use Rattle.naga_valid.specs.walk.Answers.{AnswersPoints}
-use Rattle.naga_valid.specs.Blocks.{body_of}
-use Rattle.naga_valid.specs.Context.{Context, pre_emitted}
-use Rattle.naga_valid.specs.Judged.{body_judgement}
-use Rattle.naga_valid.specs.Past.{past_of}
-use Rattle.naga_valid.specs.checks.Results.{filled_points}
-use Rattle.naga_valid.specs.Rules.{points_at, body_rules}
-use Rattle.naga_valid.specs.walk.State.{State, kept_rules, begin_state, state_left, body_outcome, body_left}
-use Rattle.naga_valid.specs.declared.state.BodyOutcome.{BodyOutcome}
-use Rattle.naga_valid.specs.walk.Walk.{body_answer, body_abilities}
+use Rattle.naga_checks.specs.walk.Answers.{AnswersPoints}
+use Rattle.naga_checks.specs.Blocks.{body_of}
+use Rattle.naga_checks.specs.Context.{Context, pre_emitted}
+use Rattle.naga_checks.specs.Judged.{body_judgement}
+use Rattle.naga_checks.specs.Past.{past_of}
+use Rattle.naga_checks.specs.checks.Results.{filled_points}
+use Rattle.naga_checks.specs.Rules.{points_at, body_rules}
+use Rattle.naga_checks.specs.walk.State.{State, kept_rules, begin_state, state_left, body_outcome, body_left}
+use Rattle.naga_checks.specs.declared.state.BodyOutcome.{BodyOutcome}
+use Rattle.naga_checks.specs.walk.Place.{Sets}
+use Rattle.naga_checks.specs.walk.Walk.{body_answer, body_abilities}
 use Rattle.naga_valid.proofs.StatesLeft.{seen_is, left_by_none, state_more}
-use Rattle.naga_valid.proofs.Walk.{moved}
 
 follows : (context : Context) → Follows (body_rules context) (kept_rules context) (state_left context)
 follows context = record { points = λ visits v. ap (λ past. points_at context past v.place v.node) (sym (seen_is context visits)); advance = λ visits v. state_more context visits v }
@@ -33,11 +33,14 @@ kept context =
     ap (λ state. judgement (kept_rules context) state (pre_emitted context) (body_of context.fun)) (left_by_none context)
     ∙ earlier_agrees (λ earlier v. points_at context (past_of context earlier) v.place v.node) (kept_rules context) (state_left context) (follows context) (pre_emitted context) (body_of context.fun)
 
-pub judged : (context : Context) → viewed (state_left context) (body_judgement context) ≡ body_answer context (begin_state context) body_abilities (pre_emitted context) (body_of context.fun)
+-- what is in scope before the first statement, which every run has put
+abbrev pub at_first : Context → Sets
+at_first context = record { scope = pre_emitted context; must = pre_emitted context }
+
+pub judged : (context : Context) → viewed (state_left context) (body_judgement context) ≡ body_answer context (begin_state context) body_abilities (at_first context) (body_of context.fun)
+unfolding body_answer
 judged context =
-    sym (kept context)
-    ∙ by_tree (kept_rules context) (begin_state context) (pre_emitted context) (body_of context.fun)
-    ∙ moved context (begin_state context) body_abilities (pre_emitted context) (pre_emitted context) (pre_emitted context) (body_of context.fun) refl
+    sym (kept context) ∙ by_tree (kept_rules context) (begin_state context) (pre_emitted context) (body_of context.fun)
 
 -- what the state says of what is left
 abbrev pub outcome_in : State → BodyOutcome

@@ -4,7 +4,7 @@ use Rattle.std.specs.Prelude.{if◌then◌else◌}
 use Rattle.std.proofs.lemmas.Bool.Decides.{nat_tests}
 use Rattle.naga_below.specs.declared.ir.expressions.Expression.{Expression}
 use Rattle.naga_runs.specs.Handles.{Handles, with_handle}
-use Rattle.naga_valid.specs.Context.{if_pre_emitted}
+use Rattle.naga_checks.specs.Context.{if_pre_emitted}
 
 -- those of these expressions that are in scope before the first statement
 abbrev pub pre_emitted_in : List Expression → Handles

@@ -2,13 +2,13 @@
 use Rattle.std.proofs.Common.{◌≡◌, List, [], ◌∷◌, ◌++◌, refl, sym, ◌∙◌}
 use Rattle.naga_runs.specs.Positions.{Node, NoNode, StatementNode, BreakIfNode}
 use Rattle.naga_runs.specs.Visits.{Visit}
-use Rattle.naga_valid.specs.Context.{Context}
-use Rattle.naga_valid.specs.Past.{past_of}
-use Rattle.naga_valid.specs.checks.Results.{result_of, filled_before}
-use Rattle.naga_valid.specs.Rules.{stages_behind}
-use Rattle.naga_valid.specs.walk.State.{State, seen, with_result, state_behind, begin_state, state_left}
-use Rattle.naga_valid.specs.Traces.{payload_before, with_trace}
-use Rattle.naga_valid.proofs.Fillings.{filled_more, stages_more}
+use Rattle.naga_checks.specs.Context.{Context}
+use Rattle.naga_checks.specs.Past.{past_of}
+use Rattle.naga_checks.specs.checks.Results.{result_of, filled_before}
+use Rattle.naga_checks.specs.Rules.{stages_behind}
+use Rattle.naga_checks.specs.walk.State.{State, seen, with_result, state_behind, begin_state, state_left}
+use Rattle.naga_checks.specs.Traces.{payload_before, with_trace}
+use Rattle.naga_checks.proofs.Fillings.{filled_more, stages_more}
 use Rattle.naga_valid.proofs.Traces.{no_trace, trace_more}
 
 -- the check lists are asked with the same

@@ -9,10 +9,10 @@ use Rattle.naga_below.specs.declared.valid.flags.ShaderStages.{ShaderStages}
 use Rattle.naga_below.specs.declared.valid.info.ModuleInfo.{ModuleInfo}
 use Rattle.naga_runs.specs.Positions.{Node, StatementNode, node_at}
 use Rattle.naga_runs.specs.VisitOrder.{positions}
-use Rattle.naga_valid.specs.Blocks.{body_of}
-use Rattle.naga_valid.specs.checks.Results.{is_this}
-use Rattle.naga_valid.specs.Rules.{callee_stages, stages_of}
-use Rattle.naga_valid.specs.Stages.{meet}
+use Rattle.naga_checks.specs.Blocks.{body_of}
+use Rattle.naga_checks.specs.checks.Results.{is_this}
+use Rattle.naga_checks.specs.Rules.{callee_stages, stages_of}
+use Rattle.naga_checks.specs.Stages.{meet}
 
 -- what stands at the positions of a body, in visit order
 abbrev pub nodes_of : Body → List Node

@@ -13,13 +13,13 @@ use Rattle.naga_below.specs.declared.valid.settings.Settings.{Settings}
 use Rattle.naga_below.specs.declared.valid.types.TypeInfo.{TypeInfo}
 use Rattle.naga_rules.specs.Meaning.{Meaning}
 use Rattle.naga_valid.specs.Accepted.{nodes_of, AreAmong, AreOfStatement}
-use Rattle.naga_valid.specs.Blocks.{body_of}
-use Rattle.naga_valid.specs.Expressions.{expression_masks}
+use Rattle.naga_checks.specs.Blocks.{body_of}
+use Rattle.naga_checks.specs.Expressions.{expression_masks}
 use Rattle.naga_valid.specs.InOrder.{called_by, with_info}
-use Rattle.naga_valid.specs.Judged.{FunctionOutcome, context_with, function_judgement}
-use Rattle.naga_valid.specs.Parts.{no_traces}
-use Rattle.naga_valid.specs.WhatIsChecked.{checks_blocks}
-use Rattle.naga_valid.specs.declared.trace.TraceState.{TraceState}
+use Rattle.naga_checks.specs.Judged.{FunctionOutcome, context_with, function_judgement}
+use Rattle.naga_checks.specs.Parts.{no_traces}
+use Rattle.naga_checks.specs.WhatIsChecked.{checks_blocks}
+use Rattle.naga_checks.specs.declared.trace.TraceState.{TraceState}
 
 -- The functions of a module that a body reaches: those that its Calls name, at any depth, and those that their bodies reach.
 pub data Reaches (m : Module) : Body → ℕ → Type 0 where

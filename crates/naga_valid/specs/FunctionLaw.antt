@@ -9,15 +9,15 @@ use Rattle.naga_below.specs.declared.valid.info.ModuleInfo.{ModuleInfo}
 use Rattle.naga_below.specs.declared.valid.settings.Settings.{Settings}
 use Rattle.naga_below.specs.declared.valid.types.TypeInfo.{TypeInfo}
 use Rattle.naga_rules.specs.Meaning.{Meaning}
-use Rattle.naga_runs.specs.Soundness.{RunsAreSound}
+use Rattle.naga_runs.specs.Soundness.{RunsAreSure}
 use Rattle.naga_valid.specs.Accepted.{nodes_of, ResultsAreFilledOnce, StagesAreOfAll, AreAmong, AreOfStatement}
-use Rattle.naga_valid.specs.Blocks.{body_of}
-use Rattle.naga_valid.specs.Context.{pre_emitted_of}
-use Rattle.naga_valid.specs.Expressions.{with_stages, expression_masks}
-use Rattle.naga_valid.specs.WhatIsChecked.{checks_blocks, checks_expressions}
-use Rattle.naga_valid.specs.Judged.{FunctionOutcome, context_with, lower_step, function_judgement}
+use Rattle.naga_checks.specs.Blocks.{body_of}
+use Rattle.naga_checks.specs.Context.{pre_emitted_of}
+use Rattle.naga_checks.specs.Expressions.{with_stages, expression_masks}
+use Rattle.naga_checks.specs.WhatIsChecked.{checks_blocks, checks_expressions}
+use Rattle.naga_checks.specs.Judged.{FunctionOutcome, context_with, lower_step, function_judgement}
 use Rattle.naga_valid.specs.Shapes.{HasNoReturnInContinuing, HasWholeSwitches}
-use Rattle.naga_valid.specs.declared.trace.TraceState.{TraceState}
+use Rattle.naga_checks.specs.declared.trace.TraceState.{TraceState}
 
 -- something holds of every function that the judgement accepts where bodies are looked at, of its module, and of what is
 -- known of it
@@ -35,7 +35,7 @@ OfAccepted Holds = OfAcceptedIn (λ program. Holds)
 
 -- all runs of its body are sound
 abbrev pub AcceptedIsSound : Type 0
-AcceptedIsSound = OfAccepted (λ settings earlier fun outcome. RunsAreSound (pre_emitted_of fun) (body_of fun))
+AcceptedIsSound = OfAccepted (λ settings earlier fun outcome. RunsAreSure (pre_emitted_of fun) (body_of fun))
 
 -- where expressions are looked at too, each of its results is filled once
 abbrev pub AcceptedFillsOnce : Type 0

@@ -1,40 +1,24 @@
-pub mod Context
-pub mod Types
-pub mod Pointers
-pub mod Stages
 pub mod walk
-pub mod Points
-pub mod Rules
-pub mod checks
-pub mod WhatIsChecked
-pub mod Past
-pub mod Traces
-pub mod Ready
-pub mod Blocks
-pub mod Judged
-pub mod Parts
 pub mod Accepted
 pub mod Shapes
 pub mod FunctionLaw
 pub mod InOrder
-pub mod Declarations
-pub mod Expressions
 pub mod interface
 pub mod Chains
 pub use Rattle.naga_below.specs.Fits.{FitsTypes, FitsGlobals, FitsFunction, FitsEntry}
 pub use Rattle.naga_rules.specs.Answers.{Answers, Refuses}
 pub use Rattle.naga_rules.specs.Meaning.{Meaning}
-pub use Rattle.naga_runs.specs.Soundness.{RunsAreSound}
+pub use Rattle.naga_runs.specs.Soundness.{RunsAreSure}
 pub use Rattle.naga_valid.specs.Accepted.{ResultsAreFilledOnce, StagesAreOfAll}
-pub use Rattle.naga_valid.specs.Blocks.{body_of}
-pub use Rattle.naga_valid.specs.Context.{pre_emitted_of}
+pub use Rattle.naga_checks.specs.Blocks.{body_of}
+pub use Rattle.naga_checks.specs.Context.{pre_emitted_of}
 pub use Rattle.naga_valid.specs.FunctionLaw.{AcceptedIsSound, AcceptedFillsOnce, AcceptedIsOfAllStages, AcceptedHasNoReturnInContinuing, AcceptedHasWholeSwitches, AcceptedStagesAreMet}
 pub use Rattle.naga_valid.specs.Shapes.{HasNoReturnInContinuing, HasWholeSwitches}
 pub use Rattle.naga_valid.specs.Chains.{Reaches, AreVetted, ChainsKeepTo, ChainsAreKept}
-pub use Rattle.naga_valid.specs.Judged.{FunctionOutcome, AnswersTracing}
-pub use Rattle.naga_valid.specs.Parts.{AreInfosOf}
-pub use Rattle.naga_valid.specs.WhatIsChecked.{checks_blocks, checks_expressions}
-unfoldable pub use Rattle.naga_valid.specs.Judged.{function_judgement}
+pub use Rattle.naga_checks.specs.Judged.{FunctionOutcome, AnswersTracing}
+pub use Rattle.naga_checks.specs.Parts.{AreInfosOf}
+pub use Rattle.naga_checks.specs.WhatIsChecked.{checks_blocks, checks_expressions}
+unfoldable pub use Rattle.naga_checks.specs.Judged.{function_judgement}
 pub use Rattle.naga_valid.specs.interface.Chains.{AcceptedEntryIsSound, AcceptedEntryKeepsItsStage}
 pub use Rattle.naga_valid.specs.interface.Facts.{BindingsAreDistinct, BuiltInsAreDistinct, GroupsAreDistinct, ReturnsPosition}
 pub use Rattle.naga_valid.specs.interface.Judged.{HasPayloadSizes, AnswersEntry}

@@ -3,12 +3,11 @@
 ghost use Rattle.std.specs.Prelude.{◌≡◌, ◌<◌, IfOk, IfSome, Some, List, ℕ, length};
 ghost use Rattle.std.specs.Result.{result_err};
 ghost use Rattle.naga_below.specs.Points.{first_fault};
-ghost use Rattle.naga_valid.specs.walk.Answers.{AnswersPoints};
-ghost use Rattle.naga_valid.specs.Context.{ContextFits};
-ghost use Rattle.naga_valid.specs.Declarations.{name_or_empty, variable_points, variables_points, takes_arguments, pointer_points, argument_points, arguments_points, result_points, declaration_points};
-ghost use Rattle.naga_valid.specs.walk.Seen.{context_of};
+ghost use Rattle.naga_checks.specs.walk.Answers.{AnswersPoints};
+ghost use Rattle.naga_checks.specs.Context.{ContextFits};
+ghost use Rattle.naga_checks.specs.Declarations.{name_or_empty, variable_points, variables_points, takes_arguments, pointer_points, argument_points, arguments_points, result_points, declaration_points};
+ghost use Rattle.naga_checks.specs.walk.Seen.{context_of};
 
-use crate::context::BlockContext;
 use naga_below::arena::handle::Handle;
 use naga_below::arena::tag;
 use naga_below::ir::functions::{FunctionArgument, FunctionResult, LocalVariable};
@@ -17,6 +16,7 @@ use naga_below::ir::types::AddressSpace;
 use naga_below::span::{Refusal, WithSpan};
 use naga_below::valid::flags::TypeFlags;
 use naga_below::valid::types::TypeInfo;
+use naga_checks::context::BlockContext;
 use naga_rules::function::FunctionError;
 use naga_rules::local::check_local;
 use std::alloc::{AllocError, Global};

@@ -1,30 +1,31 @@
 //! The judgement of a body of statements: naga's `validate_block`.
 
-ghost use Rattle.std.specs.Prelude.{◌≡◌, OnOk, length};
-ghost use Rattle.naga_runs.specs.Handles.{no_handles};
+ghost use Rattle.std.specs.Prelude.{◌≡◌, IfOk, OnOk, length};
+ghost use Rattle.naga_runs.specs.Must.{holds_continue, body_holds_continue, cases_hold_continue};
+ghost use Rattle.naga_checks.specs.walk.Place.{no_sets};
 ghost use Rattle.naga_runs.specs.Judgement.{viewed};
 ghost use Rattle.naga_rules.specs.Answers.{Answers};
-ghost use Rattle.naga_valid.specs.walk.Answers.{AnswersLeaving, AnswersState};
-ghost use Rattle.naga_valid.specs.Blocks.{tree_of, body_of, block_of, cases_of};
-ghost use Rattle.naga_valid.specs.Context.{ContextFits, pre_emitted};
-ghost use Rattle.naga_valid.specs.Judged.{body_judgement};
-ghost use Rattle.naga_valid.specs.Ready.{IsStatementReady, IsBodyReady, AreCasesReady};
-ghost use Rattle.naga_valid.specs.walk.Seen.{context_of};
-ghost use Rattle.naga_valid.specs.walk.State.{kept, state_left, body_left};
-ghost use Rattle.naga_valid.specs.walk.Table.{HasPut, IsTableOf, count, known, shown};
-ghost use Rattle.naga_valid.specs.walk.Walk.{puts, body_puts, parts_answer, stmt_answer, body_answer, cases_answer};
+ghost use Rattle.naga_checks.specs.walk.Answers.{AnswersLeaving, AnswersState};
+ghost use Rattle.naga_checks.specs.Blocks.{tree_of, body_of, block_of, cases_of};
+ghost use Rattle.naga_checks.specs.Context.{ContextFits, pre_emitted};
+ghost use Rattle.naga_checks.specs.Judged.{body_judgement};
+ghost use Rattle.naga_checks.specs.Ready.{IsStatementReady, IsBodyReady, AreCasesReady};
+ghost use Rattle.naga_checks.specs.walk.Seen.{context_of};
+ghost use Rattle.naga_checks.specs.walk.State.{kept, state_left, body_left};
+ghost use Rattle.naga_checks.specs.walk.Table.{HasLooped, HasPut, IsTableOf, count, known, shown};
+ghost use Rattle.naga_checks.specs.walk.Walk.{puts, body_puts, sure_puts, parts_answer, stmt_answer, body_answer, cases_answer};
 
-use crate::abilities::{at_begin, in_case, in_continuing, in_loop};
-use crate::checks::refuse::answer_of_function;
-use crate::checks::results::check_filled;
-use crate::checks::statement::{check_break_if, validate_points};
-use crate::context::BlockContext;
-use crate::refused::Refused;
-use crate::state::{BodyOutcome, advance};
-use crate::table::{ScopeColumn, Table};
 use naga_below::arena::handle::Handle;
 use naga_below::ir::statements::{Block, Located, Statement, SwitchCase};
 use naga_below::span::Refusal;
+use naga_checks::abilities::{at_begin, in_case, in_continuing, in_loop};
+use naga_checks::checks::refuse::answer_of_function;
+use naga_checks::checks::results::check_filled;
+use naga_checks::checks::statement::{check_break_if, validate_points};
+use naga_checks::context::BlockContext;
+use naga_checks::refused::Refused;
+use naga_checks::state::{BodyOutcome, advance};
+use naga_checks::table::{ScopeColumn, Table};
 use naga_rules::function::FunctionError;
 use naga_runs::Abilities;
 use std::alloc::Global;
@@ -89,9 +90,10 @@ fn validate_body_statements(
 
 /// Puts in scope what is there before the first statement.
 fn put_pre_emitted(scope: &mut ScopeColumn, context: &BlockContext)
-    requires none { known scope.old ≡ no_handles }
+    requires none { known scope.old ≡ no_sets }
     requires count { count scope.old ≡ length (context_of context.now).fun.expressions }
-    ensures known { known scope.new ≡ pre_emitted (context_of context.now) }
+    ensures scope { (known scope.new).scope ≡ pre_emitted (context_of context.now) }
+    ensures must { (known scope.new).must ≡ pre_emitted (context_of context.now) }
     ensures count { count scope.new ≡ count scope.old }
 {
     let count = context.fun.expressions.len() as u32;
@@ -103,7 +105,7 @@ fn put_pre_emitted(scope: &mut ScopeColumn, context: &BlockContext)
     }
 }
 
-/// The parts of a statement.
+/// The parts of a statement. Answers whether it holds a Continue for the Loop in whose body it stands.
 #[tactic(auto, using(crate::proofs::Walk::walking))]
 #[cycle(walk)]
 fn validate_parts(
@@ -112,7 +114,7 @@ fn validate_parts(
     context: &BlockContext,
     abilities: Abilities,
     located: &Located,
-) -> Result<(), Refused>
+) -> Result<bool, Refused>
     requires context { ContextFits (context_of context.now) }
     requires ready { IsStatementReady (context_of context.now) (tree_of (context_of context.now) located.now) }
     requires table { IsTableOf (context_of context.now) table.old }
@@ -122,12 +124,14 @@ fn validate_parts(
         (kept table.new.filled state.new) result }
     ensures table { OnOk result (IsTableOf (context_of context.now) table.new) }
     ensures scope { OnOk result (shown table.new.scope ≡ shown table.old.scope) }
+    ensures held { IfOk result (λ held. held ≡ holds_continue (tree_of (context_of context.now) located.now)) }
 {
     match &located.statement {
         Statement::Block(body) => validate_block(table, state, context, abilities, body),
         Statement::If { accept, reject, .. } => {
-            validate_block(table, state, context, abilities, accept)?;
-            validate_block(table, state, context, abilities, reject)
+            let accepts = validate_block(table, state, context, abilities, accept)?;
+            let rejects = validate_block(table, state, context, abilities, reject)?;
+            Ok(accepts | rejects)
         }
         Statement::Switch { cases, .. } => {
             let abilities = in_case(abilities);
@@ -139,17 +143,49 @@ fn validate_parts(
             break_if,
         } => {
             let outer = table.scope.enter()?;
-            validate_statements(table, state, context, in_loop(abilities), body)?;
+            let skipped = validate_loop_body(table, state, context, in_loop(abilities), body)?;
             validate_statements(table, state, context, in_continuing(), continuing)?;
             check_break_if(&table.scope, context, *break_if, located.span)?;
-            table.scope.leave(outer);
-            Ok(())
+            table.scope.leave(outer, skipped);
+            Ok(false)
         }
-        _ => Ok(()),
+        Statement::Continue => Ok(true),
+        _ => Ok(false),
     }
 }
 
-/// A list of statements, whose puts stay in scope: naga's `validate_block_impl`.
+/// The body list of a Loop: puts behind the first statement that holds a Continue stay in scope, and may not be used
+/// behind the list. Answers the number of the scope that has them, if one has.
+#[cycle(walk)]
+fn validate_loop_body(
+    table: &mut Table,
+    state: &mut BodyOutcome,
+    context: &BlockContext,
+    abilities: Abilities,
+    block: &Block,
+) -> Result<Option<usize>, Refused>
+    requires context { ContextFits (context_of context.now) }
+    requires ready { IsBodyReady (context_of context.now) (block_of (context_of context.now) block.now) }
+    requires table { IsTableOf (context_of context.now) table.old }
+    ensures fault { AnswersLeaving
+        (body_answer (context_of context.now) (kept table.old.filled state.old) abilities (known table.old.scope)
+        (block_of (context_of context.now) block.now))
+        (kept table.new.filled state.new) result }
+    ensures table { OnOk result (IsTableOf (context_of context.now) table.new) }
+    ensures scope { IfOk result (λ skipped. HasLooped table.old.scope table.new.scope skipped (sure_puts (block_of (context_of context.now) block.now)) (body_puts (block_of (context_of context.now) block.now))) }
+{
+    let mut home = None;
+    for located in block.list.as_slice() {
+        let held = validate_statement(table, state, context, abilities, located)?;
+        home = table.scope.divide(home, held)?;
+    }
+    match home {
+        Some(number) => Ok(Some(table.scope.skip(number))),
+        None => Ok(None),
+    }
+}
+
+/// A list of statements, whose puts stay in scope: naga's `validate_block_impl`. Answers whether it holds a Continue.
 #[cycle(walk)]
 fn validate_statements(
     table: &mut Table,
@@ -157,7 +193,7 @@ fn validate_statements(
     context: &BlockContext,
     abilities: Abilities,
     block: &Block,
-) -> Result<(), Refused>
+) -> Result<bool, Refused>
     requires context { ContextFits (context_of context.now) }
     requires ready { IsBodyReady (context_of context.now) (block_of (context_of context.now) block.now) }
     requires table { IsTableOf (context_of context.now) table.old }
@@ -167,11 +203,14 @@ fn validate_statements(
         (kept table.new.filled state.new) result }
     ensures table { OnOk result (IsTableOf (context_of context.now) table.new) }
     ensures scope { OnOk result (HasPut table.old.scope table.new.scope (body_puts (block_of (context_of context.now) block.now))) }
+    ensures held { IfOk result (λ held. held ≡ body_holds_continue (block_of (context_of context.now) block.now)) }
 {
+    let mut held = false;
     for located in block.list.as_slice() {
-        validate_statement(table, state, context, abilities, located)?;
+        let holds = validate_statement(table, state, context, abilities, located)?;
+        held = held | holds;
     }
-    Ok(())
+    Ok(held)
 }
 
 /// One statement: its own check list, its stages, and then its parts.
@@ -182,7 +221,7 @@ fn validate_statement(
     context: &BlockContext,
     abilities: Abilities,
     located: &Located,
-) -> Result<(), Refused>
+) -> Result<bool, Refused>
     requires context { ContextFits (context_of context.now) }
     requires ready { IsStatementReady (context_of context.now) (tree_of (context_of context.now) located.now) }
     requires table { IsTableOf (context_of context.now) table.old }
@@ -192,6 +231,7 @@ fn validate_statement(
         (kept table.new.filled state.new) result }
     ensures table { OnOk result (IsTableOf (context_of context.now) table.new) }
     ensures scope { OnOk result (HasPut table.old.scope table.new.scope (puts (tree_of (context_of context.now) located.now))) }
+    ensures held { IfOk result (λ held. held ≡ holds_continue (tree_of (context_of context.now) located.now)) }
 {
     validate_points(table, state, context, abilities, located)?;
     advance(&mut table.filled, state, context, located);
@@ -206,7 +246,7 @@ fn validate_block(
     context: &BlockContext,
     abilities: Abilities,
     block: &Block,
-) -> Result<(), Refused>
+) -> Result<bool, Refused>
     requires context { ContextFits (context_of context.now) }
     requires ready { IsBodyReady (context_of context.now) (block_of (context_of context.now) block.now) }
     requires table { IsTableOf (context_of context.now) table.old }
@@ -216,11 +256,12 @@ fn validate_block(
         (kept table.new.filled state.new) result }
     ensures table { OnOk result (IsTableOf (context_of context.now) table.new) }
     ensures scope { OnOk result (shown table.new.scope ≡ shown table.old.scope) }
+    ensures held { IfOk result (λ held. held ≡ body_holds_continue (block_of (context_of context.now) block.now)) }
 {
     let outer = table.scope.enter()?;
-    validate_statements(table, state, context, abilities, block)?;
-    table.scope.leave(outer);
-    Ok(())
+    let held = validate_statements(table, state, context, abilities, block)?;
+    table.scope.leave(outer, None);
+    Ok(held)
 }
 
 /// The bodies of a Switch's cases, in order.
@@ -231,7 +272,7 @@ fn validate_cases(
     context: &BlockContext,
     abilities: Abilities,
     cases: &[SwitchCase],
-) -> Result<(), Refused>
+) -> Result<bool, Refused>
     requires context { ContextFits (context_of context.now) }
     requires ready { AreCasesReady (context_of context.now) (cases_of (context_of context.now) cases.now) }
     requires table { IsTableOf (context_of context.now) table.old }
@@ -241,9 +282,12 @@ fn validate_cases(
         (kept table.new.filled state.new) result }
     ensures table { OnOk result (IsTableOf (context_of context.now) table.new) }
     ensures scope { OnOk result (shown table.new.scope ≡ shown table.old.scope) }
+    ensures held { IfOk result (λ held. held ≡ cases_hold_continue (cases_of (context_of context.now) cases.now)) }
 {
+    let mut held = false;
     for case in cases {
-        validate_block(table, state, context, abilities, &case.body)?;
+        let holds = validate_block(table, state, context, abilities, &case.body)?;
+        held = held | holds;
     }
-    Ok(())
+    Ok(held)
 }

@@ -1,7 +1,7 @@
 //! What is known of an accepted function.
 
-use crate::trace::TraceState;
 use naga_below::valid::info::FunctionInfo;
+use naga_checks::trace::TraceState;
 use std::marker::Model;
 
 /// The info of an accepted function, and what ray traces leave to later functions.
@@ -12,7 +12,7 @@ pub struct FunctionOutcome {
 }
 
 impl Model for FunctionOutcome {
-    ghost use Rattle.naga_valid.specs.Judged.{FunctionOutcome as Outcome};
+    ghost use Rattle.naga_checks.specs.Judged.{FunctionOutcome as Outcome};
 
     ghost Value = { Outcome };
 

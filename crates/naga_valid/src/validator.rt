@@ -1,7 +1,7 @@
 //! The validator of functions.
 
 ghost use Rattle.std.specs.Prelude.{◌≡◌, ◌↔◌, IsTrue, []};
-ghost use Rattle.naga_valid.specs.Parts.{Parts, infos_given, first_settings, no_traces, NamesTypes, AreInfosOf};
+ghost use Rattle.naga_checks.specs.Parts.{Parts, infos_given, first_settings, no_traces, NamesTypes, AreInfosOf};
 
 mod entry;
 mod entry_point;
@@ -13,8 +13,6 @@ mod mesh;
 mod varyings;
 mod whole;
 
-use crate::table::Table;
-use crate::trace::{TraceRayVertexReturnState, TraceState};
 use bitflags::Flags;
 use naga_below::ir::module::Module;
 use naga_below::sequence::Sequence;
@@ -22,6 +20,8 @@ use naga_below::valid::capabilities::Capabilities;
 use naga_below::valid::flags::{ShaderStages, SubgroupOperationSet, ValidationFlags};
 use naga_below::valid::settings::Settings;
 use naga_below::valid::types::TypeInfo;
+use naga_checks::table::Table;
+use naga_checks::trace::{TraceRayVertexReturnState, TraceState};
 use naga_rules::below::Below;
 use std::marker::Model;
 

@@ -1,6 +1,6 @@
 //! Whether what expressions name is there.
 
-ghost use Rattle.std.specs.Prelude.{◌<◌, ◌↔◌, IsTrue, All};
+ghost use Rattle.std.specs.Prelude.{◌<◌, ◌↔◌, IsTrue, IsSomeAnd, All, slice_get};
 ghost use Rattle.naga_below.specs.Operands.{operands_of};
 ghost use Rattle.naga_below.specs.Fits.{NameEarlierExpressions, ReferencesFit};
 
@@ -10,6 +10,7 @@ use crate::fits::function::callee_fits;
 use crate::ir::expressions::Expression;
 use crate::ir::functions::Function;
 use crate::ir::module::Module;
+use crate::proc::operands::{operand, operand_count};
 
 /// Whether each handle is below `count`.
 pub(crate) fn are_below(handles: &[Handle<tag::Expression>], count: usize) -> bool
@@ -18,49 +19,26 @@ pub(crate) fn are_below(handles: &[Handle<tag::Expression>], count: usize) -> bo
     handles.iter().all(|handle| handle.index() < count)
 }
 
+/// Whether this operand is there, and is an expression before the one at `place`.
+fn operand_below(expression: &Expression, k: usize, place: usize) -> bool
+    ensures { IsTrue result ↔ IsSomeAnd (slice_get (operands_of expression.now) k) (λ h. h < place) }
+{
+    match operand(expression, k) {
+        Some(handle) => handle.index() < place,
+        None => false,
+    }
+}
+
 /// Whether each operand is an expression before the one at `place`.
 fn operands_below(expression: &Expression, place: usize) -> bool
     ensures { IsTrue result ↔ All (λ h. h < place) (operands_of expression.now) }
 {
-    match expression {
-        Expression::Compose { components, .. } => are_below(components.as_slice(), place),
-        Expression::Access { base, index } => base.index() < place && index.index() < place,
-        Expression::AccessIndex { base, .. } => base.index() < place,
-        Expression::Load { pointer } => pointer.index() < place,
-        Expression::Splat { operands, .. }
-        | Expression::Swizzle { operands, .. }
-        | Expression::ImageSample { operands, .. }
-        | Expression::ImageLoad { operands, .. }
-        | Expression::ImageQuery { operands, .. }
-        | Expression::Unary { operands, .. }
-        | Expression::Binary { operands, .. }
-        | Expression::Select { operands, .. }
-        | Expression::Derivative { operands, .. }
-        | Expression::Relational { operands, .. }
-        | Expression::Math { operands, .. }
-        | Expression::As { operands, .. }
-        | Expression::ArrayLength { operands, .. }
-        | Expression::RayQueryGetIntersection { operands, .. }
-        | Expression::RayQueryVertexPositions { operands, .. }
-        | Expression::CooperativeLoad { operands, .. }
-        | Expression::CooperativeMultiplyAdd { operands, .. } => are_below(
-            operands.as_slice(),
-            place,
-        ),
-        Expression::Literal(_)
-        | Expression::Constant(_)
-        | Expression::Override(_)
-        | Expression::ZeroValue(_)
-        | Expression::FunctionArgument(_)
-        | Expression::GlobalVariable(_)
-        | Expression::LocalVariable(_)
-        | Expression::CallResult(_)
-        | Expression::AtomicResult { .. }
-        | Expression::WorkGroupUniformLoadResult { .. }
-        | Expression::RayQueryProceedResult
-        | Expression::SubgroupBallotResult
-        | Expression::SubgroupOperationResult { .. } => true,
+    for k in 0..operand_count(expression) {
+        if !operand_below(expression, k, place) {
+            return false;
+        }
     }
+    true
 }
 
 /// Whether each expression names only earlier expressions.

@@ -8,7 +8,7 @@ use Rattle.naga_below.specs.declared.ir.statements.Statement as statement
 use Rattle.naga_below.specs.Tree.{Act, Stmt, Leaf, Block, Branch, Switch, Loop, Break, Continue, Return, Kill, Body, Done, Then, Cases, NoCase, OneCase}
 use Rattle.naga_check.specs.EmptySets.{NO_MEMORY}
 use Rattle.naga_check.specs.declared.bench.Bench.{Bench}
-use Rattle.naga_check.specs.declared.bench.Bench.TheVariants.{P, C}
+use Rattle.naga_check.specs.declared.bench.Bench.TheVariants.{P, C, D}
 use Rattle.naga_check.specs.declared.notation.token.Token.{Token}
 use Rattle.naga_check.specs.declared.notation.token.Token.TheVariants as token
 use Rattle.naga_check.specs.Bench.{names_of, has_callee, callees_of}
@@ -54,6 +54,7 @@ in_length (x ∷ names) (suc h) w e = let less = in_length names h w e in omega 
 callee_there : (bench : Bench) → has_callee bench ≡ true → 0 < callees_of bench
 callee_there P e = cc
 callee_there C e = omega arith
+callee_there D e = cc
 
 names_of_texts : (bench : Bench) (ts : List Token) (ws : List (List ℕ)) → AreTextsOf bench ts ws → NamesBelow (length (names_of bench)) (callees_of bench) ts
 names_of_texts bench [] [] k = tt

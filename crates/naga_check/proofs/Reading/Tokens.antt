@@ -16,7 +16,7 @@ use Rattle.std.proofs.lemmas.Bool.Decides.{nat_tests}
 use Rattle.std.proofs.lemmas.Grind.{common_steps}
 use Rattle.naga_check.proofs.Reading.Values.{decimal_first, one_value}
 use Rattle.naga_check.specs.declared.bench.Bench.{Bench}
-use Rattle.naga_check.specs.declared.bench.Bench.TheVariants.{P, C}
+use Rattle.naga_check.specs.declared.bench.Bench.TheVariants.{P, C, D}
 use Rattle.naga_check.specs.declared.notation.token.Token.{Token}
 use Rattle.naga_check.specs.declared.notation.token.Token.TheVariants as token
 use Rattle.naga_check.specs.Bench.{names_of, index_of}
@@ -47,6 +47,7 @@ shared_texts bench = (refl, (refl, (refl, (refl, (refl, (refl, (refl, (refl, (re
 pub keyword_found : (bench : Bench) (w : List ℕ) (t : Token) → keyword_of bench w ≡ Some t → IsTextOf bench t w
 unfolding keyword_of
 keyword_found P w t e = lookup_found (IsTextOf P) keywords w t (shared_texts P) e
+keyword_found D w t e = lookup_found (IsTextOf D) keywords w t (shared_texts D) e
 keyword_found C w t e =
     lookup_found (IsTextOf C) call_keywords w t ((refl, refl), ((refl, refl), ((refl, refl), shared_texts C))) e
 
@@ -112,10 +113,12 @@ shared_other = (refl, (refl, (refl, (refl, (refl, (refl, (refl, (refl, (refl, (r
 keyword_numeric : (bench : Bench) (w : List ℕ) → begins_numeric w ≡ true → keyword_of bench w ≡ None
 unfolding keyword_of
 keyword_numeric P w e = lookup_numeric keywords w shared_other e
+keyword_numeric D w e = lookup_numeric keywords w shared_other e
 keyword_numeric C w e = lookup_numeric call_keywords w (refl, (refl, (refl, shared_other))) e
 
 name_numeric : (bench : Bench) (w : List ℕ) → begins_numeric w ≡ true → index_of bench w ≡ None
 name_numeric P w e = position_numeric (names_of P) w 0 (refl, (refl, (refl, (refl, (refl, (refl, tt)))))) e
+name_numeric D w e = position_numeric (names_of D) w 0 (refl, (refl, (refl, (refl, (refl, (refl, (refl, tt))))))) e
 name_numeric C w e = position_numeric (names_of C) w 0 (refl, (refl, (refl, (refl, (refl, (refl, (refl, tt))))))) e
 
 digit_is : (b : ℕ) → 48 ≤ b → b ≤ 57 → nat_le 48 b && nat_le b 57 ≡ true
@@ -167,6 +170,14 @@ name_is C (suc (suc (suc (suc zero)))) w e = let same : codes "v" ≡ w = cc in 
 name_is C (suc (suc (suc (suc (suc zero))))) w e = let same : codes "x1" ≡ w = cc in rw (← same) (refl, refl)
 name_is C (suc (suc (suc (suc (suc (suc zero)))))) w e = let same : codes "r1" ≡ w = cc in rw (← same) (refl, refl)
 name_is C (suc (suc (suc (suc (suc (suc (suc h))))))) w e = cc
+name_is D zero w e = let same : codes "t" ≡ w = cc in rw (← same) (refl, refl)
+name_is D (suc zero) w e = let same : codes "u" ≡ w = cc in rw (← same) (refl, refl)
+name_is D (suc (suc zero)) w e = let same : codes "i" ≡ w = cc in rw (← same) (refl, refl)
+name_is D (suc (suc (suc zero))) w e = let same : codes "e1" ≡ w = cc in rw (← same) (refl, refl)
+name_is D (suc (suc (suc (suc zero)))) w e = let same : codes "v" ≡ w = cc in rw (← same) (refl, refl)
+name_is D (suc (suc (suc (suc (suc zero))))) w e = let same : codes "x1" ≡ w = cc in rw (← same) (refl, refl)
+name_is D (suc (suc (suc (suc (suc (suc zero)))))) w e = let same : codes "e2" ≡ w = cc in rw (← same) (refl, refl)
+name_is D (suc (suc (suc (suc (suc (suc (suc h))))))) w e = cc
 
 not_true : false ≡ true → ⊥
 not_true e = cc
@@ -183,14 +194,19 @@ text_is bench (token.Value (U32 n)) w (lt, e) =
     (keyword_numeric bench w numeric, name_numeric bench w numeric)
 text_is P (token.Value Default) w e = rw e (refl, refl)
 text_is C (token.Value Default) w e = rw e (refl, refl)
+text_is D (token.Value Default) w e = rw e (refl, refl)
 text_is P token.Call w (there, e) = absurd (not_true there)
 text_is P token.Callee w (there, e) = absurd (not_true there)
 text_is P token.Arrow w (there, e) = absurd (not_true there)
+text_is D token.Call w (there, e) = absurd (not_true there)
+text_is D token.Callee w (there, e) = absurd (not_true there)
+text_is D token.Arrow w (there, e) = absurd (not_true there)
 text_is C token.Call w (there, e) = rw e (refl, refl)
 text_is C token.Callee w (there, e) = rw e (refl, refl)
 text_is C token.Arrow w (there, e) = rw e (refl, refl)
 text_is P t w e = rw e (refl, refl)
 text_is C t w e = rw e (refl, refl)
+text_is D t w e = rw e (refl, refl)
 
 keyword_back : (u t : Token) → keyword_at u ≡ Some t → u ≡ t
 keyword_back (token.Name h) t e = cc

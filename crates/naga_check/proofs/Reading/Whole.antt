@@ -26,16 +26,20 @@ use Rattle.naga_check.proofs.Reading.Tokens.{one_list}
 bench_is : (b : Bench) → bench_of (bench_word b) ≡ Some b
 bench_is bench.P = refl
 bench_is bench.C = refl
+bench_is bench.D = refl
 
 bench_found : (w : List ℕ) (b : Bench) → bench_of w ≡ Some b → w ≡ bench_word b
-bench_found w b e = go (bytes_eq w (bench_word bench.P)) (bytes_eq w (bench_word bench.C)) refl refl e
+bench_found w b e =
+    go (bytes_eq w (bench_word bench.P)) (bytes_eq w (bench_word bench.C)) (bytes_eq w (bench_word bench.D)) refl refl refl e
   where
-    go : (t u : Bool) → bytes_eq w (bench_word bench.P) ≡ t → bytes_eq w (bench_word bench.C) ≡ u → cond t (Some bench.P) (cond u (Some bench.C) None) ≡ Some b → w ≡ bench_word b
-    go true u is other found =
+    go : (t u v : Bool) → bytes_eq w (bench_word bench.P) ≡ t → bytes_eq w (bench_word bench.C) ≡ u → bytes_eq w (bench_word bench.D) ≡ v → cond t (Some bench.P) (cond u (Some bench.C) (cond v (Some bench.D) None)) ≡ Some b → w ≡ bench_word b
+    go true u v is other last found =
         let same : bench.P ≡ b = cc in same_text w (bench_word bench.P) (sym is) ∙ ap bench_word same
-    go false true is other found =
+    go false true v is other last found =
         let same : bench.C ≡ b = cc in same_text w (bench_word bench.C) (sym other) ∙ ap bench_word same
-    go false false is other found = cc
+    go false false true is other last found =
+        let same : bench.D ≡ b = cc in same_text w (bench_word bench.D) (sym last) ∙ ap bench_word same
+    go false false false is other last found = cc
 
 -- the options, as they are taken
 options_is : (e b : Bool) (options rest : List (List ℕ)) → AreOptions e b options → options_of true true (options ++ codes ":" ∷ rest) ≡ Some (e, b, rest)

@@ -3,7 +3,7 @@ use crate::notation::{ReadError, read_case};
 use std::alloc::Global;
 use std::test::Fail;
 
-const ROWS: [(&str, bool); 67] = [
+const ROWS: [(&str, bool); 70] = [
     // the head
     ("P :", true),
     ("P -blocks :", true),
@@ -22,7 +22,10 @@ const ROWS: [(&str, bool); 67] = [
     ("C : call f - > r1", false),
     ("P : call f", false),
     ("P : ->", false),
-    ("D :", false),
+    ("D :", true),
+    ("E :", false),
+    ("D : emit x1 .. e2", true),
+    ("D : emit r1", false),
     ("p :", false),
     ("P -blocks -blocks :", false),
     ("P -expressions -blocks -expressions :", false),

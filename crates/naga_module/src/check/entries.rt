@@ -5,7 +5,7 @@ ghost use Rattle.naga_below.specs.Fits.{FitsTypes, FitsFunction, FitsEntry};
 ghost use Rattle.naga_module.specs.CodeModule.{EntriesLead, EntriesStop};
 ghost use Rattle.naga_module.specs.ModuleJudgement.{EntriesAnswer, BehindFunctions};
 ghost use Rattle.naga_module.specs.declared.check.ModuleFault.TheVariants as fault;
-ghost use Rattle.naga_valid.specs.Parts.{AreInfosOf};
+ghost use Rattle.naga_checks.specs.Parts.{AreInfosOf};
 ghost use Rattle.naga_valid.specs.interface.Judged.{HasPayloadSizes};
 
 use crate::check::ModuleFault;

@@ -3,7 +3,7 @@
 ghost use Rattle.std.specs.Prelude.{◌≡◌, ◌<◌, ◌+◌, [], OnOk, IfErr, length, drop};
 ghost use Rattle.naga_below.specs.Fits.{FitsTypes};
 ghost use Rattle.naga_module.specs.CodeModule.{Leads, Stops};
-ghost use Rattle.naga_valid.specs.Parts.{AreInfosOf};
+ghost use Rattle.naga_checks.specs.Parts.{AreInfosOf};
 
 use crate::check::ModuleFault;
 use naga_below::arena::handle::Handle;

@@ -6,7 +6,7 @@ ghost use Rattle.naga_below.specs.Fits.{FitsTypes, FitsGlobals};
 ghost use Rattle.naga_below.specs.Points.{first_fault, points_of_each};
 ghost use Rattle.naga_module.specs.ModuleJudgement.{points_of_global, globals_step};
 ghost use Rattle.naga_module.specs.declared.check.ModuleFault.TheVariants as fault;
-ghost use Rattle.naga_valid.specs.Parts.{AreInfosOf};
+ghost use Rattle.naga_checks.specs.Parts.{AreInfosOf};
 
 use crate::check::ModuleFault;
 use naga_below::arena::handle::Handle;

@@ -6,15 +6,15 @@ use Rattle.naga_below.specs.declared.valid.info.ModuleInfo.{ModuleInfo}
 use Rattle.naga_below.specs.declared.valid.settings.Settings.{Settings}
 use Rattle.naga_below.specs.declared.valid.types.TypeInfo.{TypeInfo}
 use Rattle.naga_rules.specs.Meaning.{Meaning}
-use Rattle.naga_runs.specs.Soundness.{RunsAreSound}
-use Rattle.naga_valid.specs.Blocks.{body_of}
+use Rattle.naga_runs.specs.Soundness.{RunsAreSure}
+use Rattle.naga_checks.specs.Blocks.{body_of}
 use Rattle.naga_valid.specs.Chains.{CallsBelow, AreVetted, ChainsKeepTo}
-use Rattle.naga_valid.specs.Context.{pre_emitted_of}
+use Rattle.naga_checks.specs.Context.{pre_emitted_of}
 use Rattle.naga_valid.specs.interface.Judged.{entry_judgement}
 use Rattle.naga_valid.specs.interface.Uses.{only}
-use Rattle.naga_valid.specs.Judged.{FunctionOutcome}
-use Rattle.naga_valid.specs.WhatIsChecked.{checks_blocks}
-use Rattle.naga_valid.specs.declared.trace.TraceState.{TraceState}
+use Rattle.naga_checks.specs.Judged.{FunctionOutcome}
+use Rattle.naga_checks.specs.WhatIsChecked.{checks_blocks}
+use Rattle.naga_checks.specs.declared.trace.TraceState.{TraceState}
 use Rattle.std.specs.Prelude.{length}
 
 -- something holds of every entry point that the judgement accepts where bodies are looked at
@@ -28,7 +28,7 @@ OfAcceptedEntry Holds =
 -- all runs of its body are sound
 abbrev pub AcceptedEntryIsSound : Type 0
 AcceptedEntryIsSound =
-    OfAcceptedEntry (λ below settings types m infos ep. RunsAreSound (pre_emitted_of ep.function) (body_of ep.function))
+    OfAcceptedEntry (λ below settings types m infos ep. RunsAreSure (pre_emitted_of ep.function) (body_of ep.function))
 
 -- with vetted infos, its stage is kept to through all chains of calls
 abbrev pub AcceptedEntryKeepsItsStage : Type 0

@@ -30,8 +30,8 @@ use Rattle.naga_rules.specs.declared.varying.MeshOutputType.TheVariants.{VertexO
 use Rattle.naga_valid.specs.walk.Groups.{parts_of_all}
 use Rattle.naga_valid.specs.interface.Judged.{entry_judgement}
 use Rattle.naga_valid.specs.interface.Varyings.{argument_item, result_items, output_item}
-use Rattle.naga_valid.specs.Judged.{FunctionOutcome, function_judgement}
-use Rattle.naga_valid.specs.declared.trace.TraceState.{TraceState}
+use Rattle.naga_checks.specs.Judged.{FunctionOutcome, function_judgement}
+use Rattle.naga_checks.specs.declared.trace.TraceState.{TraceState}
 
 -- the global with this handle is used, and is bound here
 pub record IsUsedAt (globals : List GlobalVariable) (uses : List GlobalUse) (b : ResourceBinding) (h : ℕ) : Type 0 where

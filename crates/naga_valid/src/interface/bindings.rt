@@ -1,7 +1,7 @@
 //! The bindings of the globals that an entry point uses.
 
 ghost use Rattle.std.specs.Prelude.{◌≡◌, ◌+◌, OnOk};
-ghost use Rattle.naga_valid.specs.walk.Answers.{Finds};
+ghost use Rattle.naga_checks.specs.walk.Answers.{Finds};
 ghost use Rattle.naga_valid.specs.walk.Bindings.{AreTaken};
 ghost use Rattle.naga_valid.specs.interface.Globals.{binding_at, binding_points};
 

@@ -1,7 +1,7 @@
 //! The checks of what an entry point says of its mesh.
 
 ghost use Rattle.std.specs.Prelude.{◌≡◌};
-ghost use Rattle.naga_valid.specs.walk.Answers.{Finds};
+ghost use Rattle.naga_checks.specs.walk.Answers.{Finds};
 ghost use Rattle.naga_valid.specs.interface.Mesh.{mesh_error, override_at, is_implied, with_overrides_of, is_points, variable_points, stated_points};
 ghost use Rattle.naga_valid.specs.interface.Uses.{is_work_group, lies_in};
 

@@ -2,7 +2,7 @@
 
 ghost use Rattle.std.specs.Prelude.{◌≡◌};
 ghost use Rattle.std.specs.List.{list_all};
-ghost use Rattle.naga_valid.specs.walk.Answers.{Finds};
+ghost use Rattle.naga_checks.specs.walk.Answers.{Finds};
 ghost use Rattle.naga_valid.specs.interface.Start.{needed_by, needed_points, is_fragment, depth_points, has_work_groups, is_group_size, is_zero, size_points, mesh_info_points, start_points};
 
 use crate::interface::EntryPointError;

@@ -2,7 +2,7 @@
 
 ghost use Rattle.std.specs.Prelude.{◌≡◌, ◌<◌, IfSome, length};
 ghost use Rattle.naga_rules.specs.Spaces.{is_task_payload};
-ghost use Rattle.naga_valid.specs.walk.Answers.{Finds};
+ghost use Rattle.naga_checks.specs.walk.Answers.{Finds};
 ghost use Rattle.naga_valid.specs.interface.Uses.{lies_in, place_points, made_points, taken_points, payload_points, with_use_of, output_variable_of, with_own_uses, only, stage_points};
 
 use crate::interface::EntryPointError;

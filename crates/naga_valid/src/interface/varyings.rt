@@ -9,7 +9,7 @@ ghost use Rattle.naga_below.specs.declared.ir.built_in.BuiltIn.TheVariants.{Poin
 ghost use Rattle.naga_rules.specs.TypeInfos.{type_has};
 ghost use Rattle.naga_rules.specs.VaryingFaults.{IsFirstVaryingFault, VaryingFault as Given};
 ghost use Rattle.naga_rules.specs.Varyings.{seen_in};
-ghost use Rattle.naga_valid.specs.walk.Answers.{Finds};
+ghost use Rattle.naga_checks.specs.walk.Answers.{Finds};
 ghost use Rattle.naga_valid.specs.interface.Faults.{IsForFirstFault, OfArgument, OfResult};
 ghost use Rattle.naga_valid.specs.interface.Varyings.{is_struct, is_three_counts, returns_counts, is_one_of_three, returned_points, are_blend_sources, with_blending};
 

@@ -6,7 +6,7 @@ ghost use Rattle.naga_below.specs.FitsBody.{SignatureFits};
 ghost use Rattle.naga_valid.specs.interface.Faults.{AnswersFault, Judges};
 ghost use Rattle.naga_valid.specs.interface.Judged.{HasPayloadSizes, entry_judgement, interface_step, used_points, AnswersOutcome};
 ghost use Rattle.naga_valid.specs.interface.Start.{start_points};
-ghost use Rattle.naga_valid.specs.Parts.{AreInfosOf};
+ghost use Rattle.naga_checks.specs.Parts.{AreInfosOf};
 
 use crate::interface::EntryPointError;
 use crate::interface::answers::{answer, answer_of_function, judged, refusal};
@@ -14,11 +14,11 @@ use crate::interface::start::check_start;
 use crate::interface::uses::{check_payload, check_stage, insert_own_uses};
 use crate::interface::varyings::set_blending;
 use crate::outcome::FunctionOutcome;
-use crate::table::Table;
 use crate::validator::Validator;
 use naga_below::ir::module::{EntryPoint, Module};
 use naga_below::span::Refusal;
 use naga_below::valid::info::{FunctionInfo, ModuleInfo};
+use naga_checks::table::Table;
 use naga_rules::below::Below;
 use std::alloc::Global;
 

@@ -3,18 +3,18 @@
 ghost use Rattle.std.specs.Prelude.{◌≡◌, true, OnOk, OnErr, IfOk, length};
 ghost use Rattle.naga_below.specs.Fits.{FitsTypes, FitsFunction, FitsEntry};
 ghost use Rattle.naga_below.specs.declared.ir.module.ShaderStage.TheVariants.{Vertex};
-ghost use Rattle.naga_runs.specs.Soundness.{RunsAreSound};
+ghost use Rattle.naga_runs.specs.Soundness.{RunsAreSure};
 ghost use Rattle.naga_rules.specs.WhatIsChecked.{checks_bindings};
 ghost use Rattle.naga_valid.specs.Accepted.{ResultsAreFilledOnce, StagesAreOfAll};
-ghost use Rattle.naga_valid.specs.Blocks.{body_of};
+ghost use Rattle.naga_checks.specs.Blocks.{body_of};
 ghost use Rattle.naga_valid.specs.Chains.{AreVetted, ChainsKeepTo};
-ghost use Rattle.naga_valid.specs.Context.{pre_emitted_of};
+ghost use Rattle.naga_checks.specs.Context.{pre_emitted_of};
 ghost use Rattle.naga_valid.specs.interface.Judged.{HasPayloadSizes, entry_judgement, AnswersEntry, AnswersOutcome};
 ghost use Rattle.naga_valid.specs.interface.Facts.{argument_parts, BindingsAreDistinct, BuiltInsAreDistinct, GroupsAreDistinct, ReturnsPosition};
 ghost use Rattle.naga_valid.specs.interface.Start.{start_points};
 ghost use Rattle.naga_valid.specs.interface.Uses.{only};
-ghost use Rattle.naga_valid.specs.Parts.{AreInfosOf};
-ghost use Rattle.naga_valid.specs.WhatIsChecked.{checks_blocks, checks_expressions};
+ghost use Rattle.naga_checks.specs.Parts.{AreInfosOf};
+ghost use Rattle.naga_checks.specs.WhatIsChecked.{checks_blocks, checks_expressions};
 
 use crate::interface::EntryPointError;
 use crate::outcome::FunctionOutcome;
@@ -52,7 +52,7 @@ impl<B: Below> Validator<B> {
 
         // In every run of an accepted body that was looked at, what is used is live or was skipped by a Continue, no
         // live handle is put, and jumps have targets.
-        ensures sound { OnOk result (checks_blocks self.old.settings.flags ≡ true → RunsAreSound (pre_emitted_of ep.now.function) (body_of ep.now.function)) }
+        ensures sound { OnOk result (checks_blocks self.old.settings.flags ≡ true → RunsAreSure (pre_emitted_of ep.now.function) (body_of ep.now.function)) }
 
         // Where bodies and expressions were looked at, each CallResult of an accepted body is filled by one Call, which
         // is of its function, and by no Atomic; each AtomicResult by one Atomic and by no Call.

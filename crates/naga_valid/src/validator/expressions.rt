@@ -4,9 +4,9 @@ ghost use Rattle.std.specs.Prelude.{◌≡◌, OnOk, Result};
 ghost use Rattle.naga_below.specs.declared.valid.expression_error.ExpressionError.{ExpressionError as Source};
 ghost use Rattle.naga_below.specs.declared.valid.flags.ShaderStages.{ShaderStages as Mask};
 ghost use Rattle.naga_rules.specs.Answers.{Answers};
-ghost use Rattle.naga_valid.specs.walk.Answers.{AnswersLeaving};
-ghost use Rattle.naga_valid.specs.Expressions.{with_stages, of_expression};
-ghost use Rattle.naga_valid.specs.walk.Seen.{asked_by, stages_of_all};
+ghost use Rattle.naga_checks.specs.walk.Answers.{AnswersLeaving};
+ghost use Rattle.naga_checks.specs.Expressions.{with_stages, of_expression};
+ghost use Rattle.naga_checks.specs.walk.Seen.{asked_by, stages_of_all};
 
 use crate::validator::Validator;
 use bitflags::Flags;

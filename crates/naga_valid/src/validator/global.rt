@@ -5,7 +5,7 @@ ghost use Rattle.std.specs.Result.{result_err};
 ghost use Rattle.naga_below.specs.Fits.{FitsTypes, FitsGlobals};
 ghost use Rattle.naga_below.specs.Points.{first_fault};
 ghost use Rattle.naga_valid.specs.interface.GlobalPoints.{module_global_points};
-ghost use Rattle.naga_valid.specs.Parts.{AreInfosOf};
+ghost use Rattle.naga_checks.specs.Parts.{AreInfosOf};
 
 use crate::validator::Validator;
 use naga_below::ir::module::{GlobalVariable, Module};

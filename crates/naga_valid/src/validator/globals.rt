@@ -3,7 +3,7 @@
 ghost use Rattle.std.specs.Prelude.{◌≡◌, ◌↔◌, ◌<◌, IsTrue, IsSome, Some, [], slice_get, length};
 ghost use Rattle.naga_below.specs.Points.{points_of_each};
 ghost use Rattle.naga_below.specs.declared.ir.types.AddressSpace.TheVariants as space;
-ghost use Rattle.naga_valid.specs.walk.Answers.{Finds};
+ghost use Rattle.naga_checks.specs.walk.Answers.{Finds};
 ghost use Rattle.naga_valid.specs.walk.Bindings.{AreTaken};
 ghost use Rattle.naga_valid.specs.interface.Globals.{used_payload_points, use_points, points_if_used, global_points, globals_points};
 ghost use Rattle.naga_valid.specs.interface.Judged.{HasPayloadSizes};

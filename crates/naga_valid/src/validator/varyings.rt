@@ -12,7 +12,7 @@ ghost use Rattle.naga_rules.specs.declared.varying.MeshOutputType.TheVariants as
 ghost use Rattle.naga_valid.specs.interface.Faults.{Judges, OfArgument, OfResult, Other};
 ghost use Rattle.naga_valid.specs.interface.Mesh.{mesh_points};
 ghost use Rattle.naga_valid.specs.interface.Varyings.{argument_points, declared_points, has_built_in, is_struct, output_item, output_points, outputs_points, place_of, primitive_points, result_parts, result_points, vertex_points};
-ghost use Rattle.naga_valid.specs.Parts.{AreInfosOf};
+ghost use Rattle.naga_checks.specs.Parts.{AreInfosOf};
 ghost use Rattle.naga_valid.specs.declared.interface.EntryPointError.TheVariants as fault;
 
 use crate::interface::EntryPointError;

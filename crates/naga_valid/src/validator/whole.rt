@@ -2,16 +2,16 @@
 
 ghost use Rattle.std.specs.Prelude.{◌≡◌, true, OnOk, OnErr, IfOk, length};
 ghost use Rattle.naga_below.specs.Fits.{FitsTypes, FitsFunction};
-ghost use Rattle.naga_runs.specs.Soundness.{RunsAreSound};
+ghost use Rattle.naga_runs.specs.Soundness.{RunsAreSure};
 ghost use Rattle.naga_rules.specs.Answers.{Answers};
 ghost use Rattle.naga_valid.specs.Accepted.{ResultsAreFilledOnce, StagesAreOfAll};
-ghost use Rattle.naga_valid.specs.Blocks.{body_of};
-ghost use Rattle.naga_valid.specs.Context.{pre_emitted_of};
-ghost use Rattle.naga_valid.specs.WhatIsChecked.{checks_blocks, checks_expressions};
-ghost use Rattle.naga_valid.specs.Judged.{function_judgement, AnswersTracing};
-ghost use Rattle.naga_valid.specs.Parts.{AreInfosOf};
+ghost use Rattle.naga_checks.specs.Blocks.{body_of};
+ghost use Rattle.naga_checks.specs.Context.{pre_emitted_of};
+ghost use Rattle.naga_checks.specs.WhatIsChecked.{checks_blocks, checks_expressions};
+ghost use Rattle.naga_checks.specs.Judged.{function_judgement, AnswersTracing};
+ghost use Rattle.naga_checks.specs.Parts.{AreInfosOf};
 ghost use Rattle.naga_valid.specs.Shapes.{HasNoReturnInContinuing, HasWholeSwitches};
-ghost use Rattle.naga_valid.specs.walk.Seen.{judgement_by};
+ghost use Rattle.naga_checks.specs.walk.Seen.{judgement_by};
 
 use crate::outcome::FunctionOutcome;
 use crate::validator::Validator;
@@ -51,7 +51,7 @@ impl<B: Below> Validator<B> {
         // In every run of an accepted body that was looked at, what is used is live or was skipped by a Continue, no
         // live handle is put, and jumps have targets.
         ensures sound { OnOk result (checks_blocks self.old.settings.flags ≡ true
-            → RunsAreSound (pre_emitted_of fun.now) (body_of fun.now)) }
+            → RunsAreSure (pre_emitted_of fun.now) (body_of fun.now)) }
 
         // Where bodies and expressions were looked at, each CallResult of an accepted body is filled by one Call, which
         // is of its function, and by no Atomic; each AtomicResult by one Atomic and by no Call.

@@ -1,6 +1,6 @@
 use Rattle.std.proofs.Common.{rules}
-use Rattle.naga_valid.specs.Declarations.{argument_points}
-use Rattle.naga_valid.specs.walk.Seen.{context_of}
+use Rattle.naga_checks.specs.Declarations.{argument_points}
+use Rattle.naga_checks.specs.walk.Seen.{context_of}
 use Rattle.naga_valid.proofs.Each.{each_stops, each_passes}
 use Rattle.naga_valid.proofs.declarations.check_arguments.Goals as goal
 

@@ -1,10 +1,10 @@
 use Rattle.std.proofs.Common.{rules, None, Some, sym, ap, ◌∙◌}
 use Rattle.std.specs.Result.{result_err}
 use Rattle.naga_below.specs.Points.{points_of_each}
-use Rattle.naga_valid.specs.Declarations.{variable_points, argument_points, result_points}
-use Rattle.naga_valid.specs.walk.Seen.{context_of}
+use Rattle.naga_checks.specs.Declarations.{variable_points, argument_points, result_points}
+use Rattle.naga_checks.specs.walk.Seen.{context_of}
 use Rattle.naga_valid.proofs.Each.{third_decides}
-use Rattle.naga_valid.proofs.Refusals.{refuses_first, refuses_second}
+use Rattle.naga_checks.proofs.Refusals.{refuses_first, refuses_second}
 use Rattle.naga_valid.proofs.declarations.check_declarations.Goals as goal
 
 pub returns-in_err-check_locals : goal.returns-in_err-check_locals

@@ -1,7 +1,7 @@
 use Rattle.std.proofs.Common.{◌≡◌, drop}
 use Rattle.naga_below.specs.Points.{first_fault, points_from}
-use Rattle.naga_valid.specs.Declarations.{variable_points}
-use Rattle.naga_valid.specs.walk.Seen.{context_of}
+use Rattle.naga_checks.specs.Declarations.{variable_points}
+use Rattle.naga_checks.specs.walk.Seen.{context_of}
 use Rattle.naga_valid.proofs.declarations.check_locals.Given as goal
 
 -- what is left decides

@@ -1,10 +1,11 @@
 use Rattle.std.proofs.Common.{◌≡◌, take}
-use Rattle.naga_valid.specs.walk.Table.{count, known}
+use Rattle.naga_checks.specs.walk.Table.{count, known}
 use Rattle.naga_valid.proofs.PreEmitted.{pre_emitted_in}
 use Rattle.naga_valid.proofs.function.put_pre_emitted.Given as goal
 
 abbrev pub invariant-loop-index : goal.invariant-loop-index
 invariant-loop-index l = record {
-  known : known l.scope ≡ pre_emitted_in (take l.index l.context.fun.now.expressions);
+  scope : (known l.scope).scope ≡ pre_emitted_in (take l.index l.context.fun.now.expressions);
+  must : (known l.scope).must ≡ pre_emitted_in (take l.index l.context.fun.now.expressions);
   count : count l.scope ≡ count l.initial.scope;
 }

@@ -1,9 +1,9 @@
 use Rattle.std.proofs.Common.{rules}
-use Rattle.naga_valid.specs.Judged.{body_judgement}
-use Rattle.naga_valid.specs.checks.Results.{filled_points}
-use Rattle.naga_valid.specs.walk.Table.{filled_in}
-use Rattle.naga_valid.specs.walk.Seen.{context_of}
-use Rattle.naga_valid.specs.walk.State.{kept}
+use Rattle.naga_checks.specs.Judged.{body_judgement}
+use Rattle.naga_checks.specs.checks.Results.{filled_points}
+use Rattle.naga_checks.specs.walk.Table.{filled_in}
+use Rattle.naga_checks.specs.walk.Seen.{context_of}
+use Rattle.naga_checks.specs.walk.State.{kept}
 use Rattle.naga_valid.proofs.Judged.{unfilled_refuses, all_filled}
 use Rattle.naga_valid.proofs.function.validate_body.Goals as goal
 

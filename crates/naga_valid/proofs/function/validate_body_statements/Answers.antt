@@ -1,5 +1,5 @@
 use Rattle.std.proofs.Common.{rules}
-use Rattle.naga_valid.specs.walk.Seen.{context_of}
+use Rattle.naga_checks.specs.walk.Seen.{context_of}
 use Rattle.naga_valid.proofs.Judged.{judged}
 use Rattle.naga_valid.proofs.function.validate_body_statements.Goals as goal
 

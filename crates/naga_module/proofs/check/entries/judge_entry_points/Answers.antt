@@ -1,7 +1,7 @@
 use Rattle.std.proofs.Common.{◌+◌, ◌∙◌, List, drop, length, refl, sym, ap, subst}
 use Rattle.std.proofs.lemmas.Result.{err_from_is_err_and}
 use Rattle.naga_below.specs.declared.ir.module.EntryPoint.{EntryPoint}
-use Rattle.naga_valid.specs.Parts.{Parts, AreInfosOf}
+use Rattle.naga_checks.specs.Parts.{Parts, AreInfosOf}
 use Rattle.naga_valid.specs.interface.Judged.{HasPayloadSizes}
 use Rattle.naga_module.specs.CodeModule.{EntriesLead, EntriesStop}
 use Rattle.naga_module.proofs.Modules.{entries_lead_on, entries_stop_behind, entries_judged, none_left}

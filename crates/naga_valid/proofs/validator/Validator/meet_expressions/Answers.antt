@@ -1,8 +1,8 @@
 use Rattle.std.proofs.Common.{rules, ◌≡◌, Ok, length, ap}
 use Rattle.naga_below.specs.declared.valid.info.FunctionInfo.{FunctionInfo}
 use Rattle.naga_rules.specs.Answers.{Answers}
-use Rattle.naga_valid.specs.walk.Seen.{asked_context}
-use Rattle.naga_valid.specs.Stages.{meet}
+use Rattle.naga_checks.specs.walk.Seen.{asked_context}
+use Rattle.naga_checks.specs.Stages.{meet}
 use Rattle.naga_valid.proofs.ExpressionSteps.{asked_is, mask_met, mask_refused, masks_end}
 use Rattle.naga_valid.proofs.validator.Validator.meet_expressions.Goals as goal
 

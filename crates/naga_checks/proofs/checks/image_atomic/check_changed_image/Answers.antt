@@ -1,0 +1,22 @@
+use Rattle.std.proofs.Common.{rules}
+use Rattle.naga_checks.specs.walk.Image.{texel_points, changed_class_points}
+use Rattle.naga_checks.specs.walk.Place.{place_at}
+use Rattle.naga_checks.specs.walk.Seen.{context_of}
+use Rattle.naga_checks.specs.declared.checks.image.ImageStatement.TheVariants.{Atomic}
+use Rattle.naga_checks.specs.walk.Table.{known}
+use Rattle.naga_checks.proofs.Refusals.{fault_first, fault_second}
+use Rattle.naga_checks.proofs.checks.image_atomic.check_changed_image.Goals as goal
+
+pub returns-in_err-check_texel : goal.returns-in_err-check_texel
+returns-in_err-check_texel c =
+    let context = context_of c.args.context.now in
+    let texels = texel_points Atomic context (place_at (known c.args.scope.now)) c.args.dim c.args.arrayed c.args.texel.coordinate c.args.texel.array_index in
+    let classes = changed_class_points context (place_at (known c.args.scope.now)) c.args.class c.args.fun.now c.args.value in
+    fault_first c.from_residual.result texels classes (search rules) (search rules)
+
+pub returns : goal.returns
+returns c =
+    let context = context_of c.args.context.now in
+    let texels = texel_points Atomic context (place_at (known c.args.scope.now)) c.args.dim c.args.arrayed c.args.texel.coordinate c.args.texel.array_index in
+    let classes = changed_class_points context (place_at (known c.args.scope.now)) c.args.class c.args.fun.now c.args.value in
+    fault_second _ texels classes (search rules) c.check_class.ensures

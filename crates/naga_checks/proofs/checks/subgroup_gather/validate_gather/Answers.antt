@@ -1,0 +1,21 @@
+use Rattle.std.proofs.Common.{rules}
+use Rattle.naga_checks.specs.walk.Place.{place_at}
+use Rattle.naga_checks.specs.walk.Seen.{context_of}
+use Rattle.naga_checks.specs.checks.Subgroup.{gather_points}
+use Rattle.naga_checks.specs.walk.Table.{known}
+use Rattle.naga_checks.proofs.Subgroups.{gather_is_new}
+use Rattle.naga_checks.proofs.checks.subgroup_gather.validate_gather.Goals as goal
+
+pub returns-in_err-answer-clause-fault : goal.returns-in_err-answer-clause-fault
+returns-in_err-answer-clause-fault c =
+    let points = gather_points (context_of c.args.context.now) (place_at (known c.args.scope.now)) c.args.mode.now c.args.argument c.args.gathered in
+    let first = c.in_err-answer.ensures points c.check_gather-checked.ensures in
+    search (rules, first)
+
+pub put-requires-clause-new : goal.put-requires-clause-new
+put-requires-clause-new c =
+    let context = context_of c.args.context.now in
+    let s = place_at (known c.args.scope.now) in
+    let points = gather_points context s c.args.mode.now c.args.argument c.args.gathered in
+    let holds = c.in_ok-answer.ensures points c.check_gather-checked.ensures in
+    gather_is_new context s c.args.mode.now c.args.argument c.args.gathered holds

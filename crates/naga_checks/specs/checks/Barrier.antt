@@ -1,0 +1,29 @@
+-- The check list of ControlBarrier and of MemoryBarrier.
+use Rattle.std.specs.Prelude.{Bool, [], ◌∷◌, if◌then◌else◌}
+use Rattle.std.specs.Int.RustNames.{bit_or}
+use Rattle.naga_below.specs.Bits as bit
+use Rattle.naga_below.specs.Bits.{contains, has_capability}
+use Rattle.naga_below.specs.declared.ir.flags.Barrier.{Barrier}
+use Rattle.naga_below.specs.declared.valid.capabilities.Capabilities.{Capabilities}
+use Rattle.naga_below.specs.declared.valid.settings.Settings.{Settings}
+use Rattle.naga_rules.specs.declared.function.FunctionError.TheVariants.{MissingCapability}
+use Rattle.naga_checks.specs.Points.{Points}
+use Rattle.naga_checks.specs.checks.Subgroup.{operations_point}
+
+-- whether a barrier is one of a subgroup
+abbrev pub is_of_subgroup : Barrier → Bool
+is_of_subgroup barrier = contains barrier.0 bit.SUB_GROUP.0
+
+-- subgroups and their barriers, both
+abbrev pub barrier_capabilities : Capabilities
+barrier_capabilities = record { 0 = bit_or bit.SUBGROUP.0 bit.SUBGROUP_BARRIER.0 }
+
+-- ControlBarrier and MemoryBarrier: one of a subgroup needs what the target has; any other needs nothing
+abbrev pub barrier_points : Settings → Barrier → Points
+barrier_points settings barrier =
+    if is_of_subgroup barrier
+    then
+    (has_capability settings.capabilities barrier_capabilities, MissingCapability barrier_capabilities)
+    ∷ operations_point settings bit.BASIC
+    ∷ []
+    else []

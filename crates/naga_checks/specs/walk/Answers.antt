@@ -1,0 +1,40 @@
+-- What an answer of the code says of check points and of a judgement.
+use Rattle.std.specs.Prelude.{◌≡◌, List, Result, Ok, Err, Some, None, ⊤}
+use Rattle.std.specs.Result.{result_err}
+use Rattle.naga_below.specs.declared.span.Refusal.{Refusal}
+use Rattle.naga_below.specs.declared.span.Refusal.TheVariants as refusal
+use Rattle.naga_rules.specs.Answers.{Refuses}
+use Rattle.naga_rules.specs.declared.function.FunctionError.{FunctionError}
+use Rattle.naga_below.specs.Points.{Point, first_fault}
+use Rattle.naga_checks.specs.Points.{Points}
+
+-- a judgement of which the code keeps the state: it is right, or there was no memory
+abbrev pub AnswersLeaving : {T State : Type 0} →
+    Result State FunctionError → State → Result T (Refusal FunctionError) → Type 0
+AnswersLeaving right state (Ok t) = right ≡ Ok state
+AnswersLeaving right state (Err refused) = Refuses right refused
+
+-- the same where the state is seen in what is answered
+abbrev pub AnswersState : {T State : Type 0} →
+    Result State FunctionError → (T → State) → Result T (Refusal FunctionError) → Type 0
+AnswersState right state (Ok t) = right ≡ Ok (state t)
+AnswersState right state (Err refused) = Refuses right refused
+
+-- the fault, if there is one, is that of the first of these points that fails
+abbrev pub Finds : {T Fault : Type 0} → List (Point Fault) → Result T Fault → Type 0
+Finds points r = result_err r ≡ first_fault points
+
+-- a refusal is for the fault of the first of these points that fails, or for want of memory
+abbrev pub IsFirstFault : Points → Refusal FunctionError → Type 0
+IsFirstFault points (refusal.Fault fault) = first_fault points ≡ Some fault
+IsFirstFault points refusal.Memory = ⊤
+
+-- none of these points fails, or the answer is such a refusal
+abbrev pub AnswersPoints : {T : Type 0} → Points → Result T (Refusal FunctionError) → Type 0
+AnswersPoints points (Ok t) = first_fault points ≡ None
+AnswersPoints points (Err refused) = IsFirstFault points refused
+
+-- the refusal is for this fault, or for want of memory
+abbrev pub IsRefusalFor : FunctionError → Refusal FunctionError → Type 0
+IsRefusalFor fault (refusal.Fault given) = given ≡ fault
+IsRefusalFor fault refusal.Memory = ⊤

@@ -1,0 +1,51 @@
+//! The check list of ControlBarrier and of MemoryBarrier.
+
+ghost use Rattle.std.specs.Prelude.{◌≡◌};
+ghost use Rattle.naga_checks.specs.walk.Answers.{AnswersPoints, Finds};
+ghost use Rattle.naga_checks.specs.checks.Barrier.{barrier_capabilities, barrier_points};
+
+use crate::checks::refuse::answer;
+use crate::checks::subgroup::check_operations;
+use crate::refused::Refused;
+use bitflags::Flags;
+use naga_below::ir::flags::Barrier;
+use naga_below::span::Span;
+use naga_below::valid::capabilities::Capabilities;
+use naga_below::valid::flags::SubgroupOperationSet;
+use naga_below::valid::settings::Settings;
+use naga_rules::function::FunctionError;
+use std::alloc::Global;
+
+/// ControlBarrier and MemoryBarrier.
+pub fn check_barrier(
+    alloc: Global,
+    settings: &Settings,
+    barrier: Barrier,
+    span: Span,
+) -> Result<(), Refused>
+    ensures { AnswersPoints (barrier_points settings.now barrier) result }
+{
+    answer(alloc, check_barrier_points(settings, barrier), span)
+}
+
+/// A barrier of a subgroup needs what the target has.
+fn check_barrier_points(settings: &Settings, barrier: Barrier) -> Result<(), FunctionError>
+    ensures { Finds (barrier_points settings.now barrier) result }
+{
+    if !barrier.contains(Barrier::SUB_GROUP) {
+        return Ok(());
+    }
+    let needed = barrier_capabilities();
+    if !settings.capabilities.contains(needed) {
+        return Err(FunctionError::MissingCapability(needed));
+    }
+    check_operations(settings, SubgroupOperationSet::BASIC)
+}
+
+/// What a barrier of a subgroup needs.
+#[tactic(auto, unfolding(bitflags::proofs::OnLiterals::bitflags_on_literals))]
+fn barrier_capabilities() -> Capabilities
+    ensures { result ≡ barrier_capabilities }
+{
+    Capabilities::SUBGROUP.union(Capabilities::SUBGROUP_BARRIER)
+}

@@ -1,0 +1,170 @@
+//! The check lists of the statements that are neither jumps nor hold others.
+
+ghost use Rattle.std.specs.Prelude.{◌≡◌, OnOk};
+ghost use Rattle.naga_checks.specs.walk.Answers.{AnswersPoints};
+ghost use Rattle.naga_checks.specs.Blocks.{tree_of};
+ghost use Rattle.naga_checks.specs.Context.{ContextFits};
+ghost use Rattle.naga_checks.specs.Ready.{IsStatementReady};
+ghost use Rattle.naga_checks.specs.Rules.{leaf_points};
+ghost use Rattle.naga_checks.specs.walk.Place.{place_at};
+ghost use Rattle.naga_checks.specs.walk.Seen.{context_of};
+ghost use Rattle.naga_checks.specs.walk.State.{kept, seen};
+ghost use Rattle.naga_checks.specs.walk.Walk.{puts};
+ghost use Rattle.naga_checks.specs.walk.Table.{HasPut, IsTableOf, known};
+
+use crate::checks::atomic::{AtomicOperation, validate_atomic};
+use crate::checks::barrier::check_barrier;
+use crate::checks::call::{CallSite, validate_call};
+use crate::checks::control;
+use crate::checks::cooperative::check_cooperative_store;
+use crate::checks::image::Texel;
+use crate::checks::image_atomic::check_image_atomic;
+use crate::checks::image_store::check_image_store;
+use crate::checks::load::validate_load;
+use crate::checks::ray_query::validate_ray_query;
+use crate::checks::ray_trace::check_trace_ray;
+use crate::checks::store::check_store;
+use crate::checks::subgroup::validate_ballot;
+use crate::checks::subgroup_collective::{Collective, validate_collective};
+use crate::checks::subgroup_gather::validate_gather;
+use crate::context::BlockContext;
+use crate::refused::Refused;
+use crate::state::BodyOutcome;
+use crate::table::Table;
+use naga_below::ir::operations::RayPipelineFunction;
+use naga_below::ir::statements::{Located, Statement};
+
+/// The check list of a statement that is neither a jump nor holds others; of the others it is empty. What the statement
+/// puts is in scope afterwards.
+pub fn validate_leaf(
+    table: &mut Table,
+    state: &BodyOutcome,
+    context: &BlockContext,
+    located: &Located,
+) -> Result<(), Refused>
+    requires context { ContextFits (context_of context.now) }
+    requires statement { IsStatementReady (context_of context.now) (tree_of (context_of context.now) located.now) }
+    requires table { IsTableOf (context_of context.now) table.old }
+    ensures fault { AnswersPoints
+        (leaf_points (context_of context.now) (seen (kept table.old.filled state.now)) (place_at (known table.old.scope))
+        located.now.statement)
+        result }
+    ensures scope { OnOk result (HasPut table.old.scope table.new.scope (puts (tree_of (context_of context.now) located.now))) }
+    ensures filled { table.new.filled ≡ table.old.filled }
+{
+    let span = located.span;
+    let scope = &mut table.scope;
+    let filled = &table.filled;
+    match &located.statement {
+        Statement::Emit(range) => control::validate_emit(scope, context, *range, span),
+        Statement::Store { pointer, value } => check_store(scope, context, *pointer, *value, span),
+        Statement::ImageStore {
+            image,
+            coordinate,
+            array_index,
+            value,
+        } => {
+            let texel = Texel {
+                coordinate: *coordinate,
+                array_index: *array_index,
+            };
+            check_image_store(scope, context, *image, texel, *value, span)
+        }
+        Statement::Atomic {
+            pointer,
+            fun,
+            value,
+            result,
+        } => {
+            let operation = AtomicOperation {
+                pointer: *pointer,
+                fun: *fun,
+                value: *value,
+                named: *result,
+            };
+            validate_atomic(scope, filled, context, &operation, span)
+        }
+        Statement::ImageAtomic {
+            image,
+            coordinate,
+            array_index,
+            fun,
+            value,
+        } => {
+            let texel = Texel {
+                coordinate: *coordinate,
+                array_index: *array_index,
+            };
+            check_image_atomic(scope, context, *image, texel, fun, *value, span)
+        }
+        Statement::WorkGroupUniformLoad { pointer, result } => {
+            validate_load(scope, context, *pointer, *result, span)
+        }
+        Statement::Call {
+            function,
+            arguments,
+            result,
+        } => {
+            let site = CallSite {
+                function: *function,
+                named: *result,
+            };
+            validate_call(scope, filled, context, &site, arguments.as_slice(), span)
+        }
+        Statement::CooperativeStore { target, source } => {
+            check_cooperative_store(scope, context, *target, source.pointer, span)
+        }
+        Statement::ControlBarrier(barrier) | Statement::MemoryBarrier(barrier) => {
+            check_barrier(scope.allocator(), &context.settings, *barrier, span)
+        }
+        Statement::RayQuery { query, fun } => validate_ray_query(scope, context, *query, fun, span),
+        Statement::RayPipelineFunction(
+            RayPipelineFunction::TraceRay {
+                acceleration_structure: structure,
+                descriptor,
+                payload,
+            },
+        ) => {
+            let so_far = &state.trace.payload;
+            check_trace_ray(
+                scope,
+                context,
+                so_far,
+                *structure,
+                *descriptor,
+                *payload,
+                span,
+            )
+        }
+        Statement::SubgroupBallot { result, predicate } => {
+            validate_ballot(scope, context, *result, predicate, span)
+        }
+        Statement::SubgroupGather {
+            mode,
+            argument,
+            result,
+        } => validate_gather(scope, context, mode, *argument, *result, span),
+        Statement::SubgroupCollectiveOperation {
+            op,
+            collective_op,
+            argument,
+            result,
+        } => {
+            let collective = Collective {
+                operation: *op,
+                part: *collective_op,
+                argument: *argument,
+                combined: *result,
+            };
+            validate_collective(scope, context, &collective, span)
+        }
+        Statement::Block(_)
+        | Statement::If { .. }
+        | Statement::Switch { .. }
+        | Statement::Loop { .. }
+        | Statement::Break
+        | Statement::Continue
+        | Statement::Return { .. }
+        | Statement::Kill => Ok(()),
+    }
+}

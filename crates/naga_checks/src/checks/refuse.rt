@@ -1,0 +1,61 @@
+//! Uses, and refusals with the place of their statement.
+
+ghost use Rattle.std.specs.Prelude.{[], ◌∷◌};
+ghost use Rattle.naga_checks.specs.walk.Answers.{Finds, AnswersPoints};
+ghost use Rattle.naga_checks.specs.Points.{Points, use_point, put_point};
+ghost use Rattle.naga_checks.specs.walk.Place.{place_at};
+ghost use Rattle.naga_checks.specs.walk.Table.{known};
+
+use crate::refused::Refused;
+use crate::table::ScopeColumn;
+use naga_below::arena::handle::Handle;
+use naga_below::arena::tag;
+use naga_below::span::Span;
+use naga_below::valid::expression_error::ExpressionError;
+use naga_rules::function::FunctionError;
+use std::alloc::Global;
+
+/// A use: every run has put the expression where it comes here.
+pub fn check_use(scope: &ScopeColumn, handle: Handle<tag::Expression>) -> Result<(), FunctionError>
+    ensures { Finds (use_point (place_at (known scope.now)) handle ∷ []) result }
+{
+    if !scope.may_use(handle) {
+        return Err(FunctionError::Expression {
+            handle,
+            source: ExpressionError::NotInScope,
+        });
+    }
+    Ok(())
+}
+
+/// A put, before it is made: the expression is not in scope.
+pub fn check_put(scope: &ScopeColumn, handle: Handle<tag::Expression>) -> Result<(), FunctionError>
+    ensures { Finds (put_point (place_at (known scope.now)) handle ∷ []) result }
+{
+    if scope.contains(handle) {
+        return Err(FunctionError::ExpressionAlreadyInScope(handle));
+    }
+    Ok(())
+}
+
+/// The answer of a check of the statement at a place.
+#[tactic(auto, using(crate::proofs::Refusals::refuses_fault))]
+pub fn answer(alloc: Global, checked: Result<(), FunctionError>, span: Span) -> Result<(), Refused>
+    ensures { (points : Points) → Finds points checked → AnswersPoints points result }
+{
+    match checked {
+        Ok(()) => Ok(()),
+        Err(fault) => Err(Refused::placed(alloc, fault, span)),
+    }
+}
+
+/// The answer of a check of the function as a whole.
+#[tactic(auto, using(crate::proofs::Refusals::refuses_fault))]
+pub fn answer_of_function(alloc: Global, checked: Result<(), FunctionError>) -> Result<(), Refused>
+    ensures { (points : Points) → Finds points checked → AnswersPoints points result }
+{
+    match checked {
+        Ok(()) => Ok(()),
+        Err(fault) => Err(Refused::of_function(alloc, fault)),
+    }
+}

@@ -1,0 +1,260 @@
+//! An entry point from what it is like, and what is answered of it over the plain layer.
+
+use crate::tests::bench::{Bench, COLOR, made};
+use crate::tests::parts::{HERE, NOWHERE, add, function_of};
+use crate::tests::shape::{Analysis, Case, Mesh, Part, Step};
+use naga_below::arena::Arena;
+use naga_below::arena::handle::Handle;
+use naga_below::fits::entry::fits_entry;
+use naga_below::fits::function::fits_function;
+use naga_below::fits::types::fits_types;
+use naga_below::ir::expressions::Expression;
+use naga_below::ir::functions::{Function, FunctionArgument, FunctionResult};
+use naga_below::ir::module::{EarlyDepthTest, EntryPoint, MeshStageInfo, Module};
+use naga_below::ir::operations::RayPipelineFunction;
+use naga_below::ir::statements::{Located, Statement};
+use naga_below::sequence::Sequence;
+use naga_below::span::{Refusal, WithSpan};
+use naga_below::valid::info::{FunctionInfo, ModuleInfo};
+use naga_module::plain::Plain;
+use naga_rules::below::Below;
+use naga_rules::mesh::MeshAnalysis;
+use naga_valid::interface::EntryPointError;
+use naga_valid::validator::Validator;
+use std::alloc::{AllocError, Global};
+use std::process::Abort;
+
+/// The globals that are named, and behind them a descriptor of rays.
+fn expressions_of(
+    rt: &(impl Abort + AllocGlobal),
+    globals: [Option<u32>; 2],
+) -> Result<Arena<Expression>, AllocError> {
+    let mut expressions = Arena::new(rt.alloc());
+    for global in globals {
+        if let Some(global) = global {
+            assert!(rt; expressions.len() < 16);
+            expressions.append(Expression::GlobalVariable(Handle::new(global)), NOWHERE)?;
+        }
+    }
+    assert!(rt; expressions.len() < 16);
+    expressions.append(Expression::ZeroValue(Handle::new(COLOR)), NOWHERE)?;
+    Ok(expressions)
+}
+
+fn statement(alloc: Global, step: Step) -> Statement {
+    match step {
+        Step::Break => Statement::Break,
+        Step::Kill => Statement::Kill,
+        Step::Call(function) => Statement::Call {
+            function: Handle::new(function),
+            arguments: Sequence::new(alloc),
+            result: None,
+        },
+        Step::TraceRay => Statement::RayPipelineFunction(RayPipelineFunction::TraceRay {
+            acceleration_structure: Handle::new(0),
+            descriptor: Handle::new(2),
+            payload: Handle::new(1),
+        }),
+    }
+}
+
+fn body_of(alloc: Global, steps: [Option<Step>; 2]) -> Result<Sequence<Located>, AllocError> {
+    let mut list = Sequence::new(alloc);
+    for step in steps {
+        if let Some(step) = step {
+            add(&mut list, statement(alloc, step), HERE)?;
+        }
+    }
+    Ok(list)
+}
+
+fn arguments_of(
+    alloc: Global,
+    parts: [Option<Part>; 2],
+) -> Result<Sequence<FunctionArgument>, AllocError> {
+    let mut arguments = Sequence::new(alloc);
+    for part in parts {
+        if let Some(Part { ty, binding }) = part {
+            arguments.push(FunctionArgument {
+                name: None,
+                ty: Handle::new(ty),
+                binding,
+            })?;
+        }
+    }
+    Ok(arguments)
+}
+
+fn result_of(declared: Option<Part>) -> Option<FunctionResult> {
+    match declared {
+        Some(Part { ty, binding }) => Some(FunctionResult {
+            ty: Handle::new(ty),
+            binding,
+        }),
+        None => None,
+    }
+}
+
+/// The function of an entry point, with statements at `HERE`.
+pub fn function(rt: &(impl Abort + AllocGlobal), case: &Case) -> Function {
+    let expressions = made(rt, expressions_of(rt, case.globals));
+    let list = made(rt, body_of(rt.alloc(), case.body));
+    let arguments = made(rt, arguments_of(rt.alloc(), case.arguments));
+    let mut fun = function_of(rt.alloc(), Arena::new(rt.alloc()), expressions, list);
+    fun.arguments = arguments;
+    fun.result = result_of(case.declared);
+    fun
+}
+
+/// A handle to what has this number, if there is one.
+fn handle_of<T>(index: Option<u32>) -> Option<Handle<T>> {
+    match index {
+        Some(index) => Some(Handle::new(index)),
+        None => None,
+    }
+}
+
+/// What is said of a mesh, of so many vertices.
+fn said(mesh: &Mesh, vertices: u32) -> MeshStageInfo {
+    MeshStageInfo {
+        topology: mesh.topology,
+        max_vertices: vertices,
+        max_vertices_override: handle_of(mesh.vertices_override),
+        max_primitives: 1,
+        max_primitives_override: handle_of(mesh.primitives_override),
+        vertex_output_type: Handle::new(mesh.vertex),
+        primitive_output_type: Handle::new(mesh.primitive),
+        output_variable: Handle::new(mesh.output),
+    }
+}
+
+/// The entry point.
+pub fn entry_point(rt: &(impl Abort + AllocGlobal), case: &Case) -> EntryPoint {
+    EntryPoint {
+        stage: case.stage,
+        early_depth_test: if case.tests_depth {
+            Some(EarlyDepthTest(0))
+        } else {
+            None
+        },
+        workgroup_size: case.workgroup_size,
+        function: function(rt, case),
+        mesh_info: match &case.mesh {
+            Some(mesh) => Some(said(mesh, 3)),
+            None => None,
+        },
+        task_payload: handle_of(case.payload),
+    }
+}
+
+/// The plain layer, which implies of a mesh what its analysis says, and no override as a greatest number.
+pub fn layer(alloc: Global, case: &Case) -> Plain {
+    let Analysis {
+        vertices,
+        overrides,
+        fault,
+    } = case.analysis;
+    let Some(mesh) = case.mesh else {
+        return Plain::without_mesh_shaders();
+    };
+    let implied = Mesh {
+        vertices_override: None,
+        primitives_override: None,
+        ..mesh
+    };
+    Plain::new(MeshAnalysis {
+        implied: said(&implied, vertices),
+        overrides: [handle_of(overrides[0]), handle_of(overrides[1])],
+        fault: match fault {
+            Some(fault) => Some(WithSpan::new(alloc, fault)),
+            None => None,
+        },
+    })
+}
+
+/// A validator for the entry point.
+pub fn validator(rt: &(impl Abort + AllocGlobal), bench: &Bench, case: &Case) -> Validator<Plain> {
+    let infos = made(rt, bench.types.as_slice().to_vec(rt.alloc()));
+    let below = layer(rt.alloc(), case);
+    Validator::new(below, case.flags, case.capabilities).with_types(infos)
+}
+
+/// What is answered of an entry point: its info, or its fault, which stands at `HERE` where it is its function's, and else
+/// nowhere.
+pub fn judge<B: Below>(
+    rt: &(impl Abort + AllocGlobal),
+    validator: &mut Validator<B>,
+    module: &Module,
+    infos: &ModuleInfo,
+    ep: &EntryPoint,
+) -> Result<FunctionInfo, EntryPointError> {
+    assert!(rt; validator.has_types_of(module) && validator.has_payload_sizes(module));
+    assert!(rt; fits_types(module) && fits_entry(ep, module));
+    assert!(rt; fits_function(&ep.function, module, infos.functions.len()));
+    match validator.validate_entry_point(rt.alloc(), ep, module, infos) {
+        Ok(info) => Ok(info),
+        Err(Refusal::Fault(fault)) => {
+            let in_function = matches!(fault.as_inner(), EntryPointError::Function(_));
+            let places = if in_function { [HERE].as_slice() } else { &[] };
+            assert!(rt; fault.spans() == places);
+            Err(fault.into_inner())
+        }
+        Err(Refusal::Memory) => panic!(rt; "no memory"),
+    }
+}
+
+/// What one validator answers next.
+pub fn answer_of(
+    rt: &(impl Abort + AllocGlobal),
+    validator: &mut Validator<Plain>,
+    bench: &Bench,
+    case: &Case,
+) -> Result<FunctionInfo, EntryPointError> {
+    let ep = entry_point(rt, case);
+    judge(rt, validator, &bench.module, &bench.infos, &ep)
+}
+
+/// The info of an entry point that is accepted.
+pub fn info_of(rt: &(impl Abort + AllocGlobal), bench: &Bench, case: &Case) -> FunctionInfo {
+    let mut validator = validator(rt, bench, case);
+    match answer_of(rt, &mut validator, bench, case) {
+        Ok(info) => info,
+        Err(fault) => panic!(rt; "refused: {fault:?}"),
+    }
+}
+
+/// The fault in an answer, if there is one.
+pub fn fault_in(answer: Result<FunctionInfo, EntryPointError>) -> Option<EntryPointError> {
+    match answer {
+        Ok(_) => None,
+        Err(fault) => Some(fault),
+    }
+}
+
+/// The fault of an entry point, if there is one.
+pub fn fault_of(
+    rt: &(impl Abort + AllocGlobal),
+    bench: &Bench,
+    case: &Case,
+) -> Option<EntryPointError> {
+    let mut validator = validator(rt, bench, case);
+    fault_in(answer_of(rt, &mut validator, bench, case))
+}
+
+/// An entry point is accepted.
+pub fn accepts(rt: &(impl Abort + AllocGlobal), bench: &Bench, case: &Case) {
+    let fault = fault_of(rt, bench, case);
+    assert!(rt; fault.is_none(), "refused: {fault:?}");
+}
+
+/// The entry point of a row is refused so.
+pub fn refuses(
+    rt: &(impl Abort + AllocGlobal),
+    bench: &Bench,
+    row: usize,
+    case: &Case,
+    fault: EntryPointError,
+) {
+    let found = fault_of(rt, bench, case);
+    assert!(rt; found == Some(fault), "row {row}: {found:?}");
+}

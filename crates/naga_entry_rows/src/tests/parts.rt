@@ -1,0 +1,75 @@
+//! What the tests share: places, what is known of types, and a module and a function from their parts.
+
+use naga_below::arena::Arena;
+use naga_below::arena::unique_arena::UniqueArena;
+use naga_below::ir::expressions::Expression;
+use naga_below::ir::functions::{Function, LocalVariable};
+use naga_below::ir::module::{GlobalVariable, Module};
+use naga_below::ir::statements::{Block, Located, Statement};
+use naga_below::ir::types::Type;
+use naga_below::sequence::Sequence;
+use naga_below::span::Span;
+use naga_below::valid::flags::{TypeFlags, ValidationFlags};
+use naga_below::valid::info::ModuleInfo;
+use naga_below::valid::types::TypeInfo;
+use std::alloc::{AllocError, Global};
+
+/// Where nothing is.
+pub const NOWHERE: Span = Span::UNDEFINED;
+
+/// Where statements are.
+pub const HERE: Span = Span { start: 3, end: 7 };
+
+/// What is known of a type that can be used for everything, and whose layouts are good.
+pub const GOOD: TypeInfo = TypeInfo {
+    flags: TypeFlags::ALL,
+    storage_layout: Ok(4),
+    uniform_layout: Ok(4),
+    immediates_compatibility: Ok(()),
+};
+
+/// Every check, by its bits: a call of `all` or `difference` of `bitflags` takes a minute and more to prove.
+pub const ALL_CHECKS: ValidationFlags = ValidationFlags(0xf);
+
+/// A module of these types, globals and functions, and whose ray descriptors are of no type.
+pub fn module_of(
+    alloc: Global,
+    types: UniqueArena<Type>,
+    global_variables: Arena<GlobalVariable>,
+    functions: Arena<Function>,
+) -> Module {
+    let mut module = Module::new(alloc);
+    module.types = types;
+    module.global_variables = global_variables;
+    module.functions = functions;
+    module
+}
+
+/// A function of these locals and expressions with this body, without arguments or result.
+pub fn function_of(
+    alloc: Global,
+    local_variables: Arena<LocalVariable>,
+    expressions: Arena<Expression>,
+    list: Sequence<Located>,
+) -> Function {
+    let mut fun = Function::new(alloc);
+    fun.local_variables = local_variables;
+    fun.expressions = expressions;
+    fun.body = Block { list };
+    fun
+}
+
+/// Puts a statement last.
+pub fn add(
+    list: &mut Sequence<Located>,
+    statement: Statement,
+    span: Span,
+) -> Result<(), AllocError> {
+    list.push(Located { statement, span })?;
+    Ok(())
+}
+
+/// No function and no global of a module is known.
+pub fn no_infos(alloc: Global) -> ModuleInfo {
+    ModuleInfo::new(alloc)
+}

@@ -1,9 +1,0 @@
-use Rattle.naga_valid.specs.walk.Table.{shown}
-use Rattle.naga_valid.proofs.Columns.{was_left}
-use Rattle.naga_valid.proofs.table.ScopeColumn.leave.Goals as goal
-
-pub returns-clause-shown : goal.returns-clause-shown
-unfolding shown
-returns-clause-shown c =
-    let t = c.args.self.now in
-    was_left t.numbers.items t.states.items t.innermost t.sound c.args.outer
