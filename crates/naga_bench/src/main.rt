@@ -1,12 +1,14 @@
 //! Times the validator over bodies of many shapes and sizes, by the clock. Without an argument it prints the names of the
-//! cases, with one it runs those whose names begin so, and with `all` every one. A line has the case, its statements, the
-//! fastest judgement of many, the lower layer alone and the tests of the conditions in nanoseconds, and the judgement's
-//! own share (without the lower layer) for each statement.
+//! cases, with one it runs those whose names begin so, and with `all` every one; with `nesting block|if|loop DEPTH` it goes
+//! through the steps of a body that nests so deep, with `dropping` only through making and dropping it. A line of a case has its name, its statements, the fastest judgement of
+//! many, the lower layer alone and the tests of the conditions in nanoseconds, and the judgement's own share (without the
+//! lower layer) for each statement.
 #![tactic(auto)]
 
 mod bodies;
 mod cases;
 mod modules;
+mod nesting;
 mod timing;
 
 use crate::bodies::Shape;
@@ -201,17 +203,42 @@ fn is_chosen(case: Case, word: &str) -> bool {
     word == "all" || case.name.starts_with(word)
 }
 
-fn main(rt: HostRuntime) -> io::Result<()> {
-    let chosen = env::args(&rt)?.nth(1);
+/// Times the cases that a word asks for.
+fn time(rt: &HostRuntime, word: &str) -> io::Result<()> {
     for case in &CASES {
-        match &chosen {
-            Some(word) => {
-                if is_chosen(*case, word.as_str()) {
-                    run(&rt, *case)?;
-                }
-            }
-            None => println!(rt; "{}", case.name)?,
+        if is_chosen(*case, word) {
+            run(rt, *case)?;
         }
     }
     Ok(())
+}
+
+/// Nests a body, by the words for what holds its lists and for its depth.
+fn nest(rt: &HostRuntime, holder: &str, depth: &str, is_judged: bool) -> io::Result<()> {
+    match (nesting::holder_of(holder), depth.parse()) {
+        (Some(holder), Ok(depth)) => {
+            let mut validator = validator(rt.alloc(), TYPES)?;
+            nesting::run(rt, &mut validator, holder, depth, is_judged)
+        }
+        _ => println!(rt; "nesting|dropping block|if|loop DEPTH"),
+    }
+}
+
+fn main(rt: HostRuntime) -> io::Result<()> {
+    let words: Vec<String> = env::args(&rt)?.skip(1).collect(rt.alloc())?;
+    match words.as_slice() {
+        [what, holder, depth] if what.as_str() == "nesting" => {
+            nest(&rt, holder.as_str(), depth.as_str(), true)
+        }
+        [what, holder, depth] if what.as_str() == "dropping" => {
+            nest(&rt, holder.as_str(), depth.as_str(), false)
+        }
+        [word, ..] => time(&rt, word.as_str()),
+        [] => {
+            for case in &CASES {
+                println!(rt; "{}", case.name)?;
+            }
+            Ok(())
+        }
+    }
 }

@@ -37,7 +37,7 @@ fn flags_of(expressions: bool, blocks: bool) -> ValidationFlags
 
 /// The settings of a case: its flags, for a target with every capability, and with subgroup operations of all groups in all
 /// stages.
-fn settings_of(case: &Case) -> Settings
+pub fn settings_of(case: &Case) -> Settings
     ensures { result ≡ settings_of (case_of case.now) }
 {
     Settings {
@@ -57,7 +57,7 @@ const GOOD: TypeInfo = TypeInfo {
 };
 
 /// What is known of a bench: its types are good, and it has no global expressions.
-fn given(alloc: Global) -> Result<Given, AllocError>
+pub fn given(alloc: Global) -> Result<Given, AllocError>
     ensures { IfOk result (λ g. (g.types.items ≡ bench_infos) × (g.global_types.items ≡ [])) }
 {
     Ok(Given {
@@ -89,7 +89,7 @@ fn judge(alloc: Global, case: Case) -> Result<ModuleInfo, ModuleFault>
 
 /// The stages that the last function may run in.
 #[tactic(auto, using(crate::proofs::Cases::last_stages))]
-fn stages_of_last(infos: &[FunctionInfo]) -> ShaderStages
+pub fn stages_of_last(infos: &[FunctionInfo]) -> ShaderStages
     ensures { result ≡ stages_of_last infos.now }
 {
     match infos.last() {

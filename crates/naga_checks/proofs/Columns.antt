@@ -310,14 +310,14 @@ pub put_nothing : (a b : ScopeColumn) → shown b ≡ shown a → count b ≡ co
 put_nothing a b same n = record { inside = same_known a b same; outside = ap left same; as_many = n }
 
 -- what was put is put where the same shows
-pub stays_put : {T E : Type 0} (context : Context) (a b : ScopeColumn) (after : Table) (xs : List ℕ) (r : Result T E) → HasPut a b xs → count a ≡ length context.fun.expressions → OnOk r (IsTableOf context after) → OnOk r (shown after.scope ≡ shown b) → OnOk r (HasPut a after.scope xs)
-stays_put context a b after xs (Ok x) put n of same =
+pub stays_put : {T E : Type 0} (context : Context) (a b : ScopeColumn) (table : Table) (xs : List ℕ) (r : Result T E) → HasPut a b xs → count a ≡ length context.fun.expressions → OnOk r (IsTableOf context table) → OnOk r (shown table.scope ≡ shown b) → OnOk r (HasPut a table.scope xs)
+stays_put context a b table xs (Ok x) put n of same =
     record {
-      inside = same_known b after.scope same ∙ put.inside;
+      inside = same_known b table.scope same ∙ put.inside;
       outside = ap left same ∙ put.outside;
       as_many = of.scope ∙ sym n;
     }
-stays_put context a b after xs (Err e) put n of same = tt
+stays_put context a b table xs (Err e) put n of same = tt
 
 -- an innermost scope that was entered and in which this was put may be left, and then shows what there was
 module _ (before entered after : ScopeColumn) {xs : List ℕ} (outer : ℕ) (shows : left (shown entered) outer ≡ shown before) (put : HasPut entered after xs) where

@@ -9,6 +9,6 @@ use Rattle.naga_checks.specs.checks.Cooperative.{cooperative_points}
 use Rattle.naga_checks.specs.Points.{may_use, is_in_scope}
 use Rattle.naga_checks.proofs.Flat.{holds_at}
 
--- its one use is in scope
+-- its one use is allowed
 pub cooperative_fits : (context : Context) (place : Place) (target pointer : ℕ) → first_fault (cooperative_points context place target pointer) ≡ None → Fit (may_use place) (is_in_scope place) (Use target ∷ [])
 cooperative_fits context place target pointer e = (holds_at 0 (cooperative_points context place target pointer) e, tt)

@@ -16,7 +16,7 @@ use Rattle.naga_checks.specs.Points.{may_use, is_in_scope}
 use Rattle.naga_checks.proofs.Flat.{holds_at, holds_behind}
 use Rattle.naga_checks.proofs.Images.{index_fits}
 
--- the uses of an image's atomic operation are in scope
+-- the uses of an image's atomic operation are allowed
 pub image_atomic_fits : (context : Context) (place : Place) (image coordinate : ℕ) (index : Option ℕ) (fun : AtomicFunction) (value : ℕ) → first_fault (image_atomic_points context place image coordinate index fun value) ≡ None → Fit (may_use place) (is_in_scope place) (Use coordinate ∷ (used_if index ++ Use value ∷ []))
 image_atomic_fits context place image coordinate index fun value e =
     let points = image_atomic_points context place image coordinate index fun value in

@@ -16,13 +16,13 @@ use Rattle.naga_checks.specs.Points.{may_use, is_in_scope}
 use Rattle.naga_checks.proofs.Flat.{holds_at, holds_behind}
 
 module _ (context : Context) (place : Place) where
-  -- the use of an array index is in scope
+  -- the use of an array index is allowed
   pub index_fits : (inside : ExpressionError → FunctionError) (arrayed : Bool) (index : Option ℕ) (acts : List Act) → first_fault (array_index_points inside context place arrayed index) ≡ None → Fit (may_use place) (is_in_scope place) acts → Fit (may_use place) (is_in_scope place) (used_if index ++ acts)
   index_fits inside arrayed None acts e rest = rest
   index_fits inside arrayed (Some k) acts e rest =
       (holds_at 1 (array_index_points inside context place arrayed (Some k)) e, rest)
 
-  -- the uses of an image store are in scope
+  -- the uses of an image store are allowed
   pub image_store_fits : (image coordinate : ℕ) (index : Option ℕ) (value : ℕ) → first_fault (image_store_points context place image coordinate index value) ≡ None → Fit (may_use place) (is_in_scope place) (Use coordinate ∷ (used_if index ++ Use value ∷ []))
   image_store_fits image coordinate index value e =
       let points = image_store_points context place image coordinate index value in

@@ -10,7 +10,7 @@ use Rattle.naga_checks.specs.checks.Load.{load_points}
 use Rattle.naga_checks.specs.Points.{may_use, is_in_scope}
 use Rattle.naga_checks.proofs.Flat.{holds_at}
 
--- its use is in scope, and its put is not
+-- its use is allowed, and its put is not in scope
 module _ (context : Context) (place : Place) (pointer r : ℕ) (e : first_fault (load_points context place pointer r) ≡ None) where
   pub load_holds : (may_use place pointer ≡ true) × (is_in_scope place r ≡ false)
   load_holds =

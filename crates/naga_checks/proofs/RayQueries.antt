@@ -24,7 +24,7 @@ module _ (context : Context) (place : Place) where
   function_fits q flag query.ConfirmIntersection e = tt
   function_fits q flag query.Terminate e = tt
 
-  -- its uses are in scope, and what it puts is not
+  -- its uses are allowed, and what it puts is not in scope
   pub ray_query_fits : (q : ℕ) (fun : RayQueryFunction) → first_fault (ray_query_points context place q fun) ≡ None → Fit (may_use place) (is_in_scope place) (query_acts fun)
   ray_query_fits q fun e =
       function_fits q (is_set (query_flag_at context q)) fun (holds_behind 2 (ray_query_points context place q fun) e)

@@ -10,7 +10,7 @@ use Rattle.naga_checks.specs.Points.{may_use, is_in_scope}
 use Rattle.naga_checks.specs.checks.RayTrace.{trace_ray_points}
 use Rattle.naga_checks.proofs.Flat.{holds_at}
 
--- its uses are in scope
+-- its uses are allowed
 pub trace_ray_fits : (context : Context) (so_far : Option ℕ) (place : Place) (a d p : ℕ) → first_fault (trace_ray_points context so_far place a d p) ≡ None → Fit (may_use place) (is_in_scope place) (pipeline_acts (TraceRay a d p))
 trace_ray_fits context so_far place a d p e =
     let points = trace_ray_points context so_far place a d p in

@@ -62,6 +62,6 @@ module _ (es : List IrExpression) (earlier : NameEarlierExpressions es) where
   root_of_itself zero is = refl
   root_of_itself (suc k) is = ap (λ o. unwrap_or (option_map (root_within es k) o) (suc k)) is
 
--- its one use is in scope
+-- its one use is allowed
 pub store_fits : (context : Context) (place : Place) (pointer value : ℕ) → first_fault (store_points context place pointer value) ≡ None → Fit (may_use place) (is_in_scope place) (Use value ∷ [])
 store_fits context place pointer value e = (holds_at 1 (store_points context place pointer value) e, tt)

@@ -1,4 +1,5 @@
--- What lemmas and private functions alone cite: the judgement along the tree and the parts of lists, as the code goes through them.
+-- What lemmas cite, and functions that the validator alone calls: the judgement along the tree and the parts of lists, as the
+-- code goes through them.
 pub mod State
 pub mod Numbers
 pub mod Refused

@@ -1,6 +1,6 @@
 //! Judges whole modules: reads a document with a module, the settings of a validator and facts from standard input, writes the
-//! verdict to standard output, and ends with 0 where the module is accepted, 1 where it is refused, 2 where the document can't
-//! be read, and 3 where there was no memory.
+//! verdict to standard output, and ends with 0 where the module is accepted, 1 where it is refused, 2 where the document is
+//! unreadable, 3 where there was no memory, and 4 where reading or writing failed.
 #![tactic(auto)]
 
 mod arguments;
@@ -15,24 +15,48 @@ mod write;
 
 use crate::arguments::{Task, task_of};
 use crate::run::{Form, run_document, run_lines};
+use clap::error::ErrorKind;
 use std::io;
 use std::process::ExitCode;
 
-fn main(rt: HostRuntime) -> io::Result<ExitCode> {
+/// The exit status where there was no memory.
+const MEMORY: u8 = 3;
+
+/// The exit status where a read or a write fails.
+const FAILED: u8 = 4;
+
+/// Does what the arguments ask for, and answers the exit status.
+fn answer(rt: &HostRuntime) -> io::Result<u8> {
     let alloc = rt.alloc();
-    let words: Vec<String> = std::env::args(&rt)?.collect(alloc)?;
+    let words: Vec<String> = std::env::args(rt)?.collect(alloc)?;
     let task = match task_of(alloc, words.as_slice()) {
         Ok(task) => task,
         Err(error) => {
-            error.print(&rt)?;
-            return Ok(ExitCode::from(error.exit_code() as u8));
+            let is_wanting = error.kind() == ErrorKind::OutOfMemory;
+            error.print(rt)?;
+            return Ok(if is_wanting {
+                MEMORY
+            } else {
+                error.exit_code() as u8
+            });
         }
     };
-    let (mut reader, mut writer) = (rt.reader(), io::writer(&rt));
-    let status = match task {
-        Task::Document => run_document(alloc, &mut reader, &mut writer, Form::Lines)?,
-        Task::Json => run_document(alloc, &mut reader, &mut writer, Form::Json)?,
-        Task::JsonLines => run_lines(alloc, &mut reader, &mut writer)?,
-    };
-    Ok(ExitCode::from(status))
+    let (mut reader, mut writer) = (rt.reader(), io::writer(rt));
+    match task {
+        Task::Document => run_document(alloc, &mut reader, &mut writer, Form::Lines),
+        Task::Json => run_document(alloc, &mut reader, &mut writer, Form::Json),
+        Task::JsonLines => run_lines(alloc, &mut reader, &mut writer),
+    }
+}
+
+fn main(rt: HostRuntime) -> ExitCode {
+    match answer(&rt) {
+        Ok(status) => ExitCode::from(status),
+        Err(error) => {
+            // Where this can't be written either, the status says it alone.
+            let _ = eprintln!(rt; "naga_judge: {error}");
+            let is_wanting = error.kind() == io::ErrorKind::OutOfMemory;
+            ExitCode::from(if is_wanting { MEMORY } else { FAILED })
+        }
+    }
 }

@@ -9,14 +9,14 @@ use Rattle.naga_below.specs.declared.ir.statements.SwitchValue.{SwitchValue}
 use Rattle.naga_below.specs.declared.span.Span.{Span}
 use Rattle.naga_below.specs.Points.{and_then, Point, first_fault, answer}
 use Rattle.naga_runs.specs.ByTree.{past, in_case, in_loop, in_continuing, at_break_if, break_if_visits, body_visits, part_visits, case_visits, judge, judge_visits, judge_body, judge_stmt, judge_parts, judge_cases, judge_break_if, JudgementIsByTree, Compositional}
-use Rattle.naga_runs.specs.Guards.{FitsIn, AcceptedIsSound, AcceptedIsSure, IsRead, AcceptedBlockIsSound, AcceptedBlockIsSure}
+use Rattle.naga_runs.specs.Guards.{FitsIn, AcceptedIsSure, IsRead, AcceptedBlockIsSure}
 use Rattle.naga_runs.specs.Handles.{Handles}
 use Rattle.naga_runs.specs.Judgement.{Rules, state_after, points_after, judgement, by_earlier, Follows, viewed, FollowedAgrees, EarlierAgrees}
 use Rattle.naga_runs.specs.Positions.{Position, StatementNode, BreakIfNode}
-use Rattle.naga_runs.specs.Soundness.{IsFit, IsSurelyFit}
+use Rattle.naga_runs.specs.Soundness.{IsSurelyFit}
 use Rattle.naga_runs.specs.VisitOrder.{positions}
 use Rattle.naga_runs.specs.Visits.{Place, Visit, visit_at, visits_of}
-use Rattle.naga_runs.proofs.Laws.{fit_is_sound, surely_fit_is_sure}
+use Rattle.naga_runs.proofs.Laws.{surely_fit_is_sure}
 use Rattle.naga_runs.proofs.Reading.{blocks_are_read}
 use Rattle.naga_runs.proofs.VisitsByTree.{visits_are}
 
@@ -243,31 +243,17 @@ module _ {State Fault : Type 0} (R : Rules State Fault) where
   any_visit [] = tt
   any_visit (p ∷ ps) = (tt, any_visit ps)
 
-  pub accepted_is_sound : AcceptedIsSound R
-  accepted_is_sound guards st end pre b e =
-      let fit : IsFit pre b =
-      all_visits_pass (λ v. Unit {0}) (λ v. FitsIn v.place.scope v) (λ st v _. guards st v)
-      st end pre b (any_visit (positions b)) e in
-      (fit, fit_is_sound pre b fit)
-
   pub accepted_is_sure : AcceptedIsSure R
   accepted_is_sure guards st end pre b e =
       let fit : IsSurelyFit pre b =
-      all_visits_pass (λ v. Unit {0}) (λ v. FitsIn v.place.must v) (λ st v _. guards st v)
+      all_visits_pass (λ v. Unit {0}) FitsIn (λ st v _. guards st v)
       st end pre b (any_visit (positions b)) e in
       (fit, surely_fit_is_sure pre b fit)
-
-  pub accepted_block_is_sound : AcceptedBlockIsSound R
-  accepted_block_is_sound operands guards st end pre block e =
-      let fit : IsFit pre (body_of operands block) =
-      all_visits_pass (λ v. IsRead operands v.node) (λ v. FitsIn v.place.scope v) guards
-      st end pre (body_of operands block) (blocks_are_read operands block) e in
-      (fit, fit_is_sound pre (body_of operands block) fit)
 
   pub accepted_block_is_sure : AcceptedBlockIsSure R
   accepted_block_is_sure operands guards st end pre block e =
       let fit : IsSurelyFit pre (body_of operands block) =
-      all_visits_pass (λ v. IsRead operands v.node) (λ v. FitsIn v.place.must v) guards
+      all_visits_pass (λ v. IsRead operands v.node) FitsIn guards
       st end pre (body_of operands block) (blocks_are_read operands block) e in
       (fit, surely_fit_is_sure pre (body_of operands block) fit)
 

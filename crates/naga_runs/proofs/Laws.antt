@@ -12,7 +12,7 @@ use Rattle.naga_runs.specs.Positions.{Position, node_at, Root, In, NoNode}
 use Rattle.naga_runs.specs.PutsAndUses.{node_acts, with_acts}
 use Rattle.naga_runs.specs.Scope.{scope_at}
 use Rattle.naga_runs.specs.Skipped.{skipped_at}
-use Rattle.naga_runs.specs.Soundness.{Fit, HasAbility, IsFit, IsSurelyFit, IsSound, IsSure, FitIsSound, SurelyFitIsSure}
+use Rattle.naga_runs.specs.Soundness.{Fit, HasAbility, SurelyFitsAt, IsSurelyFit, IsSure, SurelyFitIsSure}
 use Rattle.naga_runs.specs.VisitOrder.{positions}
 use Rattle.naga_runs.proofs.EveryPosition.{at_every}
 use Rattle.naga_runs.proofs.Induction.{Context, At, BodyEnds, not_true, Fine, from_start, body_law}
@@ -50,11 +50,6 @@ skipped_dead : {l s k : Bool} → Tally l s k → k ≡ true → l ≡ false
 skipped_dead outside e = refl
 skipped_dead alive e = cc
 skipped_dead skipped e = refl
-
-live_or_skipped : {l s k : Bool} → Tally l s k → s ≡ true → (l ≡ true) ⊎ (k ≡ true)
-live_or_skipped outside e = cc
-live_or_skipped alive e = inl refl
-live_or_skipped skipped e = inr refl
 
 new_dead : {l s k : Bool} → Tally l s k → s ≡ false → l ≡ false
 new_dead outside e = refl
@@ -101,9 +96,6 @@ run_law b pre n cs P fresh able says =
 
 module _ (pre : Handles) (b : Body) (p : Position) (ks : List (Option ℕ)) (a : Act) (d : List Act) (l : Handles)
     (at : At (scope_at pre b p) (skipped_at b p ks) (must_at pre b p) (node_acts (node_at b p)) a d l) where
-  event : Event
-  event = record { act = a; done = d; live = l; position = p; cuts = ks }
-
   skips : (h : ℕ) → ((scope_at pre b p h ≡ true) × (l h ≡ false)) ↔ (skipped_at b p ks h ≡ true)
   skips h = (
     λ e. lost (at.tally.at h) ((acts_grow d (scope_at pre b p)).at h e.0) e.1,
@@ -112,41 +104,29 @@ module _ (pre : Handles) (b : Body) (p : Position) (ks : List (Option ℕ)) (a :
   )
 
   -- the acts at the position, about this one
-  of_use : (u : Handles) (h : ℕ) → Fit u (scope_at pre b p) (node_acts (node_at b p)) → a ≡ Use h →
-      with_acts u d h ≡ true
-  of_use u h f e = fit_use d at.rest h u (scope_at pre b p)
-      (subst (λ x. Fit u (scope_at pre b p) (d ++ x ∷ at.rest)) e
-      (subst (λ xs. Fit u (scope_at pre b p) xs) at.split f))
+  abbrev FitHere : List Act → Type 0
+  FitHere acts = Fit (must_at pre b p) (scope_at pre b p) acts
 
-  of_put : (u : Handles) (h : ℕ) → Fit u (scope_at pre b p) (node_acts (node_at b p)) → a ≡ Put h →
-      with_acts (scope_at pre b p) d h ≡ false
-  of_put u h f e = fit_put d at.rest h u (scope_at pre b p)
-      (subst (λ x. Fit u (scope_at pre b p) (d ++ x ∷ at.rest)) e
-      (subst (λ xs. Fit u (scope_at pre b p) xs) at.split f))
+  of_use : (h : ℕ) → FitHere (node_acts (node_at b p)) → a ≡ Use h → with_acts (must_at pre b p) d h ≡ true
+  of_use h f e = fit_use d at.rest h (must_at pre b p) (scope_at pre b p)
+      (subst (λ x. FitHere (d ++ x ∷ at.rest)) e (subst FitHere at.split f))
 
-  was_used : (h : ℕ) → Fit (must_at pre b p) (scope_at pre b p) (node_acts (node_at b p)) →
+  of_put : (h : ℕ) → FitHere (node_acts (node_at b p)) → a ≡ Put h → with_acts (scope_at pre b p) d h ≡ false
+  of_put h f e = fit_put d at.rest h (must_at pre b p) (scope_at pre b p)
+      (subst (λ x. FitHere (d ++ x ∷ at.rest)) e (subst FitHere at.split f))
+
+  was_used : (h : ℕ) → FitHere (node_acts (node_at b p)) →
       (before between : List Act) → d ≡ before ++ Use h ∷ between → with_acts (must_at pre b p) d h ≡ true
   was_used h f before between e =
       let split : node_acts (node_at b p) ≡ before ++ Use h ∷ (between ++ a ∷ at.rest) = at.split ∙
       (ap (λ xs. xs ++ a ∷ at.rest) e ∙ append_assoc before (Use h ∷ between) (a ∷ at.rest)) in
       let known = fit_use before (between ++ a ∷ at.rest) h (must_at pre b p) (scope_at pre b p)
-      (subst (λ xs. Fit (must_at pre b p) (scope_at pre b p) xs) split f) in
+      (subst FitHere split f) in
       subst (λ xs. with_acts (must_at pre b p) xs h ≡ true) (sym e)
       (subst (λ s. s h ≡ true) (sym (acts-append before (Use h ∷ between) (must_at pre b p)))
       ((acts_grow between (with_acts (must_at pre b p) before)).at h known))
 
-  sound_at : Contains (positions b) p → Fit (scope_at pre b p) (scope_at pre b p) (node_acts (node_at b p)) →
-      IsSound pre b (record { act = a; done = d; live = l; position = p; cuts = ks })
-  sound_at listed f =
-      record {
-        stands = record { listed = listed; rest = at.rest; acts = at.split };
-        in_scope = λ h e. live_scope (at.tally.at h) e;
-        lost = skips;
-        uses = λ h e. live_or_skipped (at.tally.at h) (of_use (scope_at pre b p) h f e);
-        puts = λ h e. new_dead (at.tally.at h) (of_put (scope_at pre b p) h f e);
-      }
-
-  sure_at : Contains (positions b) p → Fit (must_at pre b p) (scope_at pre b p) (node_acts (node_at b p)) →
+  sure_at : Contains (positions b) p → FitHere (node_acts (node_at b p)) →
       IsSure pre b (record { act = a; done = d; live = l; position = p; cuts = ks })
   sure_at listed f =
       record {
@@ -154,37 +134,28 @@ module _ (pre : Handles) (b : Body) (p : Position) (ks : List (Option ℕ)) (a :
         in_scope = λ h e. live_scope (at.tally.at h) e;
         lost = skips;
         must = λ h e. at.sure.at h ((acts_grow d (must_at pre b p)).at h e);
-        uses = λ h e. at.sure.at h (of_use (must_at pre b p) h f e);
+        uses = λ h e. at.sure.at h (of_use h f e);
         used = λ h before between e. at.sure.at h (was_used h f before between e);
-        puts = λ h e. new_dead (at.tally.at h) (of_put (must_at pre b p) h f e);
+        puts = λ h e. new_dead (at.tally.at h) (of_put h f e);
       }
 
 -- what the conditions say where something stands, they say of every path
-every_acts : (u : Handles → Body → Position → Handles) (pre : Handles) (b : Body) →
-    AllByRecursion (λ p. Fit (u pre b p) (scope_at pre b p) (node_acts (node_at b p)) × HasAbility
-    (node_jump (node_at b p)) p) (positions b) → (i : ℕ) (p : Position) → Fit (u pre b (In Root i ∷ p))
-    (scope_at pre b (In Root i ∷ p)) (node_acts (node_at b (In Root i ∷ p)))
-every_acts u pre b all i p = go (at_every b _ all i p)
+every_acts : (pre : Handles) (b : Body) → IsSurelyFit pre b → (i : ℕ) (p : Position) →
+    Fit (must_at pre b (In Root i ∷ p)) (scope_at pre b (In Root i ∷ p)) (node_acts (node_at b (In Root i ∷ p)))
+every_acts pre b all i p = go (at_every b _ all i p)
   where
-    go : (node_at b (In Root i ∷ p) ≡ NoNode) ⊎
-        (Fit (u pre b (In Root i ∷ p)) (scope_at pre b (In Root i ∷ p))
-        (node_acts (node_at b (In Root i ∷ p))) × HasAbility (node_jump (node_at b (In Root i ∷ p)))
-        (In Root i ∷ p)) → Fit (u pre b (In Root i ∷ p)) (scope_at pre b (In Root i ∷ p))
-        (node_acts (node_at b (In Root i ∷ p)))
-    go (inl none) = subst (λ x. Fit (u pre b (In Root i ∷ p)) (scope_at pre b (In Root i ∷ p)) (node_acts x))
-        (sym none) tt
+    go : (node_at b (In Root i ∷ p) ≡ NoNode) ⊎ SurelyFitsAt pre b (In Root i ∷ p) →
+        Fit (must_at pre b (In Root i ∷ p)) (scope_at pre b (In Root i ∷ p)) (node_acts (node_at b (In Root i ∷ p)))
+    go (inl none) = subst
+        (λ x. Fit (must_at pre b (In Root i ∷ p)) (scope_at pre b (In Root i ∷ p)) (node_acts x)) (sym none) tt
     go (inr some) = some.0
 
-every_jump : (u : Handles → Body → Position → Handles) (pre : Handles) (b : Body) →
-    AllByRecursion (λ p. Fit (u pre b p) (scope_at pre b p) (node_acts (node_at b p)) × HasAbility
-    (node_jump (node_at b p)) p) (positions b) → (i : ℕ) (p : Position) → HasAbility
-    (node_jump (node_at b (In Root i ∷ p))) (In Root i ∷ p)
-every_jump u pre b all i p = go (at_every b _ all i p)
+every_jump : (pre : Handles) (b : Body) → IsSurelyFit pre b → (i : ℕ) (p : Position) →
+    HasAbility (node_jump (node_at b (In Root i ∷ p))) (In Root i ∷ p)
+every_jump pre b all i p = go (at_every b _ all i p)
   where
-    go : (node_at b (In Root i ∷ p) ≡ NoNode) ⊎
-        (Fit (u pre b (In Root i ∷ p)) (scope_at pre b (In Root i ∷ p))
-        (node_acts (node_at b (In Root i ∷ p))) × HasAbility (node_jump (node_at b (In Root i ∷ p)))
-        (In Root i ∷ p)) → HasAbility (node_jump (node_at b (In Root i ∷ p))) (In Root i ∷ p)
+    go : (node_at b (In Root i ∷ p) ≡ NoNode) ⊎ SurelyFitsAt pre b (In Root i ∷ p) →
+        HasAbility (node_jump (node_at b (In Root i ∷ p))) (In Root i ∷ p)
     go (inl none) = subst (λ x. HasAbility (node_jump x) (In Root i ∷ p)) (sym none) tt
     go (inr some) = some.1
 
@@ -209,27 +180,12 @@ is_listed b i p a done rest e =
     go (inl none) = absurd (no_act done rest a (ap node_acts (sym none) ∙ e))
     go (inr listed) = listed
 
-every_run_sound : (pre : Handles) (b : Body) → IsFit pre b → (n : ℕ) (cs : List ℕ) →
-    AllByRecursion (IsSound pre b) (events_of (run b pre n cs)) × (outcome_of (run b pre n cs) ≡ Stuck → ⊥)
-every_run_sound pre b fit n cs =
-    run_law b pre n cs (IsSound pre b) (λ i p. fit_fresh _ _ _ (every_acts scope_at pre b fit i p))
-    (every_jump scope_at pre b fit) (λ i p ks a d l at. sound_at pre b (In Root i ∷ p) ks a d l at
-    (is_listed b i p a d at.rest at.split) (every_acts scope_at pre b fit i p))
-
 every_run_sure : (pre : Handles) (b : Body) → IsSurelyFit pre b → (n : ℕ) (cs : List ℕ) →
     AllByRecursion (IsSure pre b) (events_of (run b pre n cs)) × (outcome_of (run b pre n cs) ≡ Stuck → ⊥)
 every_run_sure pre b fit n cs =
-    run_law b pre n cs (IsSure pre b) (λ i p. fit_fresh _ _ _ (every_acts must_at pre b fit i p))
-    (every_jump must_at pre b fit) (λ i p ks a d l at. sure_at pre b (In Root i ∷ p) ks a d l at
-    (is_listed b i p a d at.rest at.split) (every_acts must_at pre b fit i p))
-
-pub fit_is_sound : FitIsSound
-fit_is_sound pre b fit =
-    record {
-      events = λ n cs. (every_run_sound pre b fit n cs).0;
-      unstuck = λ n cs.
-          (every_run_sound pre b fit n cs).1;
-    }
+    run_law b pre n cs (IsSure pre b) (λ i p. fit_fresh _ _ _ (every_acts pre b fit i p))
+    (every_jump pre b fit) (λ i p ks a d l at. sure_at pre b (In Root i ∷ p) ks a d l at
+    (is_listed b i p a d at.rest at.split) (every_acts pre b fit i p))
 
 pub surely_fit_is_sure : SurelyFitIsSure
 surely_fit_is_sure pre b fit =

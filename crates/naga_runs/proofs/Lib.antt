@@ -11,5 +11,4 @@ pub mod SkippedIs
 pub mod LastSteps
 pub mod Reading
 pub mod Judgements
-pub mod WithoutMust
 pub mod PlainRulesGuard

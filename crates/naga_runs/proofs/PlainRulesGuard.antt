@@ -38,8 +38,8 @@ points_fit : (a : Abilities) (jump : Jump) (known scope : Handles) (acts : List 
 points_fit a jump known scope acts e =
     let f = jump_allowed a jump (act_points known scope acts) e in (acts_fit known scope acts f.1, f.0)
 
-visit_fits : (known : Handles) (v : Visit) → first_fault (plain_points known v) ≡ None → FitsIn known v
-visit_fits known v e = points_fit v.place.abilities (node_jump v.node) known v.place.scope (node_acts v.node) e
+visit_fits : (v : Visit) → first_fault (plain_points v) ≡ None → FitsIn v
+visit_fits v e = points_fit v.place.abilities (node_jump v.node) v.place.must v.place.scope (node_acts v.node) e
 
 read_is : (operands : ℕ → List ℕ) (node : Node) → IsRead operands node → read_acts operands node ≡ node_acts node
 read_is operands NoNode r = refl
@@ -54,22 +54,19 @@ read_is operands (StatementNode Continue) r = refl
 read_is operands (StatementNode (Return v)) r = refl
 read_is operands (StatementNode Kill) r = refl
 
-read_fits : (operands : ℕ → List ℕ) (known : Handles) (v : Visit) → IsRead operands v.node →
-    first_fault (read_points operands known v) ≡ None → FitsIn known v
-read_fits operands known v r e =
+read_fits : (operands : ℕ → List ℕ) (v : Visit) → IsRead operands v.node →
+    first_fault (read_points operands v) ≡ None → FitsIn v
+read_fits operands v r e =
     let f =
-    points_fit v.place.abilities (node_jump v.node) known v.place.scope (read_acts operands v.node) e in
-    (subst (λ acts. Fit known v.place.scope acts) (read_is operands v.node r) f.0, f.1)
+    points_fit v.place.abilities (node_jump v.node) v.place.must v.place.scope (read_acts operands v.node) e in
+    (subst (λ acts. Fit v.place.must v.place.scope acts) (read_is operands v.node r) f.0, f.1)
 
 pub plain_rules_guard : PlainRulesGuard
 unfolding judgement state_after
 plain_rules_guard =
     record {
-      guards = λ n v e. visit_fits v.place.scope v e;
-      guards_surely = λ n v e. visit_fits v.place.must v e;
-      accepts = refl;
+      guards = λ n v e. visit_fits v e;
       refuses = refl;
-      accepts_surely = refl;
-      guards_read = λ operands n v r e. read_fits operands v.place.scope v r e;
-      guards_read_surely = λ operands n v r e. read_fits operands v.place.must v r e;
+      accepts = refl;
+      guards_read = λ operands n v r e. read_fits operands v r e;
     }

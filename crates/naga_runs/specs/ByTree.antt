@@ -1,6 +1,6 @@
 -- Lemma-level work for proofs about code, no promise of its own: the visits and the judgement once more, along the
 -- tree instead of the positions, with one equation for each form of statement. The law says that they are the same.
-use Rattle.std.specs.Prelude.{ℕ, Bool, true, false, List, Option, Some, None, Result, Ok, Err, ◌≡◌, ◌∷◌, ◌++◌, []}
+use Rattle.std.specs.Prelude.{ℕ, Bool, true, false, List, Option, Some, None, Result, Ok, ◌≡◌, ◌∷◌, ◌++◌, []}
 use Rattle.naga_below.specs.Tree.{Act, Stmt, Body, Cases, Leaf, Block, Branch, Switch, Loop, Break, Continue, Return, Kill, Done, Then, NoCase, OneCase}
 use Rattle.naga_below.specs.declared.ir.statements.Statement.{Statement}
 use Rattle.naga_below.specs.declared.ir.statements.SwitchValue.{SwitchValue}
@@ -9,7 +9,7 @@ use Rattle.naga_runs.specs.Handles.{Handles}
 use Rattle.naga_below.specs.Points.{first_fault, answer, and_then}
 use Rattle.naga_runs.specs.Judgement.{Rules, judgement}
 use Rattle.naga_runs.specs.Must.{with_sure}
-use Rattle.naga_runs.specs.Positions.{Node, StatementNode, BreakIfNode}
+use Rattle.naga_runs.specs.Positions.{StatementNode, BreakIfNode}
 use Rattle.naga_runs.specs.PutsAndUses.{acts_of, with_acts, with_body}
 use Rattle.naga_runs.specs.Visits.{Place, Visit, at_begin, visits_of}
 use Rattle.naga_runs.specs.declared.Abilities.{Abilities}
@@ -141,29 +141,3 @@ pub record Compositional {State Fault : Type 0} (R : Rules State Fault) : Type 0
   pub no_break_if : (st : State) (c : Place) → judge_break_if R st c None ≡ Ok st
   pub break_if : (st : State) (c : Place) (h : ℕ) →
       judge_break_if R st c (Some h) ≡ judge R st (record { place = c; node = BreakIfNode h })
-
-abbrev pub place_with : Abilities → Handles → Handles → Place
-place_with a s m = record { abilities = a; scope = s; must = m }
-
--- Rules that don't ask what every run has put.
-pub record IgnoresMust {State Fault : Type 0} (R : Rules State Fault) : Type 0 where
-  pub points : (st : State) (a : Abilities) (s m n : Handles) (x : Node) →
-      R.points st (record { place = place_with a s m; node = x })
-      ≡ R.points st (record { place = place_with a s n; node = x })
-  pub advance : (st : State) (a : Abilities) (s m n : Handles) (x : Node) →
-      R.advance st (record { place = place_with a s m; node = x })
-      ≡ R.advance st (record { place = place_with a s n; node = x })
-
--- They give the same answer whatever it is.
-pub record MustIsFree (State Fault : Type 0) : Type 0 where
-  pub body : (R : Rules State Fault) → IgnoresMust R → (st : State) (a : Abilities) (s m n : Handles) (b : Body) →
-      judge_body R st (place_with a s m) b ≡ judge_body R st (place_with a s n) b
-  pub stmt : (R : Rules State Fault) → IgnoresMust R → (st : State) (a : Abilities) (s m n : Handles) (x : Stmt) →
-      judge_stmt R st (place_with a s m) x ≡ judge_stmt R st (place_with a s n) x
-  pub parts : (R : Rules State Fault) → IgnoresMust R → (st : State) (a : Abilities) (s m n : Handles) (x : Stmt) →
-      judge_parts R st (place_with a s m) x ≡ judge_parts R st (place_with a s n) x
-  pub cases : (R : Rules State Fault) → IgnoresMust R → (st : State) (a : Abilities) (s m n : Handles) (cs : Cases) →
-      judge_cases R st (place_with a s m) cs ≡ judge_cases R st (place_with a s n) cs
-  pub break_if : (R : Rules State Fault) → IgnoresMust R →
-      (st : State) (a : Abilities) (s m n : Handles) (q : Option ℕ) →
-      judge_break_if R st (place_with a s m) q ≡ judge_break_if R st (place_with a s n) q

@@ -10,34 +10,24 @@ use Rattle.naga_below.specs.Points.{first_fault}
 use Rattle.naga_runs.specs.Judgement.{Rules, judgement}
 use Rattle.naga_runs.specs.Positions.{Node, node_at, StatementNode}
 use Rattle.naga_runs.specs.PutsAndUses.{node_acts}
-use Rattle.naga_runs.specs.Soundness.{Fit, Allowed, IsFit, IsSurelyFit, RunsAreSound, RunsAreSure}
+use Rattle.naga_runs.specs.Soundness.{Fit, Allowed, IsSurelyFit, RunsAreSure}
 use Rattle.naga_runs.specs.VisitOrder.{positions}
 use Rattle.naga_runs.specs.Visits.{Visit}
 
--- what stands at a visit fits, where these handles are known
-abbrev pub FitsIn : Handles → Visit → Type 0
-FitsIn known v =
-    Fit known v.place.scope (node_acts v.node)
+-- what stands at a visit fits
+abbrev pub FitsIn : Visit → Type 0
+FitsIn v =
+    Fit v.place.must v.place.scope (node_acts v.node)
     × Allowed (node_jump v.node)
     v.place.abilities.can_return v.place.abilities.can_break v.place.abilities.can_continue
 
--- Rules guard the acts and the jump of a visit: where none of its points fails, each use is in scope, no put is, and
--- the jump is allowed.
-abbrev pub Guards : {State Fault : Type 0} → Rules State Fault → Type 0
-Guards {State} {Fault} R =
-    (st : State) (v : Visit) → first_fault (R.points st v) ≡ None → FitsIn v.place.scope v
-
--- They guard them surely: each use is among the handles that every run has put.
+-- Rules guard the acts and the jump of a visit: where none of its points fails, each use is among the handles that every
+-- run has put, no put is in scope, and the jump is allowed.
 abbrev pub SurelyGuards : {State Fault : Type 0} → Rules State Fault → Type 0
 SurelyGuards {State} {Fault} R =
-    (st : State) (v : Visit) → first_fault (R.points st v) ≡ None → FitsIn v.place.must v
+    (st : State) (v : Visit) → first_fault (R.points st v) ≡ None → FitsIn v
 
--- All runs of a body that such rules accept are sound, or sure.
-abbrev pub AcceptedIsSound : {State Fault : Type 0} → Rules State Fault → Type 0
-AcceptedIsSound {State} {Fault} R =
-    Guards R → (st end : State) (pre : Handles) (b : Body) →
-    judgement R st pre b ≡ Ok end → IsFit pre b × RunsAreSound pre b
-
+-- All runs of a body that such rules accept are sure.
 abbrev pub AcceptedIsSure : {State Fault : Type 0} → Rules State Fault → Type 0
 AcceptedIsSure {State} {Fault} R =
     SurelyGuards R → (st end : State) (pre : Handles) (b : Body) →
@@ -55,23 +45,12 @@ BlocksAreRead =
     AllByRecursion (λ p. IsRead operands (node_at (body_of operands block) p)) (positions (body_of operands block))
 
 -- Rules that look at the statement itself, and not at the acts beside it in the tree, can guard only what is read.
-abbrev pub ReadGuards : {State Fault : Type 0} → Rules State Fault → (ℕ → List ℕ) → Type 0
-ReadGuards {State} {Fault} R operands =
-    (st : State) (v : Visit) → IsRead operands v.node →
-    first_fault (R.points st v) ≡ None → FitsIn v.place.scope v
-
 abbrev pub SurelyReadGuards : {State Fault : Type 0} → Rules State Fault → (ℕ → List ℕ) → Type 0
 SurelyReadGuards {State} {Fault} R operands =
     (st : State) (v : Visit) → IsRead operands v.node →
-    first_fault (R.points st v) ≡ None → FitsIn v.place.must v
+    first_fault (R.points st v) ≡ None → FitsIn v
 
--- All runs of a block that such rules accept are sound, or sure.
-abbrev pub AcceptedBlockIsSound : {State Fault : Type 0} → Rules State Fault → Type 0
-AcceptedBlockIsSound {State} {Fault} R =
-    (operands : ℕ → List ℕ) → ReadGuards R operands → (st end : State) (pre : Handles) (block : Block) →
-    judgement R st pre (body_of operands block) ≡ Ok end →
-    IsFit pre (body_of operands block) × RunsAreSound pre (body_of operands block)
-
+-- All runs of a block that such rules accept are sure.
 abbrev pub AcceptedBlockIsSure : {State Fault : Type 0} → Rules State Fault → Type 0
 AcceptedBlockIsSure {State} {Fault} R =
     (operands : ℕ → List ℕ) → SurelyReadGuards R operands → (st end : State) (pre : Handles) (block : Block) →

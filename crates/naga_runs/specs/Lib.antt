@@ -19,6 +19,7 @@ pub mod SkippedEmission
 pub mod StatementActs
 pub mod WorkedPlaces
 pub mod WorkedRuns
+pub mod WorkedContinues
 pub mod WorkedJudgements
 pub use Rattle.naga_runs.specs.Machine.{run}
-pub use Rattle.naga_runs.specs.Soundness.{RunsAreSound, RunsAreSure}
+pub use Rattle.naga_runs.specs.Soundness.{RunsAreSure}

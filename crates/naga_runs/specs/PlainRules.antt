@@ -3,7 +3,7 @@ use Rattle.std.specs.Prelude.{ℕ, suc, not, List, Ok, Err, ◌≡◌, ◌∷◌
 use Rattle.naga_below.specs.Tree.{Act, Use, Put, Leaf}
 use Rattle.naga_below.specs.View.{statement_acts}
 use Rattle.naga_runs.specs.Abilities.{Jump, node_jump, NoJump, ToBreak, ToContinue, ToReturn}
-use Rattle.naga_runs.specs.Guards.{Guards, SurelyGuards, ReadGuards, SurelyReadGuards}
+use Rattle.naga_runs.specs.Guards.{SurelyGuards, SurelyReadGuards}
 use Rattle.naga_runs.specs.Handles.{Handles, with_handle}
 use Rattle.naga_below.specs.Points.{Point}
 use Rattle.naga_runs.specs.Judgement.{Rules, judgement}
@@ -32,17 +32,13 @@ jump_points a ToBreak = (a.can_break, BreakOutside) ∷ []
 jump_points a ToContinue = (a.can_continue, ContinueOutside) ∷ []
 jump_points a ToReturn = (a.can_return, ReturnInContinuing) ∷ []
 
-abbrev pub plain_points : Handles → Visit → List (Point PlainFault)
-plain_points known v =
-    jump_points v.place.abilities (node_jump v.node) ++ act_points known v.place.scope (node_acts v.node)
+abbrev pub plain_points : Visit → List (Point PlainFault)
+plain_points v =
+    jump_points v.place.abilities (node_jump v.node) ++ act_points v.place.must v.place.scope (node_acts v.node)
 
--- each use is in scope; the state counts the visits
+-- each use is among the handles that every run has put, no put is in scope; the state counts the visits
 abbrev pub plain_rules : Rules ℕ PlainFault
-plain_rules = record { points = λ n v. plain_points v.place.scope v; advance = λ n v. suc n }
-
--- each use is among the handles that every run has put
-abbrev pub sure_rules : Rules ℕ PlainFault
-sure_rules = record { points = λ n v. plain_points v.place.must v; advance = λ n v. suc n }
+plain_rules = record { points = λ n v. plain_points v; advance = λ n v. suc n }
 
 -- the acts that are read off the statement itself, where these are the operands of each expression
 abbrev pub read_acts : (ℕ → List ℕ) → Node → List Act
@@ -50,22 +46,17 @@ read_acts operands (StatementNode (Leaf acts x span)) = statement_acts operands 
 read_acts operands node = node_acts node
 
 -- the same rules, but that they look at the statement itself
-abbrev pub read_points : (ℕ → List ℕ) → Handles → Visit → List (Point PlainFault)
-read_points operands known v =
-    jump_points v.place.abilities (node_jump v.node) ++ act_points known v.place.scope (read_acts operands v.node)
+abbrev pub read_points : (ℕ → List ℕ) → Visit → List (Point PlainFault)
+read_points operands v =
+    jump_points v.place.abilities (node_jump v.node)
+    ++ act_points v.place.must v.place.scope (read_acts operands v.node)
 
 abbrev pub reading_rules : (ℕ → List ℕ) → Rules ℕ PlainFault
-reading_rules operands = record { points = λ n v. read_points operands v.place.scope v; advance = λ n v. suc n }
-
-abbrev pub sure_reading_rules : (ℕ → List ℕ) → Rules ℕ PlainFault
-sure_reading_rules operands = record { points = λ n v. read_points operands v.place.must v; advance = λ n v. suc n }
+reading_rules operands = record { points = λ n v. read_points operands v; advance = λ n v. suc n }
 
 -- They guard what stands at a visit, and accept some bodies and refuse others.
 pub record PlainRulesGuard : Type 0 where
-  pub guards : Guards plain_rules
-  pub guards_surely : SurelyGuards sure_rules
-  pub accepts : judgement plain_rules 0 given skipping_loop ≡ Ok 5
-  pub refuses : judgement sure_rules 0 given skipping_loop ≡ Err (NotInScope 3)
-  pub accepts_surely : judgement sure_rules 0 given sure_loop ≡ Ok 5
-  pub guards_read : (operands : ℕ → List ℕ) → ReadGuards (reading_rules operands) operands
-  pub guards_read_surely : (operands : ℕ → List ℕ) → SurelyReadGuards (sure_reading_rules operands) operands
+  pub guards : SurelyGuards plain_rules
+  pub refuses : judgement plain_rules 0 given skipping_loop ≡ Err (NotInScope 3)
+  pub accepts : judgement plain_rules 0 given sure_loop ≡ Ok 5
+  pub guards_read : (operands : ℕ → List ℕ) → SurelyReadGuards (reading_rules operands) operands

@@ -4,7 +4,7 @@ use Rattle.naga_below.specs.declared.ir.statements.Statement as s
 use Rattle.naga_below.specs.declared.ir.statements.SwitchValue.TheVariants.{Default}
 use Rattle.std.specs.List.{range_with_len}
 use Rattle.std.specs.Prelude.{ℕ, suc, true, false, List, Some, None, filter, nat_lt, ◌∷◌, ◌||◌, ◌==◌, []}
-use Rattle.naga_below.specs.Tree.{Act, Stmt, Body, Use, Put, Leaf, Block, Branch, Switch, Loop, Break, Continue, Done, Then, NoCase, OneCase}
+use Rattle.naga_below.specs.Tree.{Act, Stmt, Body, Use, Put, Leaf, Block, Branch, Switch, Loop, Break, Continue, Return, Done, Then, NoCase, OneCase}
 use Rattle.naga_below.specs.declared.span.Span.{Span}
 use Rattle.naga_runs.specs.Handles.{Handles}
 
@@ -105,6 +105,35 @@ abbrev pub continue_in_block : Body
 continue_in_block =
     one (Loop
     (Then (emit 3) (Then (Block (Then (emit 5) (Then Continue (one (emit 6))))) (one (emit 6)))) Done (Some 6))
+
+-- loop { if 0 { block { continue } } { } emit 3 } { } break_if 3
+abbrev pub continue_in_inner_block : Body
+continue_in_inner_block =
+    one (Loop (Then (Branch 0 (one (Block (one Continue))) Done) (one (emit 3))) Done (Some 3))
+
+-- loop { loop { } { switch 1 { default { continue } } } emit 3 } { } break_if 3
+abbrev pub continue_in_continuing : Body
+continue_in_continuing =
+    one (Loop (Then (Loop Done (one (only_default (one Continue))) None) (one (emit 3))) Done (Some 3))
+
+-- loop { if 0 { return continue } { } emit 3 } { } break_if 3
+abbrev pub continue_behind_return : Body
+continue_behind_return =
+    one (Loop (Then (Branch 0 (Then (Return None) (one Continue)) Done) (one (emit 3))) Done (Some 3))
+
+-- loop { if 0 { continue } { } emit 3 if 0 { continue } { } emit 5 } { } break_if 3
+abbrev pub two_continues : Body
+two_continues =
+    one (Loop (Then may_continue_here (Then (emit 3) (Then may_continue_here (one (emit 5))))) Done (Some 3))
+
+-- loop { loop { continue } { } break_if 0 emit 3 } { } break_if 3
+abbrev pub inner_continue_before : Body
+inner_continue_before = one (Loop (Then (Loop (one Continue) Done (Some 0)) (one (emit 3))) Done (Some 3))
+
+-- loop { emit 3 if 0 { continue } { } emit 5 } { if 3 { } { } if 5 { } { } }
+abbrev pub emits_round_continue : Body
+emits_round_continue =
+    one (Loop (Then (emit 3) (Then may_continue_here (one (emit 5)))) (Then (reads 3) (one (reads 5))) None)
 
 -- loop { emit 3 emit 5 emit 6 } { } break_if 3
 abbrev pub three_emits : Body

@@ -1,4 +1,4 @@
--- Scope: the handles that may be used at a position.
+-- Scope: the handles that may not be put again at a position. Those of it that may be used there are in `Must`.
 use Rattle.std.specs.Prelude.{ℕ, zero, suc, Option, Some, ◌∷◌, []}
 use Rattle.naga_below.specs.Tree.{Stmt, Body, Loop, Done, Then}
 use Rattle.naga_runs.specs.Handles.{Handles}

@@ -1,4 +1,4 @@
--- What the law says of one body, so that it is not empty: loop { if 0 { continue } { } emit 3 } { } break_if 3.
+-- What one body does, and that the law's conditions refuse it and not all: loop { if 0 { continue } { } emit 3 } { } break_if 3.
 use Rattle.std.specs.Prelude.{ℕ, true, false, Option, Some, None, ◌≡◌, ◌≢◌, ◌∷◌, []}
 use Rattle.naga_below.specs.Tree.{Use, Put}
 use Rattle.naga_runs.specs.Handles.{Handles, with_handle}
@@ -6,7 +6,7 @@ use Rattle.naga_runs.specs.Machine.{Event, run, events_of, outcome_of, Stopped, 
 use Rattle.naga_runs.specs.Positions.{Root, LoopBody, Condition, In}
 use Rattle.naga_runs.specs.Samples.{given, skipping_loop, sure_loop}
 use Rattle.naga_runs.specs.Skipped.{skipped_at}
-use Rattle.naga_runs.specs.Soundness.{IsFit, IsSurelyFit}
+use Rattle.naga_runs.specs.Soundness.{IsSurelyFit}
 
 -- the use of the If's condition
 abbrev pub if_event : Event
@@ -20,10 +20,6 @@ emit_event = record { act = Put 3; done = []; live = given; position = In Root 0
 abbrev pub break_if_event : Handles → Option ℕ → Event
 break_if_event live cut =
     record { act = Use 3; done = []; live = live; position = In Root 0 ∷ In Condition 0 ∷ []; cuts = cut ∷ [] }
-
--- It meets the conditions.
-abbrev pub SkippingLoopIsFit : Type 0
-SkippingLoopIsFit = IsFit given skipping_loop
 
 -- With one turn, choice 0 at the If and choice 0 at the break condition: the second event is a use of handle 3 at the
 -- break condition, where 3 is not live and was skipped.
@@ -48,7 +44,7 @@ StopsAtTurnTwo =
     × (outcome_of (run skipping_loop given 1 (0 ∷ 1 ∷ [])) ≡ Stopped)
     × (outcome_of (run skipping_loop given 1 (0 ∷ 1 ∷ [])) ≢ Stuck)
 
--- It doesn't meet the conditions with uses among what every run has put; with the emission before the Continue it does.
+-- It doesn't meet the conditions; with the emission before the Continue it does.
 abbrev pub SkippingLoopIsNotSure : Type 0
 SkippingLoopIsNotSure = IsSurelyFit given skipping_loop → ⊥
 

@@ -1,6 +1,6 @@
 -- What the law says: where the conditions hold at every position of a body, what holds of every run of it.
 use Rattle.std.specs.List.{AllByRecursion}
-use Rattle.std.specs.Prelude.{ℕ, Bool, true, false, List, Contains, ◌≡◌, ◌≢◌, ◌↔◌, ◌⊎◌, ◌∷◌, ◌++◌, []}
+use Rattle.std.specs.Prelude.{ℕ, Bool, true, false, List, Contains, ◌≡◌, ◌≢◌, ◌↔◌, ◌∷◌, ◌++◌, []}
 use Rattle.naga_below.specs.Tree.{Act, Body, Use, Put}
 use Rattle.naga_runs.specs.Handles.{Handles, with_handle}
 use Rattle.naga_runs.specs.Abilities.{may_return, may_break, may_continue, Jump, node_jump, NoJump, ToBreak, ToContinue, ToReturn}
@@ -28,20 +28,13 @@ Allowed ToContinue r b c = c ≡ true
 abbrev pub HasAbility : Jump → Position → Type 0
 HasAbility jump p = Allowed jump (may_return p) (may_break p) (may_continue p)
 
--- the conditions at a position: each use is in scope, no put is, and a jump has its ability
-abbrev pub FitsAt : Handles → Body → Position → Type 0
-FitsAt pre b p =
-    Fit (scope_at pre b p) (scope_at pre b p) (node_acts (node_at b p)) × HasAbility (node_jump (node_at b p)) p
-
--- The conditions hold at every position of a body.
-abbrev pub IsFit : Handles → Body → Type 0
-IsFit pre b = AllByRecursion (FitsAt pre b) (positions b)
-
--- the same, where each use is among the handles that every run has put
+-- the conditions at a position: each use is among the handles that every run has put, no put is in scope, and a jump
+-- has its ability
 abbrev pub SurelyFitsAt : Handles → Body → Position → Type 0
 SurelyFitsAt pre b p =
     Fit (must_at pre b p) (scope_at pre b p) (node_acts (node_at b p)) × HasAbility (node_jump (node_at b p)) p
 
+-- The conditions hold at every position of a body.
 abbrev pub IsSurelyFit : Handles → Body → Type 0
 IsSurelyFit pre b = AllByRecursion (SurelyFitsAt pre b) (positions b)
 
@@ -64,16 +57,8 @@ LostIsSkipped pre b e =
 abbrev pub PutsNew : Event → Type 0
 PutsNew e = (h : ℕ) → e.act ≡ Put h → e.live h ≡ false
 
--- What holds at an event where uses are in scope: a used handle is live or was skipped.
-pub record IsSound (pre : Handles) (b : Body) (e : Event) : Type 0 where
-  pub stands : Stands b e
-  pub in_scope : LiveInScope pre b e
-  pub lost : LostIsSkipped pre b e
-  pub uses : (h : ℕ) → e.act ≡ Use h → (e.live h ≡ true) ⊎ (skipped_at b e.position e.cuts h ≡ true)
-  pub puts : PutsNew e
-
--- What holds at an event where uses are among the handles that every run has put: those are live, and so is each used
--- handle, also those that the same statement used before, as the operands of what it now puts.
+-- What holds at an event: the handles that every run has put are live, and so is each used handle, also those that the
+-- same statement used before, as the operands of what it now puts.
 pub record IsSure (pre : Handles) (b : Body) (e : Event) : Type 0 where
   pub stands : Stands b e
   pub in_scope : LiveInScope pre b e
@@ -83,19 +68,11 @@ pub record IsSure (pre : Handles) (b : Body) (e : Event) : Type 0 where
   pub used : (h : ℕ) (before between : List Act) → e.done ≡ before ++ Use h ∷ between → e.live h ≡ true
   pub puts : PutsNew e
 
--- Every run of a body is sound, for all choices and all bounds on turns: its events are, and it is not stuck.
-pub record RunsAreSound (pre : Handles) (b : Body) : Type 0 where
-  pub events : (n : ℕ) (choices : List ℕ) → AllByRecursion (IsSound pre b) (events_of (run b pre n choices))
-  pub unstuck : (n : ℕ) (choices : List ℕ) → outcome_of (run b pre n choices) ≢ Stuck
-
--- Every run of a body is sure.
+-- Every run of a body is sure, for all choices and all bounds on turns: its events are, and it is not stuck.
 pub record RunsAreSure (pre : Handles) (b : Body) : Type 0 where
   pub events : (n : ℕ) (choices : List ℕ) → AllByRecursion (IsSure pre b) (events_of (run b pre n choices))
   pub unstuck : (n : ℕ) (choices : List ℕ) → outcome_of (run b pre n choices) ≢ Stuck
 
--- The two laws.
-abbrev pub FitIsSound : Type 0
-FitIsSound = (pre : Handles) (b : Body) → IsFit pre b → RunsAreSound pre b
-
+-- The law.
 abbrev pub SurelyFitIsSure : Type 0
 SurelyFitIsSure = (pre : Handles) (b : Body) → IsSurelyFit pre b → RunsAreSure pre b

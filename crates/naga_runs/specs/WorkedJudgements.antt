@@ -3,17 +3,13 @@ use Rattle.naga_below.specs.declared.ir.statements.SwitchValue.TheVariants.{Defa
 use Rattle.std.specs.Prelude.{ℕ, suc, true, false, not, Some, None, Result, Ok, Err, ◌≡◌, ◌∷◌, ◌==◌, []}
 use Rattle.naga_below.specs.Tree.{Body, Use, Put, Block, Branch, Switch, Loop, Break, Continue, Return, Kill, Done, Then, NoCase, OneCase}
 use Rattle.naga_runs.specs.Judgement.{Rules, judgement}
-use Rattle.naga_runs.specs.PlainRules.{PlainFault, plain_rules, sure_rules, NotInScope, AlreadyInScope, BreakOutside, ContinueOutside, ReturnInContinuing}
+use Rattle.naga_runs.specs.PlainRules.{PlainFault, plain_rules, NotInScope, AlreadyInScope, BreakOutside, ContinueOutside, ReturnInContinuing}
 use Rattle.naga_runs.specs.Positions.{Node, StatementNode, BreakIfNode}
 use Rattle.naga_runs.specs.Samples.{given, emits, emit, emit_5, emit_6, reads, one, may_continue_here, only_default, siblings, whole_loop}
 
--- the answer where uses go by the scope: the first fault, else the number of visits
+-- the answer: the first fault, else the number of visits
 abbrev pub plainly : Body → Result ℕ PlainFault
 plainly b = judgement plain_rules 0 given b
-
--- the answer where uses go by what every run has put
-abbrev pub surely : Body → Result ℕ PlainFault
-surely b = judgement sure_rules 0 given b
 
 -- Jumps and their order among other faults.
 pub record JumpRows : Type 0 where
@@ -44,7 +40,7 @@ pub record JumpRows : Type 0 where
   -- if 0 { break } { } continue
   pub accept_before_next : plainly (Then (Branch 0 (one Break) Done) (one Continue)) ≡ Err BreakOutside
 
--- Uses and puts by the scope.
+-- Uses and puts, where no Continue skips any.
 pub record ScopeRows : Type 0 where
   -- if 0 { emit 3 } { emit 3 } emit 3
   pub each_sibling : plainly (Then (Branch 0 (one (emit 3)) (one (emit 3))) (one (emit 3))) ≡ Ok 4
@@ -54,8 +50,6 @@ pub record ScopeRows : Type 0 where
   pub needs_none : plainly (one (emit 0)) ≡ Err (AlreadyInScope 0)
   -- block { emit 3 } if 3 { } { }
   pub after_block : plainly (Then (Block (one (emit 3))) (one (reads 3))) ≡ Err (NotInScope 3)
-  -- loop { if 0 { continue } { } emit 3 } { } break_if 3
-  pub skipping : plainly (one (Loop (Then may_continue_here (one (emit 3))) Done (Some 3))) ≡ Ok 5
   -- switch 1 { 1 fall { emit 3 } default { if 3 { } { } } }
   pub next_case :
       plainly (one (Switch 1 (OneCase Default true (one (emit 3)) (OneCase Default false (one (reads 3)) NoCase))))
@@ -87,38 +81,36 @@ pub record OperandRows : Type 0 where
   pub inner_block : plainly (Then emit_5 (Then (Block (one emit_6)) (one emit_6))) ≡ Ok 4
   -- emit 5 emit 6 emit 6
   pub emitted_twice : plainly (Then emit_5 (Then emit_6 (one emit_6))) ≡ Err (AlreadyInScope 6)
-  -- loop { if 0 { continue } { } emit 5 } { emit 6 }
-  pub skipped : plainly (one (Loop (Then may_continue_here (one emit_5)) (one emit_6) None)) ≡ Ok 5
 
--- Uses by what every run has put; puts go by the scope.
+-- What a Continue may have skipped: uses go by what every run has put, puts by the scope.
 pub record SureRows : Type 0 where
   -- loop { if 0 { continue } { } emit 3 } { } break_if 3
-  pub skipping : surely (one (Loop (Then may_continue_here (one (emit 3))) Done (Some 3))) ≡ Err (NotInScope 3)
+  pub skipping : plainly (one (Loop (Then may_continue_here (one (emit 3))) Done (Some 3))) ≡ Err (NotInScope 3)
   -- loop { emit 3 if 0 { continue } { } } { } break_if 3
-  pub emitted_first : surely (one (Loop (Then (emit 3) (one may_continue_here)) Done (Some 3))) ≡ Ok 5
+  pub emitted_first : plainly (one (Loop (Then (emit 3) (one may_continue_here)) Done (Some 3))) ≡ Ok 5
   -- loop { if 0 { continue } { } emit 3 if 3 { } { } } { }
-  pub in_the_body : surely (one (Loop (Then may_continue_here (Then (emit 3) (one (reads 3)))) Done None)) ≡ Ok 5
+  pub in_the_body : plainly (one (Loop (Then may_continue_here (Then (emit 3) (one (reads 3)))) Done None)) ≡ Ok 5
   -- loop { if 0 { continue } { } emit 3 } { emit 3 }
   pub put_again :
-      surely (one (Loop (Then may_continue_here (one (emit 3))) (one (emit 3)) None)) ≡ Err (AlreadyInScope 3)
+      plainly (one (Loop (Then may_continue_here (one (emit 3))) (one (emit 3)) None)) ≡ Err (AlreadyInScope 3)
   -- loop { loop { continue } { } emit 3 } { } break_if 3
-  pub inner_continue : surely (one (Loop (Then (Loop (one Continue) Done None) (one (emit 3))) Done (Some 3))) ≡ Ok 5
+  pub inner_continue : plainly (one (Loop (Then (Loop (one Continue) Done None) (one (emit 3))) Done (Some 3))) ≡ Ok 5
   -- loop { switch 1 { default { continue } } emit 3 } { } break_if 3
   pub continue_in_switch :
-      surely (one (Loop (Then (only_default (one Continue)) (one (emit 3))) Done (Some 3))) ≡ Err (NotInScope 3)
+      plainly (one (Loop (Then (only_default (one Continue)) (one (emit 3))) Done (Some 3))) ≡ Err (NotInScope 3)
   -- loop { break continue emit 3 } { } break_if 3
   pub dead_continue :
-      surely (one (Loop (Then Break (Then Continue (one (emit 3)))) Done (Some 3))) ≡ Err (NotInScope 3)
+      plainly (one (Loop (Then Break (Then Continue (one (emit 3)))) Done (Some 3))) ≡ Err (NotInScope 3)
   -- loop { if 0 { continue } { } emit 3 } { loop { if 3 { } { } } { } }
   pub further_in :
-      surely (one (Loop (Then may_continue_here (one (emit 3))) (one (Loop (one (reads 3)) Done None)) None))
+      plainly (one (Loop (Then may_continue_here (one (emit 3))) (one (Loop (one (reads 3)) Done None)) None))
       ≡ Err (NotInScope 3)
   -- loop { if 0 { continue } { } emit 5 } { emit 6 }
   pub operand_skipped :
-      surely (one (Loop (Then may_continue_here (one emit_5)) (one emit_6) None)) ≡ Err (NotInScope 5)
+      plainly (one (Loop (Then may_continue_here (one emit_5)) (one emit_6) None)) ≡ Err (NotInScope 5)
   -- loop { emit 3 if 0 { continue } { } emit 5 } { emit 6 } break_if 5 emit 3
   pub last_emission :
-      surely (Then (Loop (Then (emit 3) (Then may_continue_here (one (emit 5)))) (one (emit 6)) (Some 5)) (one (emit 3)))
+      plainly (Then (Loop (Then (emit 3) (Then may_continue_here (one (emit 5)))) (one (emit 6)) (Some 5)) (one (emit 3)))
       ≡ Err (NotInScope 5)
 
 -- refuses the visit that has so many before it, and reports what stands there

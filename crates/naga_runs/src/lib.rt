@@ -9,11 +9,11 @@ ghost use Rattle.naga_runs.specs.VisitOrder.{PositionsAreVisits};
 ghost use Rattle.naga_runs.specs.Skipped.{SkippedIsUnion};
 ghost use Rattle.naga_runs.specs.Unions.{ScopeIsUnion, MustIsUnion};
 ghost use Rattle.naga_runs.specs.Judgement.{Rules, FollowedAgrees, EarlierAgrees, EarlierIsAll};
-ghost use Rattle.naga_runs.specs.ByTree.{VisitsAreByTree, JudgementIsByTree, Compositional, MustIsFree};
-ghost use Rattle.naga_runs.specs.Soundness.{FitIsSound, SurelyFitIsSure};
-ghost use Rattle.naga_runs.specs.Guards.{AcceptedIsSound, AcceptedIsSure, AcceptedBlockIsSound, AcceptedBlockIsSure, BlocksAreRead};
+ghost use Rattle.naga_runs.specs.ByTree.{VisitsAreByTree, JudgementIsByTree, Compositional};
+ghost use Rattle.naga_runs.specs.Soundness.{SurelyFitIsSure};
+ghost use Rattle.naga_runs.specs.Guards.{AcceptedIsSure, AcceptedBlockIsSure, BlocksAreRead};
 ghost use Rattle.naga_runs.specs.PlainRules.{PlainRulesGuard};
-ghost use Rattle.naga_runs.specs.SkippedEmission.{SkippingLoopIsFit, SkippedIsUsed, PutIsUsed, StopsAtTurnTwo, SkippingLoopIsNotSure, SureLoopIsSurelyFit};
+ghost use Rattle.naga_runs.specs.SkippedEmission.{SkippedIsUsed, PutIsUsed, StopsAtTurnTwo, SkippingLoopIsNotSure, SureLoopIsSurelyFit};
 
 /// Which jumps a place in a body allows: a `Return`, a `Break`, a `Continue`.
 #[derive(Clone, Copy, PartialEq, Eq, Debug)]
@@ -23,13 +23,11 @@ pub struct Abilities {
     pub can_continue: bool,
 }
 
-/// The law over runs. Where the conditions hold at every position of a body, each of its runs is sound; and sure, where
-/// each use is among the handles that every run has put. Then what two bodies do, so that the law isn't empty; and that
-/// the scope is the union of what earlier siblings and the lists of Loops put.
+/// The law over runs. Where the conditions hold at every position of a body, each use being among the handles that every
+/// run has put, each of its runs is sure. Then what two bodies do, so that the law isn't empty; and that the scope is the
+/// union of what earlier siblings and the lists of Loops put.
 pub fn runs_law()
-    ensures sound { FitIsSound }
     ensures sure { SurelyFitIsSure }
-    ensures fit { SkippingLoopIsFit }
     ensures skipped { SkippedIsUsed }
     ensures put { PutIsUsed }
     ensures stops { StopsAtTurnTwo }
@@ -50,16 +48,13 @@ pub fn positions_law()
 
 /// The law over judgements, for every state that goes along the visits of a body and every list of points that asks for
 /// it. The judgement by positions is the one along the tree, which has one equation for each form of statement; what
-/// rules accept that guard the acts and the jump of each visit has sound runs, and sure ones where they guard surely.
-/// Of a block of the IR it is enough that they guard what has the acts that are read off its statement.
+/// rules accept that guard the acts and the jump of each visit has sure runs. Of a block of the IR it is enough that they
+/// guard what has the acts that are read off its statement.
 pub fn judgement_law<State, Fault>()
     ensures by_tree { (R : Rules State Fault) → JudgementIsByTree R }
     ensures compositional { (R : Rules State Fault) → Compositional R }
-    ensures sound { (R : Rules State Fault) → AcceptedIsSound R }
     ensures sure { (R : Rules State Fault) → AcceptedIsSure R }
-    ensures block_sound { (R : Rules State Fault) → AcceptedBlockIsSound R }
     ensures block_sure { (R : Rules State Fault) → AcceptedBlockIsSure R }
-    ensures without_must { MustIsFree State Fault }
 {}
 
 /// Judgements over two states of which one is a view of the other agree; so do one over the earlier visits themselves

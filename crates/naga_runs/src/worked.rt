@@ -2,6 +2,7 @@
 //! definition is noticed. Each clause is one body or one run; the bodies are in `specs/Samples`.
 
 ghost use Rattle.naga_runs.specs.StatementActs.{ActsOfStatements};
+ghost use Rattle.naga_runs.specs.WorkedContinues.{InnerBlockContinues, ContinuingContinues, ReturnsFirst, ContinuesTwice, InnerContinues, EmitsRoundContinue, RowsRun};
 ghost use Rattle.naga_runs.specs.WorkedJudgements.{JumpRows, ScopeRows, OperandRows, SureRows, StatesGoAlong};
 ghost use Rattle.naga_runs.specs.WorkedPlaces.{SiblingsInOrder, SiblingsInScope, LoopInOrder, LoopInScope, LoopInMust, LoopAllows, InnerLoopInOrder, InnerLoopInScope, InnerLoopInMust, InnerLoopAllows, CasesInOrder, CasesInScope, CasesAllow, SkippingLoopInScope, SkippingLoopInMust, SureLoopInMust, InnerContinueInMust, SwitchContinueInMust, DeadContinueInMust, TwiceInScope, TwiceInMust};
 ghost use Rattle.naga_runs.specs.WorkedRuns.{SiblingsAccept, SiblingsReject, SiblingsStop, LoopTwice, LoopOnce, LoopNever, FallsThrough, SecondCase, NoSuchCase, ThroughSwitches, SkipsTwice, SkipsOnce, SkipsFromBlock, ActByAct, DoneByAct, SkippedByIndex, JumpsEnd};
@@ -66,6 +67,18 @@ pub fn worked_skips()
     ensures once { SkipsOnce }
     ensures from_block { SkipsFromBlock }
     ensures by_index { SkippedByIndex }
+{}
+
+/// Where a Continue stands, what it skips, and what it takes away from what every run has put.
+#[tactic(auto, unfolding(crate::specs::Judgement::judgement, crate::specs::Judgement::state_after))]
+pub fn worked_continues()
+    ensures inner_block { InnerBlockContinues }
+    ensures continuing { ContinuingContinues }
+    ensures behind_return { ReturnsFirst }
+    ensures two { ContinuesTwice }
+    ensures inner_loop { InnerContinues }
+    ensures both_sides { EmitsRoundContinue }
+    ensures rows { RowsRun }
 {}
 
 /// What each of the 23 kinds of statement uses and puts, in order.

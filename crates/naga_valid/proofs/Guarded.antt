@@ -1,5 +1,5 @@
--- Where no point of a visit fails, its uses are in scope, its puts are not, and its jump is allowed; so the runs of
--- an accepted body are sound.
+-- Where no point of a visit fails, its uses are allowed, its puts are not in scope, and its jump is allowed; so the runs
+-- of an accepted body are sure.
 use Rattle.std.proofs.Common.{◌≡◌, ℕ, zero, suc, ◌≤◌, ◌==◌, ◌&&◌, ◌||◌, nat_le, nat_lt, ◌-◌, true, false, List, [], ◌∷◌, ◌++◌, None, Some, Ok, subst, refl, sym, ap, ◌∙◌, arith}
 use Rattle.std.specs.Prelude.{IfSome, not, is_none, map, if◌then◌else◌}
 use Rattle.std.proofs.lemmas.Bool.Decides.{nat_tests}

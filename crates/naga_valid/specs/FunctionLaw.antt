@@ -33,7 +33,7 @@ OfAcceptedIn Holds =
 abbrev pub OfAccepted : (Settings → ModuleInfo → Function → FunctionOutcome → Type 0) → Type 0
 OfAccepted Holds = OfAcceptedIn (λ program. Holds)
 
--- all runs of its body are sound
+-- all runs of its body are sure
 abbrev pub AcceptedIsSound : Type 0
 AcceptedIsSound = OfAccepted (λ settings earlier fun outcome. RunsAreSure (pre_emitted_of fun) (body_of fun))
 

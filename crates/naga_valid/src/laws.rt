@@ -5,7 +5,7 @@ ghost use Rattle.naga_valid.specs.interface.Chains.{AcceptedEntryIsSound, Accept
 ghost use Rattle.naga_valid.specs.interface.Facts.{AcceptedHasAcceptedFunction, AcceptedBindingsAreDistinct, AcceptedLocationsAreDistinct, AcceptedBuiltInsAreDistinct, AcceptedVertexHasPosition};
 ghost use Rattle.naga_valid.specs.FunctionLaw.{AcceptedIsSound, AcceptedFillsOnce, AcceptedIsOfAllStages, AcceptedHasNoReturnInContinuing, AcceptedHasWholeSwitches, AcceptedKeepsInfo, AcceptedStagesAreMet};
 
-/// Of each function that the judgement accepts, where bodies are looked at: all runs of its body are sound; with
+/// Of each function that the judgement accepts, where bodies are looked at: all runs of its body are sure; with
 /// expressions looked at too, each of its results is filled once; its stages are stages of each statement and of each
 /// function that it calls; no Return stands in a continuing part, and each Switch has one default, distinct values of its
 /// selector's sign and a last case that doesn't fall through; its info is the lower layer's but for the stages; and a stage is
@@ -32,7 +32,7 @@ pub fn chains_law()
 {}
 
 /// Of each entry point that the judgement accepts: its function is accepted; where bodies are looked at, all runs of its body
-/// are sound, and with vetted infos it keeps to its stage through all chains of calls; where bindings are looked at, the
+/// are sure, and with vetted infos it keeps to its stage through all chains of calls; where bindings are looked at, the
 /// globals that are used and bound are bound at distinct places, and no two parts of a group of inputs or outputs take one
 /// location; where its types are there, no two parts of its arguments are one built-in; at the vertex stage it returns a
 /// position.

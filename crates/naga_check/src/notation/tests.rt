@@ -132,24 +132,3 @@ fn other_bytes(rt: HostRuntime) -> Result<(), Fail> {
     }
     Ok(())
 }
-
-/// So many blocks, one in the other.
-fn nested(alloc: Global, depth: usize) -> Result<Vec<u8>, Fail> {
-    let mut input = Vec::from_slice(alloc, b"P :")?;
-    for _ in 0..depth {
-        input.extend_from_slice(b" block {")?;
-    }
-    for _ in 0..depth {
-        input.extend_from_slice(b" }")?;
-    }
-    Ok(input)
-}
-
-#[test]
-fn deepest_input(rt: HostRuntime) -> Result<(), Fail> {
-    let input = nested(rt.alloc(), 256)?;
-    assert!(rt; is_readable(rt.alloc(), input.as_slice())?);
-    let input = nested(rt.alloc(), 257)?;
-    assert!(rt; !is_readable(rt.alloc(), input.as_slice())?);
-    Ok(())
-}

@@ -1,4 +1,5 @@
--- What an answer of the code says of check points and of a judgement.
+-- What an answer of the code says of check points and of a judgement: work of lemmas, cited by functions that the validator
+-- alone calls.
 use Rattle.std.specs.Prelude.{◌≡◌, List, Result, Ok, Err, Some, None, ⊤}
 use Rattle.std.specs.Result.{result_err}
 use Rattle.naga_below.specs.declared.span.Refusal.{Refusal}

@@ -1,4 +1,4 @@
--- Parts of the check list of Atomic, as the code checks them: work of lemmas, which private functions alone cite.
+-- Parts of the check list of Atomic, as the code checks them: work of lemmas, cited by functions that the validator alone calls.
 use Rattle.std.specs.Prelude.{ℕ, not, [], ◌∷◌, ◌++◌, Option, is_some}
 use Rattle.naga_below.specs.declared.ir.operations.AtomicFunction.{AtomicFunction}
 use Rattle.naga_below.specs.declared.ir.types.AddressSpace.{AddressSpace}

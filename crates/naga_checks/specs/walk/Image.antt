@@ -1,4 +1,4 @@
--- Parts of the check lists of images, as the code checks them: work of lemmas, which private functions alone cite.
+-- Parts of the check lists of images, as the code checks them: work of lemmas, cited by functions that the validator alone calls.
 use Rattle.std.specs.Prelude.{ℕ, Bool, [], ◌∷◌, ◌++◌, Option}
 use Rattle.naga_below.specs.Formats.{format_scalar}
 use Rattle.naga_below.specs.TypeTests.{is_scalar}

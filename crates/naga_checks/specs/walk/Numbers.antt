@@ -1,4 +1,4 @@
--- Numbers of scopes: work of lemmas, which private functions alone cite.
+-- Numbers of scopes: work of lemmas, cited by functions that the validator alone calls.
 use Rattle.std.specs.Prelude.{ℕ, ◌≡◌, ◌<◌, List, All, length, slice_index_or}
 use Rattle.naga_checks.specs.declared.table.ScopeState.{ScopeState}
 use Rattle.naga_checks.specs.declared.table.ScopeState.TheVariants.{Closed, Open}

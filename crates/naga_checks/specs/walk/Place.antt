@@ -1,4 +1,4 @@
--- The place where the code's checks are made: work of lemmas, which private functions alone cite.
+-- The place where the code's checks are made: work of lemmas, cited by functions that the validator alone calls.
 use Rattle.std.specs.Prelude.{false}
 use Rattle.naga_runs.specs.Handles.{Handles, no_handles}
 use Rattle.naga_runs.specs.Visits.{Place}

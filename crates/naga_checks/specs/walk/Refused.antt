@@ -1,4 +1,5 @@
--- A refusal whose fault lies on the heap, as the refusal that it is: work of lemmas, which private functions alone cite.
+-- A refusal whose fault lies on the heap, as the refusal that it is: work of lemmas, cited by functions that the validator
+-- alone calls.
 use Rattle.std.specs.Prelude.{Option, Some, None, Box}
 use Rattle.std.specs.declared.alloc.Global.{Global}
 use Rattle.naga_below.specs.declared.span.Refusal.{Refusal}

@@ -1,4 +1,5 @@
--- The context that the code passes on, as the definitions have it.
+-- The context that the code passes on, as the definitions have it: work of lemmas, cited by functions that the validator
+-- alone calls.
 use Rattle.std.specs.Prelude.{Bool, List, Result, length}
 use Rattle.naga_below.specs.Points.{and_then}
 use Rattle.naga_below.specs.declared.ir.functions.Function.{Function}

@@ -1,5 +1,5 @@
 -- What the code keeps along the visits of a body: the stages that are left, the results that are filled, and what ray
--- traces leave. Work of lemmas, which private functions alone cite.
+-- traces leave. Work of lemmas, cited by functions that the validator alone calls.
 use Rattle.std.specs.Prelude.{List, Option, None, Some, Result, ℕ}
 use Rattle.naga_below.specs.Points.{first_fault, answer, and_then}
 use Rattle.naga_below.specs.Tree.{Stmt}

@@ -1,5 +1,5 @@
--- Parts of the check lists of subgroup statements, as the code checks them: work of lemmas, which private functions alone
--- cite.
+-- Parts of the check lists of subgroup statements, as the code checks them: work of lemmas, cited by functions that the
+-- validator alone calls.
 use Rattle.std.specs.Prelude.{ℕ, [], ◌∷◌, ◌++◌}
 use Rattle.naga_below.specs.declared.ir.operations.GatherMode.{GatherMode}
 use Rattle.naga_rules.specs.declared.function.SubgroupError.TheVariants as wrong

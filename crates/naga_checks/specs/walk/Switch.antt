@@ -1,4 +1,4 @@
--- Parts of the check list of Switch, as the code checks them: work of lemmas, which private functions alone cite.
+-- Parts of the check list of Switch, as the code checks them: work of lemmas, cited by functions that the validator alone calls.
 use Rattle.std.specs.Prelude.{ℕ, not, [], ◌∷◌}
 use Rattle.std.specs.List.{list_any}
 use Rattle.naga_below.specs.Tree.{Cases}

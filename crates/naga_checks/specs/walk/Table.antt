@@ -1,4 +1,4 @@
--- What the table shows of scopes and of results: work of lemmas, which private functions alone cite.
+-- What the table shows of scopes and of results: work of lemmas, cited by functions that the validator alone calls.
 use Rattle.std.specs.Prelude.{ℕ, ◌≡◌, ◌==◌, Bool, true, false, Option, Some, None, is_some, List, [], ◌∷◌, length, slice_index_or, if◌then◌else◌}
 use Rattle.naga_runs.specs.Handles.{Handles, with_handle}
 use Rattle.naga_checks.specs.Context.{Context}

@@ -1,4 +1,4 @@
--- The judgement along the tree, over what is in scope: lemma-level work that private functions alone cite.
+-- The judgement along the tree, over what is in scope: work of lemmas, cited by functions that the validator alone calls.
 use Rattle.std.specs.Prelude.{ℕ, zero, suc, ◌+◌, ◌-◌, Bool, true, false, List, [], ◌∷◌, ◌++◌, Option, Some, Result, if◌then◌else◌}
 use Rattle.naga_below.specs.Tree.{Act, Use, Put, Stmt, Body, Done, Then, Cases}
 use Rattle.naga_below.specs.declared.ir.expressions.Expression.{Expression}

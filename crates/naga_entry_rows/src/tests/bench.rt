@@ -100,6 +100,9 @@ pub const INCOMING: u32 = 9;
 
 pub const STRUCTURE: u32 = 10;
 
+/// A ray payload of f32, where the other is of u32.
+pub const OTHER_RAY_PAYLOAD: u32 = 11;
+
 // Its functions: one whose body is a Kill, one whose body is a barrier, and one whose body is empty.
 pub const KILLS: u32 = 0;
 
@@ -221,7 +224,7 @@ pub fn infos_of_types(rt: &(impl Abort + AllocGlobal)) -> Result<Vec<TypeInfo>, 
 }
 
 /// The space, the type and the binding of each global.
-fn globals() -> [(AddressSpace, u32, Option<u32>); 11] {
+fn globals() -> [(AddressSpace, u32, Option<u32>); 12] {
     let sink = AddressSpace::Storage {
         access: StorageAccess::STORE,
     };
@@ -237,6 +240,7 @@ fn globals() -> [(AddressSpace, u32, Option<u32>); 11] {
         (AddressSpace::RayPayload, U32, None),
         (AddressSpace::IncomingRayPayload, U32, None),
         (AddressSpace::Handle, STRUCTURE_TYPE, Some(2)),
+        (AddressSpace::RayPayload, F32, None),
     ]
 }
 

@@ -10,12 +10,12 @@ use naga_below::fits::function::fits_function;
 use naga_below::fits::types::fits_types;
 use naga_below::ir::expressions::Expression;
 use naga_below::ir::functions::{Function, FunctionArgument, FunctionResult};
-use naga_below::ir::module::{EarlyDepthTest, EntryPoint, MeshStageInfo, Module};
+use naga_below::ir::module::{EarlyDepthTest, EntryPoint, MeshStageInfo};
 use naga_below::ir::operations::RayPipelineFunction;
 use naga_below::ir::statements::{Located, Statement};
 use naga_below::sequence::Sequence;
 use naga_below::span::{Refusal, WithSpan};
-use naga_below::valid::info::{FunctionInfo, ModuleInfo};
+use naga_below::valid::info::FunctionInfo;
 use naga_module::plain::Plain;
 use naga_rules::below::Below;
 use naga_rules::mesh::MeshAnalysis;
@@ -23,6 +23,11 @@ use naga_valid::interface::EntryPointError;
 use naga_valid::validator::Validator;
 use std::alloc::{AllocError, Global};
 use std::process::Abort;
+
+/// The expressions of a function that names two globals: the second of these, and the descriptor of rays.
+const RAY_PAYLOAD_NAMED: u32 = 1;
+
+pub const DESCRIPTOR: u32 = 2;
 
 /// The globals that are named, and behind them a descriptor of rays.
 fn expressions_of(
@@ -50,12 +55,18 @@ fn statement(alloc: Global, step: Step) -> Statement {
             arguments: Sequence::new(alloc),
             result: None,
         },
-        Step::TraceRay => Statement::RayPipelineFunction(RayPipelineFunction::TraceRay {
-            acceleration_structure: Handle::new(0),
-            descriptor: Handle::new(2),
-            payload: Handle::new(1),
-        }),
+        Step::TraceRay => ray(DESCRIPTOR),
+        Step::MisledRay => ray(RAY_PAYLOAD_NAMED),
     }
+}
+
+/// A ray through the first global that is named, with the second as its payload and this descriptor.
+fn ray(descriptor: u32) -> Statement {
+    Statement::RayPipelineFunction(RayPipelineFunction::TraceRay {
+        acceleration_structure: Handle::new(0),
+        descriptor: Handle::new(descriptor),
+        payload: Handle::new(RAY_PAYLOAD_NAMED),
+    })
 }
 
 fn body_of(alloc: Global, steps: [Option<Step>; 2]) -> Result<Sequence<Located>, AllocError> {
@@ -174,44 +185,60 @@ pub fn layer(alloc: Global, case: &Case) -> Plain {
 
 /// A validator for the entry point.
 pub fn validator(rt: &(impl Abort + AllocGlobal), bench: &Bench, case: &Case) -> Validator<Plain> {
+    validator_over(rt, bench, case, layer(rt.alloc(), case))
+}
+
+/// The same over a lower layer.
+pub fn validator_over<B: Below + Drop>(
+    rt: &(impl Abort + AllocGlobal),
+    bench: &Bench,
+    case: &Case,
+    below: B,
+) -> Validator<B> {
     let infos = made(rt, bench.types.as_slice().to_vec(rt.alloc()));
-    let below = layer(rt.alloc(), case);
     Validator::new(below, case.flags, case.capabilities).with_types(infos)
 }
 
-/// What is answered of an entry point: its info, or its fault, which stands at `HERE` where it is its function's, and else
-/// nowhere.
-pub fn judge<B: Below>(
+/// What is answered of an entry point: its info, or its refusal, of which a fault stands at `HERE` where it is its function's,
+/// and else nowhere.
+pub fn ask<B: Below>(
     rt: &(impl Abort + AllocGlobal),
     validator: &mut Validator<B>,
-    module: &Module,
-    infos: &ModuleInfo,
-    ep: &EntryPoint,
-) -> Result<FunctionInfo, EntryPointError> {
+    bench: &Bench,
+    case: &Case,
+) -> Result<FunctionInfo, Refusal<EntryPointError>> {
+    let ep = entry_point(rt, case);
+    let Bench { module, infos, .. } = bench;
     assert!(rt; validator.has_types_of(module) && validator.has_payload_sizes(module));
-    assert!(rt; fits_types(module) && fits_entry(ep, module));
+    assert!(rt; fits_types(module) && fits_entry(&ep, module));
     assert!(rt; fits_function(&ep.function, module, infos.functions.len()));
-    match validator.validate_entry_point(rt.alloc(), ep, module, infos) {
-        Ok(info) => Ok(info),
-        Err(Refusal::Fault(fault)) => {
-            let in_function = matches!(fault.as_inner(), EntryPointError::Function(_));
-            let places = if in_function { [HERE].as_slice() } else { &[] };
-            assert!(rt; fault.spans() == places);
-            Err(fault.into_inner())
-        }
-        Err(Refusal::Memory) => panic!(rt; "no memory"),
+    let answer = validator.validate_entry_point(rt.alloc(), &ep, module, infos);
+    if let Err(Refusal::Fault(fault)) = &answer {
+        let in_function = matches!(fault.as_inner(), EntryPointError::Function(_));
+        let places = if in_function { [HERE].as_slice() } else { &[] };
+        assert!(rt; fault.spans() == places);
     }
+    answer
 }
 
-/// What one validator answers next.
+/// What one validator answers next. Where memory is refused it stays as it was, and answers when it is asked again.
 pub fn answer_of(
     rt: &(impl Abort + AllocGlobal),
     validator: &mut Validator<Plain>,
     bench: &Bench,
     case: &Case,
 ) -> Result<FunctionInfo, EntryPointError> {
-    let ep = entry_point(rt, case);
-    judge(rt, validator, &bench.module, &bench.infos, &ep)
+    let before = validator.trace_state();
+    let mut answer = ask(rt, validator, bench, case);
+    if let Err(Refusal::Memory) = answer {
+        assert_eq!(rt; validator.trace_state(), before);
+        answer = ask(rt, validator, bench, case);
+    }
+    match answer {
+        Ok(info) => Ok(info),
+        Err(Refusal::Fault(fault)) => Err(fault.into_inner()),
+        Err(Refusal::Memory) => panic!(rt; "refused twice"),
+    }
 }
 
 /// The info of an entry point that is accepted.

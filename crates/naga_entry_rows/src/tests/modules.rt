@@ -20,6 +20,7 @@ use naga_below::valid::info::ModuleInfo;
 use naga_below::valid::settings::Settings;
 use naga_module::check::{Given, ModuleFault, check_module};
 use naga_module::plain::Plain;
+use naga_rules::below::Below;
 use naga_rules::function::FunctionError;
 use naga_rules::interface::GlobalVariableError;
 use naga_valid::interface::EntryPointError;
@@ -30,7 +31,7 @@ use std::test::Fail;
 /// A module of these globals, functions and entry points. Its types, and what is known of them, are those of the rows of
 /// entry points; of a function the body and the globals that it names count alone.
 #[derive(Clone, Copy)]
-struct Parts {
+pub struct Parts {
     globals: [Option<GlobalVariable>; 3],
     functions: [Option<Case>; 2],
     entries: [Option<Case>; 2],
@@ -60,7 +61,7 @@ fn calling(parts: Parts, first: Case, second: Option<Case>) -> Parts {
 }
 
 /// The same with these entry points.
-fn entered(parts: Parts, first: Case, second: Option<Case>) -> Parts {
+pub fn entered(parts: Parts, first: Case, second: Option<Case>) -> Parts {
     Parts {
         entries: [Some(first), second],
         ..parts
@@ -128,20 +129,33 @@ const SETTINGS: Settings = Settings {
     subgroup_operations: SubgroupOperationSet::ALL,
 };
 
-/// What is answered of a module.
-fn answer_of(rt: &(impl Abort + AllocGlobal), parts: &Parts) -> Result<ModuleInfo, ModuleFault> {
+/// What is answered of a module over a lower layer.
+fn answer_over<B: Below + Drop>(
+    rt: &(impl Abort + AllocGlobal),
+    below: B,
+    parts: &Parts,
+) -> Result<ModuleInfo, ModuleFault> {
     let module = module(rt, parts);
     let given = Given {
         types: made(rt, infos_of_types(rt)),
         global_types: Vec::new(rt.alloc()),
     };
-    let below = Plain::without_mesh_shaders();
     check_module(rt.alloc(), below, SETTINGS, given, &module)
 }
 
-/// The fault of a module, if it has one. That of a function, or of an entry point's, stands at `HERE`, any other nowhere.
-fn fault_of(rt: &(impl Abort + AllocGlobal), parts: &Parts) -> Option<ModuleFault> {
-    let fault = match answer_of(rt, parts) {
+/// What is answered of a module.
+fn answer_of(rt: &(impl Abort + AllocGlobal), parts: &Parts) -> Result<ModuleInfo, ModuleFault> {
+    answer_over(rt, Plain::without_mesh_shaders(), parts)
+}
+
+/// The fault of a module over a lower layer, if it has one. That of a function, or of an entry point's, stands at `HERE`, any
+/// other nowhere.
+pub fn fault_over<B: Below + Drop>(
+    rt: &(impl Abort + AllocGlobal),
+    below: B,
+    parts: &Parts,
+) -> Option<ModuleFault> {
+    let fault = match answer_over(rt, below, parts) {
         Ok(_) => return None,
         Err(fault) => fault,
     };
@@ -156,14 +170,17 @@ fn fault_of(rt: &(impl Abort + AllocGlobal), parts: &Parts) -> Option<ModuleFaul
     Some(fault)
 }
 
-/// The module of a row is answered so.
+/// The module of a row is answered so. Where memory is refused, the same call is made again.
 fn expect(
     rt: &(impl Abort + AllocGlobal),
     row: usize,
     parts: &Parts,
     expected: Option<ModuleFault>,
 ) {
-    let found = fault_of(rt, parts);
+    let mut found = fault_over(rt, Plain::without_mesh_shaders(), parts);
+    if found == Some(ModuleFault::Memory) {
+        found = fault_over(rt, Plain::without_mesh_shaders(), parts);
+    }
     assert!(rt; found == expected, "row {row}: {found:?}");
 }
 
@@ -172,7 +189,7 @@ fn in_function(rt: &impl AllocGlobal, function: u32, error: FunctionError) -> Op
     Some(ModuleFault::Function(Handle::new(function), fault))
 }
 
-fn in_entry_point(
+pub fn in_entry_point(
     rt: &impl AllocGlobal,
     index: usize,
     error: EntryPointError,
@@ -317,7 +334,7 @@ fn what_rays_leave_goes_on(rt: HostRuntime) -> Result<(), Fail> {
 }
 
 /// A function that kills.
-fn of_a_kill() -> Parts {
+pub fn of_a_kill() -> Parts {
     calling(NOTHING, killing(), None)
 }
 

@@ -25,6 +25,8 @@ pub enum Step {
     Call(u32),
     /// A ray through the first global that is named, with the second as its payload.
     TraceRay,
+    /// The same with its payload as its descriptor.
+    MisledRay,
 }
 
 /// What an entry point says of its mesh. The greatest numbers are 3 vertices and 1 primitive.

@@ -1,35 +1,25 @@
 //! Rows that were worked out by hand, over one list of types.
 
-use crate::tests::bench::{Bench, COLOR, CORNERS, KILLS, TWIN, U32, UNIFORM, make_bench};
-use crate::tests::judged::{answer_of, fault_in, fault_of, validator};
-use crate::tests::shape::{Case, Part, Step, at_compute, at_fragment, at_vertex, built_in, smooth};
+use crate::tests::bench::{
+    Bench, COLOR, CORNERS, KILLS, OTHER_RAY_PAYLOAD, RAY_PAYLOAD, STRUCTURE, TWIN, U32, UNIFORM,
+    make_bench,
+};
+use crate::tests::judged::validator;
+use crate::tests::rows::{Row, alone, bad, expect_own, good, is_own, refusal_of};
+use crate::tests::shape::{
+    Case, Part, Step, at, at_compute, at_fragment, at_vertex, built_in, smooth,
+};
 use bitflags::Flags;
 use naga_below::arena::handle::Handle;
 use naga_below::ir::built_in::BuiltIn;
+use naga_below::ir::module::ShaderStage;
 use naga_below::ir::types::{Binding, Interpolation, Sampling};
 use naga_below::valid::flags::ValidationFlags;
+use naga_rules::function::FunctionError;
 use naga_rules::interface::VaryingError;
 use naga_valid::interface::EntryPointError;
 use std::process::Abort;
 use std::test::Fail;
-
-/// An entry point, and its fault, if it has one.
-#[derive(Drop)]
-struct Row {
-    case: Case,
-    fault: Option<EntryPointError>,
-}
-
-fn good(case: Case) -> Row {
-    Row { case, fault: None }
-}
-
-fn bad(case: Case, fault: EntryPointError) -> Row {
-    Row {
-        case,
-        fault: Some(fault),
-    }
-}
 
 /// The same in groups of so many invocations.
 fn sized(case: Case, width: u32) -> Case {
@@ -95,8 +85,15 @@ fn with_any_bindings(case: Case) -> Case {
     }
 }
 
-/// The rows.
-fn rows() -> [Row; 19] {
+/// A function for ray generation that names a structure and this payload of a ray.
+fn tracing(payload: u32, step: Step) -> Case {
+    at(ShaderStage::RayGeneration)
+        .naming(STRUCTURE, payload)
+        .doing(step)
+}
+
+/// The rows, the last two of functions by themselves, whose payloads are of two types.
+fn rows() -> [Row; 21] {
     let integer = EntryPointError::Argument(0, VaryingError::InvalidInterpolationForInteger);
     let combination = VaryingError::InvalidInterpolationSamplingCombination {
         interpolation: Interpolation::PerVertex,
@@ -139,6 +136,11 @@ fn rows() -> [Row; 19] {
         good(at_fragment().taking(smooth(COLOR, LAST))),
         bad(two_at_last(), EntryPointError::Argument(1, last)),
         good(with_any_bindings(two_at_last())),
+        alone(
+            tracing(RAY_PAYLOAD, Step::MisledRay),
+            Some(FunctionError::InvalidRayDescriptor(Handle::new(1))),
+        ),
+        alone(tracing(OTHER_RAY_PAYLOAD, Step::TraceRay), None),
     ]
 }
 
@@ -146,19 +148,19 @@ fn rows() -> [Row; 19] {
 fn worked_rows(rt: HostRuntime) -> Result<(), Fail> {
     let bench = make_bench(&rt);
     for (index, row) in rows().into_iter().enumerate() {
-        let found = fault_of(&rt, &bench, &row.case);
-        assert!(rt; found == row.fault, "row {index}: {found:?}");
+        let mut validator = validator(&rt, &bench, &row.case);
+        let found = refusal_of(&rt, &mut validator, &bench, &row);
+        assert!(rt; is_own(&row, &found), "row {index}: {found:?}");
     }
     Ok(())
 }
 
-/// What a validator that has refused an entry point answers to the next one is what a fresh one answers.
+/// What a validator that has refused a row answers to the next one is what a fresh one answers.
 fn expect_behind(rt: &(impl Abort + AllocGlobal), bench: &Bench, refused: &Row, row: &Row) {
     let mut validator = validator(rt, bench, &refused.case);
-    let first = fault_in(answer_of(rt, &mut validator, bench, &refused.case));
-    assert!(rt; first == refused.fault);
-    let second = fault_in(answer_of(rt, &mut validator, bench, &row.case));
-    assert!(rt; second == row.fault);
+    let first = refusal_of(rt, &mut validator, bench, refused);
+    assert!(rt; is_own(refused, &first));
+    expect_own(rt, &mut validator, bench, row);
 }
 
 #[test]

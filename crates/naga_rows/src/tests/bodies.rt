@@ -14,7 +14,7 @@ use naga_below::sequence::Sequence;
 use naga_below::span::{Refusal, Span};
 use naga_below::valid::capabilities::Capabilities;
 use naga_below::valid::flags::{ShaderStages, SubgroupOperationSet, TypeFlags, ValidationFlags};
-use naga_below::valid::info::ModuleInfo;
+use naga_below::valid::info::{FunctionInfo, ModuleInfo};
 use naga_below::valid::types::TypeInfo;
 use naga_module::plain::Plain;
 use naga_rules::below::Below;
@@ -137,7 +137,22 @@ pub fn validator_over<B: Below + Drop>(
 /// What is judged: the stages, or the fault.
 pub type Answer = Result<ShaderStages, FunctionError>;
 
-/// The stages that a validator leaves a function, or its fault, which must be at this place, or at none.
+/// One call of the validator.
+fn ask<B: Below>(
+    rt: &(impl Abort + AllocGlobal),
+    validator: &mut Validator<B>,
+    fun: &Function,
+    module: &Module,
+    infos: &ModuleInfo,
+) -> Result<FunctionInfo, Refusal<FunctionError>> {
+    assert!(rt; validator.has_types_of(module));
+    assert!(rt; fits_types(module));
+    assert!(rt; fits_function(fun, module, infos.functions.len()));
+    validator.validate_function(rt.alloc(), fun, module, infos, false)
+}
+
+/// The stages that a validator leaves a function, or its fault, which must be at this place, or at none. Where memory is refused
+/// the validator stays as it was, and answers when it is asked again.
 pub fn judge<B: Below>(
     rt: &(impl Abort + AllocGlobal),
     validator: &mut Validator<B>,
@@ -146,23 +161,13 @@ pub fn judge<B: Below>(
     infos: &ModuleInfo,
     place: Option<Span>,
 ) -> Answer {
-    judge_as(rt, validator, fun, module, infos, place, false)
-}
-
-/// The same of a function that is an entry point's, or not.
-pub fn judge_as<B: Below>(
-    rt: &(impl Abort + AllocGlobal),
-    validator: &mut Validator<B>,
-    fun: &Function,
-    module: &Module,
-    infos: &ModuleInfo,
-    place: Option<Span>,
-    entry_point: bool,
-) -> Answer {
-    assert!(rt; validator.has_types_of(module));
-    assert!(rt; fits_types(module));
-    assert!(rt; fits_function(fun, module, infos.functions.len()));
-    match validator.validate_function(rt.alloc(), fun, module, infos, entry_point) {
+    let before = validator.trace_state();
+    let mut answer = ask(rt, validator, fun, module, infos);
+    if let Err(Refusal::Memory) = answer {
+        assert_eq!(rt; validator.trace_state(), before);
+        answer = ask(rt, validator, fun, module, infos);
+    }
+    match answer {
         Ok(info) => Ok(info.available_stages),
         Err(Refusal::Fault(fault)) => {
             match place {
@@ -171,20 +176,8 @@ pub fn judge_as<B: Below>(
             }
             Err(fault.into_inner())
         }
-        Err(Refusal::Memory) => panic!(rt; "no memory"),
+        Err(Refusal::Memory) => panic!(rt; "refused twice"),
     }
-}
-
-/// What a function of statements at `HERE` is answered for this target, in a module without functions before it.
-pub fn answer_for(
-    rt: &(impl Abort + AllocGlobal),
-    target: Target,
-    fun: &Function,
-    module: &Module,
-) -> Answer {
-    let infos = no_infos(rt.alloc());
-    let mut validator = validator_for(rt, target, module);
-    judge(rt, &mut validator, fun, module, &infos, Some(HERE))
 }
 
 /// An answer is the expected one.

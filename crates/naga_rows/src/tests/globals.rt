@@ -20,7 +20,7 @@ use naga_module::plain::Plain;
 use naga_rules::below::Below;
 use naga_rules::interface::GlobalVariableError;
 use naga_valid::validator::Validator;
-use std::alloc::AllocError;
+use std::alloc::{AllocError, Global};
 use std::process::Abort;
 use std::test::Fail;
 
@@ -164,7 +164,27 @@ fn infos(rt: &impl AllocGlobal) -> Result<ModuleInfo, AllocError> {
     Ok(infos)
 }
 
-/// Each global of the module is answered as its row says.
+/// A request of so many bytes tells tools/memory that each later one is to be refused.
+const MARK: usize = 1000003;
+
+/// Asks for so many bytes, and gives them back.
+fn mark(alloc: Global) {
+    let marked: Result<Vec<u8>, AllocError> = Vec::with_capacity(alloc, MARK);
+    drop(marked);
+}
+
+/// A validator for each row, over the plain layer.
+fn validators(rt: &impl AllocGlobal, rows: &[Row]) -> Result<Vec<Validator<Plain>>, AllocError> {
+    let mut validators = Vec::new(rt.alloc());
+    for row in rows {
+        let types = vec![in rt.alloc(); row.info; TYPES]?;
+        let below = Plain::without_mesh_shaders();
+        validators.push(Validator::new(below, row.flags, Capabilities::ALL).with_types(types))?;
+    }
+    Ok(validators)
+}
+
+/// Each global of the module is answered as its row says. It takes no memory: behind the mark each request may be refused.
 fn expect(
     rt: &(impl Abort + AllocGlobal),
     module: &Module,
@@ -172,14 +192,14 @@ fn expect(
     rows: &[Row],
 ) -> Result<(), AllocError> {
     let kinds = Plain::without_mesh_shaders().kinds(rt.alloc(), &module.global_expressions)?;
+    let validators = validators(rt, rows)?;
     let globals = module.global_variables.as_slice();
-    assert!(rt; globals.len() == rows.len());
+    assert!(rt; globals.len() == rows.len() && validators.len() == rows.len());
     assert!(rt; kinds.len() == module.global_expressions.len());
+    mark(rt.alloc());
     assert!(rt; fits_types(module) && fits_globals(module, infos));
     for (place, row) in rows.iter().enumerate() {
-        let types = vec![in rt.alloc(); row.info; TYPES]?;
-        let below = Plain::without_mesh_shaders();
-        let validator = Validator::new(below, row.flags, Capabilities::ALL).with_types(types);
+        let validator = &validators[place];
         assert!(rt; validator.has_types_of(module));
         let answer = validator.validate_global_var(&globals[place], module, infos, &kinds);
         assert!(rt; answer == row.answer, "row {place}: {answer:?}");

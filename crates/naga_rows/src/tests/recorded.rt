@@ -118,7 +118,19 @@ fn info_of(
     }))
 }
 
-/// What is answered of a function.
+/// One question about a function.
+fn ask_once(
+    rt: &(impl Abort + AllocGlobal),
+    recorded: &Recorded,
+    fun: &Function,
+    module: &Module,
+    infos: &ModuleInfo,
+) -> Result<FunctionInfo, Refusal<FunctionError>> {
+    let capabilities = Capabilities::empty();
+    recorded.process_function(rt.alloc(), fun, module, infos, ALL_CHECKS, capabilities)
+}
+
+/// What is answered of a function. Where memory is refused, it is asked again.
 fn ask(
     rt: &(impl Abort + AllocGlobal),
     recorded: &Recorded,
@@ -126,15 +138,17 @@ fn ask(
     module: &Module,
     infos: &ModuleInfo,
 ) -> Result<FunctionInfo, FunctionError> {
-    let flags = ALL_CHECKS;
-    let capabilities = Capabilities::empty();
-    match recorded.process_function(rt.alloc(), fun, module, infos, flags, capabilities) {
+    let mut answer = ask_once(rt, recorded, fun, module, infos);
+    if let Err(Refusal::Memory) = answer {
+        answer = ask_once(rt, recorded, fun, module, infos);
+    }
+    match answer {
         Ok(info) => Ok(info),
         Err(Refusal::Fault(fault)) => {
             assert!(rt; fault.spans().is_empty());
             Err(fault.into_inner())
         }
-        Err(Refusal::Memory) => panic!(rt; "no memory"),
+        Err(Refusal::Memory) => panic!(rt; "refused twice"),
     }
 }
 

@@ -1,9 +1,6 @@
-use Rattle.naga_runs.proofs.Laws.{fit_is_sound, surely_fit_is_sure}
+use Rattle.naga_runs.proofs.Laws.{surely_fit_is_sure}
 use Rattle.naga_runs.proofs.UnionsAre.{scope_is_union}
 use Rattle.naga_runs.proofs.runs_law.Goals as goal
-
-pub returns-clause-sound : goal.returns-clause-sound
-returns-clause-sound c = fit_is_sound
 
 pub returns-clause-sure : goal.returns-clause-sure
 returns-clause-sure c = surely_fit_is_sure

@@ -1,4 +1,4 @@
--- What an accepted entry point keeps to through chains of calls: its stage; and that runs of its body are sound.
+-- What an accepted entry point keeps to through chains of calls: its stage; and that runs of its body are sure.
 use Rattle.std.specs.Prelude.{◌≡◌, true, List, Ok}
 use Rattle.naga_below.specs.declared.ir.module.EntryPoint.{EntryPoint}
 use Rattle.naga_below.specs.declared.ir.module.Module.{Module}
@@ -25,7 +25,7 @@ OfAcceptedEntry Holds =
     entry_judgement below settings types trace m infos ep ≡ Ok outcome → checks_blocks settings.flags ≡ true →
     Holds below settings types m infos ep
 
--- all runs of its body are sound
+-- all runs of its body are sure
 abbrev pub AcceptedEntryIsSound : Type 0
 AcceptedEntryIsSound =
     OfAcceptedEntry (λ below settings types m infos ep. RunsAreSure (pre_emitted_of ep.function) (body_of ep.function))

@@ -50,7 +50,7 @@ impl<B: Below> Validator<B> {
         // The answer is the judgement's; or there was no memory, and nothing up to the function is wrong.
         ensures judged { AnswersEntry (start_points self.old.settings.capabilities ep.now) (entry_judgement (B.meaning self.old.below) self.old.settings self.old.types self.old.trace «module».now mod_info.now ep.now) self.new.trace result }
 
-        // In every run of an accepted body that was looked at, what is used is live or was skipped by a Continue, no
+        // In every run of an accepted body that was looked at, what every run has put is live, and so is what is used, no
         // live handle is put, and jumps have targets.
         ensures sound { OnOk result (checks_blocks self.old.settings.flags ≡ true → RunsAreSure (pre_emitted_of ep.now.function) (body_of ep.now.function)) }
 

@@ -48,7 +48,7 @@ impl<B: Below> Validator<B> {
             «module».now mod_info.now fun.now entry_point)
             self.new.trace result }
 
-        // In every run of an accepted body that was looked at, what is used is live or was skipped by a Continue, no
+        // In every run of an accepted body that was looked at, what every run has put is live, and so is what is used, no
         // live handle is put, and jumps have targets.
         ensures sound { OnOk result (checks_blocks self.old.settings.flags ≡ true
             → RunsAreSure (pre_emitted_of fun.now) (body_of fun.now)) }

@@ -1,0 +1,85 @@
+//! A Switch of ten thousand cases.
+
+use crate::tests::handles::FIRST;
+use crate::tests::module::{NOWHERE, expressions_of, fault_of, made, module};
+use naga_below::arena::handle::Handle;
+use naga_below::ir::functions::Function;
+use naga_below::ir::statements::{Block, Located, Statement, SwitchCase, SwitchValue};
+use naga_below::sequence::Sequence;
+use naga_below::span::WithSpan;
+use naga_module::check::ModuleFault;
+use naga_rules::function::FunctionError;
+use naga_valid::interface::EntryPointError;
+use std::alloc::{AllocError, Global};
+use std::process::Abort;
+use std::test::Fail;
+
+/// How many cases have a value of their own.
+const DISTINCT: u32 = 9999;
+
+/// Puts a case without statements last.
+fn add_case(
+    alloc: Global,
+    cases: &mut Sequence<SwitchCase>,
+    value: SwitchValue,
+) -> Result<(), AllocError> {
+    cases.push(SwitchCase {
+        value,
+        body: Block::new(alloc),
+        fall_through: false,
+    })?;
+    Ok(())
+}
+
+/// Cases with the values from 0 on, and a last one.
+fn cases_of(alloc: Global, last: SwitchValue) -> Result<Sequence<SwitchCase>, AllocError> {
+    let mut cases = Sequence::new(alloc);
+    for value in 0..DISTINCT {
+        add_case(alloc, &mut cases, SwitchValue::U32(value))?;
+    }
+    add_case(alloc, &mut cases, last)?;
+    Ok(cases)
+}
+
+/// A body that goes by expression 0.
+fn body_of(alloc: Global, cases: Sequence<SwitchCase>) -> Result<Block, AllocError> {
+    let mut list = Sequence::new(alloc);
+    list.push(Located {
+        statement: Statement::Switch {
+            selector: Handle::new(0),
+            cases,
+        },
+        span: NOWHERE,
+    })?;
+    Ok(Block { list })
+}
+
+/// What is answered of the module with a function of such a Switch behind its own.
+fn answer_of(rt: &(impl Abort + AllocGlobal), last: SwitchValue) -> Option<ModuleFault> {
+    let cases = made(rt, cases_of(rt.alloc(), last));
+    let mut fun = Function::new(rt.alloc());
+    fun.expressions = made(rt, expressions_of(rt.alloc(), 0, None));
+    fun.body = made(rt, body_of(rt.alloc(), cases));
+    fault_of(rt, &FIRST, &module(rt, &FIRST, Some(fun)))
+}
+
+/// The last value is the first again, or that of the case before it.
+#[test]
+fn the_last_of_ten_thousand_cases_is_repeated(rt: HostRuntime) -> Result<(), Fail> {
+    for value in [0, DISTINCT - 1] {
+        let last = SwitchValue::U32(value);
+        let conflict = FunctionError::ConflictingSwitchCase(SwitchValue::U32(value));
+        let fault = ModuleFault::Function(Handle::new(1), WithSpan::new(rt.alloc(), conflict));
+        assert!(rt; answer_of(&rt, last) == Some(fault));
+    }
+    Ok(())
+}
+
+/// With a default as the last case no value is there twice, and the entry point is judged, whose payload is none.
+#[test]
+fn ten_thousand_cases(rt: HostRuntime) -> Result<(), Fail> {
+    let payload = EntryPointError::TaskPayloadWrongAddressSpace;
+    let fault = ModuleFault::EntryPoint(0, WithSpan::new(rt.alloc(), payload));
+    assert!(rt; answer_of(&rt, SwitchValue::Default) == Some(fault));
+    Ok(())
+}

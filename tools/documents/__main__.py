@@ -1,0 +1,76 @@
+"""Writes the rows of the tests as documents: python3 tools/documents [--check]
+
+Each row of the tests over the plain layer is a document in crates/naga_judge/stdin, and the verdict that the test expects of it
+stands at the same line of crates/naga_judge/stdout; what the rows are called stands in tools/documents/rows. The documents of
+the program's own rows and of examples/, with an unreadable one behind them, stand in front and stay as they are. Which rows
+change where a capability is taken away stands in tools/settings.expected. With --check nothing is written, and the status is 1
+where a file isn't what would be written.
+"""
+
+import json
+import pathlib
+import sys
+
+import capabilities
+import entries
+import functions
+import modules
+import needs
+import program
+import rules
+import statements
+import table
+import unshown
+
+# How many documents stand in front.
+FIRST = {"program": 77, "examples": 8, "unreadable": 1}
+
+HERE = pathlib.Path(__file__).resolve().parent
+JUDGE = HERE.parent.parent / "crates" / "naga_judge"
+
+TABLES = [
+    program.operands, program.skipped,
+    statements.stores, statements.atomics, statements.subgroups, statements.places, statements.skipped, statements.operands,
+    statements.rays,
+    functions.declarations, functions.steps, functions.settings, functions.typed, functions.globals_, functions.recorded,
+    entries.faults, entries.order, entries.meshes, entries.stages, entries.worked, entries.kept,
+    modules.modules, modules.recorded, modules.fault_table,
+    rules.built_ins, rules.interpolations, rules.items, rules.globals_, capabilities.needing,
+    unshown.unshown,
+]
+
+
+def line_of(value):
+    return json.dumps(value, separators=(",", ":"))
+
+
+def files():
+    """What stands in each of the files."""
+    rows = [row for table in TABLES for row in table()]
+    first = sum(FIRST.values())
+    names = [f"{title} {number}" for title, count in FIRST.items() for number in range(1, count + 1)]
+    standing = [(JUDGE / name).read_text().splitlines()[:first] for name in ("stdin", "stdout")]
+    accepted = [(name, json.loads(line)) for name, line, verdict in zip(names, *standing) if verdict.startswith('{"ok"')]
+    accepted += [(row.name, row.document) for row in rows if row.accepted_with_all]
+    written = {
+        JUDGE / "stdin": standing[0] + [line_of(row.document) for row in rows],
+        JUDGE / "stdout": standing[1] + [line_of(row.verdict) for row in rows],
+        HERE / "rows": [f"{number} {name}" for number, name in enumerate(names + [row.name for row in rows], 1)],
+        HERE.parent / "settings.expected": table.table_of([(name, needs.changes_of(made)) for name, made in accepted]),
+    }
+    return {path: "".join(line + "\n" for line in lines) for path, lines in written.items()}
+
+
+def main():
+    stale = [path for path, text in files().items() if not path.exists() or path.read_text() != text]
+    if "--check" in sys.argv[1:]:
+        for path in stale:
+            print(f"{path}: not what the rows say")
+        return 1 if stale else 0
+    for path, text in files().items():
+        path.write_text(text)
+    return 0
+
+
+if __name__ == "__main__":
+    sys.exit(main())
