@@ -11,8 +11,6 @@ pub mod proc;
 pub mod sequence;
 mod set_text;
 pub mod span;
-#[cfg(test)]
-mod tests;
 pub mod valid;
 
 pub use crate::arena::handle::{Handle, Tagged};
@@ -23,7 +21,7 @@ pub use crate::duplicate::Duplicate;
 pub use crate::fits::entry::fits_entry;
 pub use crate::fits::function::fits_function;
 pub use crate::fits::globals::fits_globals;
-pub use crate::fits::types::fits_types;
+pub use crate::fits::types::{fits_types, names_types_below};
 pub use crate::ir::built_in::BuiltIn;
 pub use crate::ir::expressions::{Expression, Literal, Operands};
 pub use crate::ir::flags::{Barrier, MemoryDecorations, StorageAccess};

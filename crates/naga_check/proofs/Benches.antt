@@ -29,7 +29,7 @@ use Rattle.naga_below.specs.declared.valid.settings.Settings.{Settings}
 use Rattle.naga_check.specs.Judged.{bench_infos, IsPlainAnswer}
 use Rattle.naga_module.specs.ModuleJudgement.{Answer, Fits, first_infos}
 use Rattle.naga_module.specs.ModuleLaw.{IsToldOfFunctions, FunctionsAloneAreTold}
-use Rattle.naga_module.specs.Plain.Meaning.{plain_meaning, plain_layer}
+use Rattle.naga_layers.specs.Plain.Meaning.{plain_meaning, plain_layer}
 use Rattle.naga_check.specs.Notation.Sayable.{is_sayable, is_sayable_statement, are_sayable_cases, is_below_if_any, is_sayable_leaf, is_empty}
 use Rattle.naga_check.specs.declared.bench.Bench.{Bench}
 use Rattle.naga_check.specs.declared.bench.Bench.TheVariants.{P, C, D}

@@ -13,7 +13,7 @@ use Rattle.naga_check.specs.BenchModule.{bench_module}
 use Rattle.naga_check.specs.Notation.Blocks.{block_of}
 use Rattle.naga_check.specs.Notation.Case.{Case}
 use Rattle.naga_module.specs.ModuleJudgement.{Answer, IsJudgement, IsAnswered}
-use Rattle.naga_module.specs.Plain.Meaning.{plain_meaning, plain_layer}
+use Rattle.naga_layers.specs.Plain.Meaning.{plain_meaning, plain_layer}
 
 -- the bits of these flags, where they are on
 abbrev pub bits_if : Bool → ValidationFlags → ℕ

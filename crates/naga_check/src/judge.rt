@@ -16,9 +16,9 @@ use naga_below::valid::flags::{ShaderStages, SubgroupOperationSet, TypeFlags, Va
 use naga_below::valid::info::{FunctionInfo, ModuleInfo};
 use naga_below::valid::settings::Settings;
 use naga_below::valid::types::TypeInfo;
+use naga_layers::plain::Plain;
 use naga_module::check::{Given, ModuleFault, check_module};
 use naga_module::laws::module_law;
-use naga_module::plain::Plain;
 use std::alloc::{AllocError, Global};
 
 /// The flags of a case: all but those that its options take away.

@@ -2,7 +2,6 @@
 //! and what ray traces leave.
 #![tactic(auto)]
 
-pub mod abilities;
 pub mod checks;
 pub mod context;
 pub mod pointers;

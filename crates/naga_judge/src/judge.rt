@@ -1,18 +1,11 @@
 //! From a text to its verdict.
 
 ghost use Rattle.naga_judge.specs.Judges.{Judges, IsJudged};
-ghost use Rattle.naga_judge.specs.ReadsDocument.{ReadsDocument};
 
-use crate::document::{Document, KnownFacts};
-use crate::read::error::{ReadError, Unreadable};
-use crate::read::from_json::FromJson;
 use naga_below::ModuleInfo;
+use naga_document::{Document, KnownFacts, ReadError, Unreadable, read_document};
 use naga_module::{Facts, Given, ModuleFault, Recorded, check_module};
-use serde_json::Value;
 use std::alloc::Global;
-
-/// How many bytes a document may have.
-pub const MOST_BYTES: usize = 16777216;
 
 /// What is said of a document.
 #[derive(Drop)]
@@ -36,23 +29,6 @@ impl Verdict {
             Verdict::Unreadable(_) => 2,
             Verdict::Memory => 3,
         }
-    }
-}
-
-/// The document that a text is.
-fn read_document(alloc: Global, text: &[u8]) -> Result<Document, ReadError>
-    ensures { ReadsDocument text.now result }
-{
-    if text.len() > MOST_BYTES {
-        return Err(ReadError::expected(alloc, "a document of at most 16777216 bytes"));
-    }
-    match Value::from_slice(alloc, text) {
-        Ok(value) => Document::from_json(alloc, &value),
-        Err(error) if error.is_memory() => Err(ReadError::Memory),
-        Err(_) => Err(ReadError::expected(
-            alloc,
-            "JSON in UTF-8, whose brackets nest at most 127 deep",
-        )),
     }
 }
 

@@ -4,9 +4,7 @@
 #![tactic(auto)]
 
 mod arguments;
-mod document;
 mod judge;
-mod read;
 mod run;
 #[cfg(test)]
 mod tests;

@@ -1,7 +1,8 @@
 //! From a reader to a writer.
 
-use crate::judge::{MOST_BYTES, Verdict, judge};
+use crate::judge::{Verdict, judge};
 use crate::verdict::{write_json, write_lines};
+use naga_document::MOST_BYTES;
 use std::alloc::{AllocError, Global};
 use std::io::{Read, Write};
 use std::{fmt, io};

@@ -1,6 +1,3 @@
-//! What no clause says: that good values are read and bad ones aren't, type by type; where reading stops; and
-//! whole runs.
+//! What no clause says: whole runs, from a reader to a writer.
 
-mod limits;
-mod reading;
 mod runs;

@@ -1,9 +1,9 @@
 //! Verdicts as JSON, and told to a person.
 
 use crate::judge::Verdict;
-use crate::read::error::Unreadable;
 use crate::write::json::{ToJson, field, write_list, write_names};
 use naga_below::{FunctionInfo, ModuleInfo, Span};
+use naga_document::Unreadable;
 use naga_module::ModuleFault;
 use naga_rules::Explain;
 use naga_valid::interface::EntryPointError;

@@ -23,9 +23,9 @@ use Rattle.naga_valid.specs.InOrder.{called_by}
 use Rattle.naga_checks.specs.Judged.{FunctionOutcome, body_judgement, context_with, function_judgement, unfilled_points, outcome_left}
 use Rattle.naga_checks.specs.Parts.{no_traces}
 use Rattle.naga_checks.specs.Rules.{body_rules}
-use Rattle.naga_module.specs.Plain.Meaning.{plain_meaning, plain_layer}
-use Rattle.naga_module.specs.Plain.Types.{types_from}
-use Rattle.naga_module.specs.Plain.Uses.{with_all_named}
+use Rattle.naga_layers.specs.Plain.Meaning.{plain_meaning, plain_layer}
+use Rattle.naga_layers.specs.Plain.Types.{types_from}
+use Rattle.naga_layers.specs.Plain.Uses.{with_all_named}
 use Rattle.naga_module.specs.WorkedChain.{one, function_of, chain_module, chain_infos, chain_settings, of_fragments, placed, ChainRows}
 
 abbrev tree : Statement → Body

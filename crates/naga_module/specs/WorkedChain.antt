@@ -12,7 +12,7 @@ use Rattle.naga_below.specs.declared.valid.info.ModuleInfo.{ModuleInfo}
 use Rattle.naga_below.specs.declared.valid.settings.Settings.{Settings}
 use Rattle.naga_checks.specs.Blocks.{body_of}
 use Rattle.naga_valid.specs.Chains.{Reaches, AreVetted}
-use Rattle.naga_module.specs.Plain.Meaning.{plain_meaning, plain_layer}
+use Rattle.naga_layers.specs.Plain.Meaning.{plain_meaning, plain_layer}
 
 -- a statement without a span, and a body of it alone
 abbrev pub placed : Statement → Located

@@ -10,8 +10,6 @@ pub mod interface;
 pub mod local;
 pub mod mesh;
 pub mod sentences;
-#[cfg(test)]
-mod tests;
 pub mod varying;
 
 pub use crate::analyzer::{UniformityDisruptor, UniformityRequirements};

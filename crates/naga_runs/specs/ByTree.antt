@@ -18,6 +18,9 @@ use Rattle.naga_runs.specs.declared.Abilities.{Abilities}
 abbrev pub past : Stmt → Place → Place
 past x c = record c { scope = with_acts c.scope (acts_of x); must = with_acts c.must (acts_of x) }
 
+abbrev pub body_abilities : Abilities
+body_abilities = record { can_return = true; can_break = false; can_continue = false }
+
 abbrev pub case_abilities : Abilities → Abilities
 case_abilities a = record { can_return = a.can_return; can_break = true; can_continue = a.can_continue }
 

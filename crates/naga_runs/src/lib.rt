@@ -1,5 +1,6 @@
 //! What stands at each position of a body, what a judgement along its positions is, and what its runs do: definitions,
-//! and the laws between them. The laws compute nothing; a crate that judges bodies calls them to cite them.
+//! and the laws between them. The laws compute nothing; a crate that judges bodies calls them to cite them. What computes here is
+//! which jumps the parts of a body allow.
 #![tactic(auto)]
 
 pub mod worked;
@@ -9,7 +10,8 @@ ghost use Rattle.naga_runs.specs.VisitOrder.{PositionsAreVisits};
 ghost use Rattle.naga_runs.specs.Skipped.{SkippedIsUnion};
 ghost use Rattle.naga_runs.specs.Unions.{ScopeIsUnion, MustIsUnion};
 ghost use Rattle.naga_runs.specs.Judgement.{Rules, FollowedAgrees, EarlierAgrees, EarlierIsAll};
-ghost use Rattle.naga_runs.specs.ByTree.{VisitsAreByTree, JudgementIsByTree, Compositional};
+ghost use Rattle.naga_runs.specs.ByTree.{body_abilities, case_abilities, loop_abilities, continuing_abilities, VisitsAreByTree, JudgementIsByTree, Compositional};
+ghost use Rattle.std.specs.Prelude.{◌≡◌};
 ghost use Rattle.naga_runs.specs.Soundness.{SurelyFitIsSure};
 ghost use Rattle.naga_runs.specs.Guards.{AcceptedIsSure, AcceptedBlockIsSure, BlocksAreRead};
 ghost use Rattle.naga_runs.specs.PlainRules.{PlainRulesGuard};
@@ -21,6 +23,51 @@ pub struct Abilities {
     pub can_return: bool,
     pub can_break: bool,
     pub can_continue: bool,
+}
+
+impl Abilities {
+    /// Where the body of a function begins.
+    pub fn at_begin() -> Self
+        ensures { result ≡ body_abilities }
+    {
+        Abilities {
+            can_return: true,
+            can_break: false,
+            can_continue: false,
+        }
+    }
+
+    /// In a case of a `Switch` that stands here.
+    pub fn in_case(self) -> Self
+        ensures { result ≡ case_abilities self }
+    {
+        Abilities {
+            can_break: true,
+            ..self
+        }
+    }
+
+    /// In the body of a `Loop` that stands here.
+    pub fn in_loop(self) -> Self
+        ensures { result ≡ loop_abilities self }
+    {
+        Abilities {
+            can_break: true,
+            can_continue: true,
+            ..self
+        }
+    }
+
+    /// In the continuing part of a `Loop`, wherever it stands.
+    pub fn in_continuing() -> Self
+        ensures { result ≡ continuing_abilities }
+    {
+        Abilities {
+            can_return: false,
+            can_break: false,
+            can_continue: false,
+        }
+    }
 }
 
 /// The law over runs. Where the conditions hold at every position of a body, each use being among the handles that every

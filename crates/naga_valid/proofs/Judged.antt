@@ -20,7 +20,8 @@ use Rattle.naga_checks.specs.Rules.{points_at, body_rules}
 use Rattle.naga_checks.specs.walk.State.{State, kept_rules, begin_state, state_left, body_outcome, body_left}
 use Rattle.naga_checks.specs.declared.state.BodyOutcome.{BodyOutcome}
 use Rattle.naga_checks.specs.walk.Place.{Sets}
-use Rattle.naga_checks.specs.walk.Walk.{body_answer, body_abilities}
+use Rattle.naga_runs.specs.ByTree.{body_abilities}
+use Rattle.naga_checks.specs.walk.Walk.{body_answer}
 use Rattle.naga_valid.proofs.StatesLeft.{seen_is, left_by_none, state_more}
 
 follows : (context : Context) → Follows (body_rules context) (kept_rules context) (state_left context)

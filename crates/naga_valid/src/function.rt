@@ -18,7 +18,6 @@ ghost use Rattle.naga_checks.specs.walk.Walk.{puts, body_puts, sure_puts, parts_
 use naga_below::arena::handle::Handle;
 use naga_below::ir::statements::{Block, Located, Statement, SwitchCase};
 use naga_below::span::Refusal;
-use naga_checks::abilities::{at_begin, in_case, in_continuing, in_loop};
 use naga_checks::checks::refuse::answer_of_function;
 use naga_checks::checks::results::check_filled;
 use naga_checks::checks::statement::{check_break_if, validate_points};
@@ -83,7 +82,7 @@ fn validate_body_statements(
         stages: context.info.available_stages,
         trace: context.trace,
     };
-    let abilities = at_begin();
+    let abilities = Abilities::at_begin();
     validate_statements(table, &mut state, context, abilities, &context.fun.body)?;
     Ok(state)
 }
@@ -134,7 +133,7 @@ fn validate_parts(
             Ok(accepts | rejects)
         }
         Statement::Switch { cases, .. } => {
-            let abilities = in_case(abilities);
+            let abilities = abilities.in_case();
             validate_cases(table, state, context, abilities, cases.as_slice())
         }
         Statement::Loop {
@@ -143,8 +142,14 @@ fn validate_parts(
             break_if,
         } => {
             let outer = table.scope.enter()?;
-            let skipped = validate_loop_body(table, state, context, in_loop(abilities), body)?;
-            validate_statements(table, state, context, in_continuing(), continuing)?;
+            let skipped = validate_loop_body(table, state, context, abilities.in_loop(), body)?;
+            validate_statements(
+                table,
+                state,
+                context,
+                Abilities::in_continuing(),
+                continuing,
+            )?;
             check_break_if(&table.scope, context, *break_if, located.span)?;
             table.scope.leave(outer, skipped);
             Ok(false)

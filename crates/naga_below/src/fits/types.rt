@@ -31,7 +31,7 @@ fn members_name_below(members: &[StructMember], place: usize) -> bool
 }
 
 /// Whether every type that this one names has a handle below `place`.
-pub(crate) fn names_types_below(inner: &TypeInner, place: usize) -> bool
+pub fn names_types_below(inner: &TypeInner, place: usize) -> bool
     ensures { IsTrue result ↔ NamesTypesBelow place inner.now }
 {
     match inner {

@@ -63,6 +63,3 @@ module _ (context : Context) (state : State) (abilities : Abilities) (scope : Se
 
   unfoldable pub break_if_answer : Option ℕ → Result State FunctionError
   break_if_answer q = judge_break_if (kept_rules context) state (place abilities scope) q
-
-abbrev pub body_abilities : Abilities
-body_abilities = record { can_return = true; can_break = false; can_continue = false }

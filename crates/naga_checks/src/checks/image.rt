@@ -37,6 +37,13 @@ pub struct Texel {
     pub array_index: Option<Handle<tag::Expression>>,
 }
 
+/// What an image asks of the texel: its dimension, and whether it has layers.
+#[derive(Clone, Copy)]
+pub struct ImageShape {
+    pub dim: ImageDimension,
+    pub arrayed: bool,
+}
+
 /// The fault of an image, of a coordinate or of an array index, inside that of its statement.
 pub fn image_fault(statement: ImageStatement, error: ExpressionError) -> FunctionError
     ensures { result ≡ image_fault statement error }
@@ -104,16 +111,15 @@ pub fn check_texel(
     statement: ImageStatement,
     scope: &ScopeColumn,
     context: &BlockContext,
-    dim: ImageDimension,
-    arrayed: bool,
+    shape: ImageShape,
     texel: Texel,
 ) -> Result<(), FunctionError>
     ensures { Finds
-        (texel_points statement (context_of context.now) (place_at (known scope.now)) dim arrayed texel.coordinate texel.array_index)
+        (texel_points statement (context_of context.now) (place_at (known scope.now)) shape.dim shape.arrayed texel.coordinate texel.array_index)
         result }
 {
-    check_coordinate(statement, scope, context, dim, texel.coordinate)?;
-    check_array_index(statement, scope, context, arrayed, texel.array_index)
+    check_coordinate(statement, scope, context, shape.dim, texel.coordinate)?;
+    check_array_index(statement, scope, context, shape.arrayed, texel.array_index)
 }
 
 /// The coordinate: in scope, and of the image's dimension.

@@ -11,7 +11,9 @@ ghost use Rattle.naga_checks.specs.walk.Seen.{context_of};
 ghost use Rattle.naga_checks.specs.walk.Table.{known};
 
 use crate::checks::atomic::is_min_or_max;
-use crate::checks::image::{ImageStatement, Texel, check_texel, image_global, inner_at};
+use crate::checks::image::{
+    ImageShape, ImageStatement, Texel, check_texel, image_global, inner_at,
+};
 use crate::checks::refuse::{answer, check_use};
 use crate::checks::types::is_scalar;
 use crate::context::BlockContext;
@@ -21,27 +23,33 @@ use naga_below::arena::handle::Handle;
 use naga_below::arena::tag;
 use naga_below::ir::flags::StorageAccess;
 use naga_below::ir::operations::AtomicFunction;
-use naga_below::ir::types::{ImageClass, ImageDimension, Scalar, StorageFormat, TypeInner};
+use naga_below::ir::types::{ImageClass, Scalar, StorageFormat, TypeInner};
 use naga_below::span::Span;
 use naga_below::valid::capabilities::Capabilities;
 use naga_below::valid::expression_error::ExpressionError;
 use naga_rules::function::FunctionError;
+
+/// An operation on a texel: which texel, what is done, and with what value.
+#[derive(Clone, Copy)]
+pub struct TexelOperation {
+    pub texel: Texel,
+    pub fun: AtomicFunction,
+    pub value: Handle<tag::Expression>,
+}
 
 /// ImageAtomic: its image, the texel, the operation, and the value.
 pub fn check_image_atomic(
     scope: &ScopeColumn,
     context: &BlockContext,
     image: Handle<tag::Expression>,
-    texel: Texel,
-    fun: &AtomicFunction,
-    value: Handle<tag::Expression>,
+    operation: TexelOperation,
     span: Span,
 ) -> Result<(), Refused>
     ensures { AnswersPoints
-        (image_atomic_points (context_of context.now) (place_at (known scope.now)) image texel.coordinate texel.array_index fun.now value)
+        (image_atomic_points (context_of context.now) (place_at (known scope.now)) image operation.texel.coordinate operation.texel.array_index operation.fun operation.value)
         result }
 {
-    let checked = check_image_atomic_points(scope, context, image, texel, fun, value);
+    let checked = check_image_atomic_points(scope, context, image, operation);
     answer(scope.allocator(), checked, span)
 }
 
@@ -51,12 +59,10 @@ fn check_image_atomic_points(
     scope: &ScopeColumn,
     context: &BlockContext,
     image: Handle<tag::Expression>,
-    texel: Texel,
-    fun: &AtomicFunction,
-    value: Handle<tag::Expression>,
+    operation: TexelOperation,
 ) -> Result<(), FunctionError>
     ensures { Finds
-        (image_atomic_points (context_of context.now) (place_at (known scope.now)) image texel.coordinate texel.array_index fun.now value)
+        (image_atomic_points (context_of context.now) (place_at (known scope.now)) image operation.texel.coordinate operation.texel.array_index operation.fun operation.value)
         result }
 {
     let Some(ty) = image_global(context, image) else {
@@ -74,7 +80,11 @@ fn check_image_atomic_points(
         let error = ExpressionError::ExpectedImageType(ty);
         return Err(FunctionError::InvalidImageAtomic(error));
     };
-    check_changed_image(scope, context, *dim, *arrayed, *class, texel, fun, value)
+    let shape = ImageShape {
+        dim: *dim,
+        arrayed: *arrayed,
+    };
+    check_changed_image(scope, context, shape, *class, operation)
 }
 
 /// The type of a global, or what a binding array has.
@@ -93,20 +103,23 @@ fn changed_type<'a>(context: &BlockContext<'a>, ty: Handle<tag::Type>) -> Option
 fn check_changed_image(
     scope: &ScopeColumn,
     context: &BlockContext,
-    dim: ImageDimension,
-    arrayed: bool,
+    shape: ImageShape,
     class: ImageClass,
-    texel: Texel,
-    fun: &AtomicFunction,
-    value: Handle<tag::Expression>,
+    operation: TexelOperation,
 ) -> Result<(), FunctionError>
     ensures { Finds
-        (changed_points (context_of context.now) (place_at (known scope.now)) dim arrayed texel.coordinate texel.array_index
-        class fun.now value)
+        (changed_points (context_of context.now) (place_at (known scope.now)) shape.dim shape.arrayed operation.texel.coordinate
+        operation.texel.array_index class operation.fun operation.value)
         result }
 {
-    check_texel(ImageStatement::Atomic, scope, context, dim, arrayed, texel)?;
-    check_class(scope, context, class, fun, value)
+    check_texel(
+        ImageStatement::Atomic,
+        scope,
+        context,
+        shape,
+        operation.texel,
+    )?;
+    check_class(scope, context, class, &operation.fun, operation.value)
 }
 
 /// The class of the image, its access, the operation, and the value.

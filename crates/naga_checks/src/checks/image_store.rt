@@ -12,7 +12,7 @@ ghost use Rattle.naga_checks.specs.Types.{type_at};
 ghost use Rattle.naga_checks.specs.walk.Table.{known};
 
 use crate::checks::image::{
-    ImageStatement, Texel, check_texel, element_of, image_global, inner_at,
+    ImageShape, ImageStatement, Texel, check_texel, element_of, image_global, inner_at,
 };
 use crate::checks::refuse::{answer, check_use};
 use crate::checks::store::access_base;
@@ -21,13 +21,18 @@ use crate::refused::Refused;
 use crate::table::ScopeColumn;
 use naga_below::arena::handle::Handle;
 use naga_below::arena::tag;
-use naga_below::ir::types::{
-    ImageClass, ImageDimension, Scalar, StorageFormat, TypeInner, VectorSize,
-};
+use naga_below::ir::types::{ImageClass, Scalar, StorageFormat, TypeInner, VectorSize};
 use naga_below::span::Span;
 use naga_below::valid::expression_error::ExpressionError;
 use naga_rules::function::FunctionError;
 use std::alloc::{AllocError, Global};
+
+/// An image in storage: its shape, and the format of its texels.
+#[derive(Clone, Copy)]
+struct StorageImage {
+    shape: ImageShape,
+    format: StorageFormat,
+}
 
 /// ImageStore: its image, the texel, and the value.
 pub fn check_image_store(
@@ -101,7 +106,14 @@ fn check_store_of_type(
         let error = ExpressionError::InvalidImageClass(*class);
         return Err(FunctionError::InvalidImageStore(error));
     };
-    check_stored(scope, context, *dim, *arrayed, texel, value, given, format)
+    let image = StorageImage {
+        shape: ImageShape {
+            dim: *dim,
+            arrayed: *arrayed,
+        },
+        format,
+    };
+    check_stored(scope, context, image, texel, value, given)
 }
 
 /// The type of a global, or that of its elements.
@@ -127,20 +139,18 @@ fn stored_type<'a>(
 fn check_stored(
     scope: &ScopeColumn,
     context: &BlockContext,
-    dim: ImageDimension,
-    arrayed: bool,
+    image: StorageImage,
     texel: Texel,
     value: Handle<tag::Expression>,
     given: Option<TypeInner>,
-    format: StorageFormat,
 ) -> Result<(), FunctionError>
     requires { given ≡ type_at (context_of context.now) value }
     ensures { Finds
-        (stored_points (context_of context.now) (place_at (known scope.now)) dim arrayed texel.coordinate texel.array_index format value)
+        (stored_points (context_of context.now) (place_at (known scope.now)) image.shape.dim image.shape.arrayed texel.coordinate texel.array_index image.format value)
         result }
 {
-    check_texel(ImageStatement::Store, scope, context, dim, arrayed, texel)?;
-    check_texel_value(scope, context, format, value, given)
+    check_texel(ImageStatement::Store, scope, context, image.shape, texel)?;
+    check_texel_value(scope, context, image.format, value, given)
 }
 
 /// The value: in scope, and what a texel holds.

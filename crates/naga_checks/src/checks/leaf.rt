@@ -18,11 +18,11 @@ use crate::checks::call::{CallSite, validate_call};
 use crate::checks::control;
 use crate::checks::cooperative::check_cooperative_store;
 use crate::checks::image::Texel;
-use crate::checks::image_atomic::check_image_atomic;
+use crate::checks::image_atomic::{TexelOperation, check_image_atomic};
 use crate::checks::image_store::check_image_store;
 use crate::checks::load::validate_load;
 use crate::checks::ray_query::validate_ray_query;
-use crate::checks::ray_trace::check_trace_ray;
+use crate::checks::ray_trace::{Ray, check_trace_ray};
 use crate::checks::store::check_store;
 use crate::checks::subgroup::validate_ballot;
 use crate::checks::subgroup_collective::{Collective, validate_collective};
@@ -95,7 +95,12 @@ pub fn validate_leaf(
                 coordinate: *coordinate,
                 array_index: *array_index,
             };
-            check_image_atomic(scope, context, *image, texel, fun, *value, span)
+            let operation = TexelOperation {
+                texel,
+                fun: *fun,
+                value: *value,
+            };
+            check_image_atomic(scope, context, *image, operation, span)
         }
         Statement::WorkGroupUniformLoad { pointer, result } => {
             validate_load(scope, context, *pointer, *result, span)
@@ -125,16 +130,12 @@ pub fn validate_leaf(
                 payload,
             },
         ) => {
-            let so_far = &state.trace.payload;
-            check_trace_ray(
-                scope,
-                context,
-                so_far,
-                *structure,
-                *descriptor,
-                *payload,
-                span,
-            )
+            let ray = Ray {
+                structure: *structure,
+                descriptor: *descriptor,
+                payload: *payload,
+            };
+            check_trace_ray(scope, context, &state.trace.payload, ray, span)
         }
         Statement::SubgroupBallot { result, predicate } => {
             validate_ballot(scope, context, *result, predicate, span)

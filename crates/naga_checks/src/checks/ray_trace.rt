@@ -27,21 +27,27 @@ use naga_below::ir::types::{AddressSpace, TypeInner};
 use naga_below::span::Span;
 use naga_rules::function::FunctionError;
 
+/// A ray that is traced: its acceleration structure, its descriptor and its payload.
+#[derive(Clone, Copy)]
+pub struct Ray {
+    pub structure: Handle<tag::Expression>,
+    pub descriptor: Handle<tag::Expression>,
+    pub payload: Handle<tag::Expression>,
+}
+
 /// TraceRay: its acceleration structure, its payload and then its descriptor.
 pub fn check_trace_ray(
     scope: &ScopeColumn,
     context: &BlockContext,
     so_far: &Option<Handle<tag::Type>>,
-    structure: Handle<tag::Expression>,
-    descriptor: Handle<tag::Expression>,
-    payload: Handle<tag::Expression>,
+    ray: Ray,
     span: Span,
 ) -> Result<(), Refused>
     ensures { AnswersPoints
-        (trace_ray_points (context_of context.now) so_far.now (place_at (known scope.now)) structure descriptor payload)
+        (trace_ray_points (context_of context.now) so_far.now (place_at (known scope.now)) ray.structure ray.descriptor ray.payload)
         result }
 {
-    let checked = check_trace_ray_points(scope, context, so_far, structure, descriptor, payload);
+    let checked = check_trace_ray_points(scope, context, so_far, ray);
     answer(scope.allocator(), checked, span)
 }
 
@@ -50,26 +56,24 @@ fn check_trace_ray_points(
     scope: &ScopeColumn,
     context: &BlockContext,
     so_far: &Option<Handle<tag::Type>>,
-    structure: Handle<tag::Expression>,
-    descriptor: Handle<tag::Expression>,
-    payload: Handle<tag::Expression>,
+    ray: Ray,
 ) -> Result<(), FunctionError>
     ensures { Finds
-        (trace_ray_points (context_of context.now) so_far.now (place_at (known scope.now)) structure descriptor payload)
+        (trace_ray_points (context_of context.now) so_far.now (place_at (known scope.now)) ray.structure ray.descriptor ray.payload)
         result }
 {
-    check_use(scope, structure)?;
-    if structure_flag(context, structure).is_none() {
-        return Err(FunctionError::InvalidAccelerationStructure(structure));
+    check_use(scope, ray.structure)?;
+    if structure_flag(context, ray.structure).is_none() {
+        return Err(FunctionError::InvalidAccelerationStructure(ray.structure));
     }
-    check_use(scope, payload)?;
-    let Some(TypeInner::Pointer { base, space }) = context.type_inner(payload) else {
+    check_use(scope, ray.payload)?;
+    let Some(TypeInner::Pointer { base, space }) = context.type_inner(ray.payload) else {
         return Err(FunctionError::InvalidPayloadType);
     };
     if !is_payload_space(*space) {
         return Err(FunctionError::InvalidPayloadAddressSpace(*space));
     }
-    if !is_global(context.expression(payload)) {
+    if !is_global(context.expression(ray.payload)) {
         return Err(FunctionError::PayloadPointerNotGlobal);
     }
     if let Some(first) = so_far {
@@ -77,7 +81,7 @@ fn check_trace_ray_points(
             return Err(FunctionError::MismatchedPayloadType(*base, *first));
         }
     }
-    check_descriptor(scope, context, descriptor)
+    check_descriptor(scope, context, ray.descriptor)
 }
 
 /// Whether payloads lie in a space.

@@ -12,7 +12,7 @@ use naga_below::valid::expression_error::ExpressionError;
 use naga_below::valid::flags::{ShaderStages, ValidationFlags};
 use naga_below::valid::info::{FunctionInfo, ModuleInfo};
 use naga_below::valid::settings::Settings;
-use naga_module::plain::Plain;
+use naga_layers::plain::Plain;
 use naga_rules::below::Below;
 use naga_rules::function::FunctionError;
 use naga_rules::mesh::MeshAnalysis;
@@ -43,8 +43,8 @@ impl<'a> Faltering<'a> {
 }
 
 impl<'a> Below for Faltering<'a> {
-    ghost use Rattle.naga_module.specs.Plain.Laws.{info_one_type_each, info_one_use_each, info_types_in_range, info_no_struct_values, kinds_one_each};
-    ghost use Rattle.naga_module.specs.Plain.Meaning.{plain_meaning};
+    ghost use Rattle.naga_layers.specs.Plain.Laws.{info_one_type_each, info_one_use_each, info_types_in_range, info_no_struct_values, kinds_one_each};
+    ghost use Rattle.naga_layers.specs.Plain.Meaning.{plain_meaning};
 
     ghost meaning = { λ layer. plain_meaning layer.plain };
 

@@ -16,7 +16,7 @@ use naga_below::ir::statements::{Located, Statement};
 use naga_below::sequence::Sequence;
 use naga_below::span::{Refusal, WithSpan};
 use naga_below::valid::info::FunctionInfo;
-use naga_module::plain::Plain;
+use naga_layers::plain::Plain;
 use naga_rules::below::Below;
 use naga_rules::mesh::MeshAnalysis;
 use naga_valid::interface::EntryPointError;

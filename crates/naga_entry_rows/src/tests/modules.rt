@@ -18,8 +18,8 @@ use naga_below::valid::capabilities::Capabilities;
 use naga_below::valid::flags::{ShaderStages, SubgroupOperationSet};
 use naga_below::valid::info::ModuleInfo;
 use naga_below::valid::settings::Settings;
+use naga_layers::plain::Plain;
 use naga_module::check::{Given, ModuleFault, check_module};
-use naga_module::plain::Plain;
 use naga_rules::below::Below;
 use naga_rules::function::FunctionError;
 use naga_rules::interface::GlobalVariableError;
@@ -143,9 +143,12 @@ fn answer_over<B: Below + Drop>(
     check_module(rt.alloc(), below, SETTINGS, given, &module)
 }
 
-/// What is answered of a module.
+/// What is answered of a module. Where memory is refused, the same call is made again.
 fn answer_of(rt: &(impl Abort + AllocGlobal), parts: &Parts) -> Result<ModuleInfo, ModuleFault> {
-    answer_over(rt, Plain::without_mesh_shaders(), parts)
+    match answer_over(rt, Plain::without_mesh_shaders(), parts) {
+        Err(ModuleFault::Memory) => answer_over(rt, Plain::without_mesh_shaders(), parts),
+        answer => answer,
+    }
 }
 
 /// The fault of a module over a lower layer, if it has one. That of a function, or of an entry point's, stands at `HERE`, any

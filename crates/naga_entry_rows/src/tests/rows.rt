@@ -120,6 +120,22 @@ pub fn refusal_of<B: Below>(
     }
 }
 
+/// The same, where a validator whose request for memory was refused stays as it was and is asked again.
+pub fn settled<B: Below>(
+    rt: &(impl Abort + AllocGlobal),
+    validator: &mut Validator<B>,
+    bench: &Bench,
+    row: &Row,
+) -> Option<Refusal<EntryPointError>> {
+    let before = validator.trace_state();
+    let found = refusal_of(rt, validator, bench, row);
+    if let Some(Refusal::Memory) = found {
+        assert_eq!(rt; validator.trace_state(), before);
+        return refusal_of(rt, validator, bench, row);
+    }
+    found
+}
+
 /// Whether what was found is the row's own answer.
 pub fn is_own(row: &Row, found: &Option<Refusal<EntryPointError>>) -> bool {
     match found {
@@ -140,10 +156,10 @@ pub fn expect_own<B: Below>(
     bench: &Bench,
     row: &Row,
 ) {
-    let found = refusal_of(rt, later, bench, row);
+    let found = settled(rt, later, bench, row);
     assert!(rt; is_own(row, &found), "{found:?}");
     let mut fresh = validator(rt, bench, &row.case);
-    let first = refusal_of(rt, &mut fresh, bench, row);
+    let first = settled(rt, &mut fresh, bench, row);
     assert!(rt; is_own(row, &first));
     assert_eq!(rt; later.trace_state(), fresh.trace_state());
 }

@@ -5,7 +5,7 @@ use crate::tests::bench::{
     make_bench,
 };
 use crate::tests::judged::validator;
-use crate::tests::rows::{Row, alone, bad, expect_own, good, is_own, refusal_of};
+use crate::tests::rows::{Row, alone, bad, expect_own, good, is_own, settled};
 use crate::tests::shape::{
     Case, Part, Step, at, at_compute, at_fragment, at_vertex, built_in, smooth,
 };
@@ -149,7 +149,7 @@ fn worked_rows(rt: HostRuntime) -> Result<(), Fail> {
     let bench = make_bench(&rt);
     for (index, row) in rows().into_iter().enumerate() {
         let mut validator = validator(&rt, &bench, &row.case);
-        let found = refusal_of(&rt, &mut validator, &bench, &row);
+        let found = settled(&rt, &mut validator, &bench, &row);
         assert!(rt; is_own(&row, &found), "row {index}: {found:?}");
     }
     Ok(())
@@ -158,7 +158,7 @@ fn worked_rows(rt: HostRuntime) -> Result<(), Fail> {
 /// What a validator that has refused a row answers to the next one is what a fresh one answers.
 fn expect_behind(rt: &(impl Abort + AllocGlobal), bench: &Bench, refused: &Row, row: &Row) {
     let mut validator = validator(rt, bench, &refused.case);
-    let first = refusal_of(rt, &mut validator, bench, refused);
+    let first = settled(rt, &mut validator, bench, refused);
     assert!(rt; is_own(refused, &first));
     expect_own(rt, &mut validator, bench, row);
 }

@@ -21,8 +21,8 @@ use naga_below::valid::capabilities::Capabilities;
 use naga_below::valid::flags::{ShaderStages, SubgroupOperationSet, TypeFlags, ValidationFlags};
 use naga_below::valid::settings::Settings;
 use naga_below::valid::types::{Disalignment, TypeInfo};
+use naga_layers::plain::Plain;
 use naga_module::check::{Given, ModuleFault, check_module};
-use naga_module::plain::Plain;
 use std::alloc::{AllocError, Global};
 use std::process::Abort;
 

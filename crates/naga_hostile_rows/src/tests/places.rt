@@ -12,7 +12,7 @@ use naga_below::sequence::Sequence;
 use naga_below::valid::capabilities::Capabilities;
 use naga_below::valid::flags::ValidationFlags;
 use naga_below::valid::info::ModuleInfo;
-use naga_module::plain::Plain;
+use naga_layers::plain::Plain;
 use naga_valid::validator::Validator;
 use std::process::Abort;
 use std::test::Fail;

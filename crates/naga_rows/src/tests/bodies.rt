@@ -16,7 +16,7 @@ use naga_below::valid::capabilities::Capabilities;
 use naga_below::valid::flags::{ShaderStages, SubgroupOperationSet, TypeFlags, ValidationFlags};
 use naga_below::valid::info::{FunctionInfo, ModuleInfo};
 use naga_below::valid::types::TypeInfo;
-use naga_module::plain::Plain;
+use naga_layers::plain::Plain;
 use naga_rules::below::Below;
 use naga_rules::function::FunctionError;
 use naga_valid::validator::Validator;

@@ -16,7 +16,7 @@ use naga_below::valid::capabilities::Capabilities;
 use naga_below::valid::flags::ValidationFlags;
 use naga_below::valid::info::ModuleInfo;
 use naga_below::valid::types::{Disalignment, TypeInfo};
-use naga_module::plain::Plain;
+use naga_layers::plain::Plain;
 use naga_rules::below::Below;
 use naga_rules::interface::GlobalVariableError;
 use naga_valid::validator::Validator;

@@ -1,8 +1,7 @@
 //! A lower layer that refuses more than the plain one, so that the order of a function's steps shows.
 
 ghost use Rattle.std.specs.Prelude.{◌≡◌};
-ghost use Rattle.naga_below.specs.declared.valid.expression_error.ExpressionError.TheVariants.{Lower};
-ghost use Rattle.naga_rules.specs.declared.function.FunctionError.TheVariants.{Expression as InExpression};
+ghost use Rattle.naga_rules.specs.declared.function.FunctionError.TheVariants.{NonUniformWorkgroupUniformLoad};
 
 use naga_below::arena::handle::Handle;
 use naga_below::arena::{Arena, tag};
@@ -16,7 +15,8 @@ use naga_below::valid::expression_error::ExpressionError;
 use naga_below::valid::flags::{ShaderStages, ValidationFlags};
 use naga_below::valid::info::{FunctionInfo, ModuleInfo};
 use naga_below::valid::settings::Settings;
-use naga_module::plain::Plain;
+use naga_layers::plain::Plain;
+use naga_rules::analyzer::UniformityDisruptor;
 use naga_rules::below::Below;
 use naga_rules::function::FunctionError;
 use naga_rules::mesh::MeshAnalysis;
@@ -27,12 +27,9 @@ pub const THERE: Span = Span { start: 11, end: 13 };
 
 /// What the layer refuses a function for.
 pub fn refusal() -> FunctionError
-    ensures { result ≡ InExpression 0 (Lower 7) }
+    ensures { result ≡ NonUniformWorkgroupUniformLoad (record { 0 = 7 }) }
 {
-    FunctionError::Expression {
-        handle: Handle::new(0),
-        source: ExpressionError::Lower(7),
-    }
+    FunctionError::NonUniformWorkgroupUniformLoad(UniformityDisruptor(7))
 }
 
 /// The plain layer, but for what it says of a function as a whole and of the first two expressions.
@@ -48,15 +45,14 @@ pub struct Picky {
 impl Below for Picky {
     ghost use Rattle.std.specs.Prelude.{Ok, Err, unwrap_or, slice_get, if◌then◌else◌};
     ghost use Rattle.naga_below.specs.Bits.{ALL_STAGES};
-    ghost use Rattle.naga_below.specs.declared.valid.expression_error.ExpressionError.TheVariants.{Lower};
-    ghost use Rattle.naga_rules.specs.declared.function.FunctionError.TheVariants.{Expression as InExpression};
-    ghost use Rattle.naga_module.specs.Plain.Infos.{plain_info};
-    ghost use Rattle.naga_module.specs.Plain.Laws.{info_one_type_each, info_one_use_each, info_types_in_range, info_no_struct_values, kinds_one_each};
-    ghost use Rattle.naga_module.specs.Plain.Meaning.{plain_meaning};
+    ghost use Rattle.naga_rules.specs.declared.function.FunctionError.TheVariants.{NonUniformWorkgroupUniformLoad};
+    ghost use Rattle.naga_layers.specs.Plain.Infos.{plain_info};
+    ghost use Rattle.naga_layers.specs.Plain.Laws.{info_one_type_each, info_one_use_each, info_types_in_range, info_no_struct_values, kinds_one_each};
+    ghost use Rattle.naga_layers.specs.Plain.Meaning.{plain_meaning};
     ghost use Rattle.naga_rows.specs.Unless.{ok_unless};
 
     ghost meaning = { λ p. record (plain_meaning p.plain) {
-      function_info = λ f m _ _ _. if p.refuses_functions then Err (InExpression 0 (Lower 7)) else plain_info f m;
+      function_info = λ f m _ _ _. if p.refuses_functions then Err (NonUniformWorkgroupUniformLoad (record { 0 = 7 })) else plain_info f m;
       expression_stages = λ _ h _ _ _ _ _. unwrap_or (slice_get p.expressions h) (Ok ALL_STAGES);
     } };
 
@@ -119,16 +115,16 @@ impl Below for Picky {
     }
 
     ghost one_type_each = { λ p f m _ _ _ info h. info_one_type_each f m info
-        (ok_unless p.refuses_functions (InExpression 0 (Lower 7)) (plain_info f m) info h) };
+        (ok_unless p.refuses_functions (NonUniformWorkgroupUniformLoad (record { 0 = 7 })) (plain_info f m) info h) };
 
     ghost one_use_each = { λ p f m _ _ _ info h. info_one_use_each f m info
-        (ok_unless p.refuses_functions (InExpression 0 (Lower 7)) (plain_info f m) info h) };
+        (ok_unless p.refuses_functions (NonUniformWorkgroupUniformLoad (record { 0 = 7 })) (plain_info f m) info h) };
 
     ghost types_in_range = { λ p f m _ _ _ info h. info_types_in_range f m info
-        (ok_unless p.refuses_functions (InExpression 0 (Lower 7)) (plain_info f m) info h) };
+        (ok_unless p.refuses_functions (NonUniformWorkgroupUniformLoad (record { 0 = 7 })) (plain_info f m) info h) };
 
     ghost no_struct_values = { λ p f m _ _ _ info h. info_no_struct_values f m info
-        (ok_unless p.refuses_functions (InExpression 0 (Lower 7)) (plain_info f m) info h) };
+        (ok_unless p.refuses_functions (NonUniformWorkgroupUniformLoad (record { 0 = 7 })) (plain_info f m) info h) };
 
     ghost one_kind_each = { λ _ es. kinds_one_each es };
 }

@@ -20,7 +20,7 @@ use naga_below::valid::capabilities::Capabilities;
 use naga_below::valid::expression_error::ExpressionError;
 use naga_below::valid::flags::{GlobalUse, ShaderStages, ValidationFlags};
 use naga_below::valid::info::FunctionInfo;
-use naga_module::plain::Plain;
+use naga_layers::plain::Plain;
 use naga_rules::below::Below;
 use naga_rules::function::FunctionError;
 use std::alloc::{AllocError, Global};

@@ -21,10 +21,10 @@ use naga_below::valid::expression_error::ExpressionError;
 use naga_below::valid::flags::{GlobalUse, ShaderStages, SubgroupOperationSet};
 use naga_below::valid::info::{FunctionInfo, ModuleInfo};
 use naga_below::valid::settings::Settings;
-use naga_module::facts::{
+use naga_layers::facts::{
     ExpressionFact, Facts, FunctionFact, InfoFact, LowerFunctionError, MeshAnalysisFact,
 };
-use naga_module::recorded::Recorded;
+use naga_layers::recorded::Recorded;
 use naga_rules::analyzer::{UniformityDisruptor, UniformityRequirements};
 use naga_rules::below::Below;
 use naga_rules::function::FunctionError;

@@ -15,7 +15,7 @@ use naga_below::sequence::Sequence;
 use naga_below::valid::flags::{ShaderStages, SubgroupOperationSet, TypeFlags};
 use naga_below::valid::types::TypeInfo;
 use naga_checks::trace::{TraceRayVertexReturnState, TraceState};
-use naga_module::plain::Plain;
+use naga_layers::plain::Plain;
 use naga_rules::function::{FunctionError, SubgroupError};
 use naga_valid::validator::Validator;
 use std::alloc::{AllocError, Global};

@@ -20,7 +20,7 @@ use naga_below::sequence::Sequence;
 use naga_below::span::Span;
 use naga_below::valid::expression_error::ExpressionError;
 use naga_below::valid::flags::ShaderStages;
-use naga_module::plain::Plain;
+use naga_layers::plain::Plain;
 use naga_rules::function::{FunctionError, LocalVariableError};
 use std::alloc::{AllocError, Global};
 use std::process::Abort;

@@ -1,4 +1,4 @@
-use Rattle.naga_judge.specs.Failures.{IsUnreadable}
+use Rattle.naga_document.specs.Failures.{IsUnreadable}
 use Rattle.naga_judge.proofs.judge.judge.Goals as goal
 
 pub returns-in-Err-Unreadable : goal.returns-in-Err-Unreadable

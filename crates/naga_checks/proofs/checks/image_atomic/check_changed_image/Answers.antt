@@ -10,13 +10,13 @@ use Rattle.naga_checks.proofs.checks.image_atomic.check_changed_image.Goals as g
 pub returns-in_err-check_texel : goal.returns-in_err-check_texel
 returns-in_err-check_texel c =
     let context = context_of c.args.context.now in
-    let texels = texel_points Atomic context (place_at (known c.args.scope.now)) c.args.dim c.args.arrayed c.args.texel.coordinate c.args.texel.array_index in
-    let classes = changed_class_points context (place_at (known c.args.scope.now)) c.args.class c.args.fun.now c.args.value in
+    let texels = texel_points Atomic context (place_at (known c.args.scope.now)) c.args.shape.dim c.args.shape.arrayed c.args.operation.texel.coordinate c.args.operation.texel.array_index in
+    let classes = changed_class_points context (place_at (known c.args.scope.now)) c.args.class c.args.operation.fun c.args.operation.value in
     fault_first c.from_residual.result texels classes (search rules) (search rules)
 
 pub returns : goal.returns
 returns c =
     let context = context_of c.args.context.now in
-    let texels = texel_points Atomic context (place_at (known c.args.scope.now)) c.args.dim c.args.arrayed c.args.texel.coordinate c.args.texel.array_index in
-    let classes = changed_class_points context (place_at (known c.args.scope.now)) c.args.class c.args.fun.now c.args.value in
+    let texels = texel_points Atomic context (place_at (known c.args.scope.now)) c.args.shape.dim c.args.shape.arrayed c.args.operation.texel.coordinate c.args.operation.texel.array_index in
+    let classes = changed_class_points context (place_at (known c.args.scope.now)) c.args.class c.args.operation.fun c.args.operation.value in
     fault_second _ texels classes (search rules) c.check_class.ensures

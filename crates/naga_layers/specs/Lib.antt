@@ -1,0 +1,4 @@
+pub mod EmptySets
+pub mod Kinds
+pub mod Plain
+pub mod Recorded

@@ -1,0 +1,24 @@
+-- What the plain layer knows of a function.
+use Rattle.std.specs.Prelude.{false, List, [], Result, Ok, Err}
+use Rattle.naga_below.specs.Bits.{ALL_STAGES}
+use Rattle.naga_below.specs.declared.ir.functions.Function.{Function}
+use Rattle.naga_below.specs.declared.ir.module.Module.{Module}
+use Rattle.naga_below.specs.declared.proc.typifier.TypeResolution.{TypeResolution}
+use Rattle.naga_below.specs.declared.valid.info.FunctionInfo.{FunctionInfo}
+use Rattle.naga_rules.specs.declared.function.FunctionError.{FunctionError}
+use Rattle.naga_layers.specs.Plain.Types.{types_from}
+use Rattle.naga_layers.specs.Plain.Uses.{uses_of}
+
+-- the info of a function whose expressions have these types
+abbrev pub info_of : Module → Function → List TypeResolution → FunctionInfo
+info_of m f types =
+    record { expression_types = types; global_uses = uses_of m f; available_stages = ALL_STAGES; dual_source_blending = false }
+
+abbrev pub with_types : Module → Function → Result (List TypeResolution) FunctionError → Result FunctionInfo FunctionError
+with_types m f (Err fault) = Err fault
+with_types m f (Ok types) = Ok (info_of m f types)
+
+-- the types of its expressions, the globals that they name as read, and all stages; or the first expression that the
+-- layer has no type for
+abbrev pub plain_info : Function → Module → Result FunctionInfo FunctionError
+plain_info f m = with_types m f (types_from m f [] f.expressions)

@@ -1,0 +1,151 @@
+//! Facts: what a lower layer says of one module, recorded in plain lists. Whoever has typed a module already writes them
+//! down, and [`Recorded`](crate::recorded::Recorded) answers them.
+
+ghost use Rattle.std.specs.Prelude.{◌≡◌};
+ghost use Rattle.naga_layers.specs.Recorded.Facts.{no_facts, fault_of, info_of, analysis_of};
+
+use naga_below::arena::handle::Handle;
+use naga_below::arena::tag;
+use naga_below::ir::module::MeshStageInfo;
+use naga_below::proc::typifier::TypeResolution;
+use naga_below::sequence::Sequence;
+use naga_below::span::WithSpan;
+use naga_below::valid::expression_error::ExpressionError;
+use naga_below::valid::flags::{GlobalUse, ShaderStages};
+use naga_rules::analyzer::{UniformityDisruptor, UniformityRequirements};
+use naga_rules::function::FunctionError;
+use naga_rules::mesh::{MeshAnalysis, MeshFault};
+use std::alloc::Global;
+
+/// What a lower layer says of a module. No list must have a certain length: what a missing fact means is said at
+/// [`Recorded`](crate::recorded::Recorded), and facts beyond what is asked for are not looked at.
+#[derive(PartialEq, Debug, Drop)]
+pub struct Facts {
+    /// The size of each type in bytes, by its handle; `None` where it isn't known.
+    pub sizes: Sequence<Option<u32>>,
+    /// What each global variable implies as the output variable of a mesh shader, by its handle.
+    pub mesh_analyses: Sequence<Option<MeshAnalysisFact>>,
+    /// What is known of each function, by its handle.
+    pub functions: Sequence<FunctionFact>,
+    /// What is known of the function of each entry point, in their order.
+    pub entry_points: Sequence<FunctionFact>,
+}
+
+impl Facts {
+    /// No facts, with the allocator for those to come.
+    pub fn new(alloc: Global) -> Facts
+        ensures { result ≡ no_facts }
+    {
+        Facts {
+            sizes: Sequence::new(alloc),
+            mesh_analyses: Sequence::new(alloc),
+            functions: Sequence::new(alloc),
+            entry_points: Sequence::new(alloc),
+        }
+    }
+}
+
+/// What is known of a function, or what is wrong with it.
+#[derive(PartialEq, Debug, Drop)]
+pub enum FunctionFact {
+    Info(InfoFact),
+    Error(LowerFunctionError),
+}
+
+/// What is known of a function: one type for each of its expressions, and one use for each global of the module.
+#[derive(PartialEq, Debug, Drop)]
+pub struct InfoFact {
+    /// The type of each expression, by its handle. A struct is named by its handle and never given as a value.
+    pub types: Sequence<TypeResolution>,
+    /// How the function uses each global, by its handle.
+    pub uses: Sequence<GlobalUse>,
+    /// The stages that the function may run in, its statements and expressions apart.
+    pub stages: ShaderStages,
+    /// Whether the function puts out two colors that are blended.
+    pub dual_source_blending: bool,
+    /// What the check of each expression says, by its handle. It is asked for where expressions are looked at.
+    pub expressions: Sequence<ExpressionFact>,
+}
+
+/// The stages that an expression may run in, or what is wrong with it.
+#[derive(Clone, Copy, PartialEq, Debug)]
+pub enum ExpressionFact {
+    Stages(ShaderStages),
+    Error(ExpressionError),
+}
+
+/// The errors of functions that a lower layer makes: `Expression`, and those that it alone makes. Variants and fields are
+/// those of [`FunctionError`].
+#[derive(Clone, Copy, PartialEq, Debug)]
+pub enum LowerFunctionError {
+    Expression {
+        handle: Handle<tag::Expression>,
+        source: ExpressionError,
+    },
+    MissingRayQueryVertexReturn(Handle<tag::Expression>),
+    NonUniformControlFlow(UniformityRequirements, Handle<tag::Expression>, UniformityDisruptor),
+    NonUniformWorkgroupUniformLoad(UniformityDisruptor),
+    InvalidMeshFunctionCall(Handle<tag::Expression>),
+    ConflictingMeshOutputTypes(Handle<tag::Expression>, Handle<tag::Expression>),
+    ConflictingTaskPayloadVariables(Handle<tag::Expression>, Handle<tag::Expression>),
+    InvalidMeshShaderOutputType(Handle<tag::Expression>),
+}
+
+impl From<LowerFunctionError> for FunctionError {
+    ghost from_gives = { λ error fault. fault ≡ fault_of error };
+
+    fn from(error: LowerFunctionError) -> FunctionError {
+        match error {
+            LowerFunctionError::Expression { handle, source } => {
+                FunctionError::Expression { handle, source }
+            }
+            LowerFunctionError::MissingRayQueryVertexReturn(query) => {
+                FunctionError::MissingRayQueryVertexReturn(query)
+            }
+            LowerFunctionError::NonUniformControlFlow(requirements, at, disruptor) => {
+                FunctionError::NonUniformControlFlow(requirements, at, disruptor)
+            }
+            LowerFunctionError::NonUniformWorkgroupUniformLoad(disruptor) => {
+                FunctionError::NonUniformWorkgroupUniformLoad(disruptor)
+            }
+            LowerFunctionError::InvalidMeshFunctionCall(call) => {
+                FunctionError::InvalidMeshFunctionCall(call)
+            }
+            LowerFunctionError::ConflictingMeshOutputTypes(one, other) => {
+                FunctionError::ConflictingMeshOutputTypes(one, other)
+            }
+            LowerFunctionError::ConflictingTaskPayloadVariables(one, other) => {
+                FunctionError::ConflictingTaskPayloadVariables(one, other)
+            }
+            LowerFunctionError::InvalidMeshShaderOutputType(output) => {
+                FunctionError::InvalidMeshShaderOutputType(output)
+            }
+        }
+    }
+}
+
+/// What a global variable implies as the output variable of a mesh shader, and what is wrong with it. `overrides` are
+/// those of the greatest number of vertices and of primitives.
+#[derive(Clone, Copy, PartialEq, Debug)]
+pub struct MeshAnalysisFact {
+    pub implied: MeshStageInfo,
+    pub overrides: [Option<Handle<tag::Override>>; 2],
+    pub fault: Option<MeshFault>,
+}
+
+impl MeshAnalysisFact {
+    /// The analysis as a lower layer answers it, its fault without spans.
+    pub fn analysis(&self, alloc: Global) -> MeshAnalysis
+        ensures { result ≡ analysis_of self.now }
+    {
+        let fault = match self.fault {
+            Some(fault) => Some(WithSpan::new(alloc, fault)),
+            None => None,
+        };
+        MeshAnalysis {
+            implied: self.implied,
+            overrides: [self.overrides[0], self.overrides[1]],
+            fault,
+        }
+    }
+}

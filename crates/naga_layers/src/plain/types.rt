@@ -1,0 +1,196 @@
+//! Types of expressions.
+
+ghost use Rattle.std.specs.Prelude.{◌≡◌, [], IfOk, option_and_then, slice_get};
+ghost use Rattle.naga_below.specs.declared.span.Refusal.TheVariants.{Fault};
+ghost use Rattle.naga_below.specs.declared.valid.expression_error.ExpressionError.TheVariants.{Lower};
+ghost use Rattle.naga_rules.specs.Answers.{Answers};
+ghost use Rattle.naga_rules.specs.declared.function.FunctionError.TheVariants.{Expression as InExpression};
+ghost use Rattle.naga_layers.specs.Plain.Types.{type_at, pointer_to, global_type, loaded_type, first_of, own_type, type_of, types_from};
+
+use naga_below::arena::handle::Handle;
+use naga_below::arena::tag;
+use naga_below::ir::expressions::Expression;
+use naga_below::ir::functions::Function;
+use naga_below::ir::module::{GlobalVariable, Module};
+use naga_below::ir::types::{AddressSpace, Scalar, TypeInner, VectorSize};
+use naga_below::proc::typifier::TypeResolution;
+use naga_below::sequence::Sequence;
+use naga_below::span::{Refusal, WithSpan};
+use naga_below::valid::expression_error::ExpressionError;
+use naga_rules::function::FunctionError;
+use std::alloc::{AllocError, Global};
+
+/// The type of each expression of a function, or the first expression that has none here.
+#[tactic(auto, unfolding(crate::specs::Plain::Types::types_from))]
+pub fn types_of(
+    alloc: Global,
+    module: &Module,
+    fun: &Function,
+) -> Result<Sequence<TypeResolution>, Refusal<FunctionError>>
+    ensures { Answers (types_from «module».now fun.now [] fun.now.expressions) result }
+{
+    let mut types = Sequence::new(alloc);
+    let count = fun.expressions.len() as u32;
+    for index in 0..count {
+        let handle = Handle::new(index);
+        match type_of(
+            alloc,
+            module,
+            fun,
+            types.as_slice(),
+            &fun.expressions[handle],
+        )? {
+            Some(ty) => types.push(ty)?,
+            None => return Err(untyped(alloc, handle)),
+        }
+    }
+    Ok(types)
+}
+
+/// The refusal of an expression that has no type here.
+fn untyped(alloc: Global, handle: Handle<tag::Expression>) -> Refusal<FunctionError>
+    ensures { result ≡ Fault (InExpression handle (Lower 1)) }
+{
+    let fault = FunctionError::Expression {
+        handle,
+        source: ExpressionError::Lower(1),
+    };
+    Refusal::Fault(WithSpan::new(alloc, fault))
+}
+
+/// The type of an expression, of those of the expressions before it; `None` where it has none here.
+fn type_of(
+    alloc: Global,
+    module: &Module,
+    fun: &Function,
+    earlier: &[TypeResolution],
+    expression: &Expression,
+) -> Result<Option<TypeResolution>, AllocError>
+    ensures { IfOk result (λ ty. ty ≡ type_of «module».now fun.now earlier.now expression.now) }
+{
+    match expression {
+        Expression::Load { pointer } => Ok(loaded_type_at(module, earlier, *pointer)),
+        Expression::Unary { operands, .. } => type_of_first(alloc, earlier, operands.as_slice()),
+        _ => Ok(own_type(module, fun, expression)),
+    }
+}
+
+/// The type of an expression that has one by itself.
+fn own_type(module: &Module, fun: &Function, expression: &Expression) -> Option<TypeResolution>
+    ensures { result ≡ own_type «module».now fun.now expression.now }
+{
+    match expression {
+        Expression::Literal(literal) => Some(TypeResolution::Value(TypeInner::Scalar(
+            literal.scalar,
+        ))),
+        Expression::Constant(handle) => {
+            let constant = module.constants.as_slice().get(handle.index())?;
+            type_at(module, constant.ty)
+        }
+        Expression::Override(handle) => {
+            let constant = module.overrides.as_slice().get(handle.index())?;
+            type_at(module, constant.ty)
+        }
+        Expression::ZeroValue(ty)
+        | Expression::Compose { ty, .. }
+        | Expression::AtomicResult { ty, .. }
+        | Expression::WorkGroupUniformLoadResult { ty }
+        | Expression::SubgroupOperationResult { ty } => type_at(module, *ty),
+        Expression::FunctionArgument(index) => {
+            let argument = fun.arguments.as_slice().get(*index as usize)?;
+            type_at(module, argument.ty)
+        }
+        Expression::GlobalVariable(handle) => {
+            let global = module.global_variables.as_slice().get(handle.index())?;
+            global_type(module, *global)
+        }
+        Expression::LocalVariable(handle) => {
+            let local = fun.local_variables.as_slice().get(handle.index())?;
+            pointer_to(module, local.ty, AddressSpace::Function)
+        }
+        Expression::CallResult(handle) => {
+            let callee = module.functions.as_slice().get(handle.index())?;
+            let declared = callee.result?;
+            type_at(module, declared.ty)
+        }
+        Expression::RayQueryProceedResult => Some(TypeResolution::Value(TypeInner::Scalar(
+            Scalar::BOOL,
+        ))),
+        Expression::SubgroupBallotResult => Some(TypeResolution::Value(TypeInner::Vector {
+            size: VectorSize::Quad,
+            scalar: Scalar::U32,
+        })),
+        _ => None,
+    }
+}
+
+/// The type with a handle, where the module has it.
+fn type_at(module: &Module, ty: Handle<tag::Type>) -> Option<TypeResolution>
+    ensures { result ≡ type_at «module».now ty }
+{
+    if ty.index() < module.types.len() {
+        Some(TypeResolution::Handle(ty))
+    } else {
+        None
+    }
+}
+
+/// A pointer to the type with a handle, where the module has it.
+fn pointer_to(
+    module: &Module,
+    base: Handle<tag::Type>,
+    space: AddressSpace,
+) -> Option<TypeResolution>
+    ensures { result ≡ pointer_to «module».now base space }
+{
+    if base.index() < module.types.len() {
+        Some(TypeResolution::Value(TypeInner::Pointer { base, space }))
+    } else {
+        None
+    }
+}
+
+/// What a global stands for: itself in Handle, elsewhere a pointer to it.
+fn global_type(module: &Module, global: GlobalVariable) -> Option<TypeResolution>
+    ensures { result ≡ global_type «module».now global.ty global.space }
+{
+    match global.space {
+        AddressSpace::Handle => type_at(module, global.ty),
+        space => pointer_to(module, global.ty, space),
+    }
+}
+
+/// The type that the pointer with a handle points to.
+fn loaded_type_at(
+    module: &Module,
+    earlier: &[TypeResolution],
+    pointer: Handle<tag::Expression>,
+) -> Option<TypeResolution>
+    ensures { result ≡ option_and_then (loaded_type «module».now) (slice_get earlier.now pointer) }
+{
+    let inner = match earlier.get(pointer.index())? {
+        TypeResolution::Handle(ty) => &module.types.as_slice().get(ty.index())?.inner,
+        TypeResolution::Value(inner) => inner,
+    };
+    match inner.pointer_base_type()? {
+        TypeResolution::Handle(ty) => type_at(module, ty),
+        base => Some(base),
+    }
+}
+
+/// The type of the first operand.
+fn type_of_first(
+    alloc: Global,
+    earlier: &[TypeResolution],
+    operands: &[Handle<tag::Expression>],
+) -> Result<Option<TypeResolution>, AllocError>
+    ensures { IfOk result (λ ty. ty ≡ option_and_then (slice_get earlier.now) (first_of operands.now)) }
+{
+    let Some(handle) = operands.first() else {
+        return Ok(None);
+    };
+    match earlier.get(handle.index()) {
+        Some(ty) => Ok(Some(ty.clone(alloc)?)),
+        None => Ok(None),
+    }
+}

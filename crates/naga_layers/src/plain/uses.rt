@@ -1,0 +1,32 @@
+//! Uses of globals.
+
+ghost use Rattle.std.specs.Prelude.{◌≡◌, IfOk};
+ghost use Rattle.naga_layers.specs.Plain.Uses.{uses_of};
+
+use bitflags::Flags;
+use naga_below::ir::expressions::Expression;
+use naga_below::ir::functions::Function;
+use naga_below::ir::module::Module;
+use naga_below::sequence::Sequence;
+use naga_below::valid::flags::GlobalUse;
+use std::alloc::{AllocError, Global};
+
+/// One use for each global of the module: that it is read, where an expression of the function names it.
+#[tactic(auto, unfolding(crate::specs::Plain::Uses::with_all_named))]
+pub fn uses_of(
+    alloc: Global,
+    module: &Module,
+    fun: &Function,
+) -> Result<Sequence<GlobalUse>, AllocError>
+    ensures { IfOk result (λ uses. uses ≡ uses_of «module».now fun.now) }
+{
+    let mut uses = vec![in alloc; GlobalUse::empty(); module.global_variables.len()]?;
+    for expression in fun.expressions.as_slice() {
+        if let Expression::GlobalVariable(handle) = expression {
+            if let Some(global_use) = uses.get_mut(handle.index()) {
+                *global_use = GlobalUse::READ;
+            }
+        }
+    }
+    Ok(Sequence::from(uses))
+}
