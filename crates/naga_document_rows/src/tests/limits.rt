@@ -1,13 +1,21 @@
 //! Nesting up to the limit of the reader, and where reading stops.
 
-use naga_document::{ReadError, read_document};
+use naga_document::{Document, ReadError, read_document};
 use std::alloc::Global;
 use std::process::Abort;
 use std::test::Fail;
 
+/// What a text is read as. Where memory is refused, it is read again.
+fn read(alloc: Global, text: &str) -> Result<Document, ReadError> {
+    match read_document(alloc, text.as_bytes()) {
+        Err(ReadError::Memory) => read_document(alloc, text.as_bytes()),
+        answer => answer,
+    }
+}
+
 /// Where reading stopped and what was expected there, or that the text was read.
 fn told(alloc: Global, text: &str) -> Result<String, Fail> {
-    match read_document(alloc, text.as_bytes()) {
+    match read(alloc, text) {
         Ok(_) => Ok(format!(in alloc; "a document")?),
         Err(ReadError::Unreadable(unreadable)) => {
             let expected = unreadable.expected;

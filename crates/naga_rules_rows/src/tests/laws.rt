@@ -167,8 +167,10 @@ fn assert_answers(
     );
     assert!(rt; is_constant(&Bools, alloc, fun, handle)?);
     let answer = stages(&Bools, alloc, fun, module, &info, mod_info, handle);
-    let Err(Refusal::Fault(fault)) = &answer else {
-        panic!(rt; "no fault");
+    let fault = match &answer {
+        Err(Refusal::Fault(fault)) => fault,
+        Err(Refusal::Memory) => panic!(rt; "no memory"),
+        Ok(_) => panic!(rt; "no fault"),
     };
     assert_eq!(rt; *fault.as_inner(), ExpressionError::NotInScope);
     assert_eq!(rt; output_size(&Bools, alloc, module, global)?, Some(1));
