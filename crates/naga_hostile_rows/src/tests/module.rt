@@ -292,8 +292,21 @@ const SETTINGS: Settings = Settings {
     subgroup_operations: SubgroupOperationSet::ALL,
 };
 
-/// The fault of a module of which this is known, if it has one.
+/// The fault of a module of which this is known, if it has one. Where memory is refused, the same call is made again.
 pub fn fault_of(
+    rt: &(impl Abort + AllocGlobal),
+    handles: &Handles,
+    module: &Module,
+) -> Option<ModuleFault> {
+    let first = told_of(rt, handles, module);
+    if first == Some(ModuleFault::Memory) {
+        return told_of(rt, handles, module);
+    }
+    first
+}
+
+/// What is told of a module of which this is known, if it is not accepted.
+fn told_of(
     rt: &(impl Abort + AllocGlobal),
     handles: &Handles,
     module: &Module,

@@ -15,7 +15,7 @@ use naga_below::ir::statements::{Located, Statement};
 use naga_below::ir::types::{AddressSpace, ArraySize, Scalar, Type, TypeInner, VectorSize};
 use naga_below::proc::typifier::TypeResolution;
 use naga_below::sequence::Sequence;
-use naga_below::span::Span;
+use naga_below::span::{Refusal, Span};
 use naga_below::valid::capabilities::Capabilities;
 use naga_below::valid::expression_error::ExpressionError;
 use naga_below::valid::flags::{GlobalUse, ShaderStages, ValidationFlags};
@@ -127,17 +127,29 @@ fn a_splat_has_no_type(rt: HostRuntime) -> Result<(), Fail> {
 }
 
 /// What the plain layer answers to a function, with no other before it.
-fn info_of(alloc: Global, fun: &Function, module: &Module) -> Option<FunctionInfo> {
+fn answer_of(
+    alloc: Global,
+    fun: &Function,
+    module: &Module,
+) -> Result<FunctionInfo, Refusal<FunctionError>> {
     let infos = no_infos(alloc);
     let flags = ValidationFlags::empty();
-    let found = Plain::without_mesh_shaders().process_function(
+    Plain::without_mesh_shaders().process_function(
         alloc,
         fun,
         module,
         &infos,
         flags,
         Capabilities::empty(),
-    );
+    )
+}
+
+/// The info of a function, if it has one. Where memory is refused, the layer is asked again.
+fn info_of(alloc: Global, fun: &Function, module: &Module) -> Option<FunctionInfo> {
+    let mut found = answer_of(alloc, fun, module);
+    if let Err(Refusal::Memory) = found {
+        found = answer_of(alloc, fun, module);
+    }
     match found {
         Ok(info) => Some(info),
         Err(_) => None,
