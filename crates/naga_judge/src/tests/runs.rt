@@ -13,8 +13,16 @@ fn queue(alloc: Global, text: &str) -> Result<VecDeque<u8>, Fail> {
     Ok(queue)
 }
 
-/// What was written, and the status.
+/// What was written, and the status. Where memory is refused, the run is made again.
 fn document(alloc: Global, text: &str, form: Form) -> Result<(String, u8), Fail> {
+    let first = document_once(alloc, text, form)?;
+    if first.1 == 3 {
+        return document_once(alloc, text, form);
+    }
+    Ok(first)
+}
+
+fn document_once(alloc: Global, text: &str, form: Form) -> Result<(String, u8), Fail> {
     let mut output = VecDeque::new(alloc);
     let status = run_document(alloc, &mut queue(alloc, text)?, &mut output, form)?;
     let mut written = String::new(alloc);
@@ -22,7 +30,16 @@ fn document(alloc: Global, text: &str, form: Form) -> Result<(String, u8), Fail>
     Ok((written, status))
 }
 
+/// The same of lines.
 fn lines(alloc: Global, text: &str) -> Result<(String, u8), Fail> {
+    let first = lines_once(alloc, text)?;
+    if first.1 == 3 {
+        return lines_once(alloc, text);
+    }
+    Ok(first)
+}
+
+fn lines_once(alloc: Global, text: &str) -> Result<(String, u8), Fail> {
     let mut output = VecDeque::new(alloc);
     let status = run_lines(alloc, &mut queue(alloc, text)?, &mut output)?;
     let mut written = String::new(alloc);
