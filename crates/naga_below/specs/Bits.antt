@@ -247,3 +247,20 @@ ALL_OPERATIONS = record { 0 = 0x7f }
 
 abbrev pub ALL_CAPABILITIES : Capabilities
 ALL_CAPABILITIES = record { 0 = 0xfffffff }
+
+-- every flag of a type
+abbrev pub ALL_TYPE_FLAGS : TypeFlags
+ALL_TYPE_FLAGS = record { 0 = 0xff }
+
+-- no stage, no use of a global, no memory that a barrier orders, no access to a storage image
+abbrev pub NO_STAGE : ShaderStages
+NO_STAGE = record { 0 = 0 }
+
+abbrev pub NO_USE : GlobalUse
+NO_USE = record { 0 = 0 }
+
+abbrev pub NO_MEMORY : Barrier
+NO_MEMORY = record { 0 = 0 }
+
+abbrev pub NO_ACCESS : StorageAccess
+NO_ACCESS = record { 0 = 0 }

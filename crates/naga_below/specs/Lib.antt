@@ -1,7 +1,6 @@
 pub mod Tree
 pub mod Points
 pub mod Bits
-pub mod WholeSets
 pub mod View
 pub mod Blocks
 pub mod Empty

@@ -28,7 +28,7 @@ pub struct Case {
     pub subject: Subject,
 }
 
-pub static CASES: [Case; 32] = [
+pub static CASES: [Case; 40] = [
     Case {
         name: "a emit 1000",
         statements: 1000,
@@ -146,10 +146,78 @@ pub static CASES: [Case; 32] = [
         }),
     },
     Case {
+        name: "b block depth 200 width 2",
+        statements: 1200,
+        subject: Subject::Body(Shape::Nest {
+            holder: Holder::Block,
+            depth: 200,
+            width: 2,
+        }),
+    },
+    Case {
+        name: "b block depth 200 width 25",
+        statements: 10400,
+        subject: Subject::Body(Shape::Nest {
+            holder: Holder::Block,
+            depth: 200,
+            width: 25,
+        }),
+    },
+    Case {
+        name: "b block depth 200 width 250",
+        statements: 100400,
+        subject: Subject::Body(Shape::Nest {
+            holder: Holder::Block,
+            depth: 200,
+            width: 250,
+        }),
+    },
+    Case {
+        name: "b block depth 200 width 2500",
+        statements: 1000400,
+        subject: Subject::Body(Shape::Nest {
+            holder: Holder::Block,
+            depth: 200,
+            width: 2500,
+        }),
+    },
+    Case {
         name: "c own 10000 blocks of 10",
         statements: 30000,
         subject: Subject::Body(Shape::Own {
             blocks: 10000,
+            loads: 10,
+        }),
+    },
+    Case {
+        name: "c own 333 blocks of 10",
+        statements: 999,
+        subject: Subject::Body(Shape::Own {
+            blocks: 333,
+            loads: 10,
+        }),
+    },
+    Case {
+        name: "c own 3333 blocks of 10",
+        statements: 9999,
+        subject: Subject::Body(Shape::Own {
+            blocks: 3333,
+            loads: 10,
+        }),
+    },
+    Case {
+        name: "c own 33333 blocks of 10",
+        statements: 99999,
+        subject: Subject::Body(Shape::Own {
+            blocks: 33333,
+            loads: 10,
+        }),
+    },
+    Case {
+        name: "c own 333333 blocks of 10",
+        statements: 999999,
+        subject: Subject::Body(Shape::Own {
+            blocks: 333333,
             loads: 10,
         }),
     },

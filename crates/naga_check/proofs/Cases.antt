@@ -9,7 +9,7 @@ use Rattle.naga_below.specs.declared.valid.flags.ShaderStages.{ShaderStages}
 use Rattle.naga_below.specs.declared.valid.info.FunctionInfo.{FunctionInfo}
 use Rattle.naga_below.specs.declared.valid.info.ModuleInfo.{ModuleInfo}
 use Rattle.naga_rules.specs.declared.function.FunctionError.{FunctionError}
-use Rattle.naga_check.specs.EmptySets.{NO_STAGE}
+use Rattle.naga_below.specs.Bits.{NO_STAGE}
 use Rattle.naga_check.specs.BenchModule.{bench_module}
 use Rattle.naga_check.specs.Judged.{IsPlainAnswer, IsJudgementOf, module_of, settings_of, stages_of_last}
 use Rattle.naga_check.specs.Line.{Replies, IsDue, Writes, IsLine, IsLineOf, reply_line, reply_status}

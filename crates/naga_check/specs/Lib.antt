@@ -1,4 +1,3 @@
-pub mod EmptySets
 pub mod Bench
 pub mod BenchModule
 pub mod Notation

@@ -1,9 +1,8 @@
 -- The check list of Call: its turns, and that it guards what a Call uses and puts.
-use Rattle.std.proofs.Common.{◌≡◌, ℕ, suc, ◌==◌, Bool, true, false, not, ◌&&◌, List, [], ◌∷◌, ◌++◌, Option, None, Some, Result, Ok, Err, length, slice_get, refl, sym, ap, ◌∙◌, arith}
+use Rattle.std.proofs.Common.{◌≡◌, ℕ, suc, ◌==◌, Bool, true, false, not, ◌&&◌, List, [], ◌∷◌, ◌++◌, Option, None, Some, Result, length, slice_get, refl, sym, ap, ◌∙◌, subst, arith}
 use Rattle.std.proofs.lemmas.Bool.Decides.{nat_tests}
-use Rattle.std.specs.Option.{option_map, option_or}
-use Rattle.std.specs.Result.{result_err, is_err}
-use Rattle.std.specs.Prelude.{IfSome, is_some, map}
+use Rattle.std.specs.Option.{option_map}
+use Rattle.std.specs.Prelude.{IfSome, IsErr, is_some, map}
 use Rattle.naga_below.specs.Tree.{Act, Use}
 use Rattle.naga_below.specs.View.{put_if}
 use Rattle.naga_below.specs.declared.ir.functions.Function.{Function}
@@ -12,18 +11,22 @@ use Rattle.naga_below.specs.declared.valid.expression_error.ExpressionError.TheV
 use Rattle.naga_rules.specs.declared.function.CallError.{CallError}
 use Rattle.naga_rules.specs.declared.function.CallError.TheVariants.{Argument, ArgumentCount, ArgumentType, ExpressionMismatch, ResultAlreadyInScope, ResultAlreadyPopulated}
 use Rattle.naga_rules.specs.declared.function.FunctionError.TheVariants.{InvalidCall}
-use Rattle.naga_below.proofs.Points.{first_holds, both_hold, not_holds}
+use Rattle.naga_below.proofs.Points.{first_holds, both_hold, first_of_both, first_within, not_holds}
 use Rattle.naga_runs.specs.Handles.{Handles}
 use Rattle.naga_runs.specs.Visits.{Place}
-use Rattle.naga_below.specs.Points.{Point, first_fault}
+use Rattle.naga_below.specs.Points.{Point, first_fault, within}
+use Rattle.naga_below.specs.declared.span.Refusal.{Refusal}
+use Rattle.naga_rules.specs.declared.function.FunctionError.{FunctionError}
 use Rattle.naga_runs.specs.Soundness.{Fit}
-use Rattle.naga_checks.specs.checks.Call.{arguments_of, has_result, is_passed_as, argument_points, argument_points_from, arguments_points, is_call_result_of, call_result_points, callee_points, call_points}
+use Rattle.naga_checks.specs.checks.Call.{arguments_of, has_result, is_passed_as, passed_points, passed_points_from, all_passed_points, is_call_result_of, call_result_points, callee_points, call_points}
 use Rattle.naga_checks.specs.Context.{Context}
 use Rattle.naga_runs.specs.PutsAndUses.{puts_of}
-use Rattle.naga_checks.specs.Points.{may_use, is_in_scope}
+use Rattle.naga_checks.specs.Points.{Points, may_use, is_in_scope}
+use Rattle.naga_rules.specs.Answers.{AnswersPoints}
 use Rattle.naga_checks.specs.checks.Results.{is_fresh}
 use Rattle.naga_checks.specs.Types.{expression_at}
-use Rattle.naga_checks.proofs.Lists.{first_fault-append, first_fault-within}
+use Rattle.naga_checks.proofs.Lists.{within-append}
+use Rattle.naga_checks.proofs.Refusals.{refuses_first, refuses_second}
 
 -- a point whose fault stands inside another fails where it does
 within_none : {Inner Outer : Type 0} (o : Option Inner) (f : Inner → Outer) → option_map f o ≡ None → o ≡ None
@@ -33,10 +36,10 @@ within_none (Some x) f e = cc
 same_length : (m n : ℕ) → (m == n) ≡ true → m ≡ n
 same_length m n e = grind (arith, nat_tests)
 
-arguments_fit : (context : Context) (place : Place) (k : ℕ) (ds : List FunctionArgument) (gs : List ℕ) (acts : List Act) → length ds ≡ length gs → first_fault (argument_points_from context place k ds gs) ≡ None → Fit (may_use place) (is_in_scope place) acts → Fit (may_use place) (is_in_scope place) (map Use gs ++ acts)
+arguments_fit : (context : Context) (place : Place) (k : ℕ) (ds : List FunctionArgument) (gs : List ℕ) (acts : List Act) → length ds ≡ length gs → first_fault (passed_points_from context place k ds gs) ≡ None → Fit (may_use place) (is_in_scope place) acts → Fit (may_use place) (is_in_scope place) (map Use gs ++ acts)
 arguments_fit context place k [] [] acts l e rest = rest
 arguments_fit context place k (d ∷ ds) (g ∷ gs) acts l e rest =
-    let both = both_hold (argument_points context place k d.ty g) (argument_points_from context place (suc k) ds gs) e in
+    let both = both_hold (passed_points context place k d.ty g) (passed_points_from context place (suc k) ds gs) e in
     let typed : Point CallError = (is_passed_as context g d.ty, ArgumentType k d.ty g) in
     let here = first_holds (may_use place g) (Argument k NotInScope) (typed ∷ []) both.0 in
     let same : length ds ≡ length gs = omega (arith, l) in
@@ -62,12 +65,12 @@ module _ (context : Context) (filled : Handles) (place : Place) (f : ℕ) (gs : 
   pub result_is_new : (named : Option ℕ) → first_fault (callee_points context filled place f gs named) ≡ None → IfSome named (λ r. is_in_scope place r ≡ false)
   result_is_new None e = tt
   result_is_new (Some r) e =
-      (named_holds context filled place f (has_result callee) r (both_hold (arguments_points context place (arguments_of callee) gs) (call_result_points context filled place f (has_result callee) (Some r)) e).1).0
+      (named_holds context filled place f (has_result callee) r (both_hold (all_passed_points context place (arguments_of callee) gs) (call_result_points context filled place f (has_result callee) (Some r)) e).1).0
 
   callee_fits : (named : Option ℕ) → first_fault (callee_points context filled place f gs named) ≡ None → Fit (may_use place) (is_in_scope place) (map Use gs ++ put_if named)
   callee_fits named e =
-      let both = both_hold (arguments_points context place (arguments_of callee) gs) (call_result_points context filled place f (has_result callee) named) e in
-      let count = first_holds (length (arguments_of callee) == length gs) (ArgumentCount (length (arguments_of callee)) (length gs)) (argument_points_from context place 0 (arguments_of callee) gs) both.0 in
+      let both = both_hold (all_passed_points context place (arguments_of callee) gs) (call_result_points context filled place f (has_result callee) named) e in
+      let count = first_holds (length (arguments_of callee) == length gs) (ArgumentCount (length (arguments_of callee)) (length gs)) (passed_points_from context place 0 (arguments_of callee) gs) both.0 in
       arguments_fit context place 0 (arguments_of callee) gs (put_if named) (same_length _ _ count.0) count.1 (put_fits named (result_is_new named e))
     where
       put_fits : (o : Option ℕ) → IfSome o (λ r. is_in_scope place r ≡ false) → Fit (may_use place) (is_in_scope place) (put_if o)
@@ -77,14 +80,14 @@ module _ (context : Context) (filled : Handles) (place : Place) (f : ℕ) (gs : 
 pub callee_holds : (context : Context) (filled : Handles) (place : Place) (f : ℕ) (gs : List ℕ) (named : Option ℕ) → first_fault (call_points context filled place f gs named) ≡ None → first_fault (callee_points context filled place f gs named) ≡ None
 callee_holds context filled place f gs named e =
     let inside = callee_points context filled place f gs named in
-    within_none (first_fault inside) (InvalidCall f) (sym (first_fault-within (InvalidCall f) inside) ∙ e)
+    within_none (first_fault inside) (InvalidCall f) (sym (first_within (InvalidCall f) inside) ∙ e)
 
 -- what holds of the result of a call
 pub call_holds : (context : Context) (filled : Handles) (place : Place) (f : ℕ) (gs : List ℕ) (r : ℕ) → first_fault (call_points context filled place f gs (Some r)) ≡ None →
     (is_in_scope place r ≡ false) × ((is_call_result_of f (expression_at context r) && has_result (slice_get context.program.functions f)) ≡ true) × (is_fresh context filled r ≡ true)
 call_holds context filled place f gs r e =
     let callee = slice_get context.program.functions f in
-    let both = both_hold (arguments_points context place (arguments_of callee) gs) (call_result_points context filled place f (has_result callee) (Some r)) (callee_holds context filled place f gs (Some r) e) in
+    let both = both_hold (all_passed_points context place (arguments_of callee) gs) (call_result_points context filled place f (has_result callee) (Some r)) (callee_holds context filled place f gs (Some r) e) in
     named_holds context filled place f (has_result callee) r both.1
 
 pub call_fits : (context : Context) (filled : Handles) (place : Place) (f : ℕ) (gs : List ℕ) (named : Option ℕ) → first_fault (call_points context filled place f gs named) ≡ None → Fit (may_use place) (is_in_scope place) (map Use gs ++ put_if named)
@@ -92,21 +95,22 @@ call_fits context filled place f gs named e = callee_fits context filled place f
 
 -- a call of a function that is there
 module _ (context : Context) (filled : Handles) (place : Place) (f : ℕ) (gs : List ℕ) (named : Option ℕ) (callee : Function) (is : slice_get context.program.functions f ≡ Some callee) where
-  split : first_fault (callee_points context filled place f gs named)
-      ≡ option_or (first_fault (arguments_points context place callee.arguments gs)) (first_fault (call_result_points context filled place f (is_some callee.result) named))
+  abbrev arguments : Points
+  arguments = within (InvalidCall f) (all_passed_points context place callee.arguments gs)
+
+  abbrev results : Points
+  results = within (InvalidCall f) (call_result_points context filled place f (is_some callee.result) named)
+
+  split : call_points context filled place f gs named ≡ arguments ++ results
   split =
-      ap (λ z. first_fault (arguments_points context place (arguments_of z) gs ++ call_result_points context filled place f (has_result z) named)) is
-      ∙ first_fault-append (arguments_points context place callee.arguments gs) (call_result_points context filled place f (is_some callee.result) named)
+      ap (λ z. within (InvalidCall f) (all_passed_points context place (arguments_of z) gs ++ call_result_points context filled place f (has_result z) named)) is
+      ∙ within-append (InvalidCall f) (all_passed_points context place callee.arguments gs) (call_result_points context filled place f (is_some callee.result) named)
 
-  pub call_stops : {T : Type 0} (r : Result T CallError) → is_err r ≡ true → result_err r ≡ first_fault (arguments_points context place callee.arguments gs) → result_err r ≡ first_fault (callee_points context filled place f gs named)
-  call_stops (Ok t) err e = cc
-  call_stops (Err x) err e =
-      ap (λ z. option_or z (first_fault (call_result_points context filled place f (is_some callee.result) named))) e ∙ sym split
+  pub call_stops : {T : Type 0} (r : Result T (Refusal FunctionError)) → IsErr r → AnswersPoints arguments r → AnswersPoints (call_points context filled place f gs named) r
+  call_stops r err a = subst (λ ps. AnswersPoints ps r) (sym split) (refuses_first r arguments results err a)
 
-  pub call_next : {T : Type 0} (r : Result T CallError) (rest : Option CallError) → is_err r ≡ false → result_err r ≡ first_fault (arguments_points context place callee.arguments gs) → rest ≡ first_fault (call_result_points context filled place f (is_some callee.result) named) → rest ≡ first_fault (callee_points context filled place f gs named)
-  call_next (Ok t) rest ok e n =
-      n ∙ ap (λ z. option_or z (first_fault (call_result_points context filled place f (is_some callee.result) named))) e ∙ sym split
-  call_next (Err x) rest ok e n = cc
+  pub call_next : {T : Type 0} (r : Result T (Refusal FunctionError)) → first_fault arguments ≡ None → AnswersPoints results r → AnswersPoints (call_points context filled place f gs named) r
+  call_next r none a = subst (λ ps. AnswersPoints ps r) (sym split) (refuses_second r arguments results none a)
 
 -- the uses of a Call put nothing
 pub call_puts : (xs : List ℕ) (acts : List Act) → puts_of (map Use xs ++ acts) ≡ puts_of acts

@@ -4,7 +4,7 @@ use Rattle.std.proofs.lemmas.Bool.Decides.{nat_tests}
 use Rattle.std.specs.Option.{option_or}
 use Rattle.std.specs.Prelude.{map, if◌then◌else◌}
 use Rattle.naga_below.proofs.Each.{from_here}
-use Rattle.naga_below.proofs.Points.{first_holds, both_hold, not_holds}
+use Rattle.naga_below.proofs.Points.{first_holds, both_hold, first_of_both, not_holds}
 use Rattle.naga_below.specs.Points.{first_fault}
 use Rattle.naga_below.specs.Tree.{Act}
 use Rattle.naga_below.specs.View.{emitted}
@@ -20,16 +20,18 @@ use Rattle.naga_runs.specs.PutsAndUses.{puts_of}
 use Rattle.naga_runs.specs.Visits.{Place}
 use Rattle.naga_checks.specs.Blocks.{emitted_operands, operands_if}
 use Rattle.naga_checks.specs.Context.{Context}
-use Rattle.naga_checks.specs.Points.{Points, use_point, put_point, is_in_scope}
+use Rattle.naga_checks.specs.Points.{Points, use_point, put_point, may_use, is_in_scope}
 use Rattle.naga_checks.specs.checks.Control.{within_emit, emitted_points, emit_points_from, emit_points}
 use Rattle.naga_checks.specs.checks.Results.{is_result}
 use Rattle.naga_checks.specs.Types.{expression_at}
-use Rattle.naga_checks.specs.walk.Answers.{IsFirstFault}
+use Rattle.naga_checks.specs.walk.Answers.{IsRefusalFor}
+use Rattle.naga_rules.specs.Answers.{IsFirstFault}
 use Rattle.naga_checks.specs.walk.Place.{Sets, place_at}
 use Rattle.naga_checks.specs.walk.Table.{with_all, with_puts}
 use Rattle.naga_checks.specs.walk.Walk.{handles_from, handles_between}
 use Rattle.naga_checks.proofs.Calls.{call_puts}
-use Rattle.naga_checks.proofs.Lists.{first_fault-append, in_scope_before}
+use Rattle.naga_checks.proofs.Lists.{in_scope_before}
+use Rattle.naga_checks.proofs.Refusals.{first_refused, refuses_fault}
 
 or_true : (b : Bool) → (b || true) ≡ true
 or_true true = refl
@@ -97,13 +99,23 @@ module _ (context : Context) (place : Place) (h : ℕ) where
   by_operands o is kind =
       ap (λ x. first_fault ((not (is_result x), EmitResult h) ∷ map (use_point place) (operands_if x) ++ puts)) (sym is)
       ∙ ap (λ b. if not b then first_fault (map (use_point place) (operands_if o) ++ puts) else Some (EmitResult h)) kind
-      ∙ first_fault-append (map (use_point place) (operands_if o)) puts
+      ∙ first_of_both (map (use_point place) (operands_if o)) puts
 
-  pub emitted_stops : (o : Option Expression) (f : FunctionError) → o ≡ expression_at context h → is_result o ≡ false → Some f ≡ first_fault (map (use_point place) (operands_if o)) → Some f ≡ first_fault (emitted_points context place place h)
-  emitted_stops o f is kind e = sym (by_operands o is kind ∙ ap (λ x. option_or x (first_fault puts)) (sym e))
+  pub emitted_stops : (o : Option Expression) (given : Refusal FunctionError) → o ≡ expression_at context h → is_result o ≡ false → IsFirstFault (map (use_point place) (operands_if o)) given → IsFirstFault (emitted_points context place place h) given
+  emitted_stops o (refusal.Fault f) is kind e = by_operands o is kind ∙ ap (λ x. option_or x (first_fault puts)) e
+  emitted_stops o refusal.Memory is kind e = tt
 
-  pub emitted_next : (o : Option Expression) (r : Option FunctionError) → o ≡ expression_at context h → is_result o ≡ false → None ≡ first_fault (map (use_point place) (operands_if o)) → r ≡ first_fault puts → r ≡ first_fault (emitted_points context place place h)
-  emitted_next o r is kind e last = last ∙ sym (by_operands o is kind ∙ ap (λ x. option_or x (first_fault puts)) (sym e))
+  -- the put, where no point before it fails
+  pub emitted_last : (o : Option Expression) → o ≡ expression_at context h → is_result o ≡ false → first_fault (map (use_point place) (operands_if o)) ≡ None → first_fault (emitted_points context place place h) ≡ first_fault puts
+  emitted_last o is kind e = by_operands o is kind ∙ ap (λ x. option_or x (first_fault puts)) e
+
+  pub emitted_twice : (o : Option Expression) (given : Refusal FunctionError) → o ≡ expression_at context h → is_result o ≡ false → first_fault (map (use_point place) (operands_if o)) ≡ None → is_in_scope place h ≡ true → IsRefusalFor (ExpressionAlreadyInScope h) given → IsFirstFault (emitted_points context place place h) given
+  emitted_twice o given is kind e in_scope for_it =
+      refuses_fault (ExpressionAlreadyInScope h) given (emitted_points context place place h) for_it (sym (emitted_last o is kind e ∙ ap (λ b. first_fault ((not b, ExpressionAlreadyInScope h) ∷ [])) in_scope))
+
+  pub emitted_once : (o : Option Expression) → o ≡ expression_at context h → is_result o ≡ false → first_fault (map (use_point place) (operands_if o)) ≡ None → is_in_scope place h ≡ false → first_fault (emitted_points context place place h) ≡ None
+  emitted_once o is kind e new =
+      emitted_last o is kind e ∙ ap (λ b. first_fault ((not b, ExpressionAlreadyInScope h) ∷ [])) new
 
   pub emitted_new : first_fault (emitted_points context place place h) ≡ None → is_in_scope place h ≡ false
   emitted_new e =
@@ -127,13 +139,11 @@ module _ (context : Context) (place : Place) (start h end : ℕ) (lt : h < end) 
       ∙ ap (λ k. here ++ emit_points_from context place start k (end - (h + 1))) next
 
   pub emit_stops : (whole : Points) (refused : Refusal FunctionError) → first_fault (emit_points_from context place start h (end - h)) ≡ first_fault whole → IsFirstFault here refused → IsFirstFault whole refused
-  emit_stops whole (refusal.Fault f) e first =
-      sym e ∙ ap first_fault split ∙ first_fault-append here behind ∙ ap (λ o. option_or o (first_fault behind)) first
-  emit_stops whole refusal.Memory e first = tt
+  emit_stops whole refused e first = first_refused refused here behind whole (sym (ap first_fault split) ∙ e) first
 
   pub emit_next : (whole : Points) → first_fault (emit_points_from context place start h (end - h)) ≡ first_fault whole → first_fault here ≡ None → first_fault behind ≡ first_fault whole
   emit_next whole e none =
-      sym (ap first_fault split ∙ first_fault-append here behind ∙ ap (λ o. option_or o (first_fault behind)) none) ∙ e
+      sym (ap first_fault split ∙ first_of_both here behind ∙ ap (λ o. option_or o (first_fault behind)) none) ∙ e
 
 pub emit_none : (context : Context) (place : Place) (start h end : ℕ) → end ≤ h → first_fault (emit_points_from context place start h (end - h)) ≡ None
 emit_none context place start h end le =
@@ -144,16 +154,16 @@ module _ (place : Place) where
   abbrev used : List ℕ → Option FunctionError
   used hs = first_fault (map (use_point place) hs)
 
-  one : (h : ℕ) (hs : List ℕ) → used (h ∷ hs) ≡ option_or (used (h ∷ [])) (used hs)
-  one h hs = first_fault-append (use_point place h ∷ []) (map (use_point place) hs)
+  first_used : (xs : List ℕ) (k h : ℕ) (whole : Option FunctionError) (b : Bool) → slice_get xs k ≡ Some h → used (drop k xs) ≡ whole → may_use place h ≡ b → first_fault ((b, fault.Expression h NotInScope) ∷ map (use_point place) (drop (k + 1) xs)) ≡ whole
+  first_used xs k h whole b there e is =
+      sym (ap used (from_here xs k h there) ∙ ap (λ c. first_fault ((c, fault.Expression h NotInScope) ∷ map (use_point place) (drop (k + 1) xs))) is) ∙ e
 
-  pub operand_stops : (xs : List ℕ) (k h : ℕ) (f : FunctionError) (whole : Option FunctionError) → slice_get xs k ≡ Some h → used (drop k xs) ≡ whole → Some f ≡ used (h ∷ []) → Some f ≡ whole
-  operand_stops xs k h f whole there e fails =
-      sym (sym e ∙ ap used (from_here xs k h there) ∙ one h (drop (k + 1) xs) ∙ ap (λ o. option_or o (used (drop (k + 1) xs))) (sym fails))
+  pub operand_stops : (xs : List ℕ) (k h : ℕ) (given : Refusal FunctionError) (whole : Points) → slice_get xs k ≡ Some h → used (drop k xs) ≡ first_fault whole → may_use place h ≡ false → IsRefusalFor (fault.Expression h NotInScope) given → IsFirstFault whole given
+  operand_stops xs k h given whole there e unusable for_it =
+      refuses_fault (fault.Expression h NotInScope) given whole for_it (first_used xs k h (first_fault whole) false there e unusable)
 
-  pub operand_next : (xs : List ℕ) (k h : ℕ) (whole : Option FunctionError) → slice_get xs k ≡ Some h → used (drop k xs) ≡ whole → used (h ∷ []) ≡ None → used (drop (k + 1) xs) ≡ whole
-  operand_next xs k h whole there e holds =
-      sym (ap used (from_here xs k h there) ∙ one h (drop (k + 1) xs) ∙ ap (λ o. option_or o (used (drop (k + 1) xs))) holds) ∙ e
+  pub operand_next : (xs : List ℕ) (k h : ℕ) (whole : Option FunctionError) → slice_get xs k ≡ Some h → used (drop k xs) ≡ whole → may_use place h ≡ true → used (drop (k + 1) xs) ≡ whole
+  operand_next xs k h whole there e usable = first_used xs k h whole true there e usable
 
 -- what an Emit puts are the handles of its range
 pub emit_puts : (operands : ℕ → List ℕ) (start n : ℕ) → puts_of (emitted operands start n) ≡ handles_from start n

@@ -19,3 +19,4 @@ pub mod ImageAtomics
 pub mod Subgroups
 pub mod Parts
 pub mod Own
+pub mod Rising

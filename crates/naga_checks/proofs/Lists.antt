@@ -4,22 +4,21 @@ use Rattle.std.proofs.lemmas.Bool.Decides.{nat_tests}
 use Rattle.std.proofs.lemmas.List.Elements.{All-contains, All-from_recursion}
 use Rattle.std.specs.List.{list_any, AllByRecursion}
 use Rattle.std.specs.Prelude.{Contains, take, if◌then◌else◌}
-use Rattle.std.specs.Option.{option_or, option_map}
 use Rattle.naga_below.specs.declared.ir.statements.SwitchCase.{SwitchCase, out-SwitchCase}
 use Rattle.naga_below.specs.declared.ir.statements.SwitchValue.{SwitchValue}
-use Rattle.naga_below.specs.Points.{Point, first_fault, within}
+use Rattle.naga_below.proofs.Points.{first_of_both}
+use Rattle.naga_below.specs.Points.{Point, within}
 use Rattle.naga_runs.specs.Handles.{Handles, with_handle}
 use Rattle.naga_below.specs.View.{list_cases}
 use Rattle.naga_runs.specs.Visits.{Place}
 use Rattle.naga_checks.specs.Blocks.{case_list}
 use Rattle.naga_checks.specs.Context.{Context}
 use Rattle.naga_checks.specs.Points.{Points, use_point}
-use Rattle.naga_checks.specs.Types.{scalar_kind_at}
+use Rattle.naga_checks.specs.Types.{is_integer, scalar_kind_at}
 use Rattle.naga_rules.specs.declared.function.FunctionError.TheVariants.{InvalidSwitchType, MissingDefaultCase, LastCaseFallTrough}
 use Rattle.naga_checks.specs.walk.Table.{with_all}
 use Rattle.naga_checks.specs.walk.Walk.{handles_from, handles_between}
-use Rattle.naga_checks.specs.checks.Control.{is_integer, is_default, value_points, switch_points, values_of, last_falls_through}
-use Rattle.naga_rules.specs.declared.function.FunctionError.{FunctionError}
+use Rattle.naga_checks.specs.checks.Switch.{is_default, value_points, switch_points, values_of, last_falls_through}
 
 -- what holds of all of two lists holds of each of them, and of each item
 module _ {A : Type 0} (P : A → Type 0) where
@@ -117,21 +116,9 @@ pub between_end : (start h end : ℕ) → start ≤ h → end ≤ h → (end ≤
 between_end start h end le below stays bound =
     let count : h - start ≡ end - start = grind arith in ap (handles_from start) count
 
-first_step : {Fault : Type 0} (b : Bool) (f : Fault) (ps qs : List (Point Fault)) → first_fault (ps ++ qs) ≡ option_or (first_fault ps) (first_fault qs) → first_fault ((b, f) ∷ ps ++ qs) ≡ option_or (first_fault ((b, f) ∷ ps)) (first_fault qs)
-first_step true f ps qs rest = rest
-first_step false f ps qs rest = refl
+-- where points stand inside others' faults, some and then others
+pub within-append : {Inner Outer : Type 0} (outer : Inner → Outer) (ps qs : List (Point Inner)) → within outer (ps ++ qs) ≡ within outer ps ++ within outer qs
+within-append outer [] qs = refl
+within-append outer (p ∷ ps) qs = ap (λ l. (p.0, outer p.1) ∷ l) (within-append outer ps qs)
 
-pub first_fault-append : {Fault : Type 0} (ps qs : List (Point Fault)) → first_fault (ps ++ qs) ≡ option_or (first_fault ps) (first_fault qs)
-first_fault-append [] qs = refl
-first_fault-append (p ∷ ps) qs = first_step p.0 p.1 ps qs (first_fault-append ps qs)
-
-within_step : {Inner : Type 0} (outer : Inner → FunctionError) (b : Bool) (f : Inner) (ps : List (Point Inner)) → first_fault (within outer ps) ≡ option_map outer (first_fault ps) → first_fault (within outer ((b, f) ∷ ps)) ≡ option_map outer (first_fault ((b, f) ∷ ps))
-within_step outer true f ps rest = rest
-within_step outer false f ps rest = refl
-
--- points whose faults stand inside another
-pub first_fault-within : {Inner : Type 0} (outer : Inner → FunctionError) (ps : List (Point Inner)) → first_fault (within outer ps) ≡ option_map outer (first_fault ps)
-first_fault-within outer [] = refl
-first_fault-within outer (p ∷ ps) = within_step outer p.0 p.1 ps (first_fault-within outer ps)
-
-pub ruleset appended = (first_fault-append)
+pub ruleset appended = (first_of_both)

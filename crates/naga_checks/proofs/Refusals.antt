@@ -5,28 +5,34 @@ use Rattle.std.specs.Option.{option_or}
 use Rattle.std.specs.Result.{result_err}
 use Rattle.naga_below.specs.declared.span.Refusal.{Refusal}
 use Rattle.naga_below.specs.declared.span.Refusal.TheVariants as refusal
-use Rattle.naga_rules.specs.Answers.{Refuses}
+use Rattle.naga_rules.specs.Answers.{AnswersPoints, IsFirstFault, Refuses}
 use Rattle.naga_rules.specs.declared.function.FunctionError.{FunctionError}
 use Rattle.naga_below.specs.Points.{and_then, Point, first_fault}
-use Rattle.naga_checks.specs.walk.Answers.{AnswersPoints, AnswersLeaving, IsFirstFault, IsRefusalFor}
+use Rattle.naga_checks.specs.walk.Answers.{AnswersLeaving, IsRefusalFor}
 use Rattle.naga_checks.specs.Points.{Points}
-use Rattle.naga_checks.proofs.Lists.{first_fault-append}
+use Rattle.naga_below.proofs.Points.{first_of_both}
 
 -- the refusal for the first fault
 pub refuses_fault : (fault : FunctionError) (given : Refusal FunctionError) (points : Points) → IsRefusalFor fault given → Some fault ≡ first_fault points → IsFirstFault points given
 refuses_fault fault (refusal.Fault f) points e h = sym h ∙ ap Some (sym e)
 refuses_fault fault refusal.Memory points e h = tt
 
+-- a refusal at the first points of what is left, which decide the whole
+pub first_refused : (given : Refusal FunctionError) (here behind whole : Points) → first_fault (here ++ behind) ≡ first_fault whole → IsFirstFault here given → IsFirstFault whole given
+first_refused (refusal.Fault f) here behind whole e first =
+    sym e ∙ first_of_both here behind ∙ ap (λ o. option_or o (first_fault behind)) first
+first_refused refusal.Memory here behind whole e first = tt
+
 -- a refusal at the first of them
 pub refuses_first : {T : Type 0} (r : Result T (Refusal FunctionError)) (first second : Points) → IsErr r → AnswersPoints first r → AnswersPoints (first ++ second) r
-refuses_first (Err (refusal.Fault f)) first second e h = first_fault-append first second ∙ ap (λ o. option_or o (first_fault second)) h
+refuses_first (Err (refusal.Fault f)) first second e h = first_of_both first second ∙ ap (λ o. option_or o (first_fault second)) h
 refuses_first (Err refusal.Memory) first second e h = tt
 refuses_first (Ok t) first second e h = cc
 
 -- an answer at the second, where no point of the first fails
 pub refuses_second : {T : Type 0} (r : Result T (Refusal FunctionError)) (first second : Points) → first_fault first ≡ None → AnswersPoints second r → AnswersPoints (first ++ second) r
-refuses_second (Ok t) first second e h = first_fault-append first second ∙ ap (λ o. option_or o (first_fault second)) e ∙ h
-refuses_second (Err (refusal.Fault f)) first second e h = first_fault-append first second ∙ ap (λ o. option_or o (first_fault second)) e ∙ h
+refuses_second (Ok t) first second e h = first_of_both first second ∙ ap (λ o. option_or o (first_fault second)) e ∙ h
+refuses_second (Err (refusal.Fault f)) first second e h = first_of_both first second ∙ ap (λ o. option_or o (first_fault second)) e ∙ h
 refuses_second (Err refusal.Memory) first second e h = tt
 
 pub passes : {S : Type 0} (o : Result S FunctionError) (f : S → Result S FunctionError) (st end : S) → o ≡ Ok st → f st ≡ Ok end → and_then o f ≡ Ok end
@@ -51,8 +57,8 @@ next_is whole o f st e n = sym (e ∙ ap (λ z. and_then z f) n)
 -- a fault of the first points, and one behind them
 pub fault_first : {T Fault : Type 0} (r : Result T Fault) (ps qs : List (Point Fault)) → IsErr r → result_err r ≡ first_fault ps → result_err r ≡ first_fault (ps ++ qs)
 fault_first (Ok t) ps qs err e = cc
-fault_first (Err f) ps qs err e = ap (λ o. option_or o (first_fault qs)) e ∙ sym (first_fault-append ps qs)
+fault_first (Err f) ps qs err e = ap (λ o. option_or o (first_fault qs)) e ∙ sym (first_of_both ps qs)
 
 pub fault_second : {Fault : Type 0} (o : Option Fault) (ps qs : List (Point Fault)) → first_fault ps ≡ None → o ≡ first_fault qs → o ≡ first_fault (ps ++ qs)
 fault_second o ps qs none e =
-    e ∙ sym (first_fault-append ps qs ∙ ap (λ z. option_or z (first_fault qs)) none)
+    e ∙ sym (first_of_both ps qs ∙ ap (λ z. option_or z (first_fault qs)) none)

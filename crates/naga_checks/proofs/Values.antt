@@ -16,7 +16,7 @@ use Rattle.naga_checks.specs.Blocks.{case_list}
 use Rattle.naga_below.specs.declared.ir.types.ScalarKind.{ScalarKind}
 use Rattle.naga_rules.specs.declared.function.FunctionError.{FunctionError}
 use Rattle.naga_rules.specs.declared.function.FunctionError.TheVariants.{ConflictingCaseType}
-use Rattle.naga_checks.specs.checks.Control.{same_value, value_points, values_of, has_signedness_of, repeated_fault}
+use Rattle.naga_checks.specs.checks.Switch.{same_value, value_points, values_of, has_signedness_of, repeated_fault}
 
 nats_by_order : (m n : ℕ) → is_eq (nat_cmp m n) ≡ (m == n)
 nats_by_order m n = grind (arith, nat_tests)
@@ -67,7 +67,7 @@ values-append (x ∷ xs) ys = ap (λ l. (out-SwitchCase x).value ∷ l) (values-
 
 -- one case more
 module _ (cs : List SwitchCase) (i : ℕ) (c : SwitchCase) (lt : i < length cs) (e : c ≡ get_or cs i c) where
-  earlier : values_of (case_list (take (i + 1) cs)) ≡ values_of (case_list (take i cs)) ++ ((out-SwitchCase c).value ∷ [])
+  pub earlier : values_of (case_list (take (i + 1) cs)) ≡ values_of (case_list (take i cs)) ++ ((out-SwitchCase c).value ∷ [])
   earlier =
       ap (λ l. values_of (case_list l)) (take_more cs i c lt)
       ∙ ap (λ z. values_of (case_list (take i cs ++ (z ∷ [])))) (sym e)

@@ -17,7 +17,8 @@ use Rattle.naga_checks.specs.Past.{Past, past_of}
 use Rattle.naga_checks.specs.checks.Barrier.{barrier_points}
 use Rattle.naga_checks.specs.checks.Call.{call_points}
 use Rattle.naga_checks.specs.Context.{Context}
-use Rattle.naga_checks.specs.checks.Control.{emit_points, condition_points, switch_points, return_points, break_points, continue_points}
+use Rattle.naga_checks.specs.checks.Control.{emit_points, condition_points, return_points, break_points, continue_points}
+use Rattle.naga_checks.specs.checks.Switch.{switch_points}
 use Rattle.naga_checks.specs.checks.Cooperative.{cooperative_points}
 use Rattle.naga_checks.specs.checks.ImageAtomic.{image_atomic_points}
 use Rattle.naga_checks.specs.checks.Image.{image_store_points}

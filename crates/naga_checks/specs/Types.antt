@@ -1,8 +1,9 @@
 -- The expressions of a function and their types, as the check lists ask for them.
-use Rattle.std.specs.Prelude.{ℕ, Option, slice_get, option_and_then, unwrap_or}
+use Rattle.std.specs.Prelude.{ℕ, Bool, true, false, Option, Some, slice_get, option_and_then, unwrap_or}
 use Rattle.naga_below.specs.Types.{bool_scalar, resolved, scalar_kind_of}
 use Rattle.naga_below.specs.declared.ir.expressions.Expression.{Expression}
 use Rattle.naga_below.specs.declared.ir.types.ScalarKind.{ScalarKind}
+use Rattle.naga_below.specs.declared.ir.types.ScalarKind.TheVariants as kind
 use Rattle.naga_below.specs.declared.ir.types.TypeInner.{TypeInner}
 use Rattle.naga_below.specs.declared.ir.types.TypeInner.TheVariants.{Scalar}
 use Rattle.naga_below.specs.declared.proc.typifier.TypeResolution.{TypeResolution}
@@ -27,3 +28,9 @@ named_type_at context h = named_type (type_at context h)
 
 abbrev pub scalar_kind_at : Context → ℕ → Option ScalarKind
 scalar_kind_at context h = option_and_then scalar_kind_of (type_at context h)
+
+-- integers of either sign
+abbrev pub is_integer : Option ScalarKind → Bool
+is_integer (Some kind.Uint) = true
+is_integer (Some kind.Sint) = true
+is_integer _ = false

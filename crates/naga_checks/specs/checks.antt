@@ -1,5 +1,6 @@
 -- The check lists of the statements, a file for each file of src/checks that has a list.
 pub mod Control
+pub mod Switch
 pub mod Results
 pub mod Call
 pub mod Atomic

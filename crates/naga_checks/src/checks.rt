@@ -19,4 +19,5 @@ pub mod store;
 pub mod subgroup;
 pub mod subgroup_collective;
 pub mod subgroup_gather;
+pub mod switch;
 pub mod types;

@@ -9,7 +9,7 @@ ghost use Rattle.naga_checks.specs.walk.Seen.{context_of};
 ghost use Rattle.naga_checks.specs.walk.State.{kept, with_statement};
 ghost use Rattle.naga_checks.specs.walk.Table.{marked};
 
-use crate::checks::ray_trace::trace_of;
+use crate::checks::ray_trace::advance_trace;
 use crate::context::BlockContext;
 use crate::stages::stages_of;
 use crate::table::FilledColumn;
@@ -59,5 +59,5 @@ pub fn advance(
         filled.fill(handle);
     }
     state.stages = state.stages.intersection(stages_of(context, located));
-    state.trace = trace_of(context, state.trace, located);
+    advance_trace(&mut state.trace, context, located);
 }

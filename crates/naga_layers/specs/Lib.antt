@@ -1,4 +1,3 @@
-pub mod EmptySets
 pub mod Kinds
 pub mod Plain
 pub mod Recorded

@@ -7,7 +7,7 @@ use Rattle.naga_below.specs.Points.{first_fault, points_from}
 use Rattle.naga_below.specs.declared.span.Refusal.{Refusal}
 use Rattle.naga_below.specs.declared.span.Refusal.TheVariants as refusal
 use Rattle.naga_rules.specs.declared.function.FunctionError.{FunctionError}
-use Rattle.naga_checks.specs.walk.Answers.{AnswersPoints}
+use Rattle.naga_rules.specs.Answers.{AnswersPoints}
 use Rattle.naga_checks.specs.Points.{Points}
 
 module _ {A : Type 0} (points : ℕ → A → Points) (xs : List A) (i : ℕ) where

@@ -17,7 +17,7 @@ use Rattle.naga_rules.specs.AllowedUses.{join}
 use Rattle.naga_rules.specs.Meaning.{Meaning}
 use Rattle.naga_rules.specs.declared.function.FunctionError.{FunctionError}
 use Rattle.naga_valid.specs.interface.Faults.{EntryFault, fault_of}
-use Rattle.naga_valid.specs.interface.Judged.{entry_judgement, of_function, interface_points, interface_step, outcome_of}
+use Rattle.naga_valid.specs.interface.Judged.{entry_judgement, of_function, interface_points, interface_step, entry_outcome}
 use Rattle.naga_valid.specs.interface.Start.{start_points}
 use Rattle.naga_valid.specs.interface.Uses.{with_use_of, output_variable_of, with_own_uses, with_uses_at}
 use Rattle.naga_valid.specs.interface.Varyings.{are_blend_sources}
@@ -30,12 +30,12 @@ module _ (below : Meaning) (settings : Settings) (infos : List TypeInfo) (trace 
     pub function : FunctionOutcome
     pub judged : function_judgement below settings infos trace program earlier ep.function true ≡ Ok function
     pub points : first_fault (interface_points below settings infos program ep function.info) ≡ None
-    pub is : outcome_of below settings infos program ep function ≡ outcome
+    pub is : entry_outcome below settings infos program ep function ≡ outcome
 
   by_points : (function : FunctionOutcome) → function_judgement below settings infos trace program earlier ep.function true ≡ Ok function →
-      (o : Option EntryFault) → first_fault (interface_points below settings infos program ep function.info) ≡ o → answer o (outcome_of below settings infos program ep function) ≡ Ok outcome → IsAcceptedEntry
+      (o : Option EntryFault) → first_fault (interface_points below settings infos program ep function.info) ≡ o → answer o (entry_outcome below settings infos program ep function) ≡ Ok outcome → IsAcceptedEntry
   by_points function judged None points e =
-      let same : outcome_of below settings infos program ep function ≡ outcome = cc in
+      let same : entry_outcome below settings infos program ep function ≡ outcome = cc in
       record { function = function; judged = judged; points = points; is = same }
   by_points function judged (Some f) points e = cc
 
@@ -76,7 +76,7 @@ stages_if false info = refl
 
 module _ (below : Meaning) (settings : Settings) (infos : List TypeInfo) (program : Module) (ep : EntryPoint) where
   -- so do all of them
-  pub stages_are : (function : FunctionOutcome) → (outcome_of below settings infos program ep function).info.available_stages ≡ function.info.available_stages
+  pub stages_are : (function : FunctionOutcome) → (entry_outcome below settings infos program ep function).info.available_stages ≡ function.info.available_stages
   stages_are function =
       stages_if (are_blend_sources program.types infos ep.function.result) (with_own_uses ep function.info)
       ∙ stages_with_uses ep.stage ep.task_payload ep.mesh_info function.info

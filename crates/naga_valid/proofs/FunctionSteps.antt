@@ -12,13 +12,12 @@ use Rattle.naga_below.specs.declared.valid.info.ModuleInfo.{ModuleInfo}
 use Rattle.naga_below.specs.declared.valid.settings.Settings.{Settings}
 use Rattle.naga_below.specs.declared.valid.flags.ShaderStages.{ShaderStages}
 use Rattle.naga_below.specs.declared.valid.types.TypeInfo.{TypeInfo}
-use Rattle.naga_rules.specs.Answers.{Answers, Refuses}
+use Rattle.naga_rules.specs.Answers.{Answers, IsFirstFault, Refuses}
 use Rattle.naga_rules.specs.Meaning.{Meaning}
 use Rattle.naga_rules.specs.declared.function.FunctionError.{FunctionError}
 use Rattle.naga_runs.specs.Judgement.{viewed}
 use Rattle.naga_runs.specs.Visits.{Visit}
 use Rattle.naga_checks.specs.Context.{Context, ContextFits}
-use Rattle.naga_checks.specs.walk.Answers.{IsFirstFault}
 use Rattle.naga_checks.specs.Declarations.{declaration_points}
 use Rattle.naga_checks.specs.Expressions.{with_stages, stages_from, expressions_step}
 use Rattle.naga_checks.specs.WhatIsChecked.{checks_blocks, checks_expressions}

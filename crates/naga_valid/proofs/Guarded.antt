@@ -24,14 +24,15 @@ use Rattle.naga_runs.specs.Visits.{Place}
 use Rattle.naga_checks.specs.Blocks.{body_of, emitted_operands}
 use Rattle.naga_checks.specs.Context.{Context, pre_emitted}
 use Rattle.naga_checks.specs.walk.Switch.{cases_points}
-use Rattle.naga_checks.specs.checks.Control.{within_emit, emitted_points, emit_points_from, is_bool_scalar, is_integer, value_points, values_of, declared_type, is_returned_as}
+use Rattle.naga_checks.specs.checks.Control.{within_emit, emitted_points, emit_points_from, is_bool_scalar, declared_type, is_returned_as}
+use Rattle.naga_checks.specs.checks.Switch.{value_points, values_of}
 use Rattle.naga_checks.specs.Judged.{body_judgement}
 use Rattle.naga_checks.specs.Points.{Points, use_point, put_point, may_use, is_in_scope}
 use Rattle.naga_checks.specs.Past.{Past}
 use Rattle.naga_checks.specs.checks.Results.{is_result, result_of}
 use Rattle.naga_checks.specs.Rules.{statement_points, points_at}
 use Rattle.naga_checks.specs.walk.State.{State, seen, kept_rules, begin_state, state_left}
-use Rattle.naga_checks.specs.Types.{expression_at, type_at, scalar_kind_at}
+use Rattle.naga_checks.specs.Types.{is_integer, expression_at, type_at, scalar_kind_at}
 use Rattle.naga_checks.proofs.Atomics.{atomic_named, atomic_fits}
 use Rattle.naga_checks.proofs.Calls.{call_holds, call_fits}
 use Rattle.naga_checks.proofs.Emits.{or_false, within_more}

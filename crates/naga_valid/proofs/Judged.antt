@@ -4,13 +4,12 @@ use Rattle.std.proofs.Common.{◌≡◌, None, Result, Ok, Err, List, refl, sym,
 use Rattle.std.specs.Prelude.{IsErr}
 use Rattle.naga_below.specs.declared.span.Refusal.{Refusal}
 use Rattle.naga_below.specs.declared.span.Refusal.TheVariants as refusal
-use Rattle.naga_rules.specs.Answers.{Answers, Refuses}
+use Rattle.naga_rules.specs.Answers.{Answers, AnswersPoints, Refuses}
 use Rattle.naga_rules.specs.declared.function.FunctionError.{FunctionError}
 use Rattle.naga_runs.proofs.Judgements.{by_tree, earlier_agrees}
 use Rattle.naga_below.specs.Points.{first_fault, answer}
 use Rattle.naga_runs.specs.Judgement.{Follows, judgement, viewed}
 use Rattle.naga_runs.specs.Visits.{Visit}
-use Rattle.naga_checks.specs.walk.Answers.{AnswersPoints}
 use Rattle.naga_checks.specs.Blocks.{body_of}
 use Rattle.naga_checks.specs.Context.{Context, pre_emitted}
 use Rattle.naga_checks.specs.Judged.{body_judgement}

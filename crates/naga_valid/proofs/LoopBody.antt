@@ -6,7 +6,7 @@ use Rattle.naga_runs.specs.Must.{holds_continue}
 use Rattle.naga_checks.specs.declared.table.ScopeColumn.{ScopeColumn}
 use Rattle.naga_checks.specs.declared.table.ScopeState.TheVariants.{Open}
 use Rattle.naga_checks.specs.walk.Table.{shown, known, count, left, skipped, HasPut, HasLooped, Divides}
-use Rattle.naga_checks.specs.walk.Walk.{puts, body_puts, sure_puts}
+use Rattle.naga_checks.specs.walk.Walk.{puts, body_puts, puts_to_continue}
 use Rattle.naga_checks.proofs.Columns.{both_put, put_nothing, same_known}
 use Rattle.naga_checks.proofs.Divided.{Divided, divided_more, looped, looped_whole, may_skip}
 
@@ -15,7 +15,7 @@ pub record Whole (before after : ScopeColumn) (rest whole : Body) : Type 0 where
   pub earlier : List ℕ
   pub put : HasPut before after earlier
   pub joined : earlier ++ body_puts rest ≡ body_puts whole
-  pub sure : earlier ++ sure_puts rest ≡ sure_puts whole
+  pub sure : earlier ++ puts_to_continue rest ≡ puts_to_continue whole
 
 -- a statement held one
 pub record Parted (before after : ScopeColumn) (home : ℕ) (rest whole : Body) : Type 0 where
@@ -23,7 +23,7 @@ pub record Parted (before after : ScopeColumn) (home : ℕ) (rest whole : Body) 
   pub later : List ℕ
   pub parts : Divided before after home first later
   pub joined : (first ++ later) ++ body_puts rest ≡ body_puts whole
-  pub sure : first ≡ sure_puts whole
+  pub sure : first ≡ puts_to_continue whole
 
 abbrev pub PutsOfLoop : ScopeColumn → ScopeColumn → Option ℕ → Body → Body → Type 0
 PutsOfLoop before after None rest whole = Whole before after rest whole
@@ -40,7 +40,7 @@ still_put {a} {b} {c} p same n =
 
 module _ (before now mid next : ScopeColumn) (x : Stmt) (rest whole : Body) (put : HasPut now mid (puts x)) (same : known next ≡ known mid) (n : count next ≡ count mid) where
   pub one_more : (home after : Option ℕ) (held : Bool) → PutsOfLoop before now home (Then x rest) whole → held ≡ holds_continue x → Divides mid next home held after → PutsOfLoop before next after rest whole
-  unfolding body_puts sure_puts
+  unfolding body_puts puts_to_continue
   one_more None None true w e d = absurd d
   one_more None (Some h) true w e d =
       record {
@@ -58,7 +58,7 @@ module _ (before now mid next : ScopeColumn) (x : Stmt) (rest whole : Body) (put
         };
         joined =
             ap (λ l. l ++ body_puts rest) (append-nil (w.earlier ++ puts x)) ∙ append_assoc w.earlier (puts x) (body_puts rest) ∙ w.joined;
-        sure = ap (λ b. w.earlier ++ (if b then puts x else (puts x ++ sure_puts rest))) e ∙ w.sure;
+        sure = ap (λ b. w.earlier ++ (if b then puts x else (puts x ++ puts_to_continue rest))) e ∙ w.sure;
       }
   one_more None after false w e d =
       subst (λ o. PutsOfLoop before next o rest whole) (sym d.0) (record {
@@ -66,8 +66,8 @@ module _ (before now mid next : ScopeColumn) (x : Stmt) (rest whole : Body) (put
         put = still_put (both_put w.put put) d.1 n;
         joined = append_assoc w.earlier (puts x) (body_puts rest) ∙ w.joined;
         sure =
-            append_assoc w.earlier (puts x) (sure_puts rest)
-            ∙ ap (λ b. w.earlier ++ (if b then puts x else (puts x ++ sure_puts rest))) e
+            append_assoc w.earlier (puts x) (puts_to_continue rest)
+            ∙ ap (λ b. w.earlier ++ (if b then puts x else (puts x ++ puts_to_continue rest))) e
             ∙ w.sure;
       })
   one_more (Some h) after held p e d =
@@ -83,8 +83,8 @@ module _ (before now mid next : ScopeColumn) (x : Stmt) (rest whole : Body) (put
       })
 
 -- the whole list
-pub undivided : (before after : ScopeColumn) (whole : Body) → PutsOfLoop before after None Done whole → HasLooped before after None (sure_puts whole) (body_puts whole)
-unfolding body_puts sure_puts
+pub undivided : (before after : ScopeColumn) (whole : Body) → PutsOfLoop before after None Done whole → HasLooped before after None (puts_to_continue whole) (body_puts whole)
+unfolding body_puts puts_to_continue
 undivided before after whole w =
     subst (λ l. HasLooped before after None l (body_puts whole)) (sym (append-nil w.earlier) ∙ w.sure) (
     subst (HasLooped before after None w.earlier) (sym (append-nil w.earlier) ∙ w.joined) (looped_whole w.put)
@@ -94,7 +94,7 @@ module _ (before after : ScopeColumn) (home : ℕ) (whole : Body) (p : PutsOfLoo
   pub may_part : (left (shown after) home).state home ≡ Open
   may_part = may_skip p.parts
 
-  pub divided : (end : ScopeColumn) (number : ℕ) → shown end ≡ skipped (shown after) home → number ≡ (shown after).innermost → count end ≡ count after → HasLooped before end (Some number) (sure_puts whole) (body_puts whole)
+  pub divided : (end : ScopeColumn) (number : ℕ) → shown end ≡ skipped (shown after) home → number ≡ (shown after).innermost → count end ≡ count after → HasLooped before end (Some number) (puts_to_continue whole) (body_puts whole)
   unfolding body_puts
   divided end number is by n =
       subst (λ l. HasLooped before end (Some number) l (body_puts whole)) p.sure (

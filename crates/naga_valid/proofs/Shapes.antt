@@ -27,14 +27,15 @@ use Rattle.naga_runs.specs.Visits.{Place, Visit, at_begin, place_from, visit_at}
 use Rattle.naga_checks.specs.Blocks.{body_of}
 use Rattle.naga_checks.specs.walk.Switch.{cases_points}
 use Rattle.naga_checks.specs.Context.{Context, pre_emitted}
-use Rattle.naga_checks.specs.checks.Control.{is_integer, has_signedness_of, same_value, repeated_fault, is_default, value_points, values_of, last_falls_through, declared_type, is_returned_as}
+use Rattle.naga_checks.specs.checks.Control.{declared_type, is_returned_as}
+use Rattle.naga_checks.specs.checks.Switch.{has_signedness_of, same_value, repeated_fault, is_default, value_points, values_of, last_falls_through}
 use Rattle.naga_checks.specs.Judged.{body_judgement}
 use Rattle.naga_checks.specs.Past.{Past}
 use Rattle.naga_checks.specs.Points.{use_point, may_use}
 use Rattle.naga_checks.specs.Rules.{points_at}
 use Rattle.naga_valid.specs.Shapes.{StandsAt, is_in_continuing, HasNoReturnInContinuing, IsOfKind, AreWhole, HasWholeSwitches}
 use Rattle.naga_checks.specs.walk.State.{State, seen, kept_rules, begin_state, state_left, state_behind}
-use Rattle.naga_checks.specs.Types.{scalar_kind_at}
+use Rattle.naga_checks.specs.Types.{is_integer, scalar_kind_at}
 use Rattle.naga_valid.proofs.Accepted.{all_visits, walked}
 
 -- the values of cases that pass

@@ -22,15 +22,15 @@ use Rattle.naga_runs.specs.PutsAndUses.{with_acts, with_body, acts_of, puts_of}
 use Rattle.naga_below.specs.Points.{first_fault, answer, and_then}
 use Rattle.naga_runs.specs.ByTree.{past, in_continuing, at_break_if, judge_visits, judge_body, judge_stmt, judge_parts, judge_cases, judge_break_if, case_abilities, loop_abilities, continuing_abilities}
 use Rattle.naga_runs.proofs.Judgements.{judge_done, judge_more, judge_own, judge_block, judge_branch, judge_switch, judge_loop, judge_no_case, judge_one_case}
-use Rattle.naga_rules.specs.Answers.{Refuses}
-use Rattle.naga_checks.specs.walk.Answers.{AnswersLeaving, IsFirstFault}
+use Rattle.naga_rules.specs.Answers.{IsFirstFault, Refuses}
+use Rattle.naga_checks.specs.walk.Answers.{AnswersLeaving}
 use Rattle.naga_checks.specs.Blocks.{emitted_operands, tree_of, block_of, list_of, cases_of}
 use Rattle.naga_checks.specs.Context.{Context}
 use Rattle.naga_checks.specs.checks.Control.{break_if_points}
 use Rattle.naga_checks.specs.Rules.{statement_points}
 use Rattle.naga_checks.specs.walk.Place.{Sets, place_at}
 use Rattle.naga_checks.specs.walk.Table.{with_all, with_puts}
-use Rattle.naga_checks.specs.walk.Walk.{puts, body_puts, sure_puts, behind_loop_body, place, own_answer, parts_answer, stmt_answer, body_answer, cases_answer, break_if_answer}
+use Rattle.naga_checks.specs.walk.Walk.{puts, body_puts, puts_to_continue, behind_loop_body, place, own_answer, parts_answer, stmt_answer, body_answer, cases_answer, break_if_answer}
 use Rattle.naga_checks.proofs.Columns.{all-append}
 use Rattle.naga_checks.proofs.Refusals.{passes, stops_first, stops_next, answers_next}
 use Rattle.naga_rules.specs.declared.function.FunctionError.{FunctionError}
@@ -67,16 +67,16 @@ holding_puts (Return v) e = cc
 holding_puts Kill e = cc
 
 -- what a Loop's body list surely puts
-sure_put : (b : Body) (s : Handles) → with_sure s b ≡ with_all s (sure_puts b)
-unfolding sure_puts
+sure_put : (b : Body) (s : Handles) → with_sure s b ≡ with_all s (puts_to_continue b)
+unfolding puts_to_continue
 sure_put Done s = refl
 sure_put (Then x b) s = go (holds_continue x) refl (sure_put b (with_all s (puts x)))
   where
-    go : (held : Bool) → holds_continue x ≡ held → with_sure (with_all s (puts x)) b ≡ with_all (with_all s (puts x)) (sure_puts b) →
-        (if held then s else with_sure (with_acts s (acts_of x)) b) ≡ with_all s (if held then puts x else (puts x ++ sure_puts b))
+    go : (held : Bool) → holds_continue x ≡ held → with_sure (with_all s (puts x)) b ≡ with_all (with_all s (puts x)) (puts_to_continue b) →
+        (if held then s else with_sure (with_acts s (acts_of x)) b) ≡ with_all s (if held then puts x else (puts x ++ puts_to_continue b))
     go true e rest = sym (ap (with_all s) (holding_puts x e))
     go false e rest =
-        ap (λ t. with_sure t b) (acts_put (acts_of x) s) ∙ rest ∙ sym (all-append (puts x) (sure_puts b) s)
+        ap (λ t. with_sure t b) (acts_put (acts_of x) s) ∙ rest ∙ sym (all-append (puts x) (puts_to_continue b) s)
 
 module _ (context : Context) (k : State) (a : Abilities) (s : Sets) where
   pub body_done : body_answer context k a s Done ≡ Ok k
@@ -124,7 +124,7 @@ module _ (context : Context) (k : State) (a : Abilities) (s : Sets) where
       record {
         abilities = a;
         scope = (ap (λ t. with_body t d) (body_put b s.scope) ∙ body_put d (with_all s.scope (body_puts b))) i;
-        must = (ap (λ t. with_body t d) (sure_put b s.must) ∙ body_put d (with_all s.must (sure_puts b))) i;
+        must = (ap (λ t. with_body t d) (sure_put b s.must) ∙ body_put d (with_all s.must (puts_to_continue b))) i;
       }
 
   pub parts_loop : (b d : Body) (q : Option ℕ) → parts_answer context k a s (Loop b d q)

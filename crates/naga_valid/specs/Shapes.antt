@@ -13,7 +13,7 @@ use Rattle.naga_below.specs.declared.valid.info.FunctionInfo.{FunctionInfo}
 use Rattle.naga_runs.specs.Abilities.{is_continuing, part_of}
 use Rattle.naga_runs.specs.Positions.{Position, StatementNode, node_at}
 use Rattle.naga_runs.specs.VisitOrder.{positions}
-use Rattle.naga_checks.specs.checks.Control.{is_default, values_of, last_falls_through}
+use Rattle.naga_checks.specs.checks.Switch.{is_default, values_of, last_falls_through}
 
 -- the statement stands at this position of a body
 abbrev pub StandsAt : Body → Position → Stmt → Type 0

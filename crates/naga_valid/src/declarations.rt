@@ -3,7 +3,7 @@
 ghost use Rattle.std.specs.Prelude.{◌≡◌, ◌<◌, IfOk, IfSome, Some, List, ℕ, length};
 ghost use Rattle.std.specs.Result.{result_err};
 ghost use Rattle.naga_below.specs.Points.{first_fault};
-ghost use Rattle.naga_checks.specs.walk.Answers.{AnswersPoints};
+ghost use Rattle.naga_rules.specs.Answers.{AnswersPoints};
 ghost use Rattle.naga_checks.specs.Context.{ContextFits};
 ghost use Rattle.naga_checks.specs.Declarations.{name_or_empty, variable_points, variables_points, takes_arguments, pointer_points, argument_points, arguments_points, result_points, declaration_points};
 ghost use Rattle.naga_checks.specs.walk.Seen.{context_of};

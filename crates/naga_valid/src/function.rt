@@ -13,7 +13,7 @@ ghost use Rattle.naga_checks.specs.Ready.{IsStatementReady, IsBodyReady, AreCase
 ghost use Rattle.naga_checks.specs.walk.Seen.{context_of};
 ghost use Rattle.naga_checks.specs.walk.State.{kept, state_left, body_left};
 ghost use Rattle.naga_checks.specs.walk.Table.{HasLooped, HasPut, IsTableOf, count, known, shown};
-ghost use Rattle.naga_checks.specs.walk.Walk.{puts, body_puts, sure_puts, parts_answer, stmt_answer, body_answer, cases_answer};
+ghost use Rattle.naga_checks.specs.walk.Walk.{puts, body_puts, puts_to_continue, parts_answer, stmt_answer, body_answer, cases_answer};
 
 use naga_below::arena::handle::Handle;
 use naga_below::ir::statements::{Block, Located, Statement, SwitchCase};
@@ -177,7 +177,7 @@ fn validate_loop_body(
         (block_of (context_of context.now) block.now))
         (kept table.new.filled state.new) result }
     ensures table { OnOk result (IsTableOf (context_of context.now) table.new) }
-    ensures scope { IfOk result (λ skipped. HasLooped table.old.scope table.new.scope skipped (sure_puts (block_of (context_of context.now) block.now)) (body_puts (block_of (context_of context.now) block.now))) }
+    ensures scope { IfOk result (λ skipped. HasLooped table.old.scope table.new.scope skipped (puts_to_continue (block_of (context_of context.now) block.now)) (body_puts (block_of (context_of context.now) block.now))) }
 {
     let mut home = None;
     for located in block.list.as_slice() {

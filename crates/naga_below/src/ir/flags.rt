@@ -161,6 +161,9 @@ impl Flags for MemoryDecorations {
 }
 
 impl MemoryDecorations {
+    /// Both.
+    pub const ALL: MemoryDecorations = MemoryDecorations(0x3);
+
     ghost use Rattle.naga_below.specs.Bits.{contains};
 
     /// Whether it has all of these.

@@ -123,8 +123,24 @@ impl TypeInner {
         }
     }
 
-    /// Whether the canonical forms are equal.
+    /// Whether the canonical forms are equal. Only a pointer may have another than itself.
     pub fn equivalent(&self, other: &TypeInner, types: &UniqueArena<Type>) -> bool
+        requires first { NamesTypesBelow (length types.now) self.now }
+        requires second { NamesTypesBelow (length types.now) other.now }
+        ensures { result ≡ is_equivalent types.now self.now other.now }
+    {
+        match self {
+            TypeInner::Pointer { .. } => self.has_form_of(other, types),
+            _ => match other {
+                TypeInner::Pointer { .. } => self.has_form_of(other, types),
+                _ => *self == *other,
+            },
+        }
+    }
+
+    /// Whether the canonical forms, which are made, are equal.
+    #[inline(never)]
+    fn has_form_of(&self, other: &TypeInner, types: &UniqueArena<Type>) -> bool
         requires first { NamesTypesBelow (length types.now) self.now }
         requires second { NamesTypesBelow (length types.now) other.now }
         ensures { result ≡ is_equivalent types.now self.now other.now }

@@ -53,6 +53,9 @@ impl Flags for ValidationFlags {
 }
 
 impl ValidationFlags {
+    /// Every check.
+    pub const ALL: ValidationFlags = ValidationFlags(0xf);
+
     ghost use Rattle.naga_below.specs.Bits.{contains};
 
     /// Whether it has all of these.

@@ -22,6 +22,7 @@ fn what_is_made_holds_nothing(rt: HostRuntime) -> Result<(), Fail> {
     assert!(rt; function.body == Block::new(rt.alloc()));
     let info = ModuleInfo::new(rt.alloc());
     assert!(rt; info.functions.is_empty() && info.global_types.is_empty());
+    assert_eq!(rt; Span::UNDEFINED, Span { start: 0, end: 0 });
     Ok(())
 }
 
@@ -39,7 +40,7 @@ fn blocks_take_statements_in_order(rt: HostRuntime) -> Result<(), Fail> {
     })?;
     list.push(Located {
         statement: Statement::Kill,
-        span: Span { start: 0, end: 0 },
+        span: Span::UNDEFINED,
     })?;
     assert!(rt; pushed == Block::from(list));
     Ok(())

@@ -6,18 +6,18 @@ ghost use Rattle.naga_check.specs.Notation.Words.{texts};
 
 /// Which flags the options leave on.
 #[derive(Clone, Copy, PartialEq, Eq, Debug)]
-pub struct Flags {
+pub struct OptionFlags {
     pub expressions: bool,
     pub blocks: bool,
 }
 
 /// The flags behind one option more, which none of those before it was.
 #[tactic(auto, unfolding(crate::specs::Notation::Lookup::take_option))]
-fn take_option(flags: Flags, option: &[u8]) -> Option<Flags>
+fn take_option(flags: OptionFlags, option: &[u8]) -> Option<OptionFlags>
     ensures { MatchOption result (take_option flags.expressions flags.blocks option.now ≡ None)
         (λ f. take_option flags.expressions flags.blocks option.now ≡ Some (f.expressions, f.blocks)) }
 {
-    let Flags {
+    let OptionFlags {
         expressions,
         blocks,
     } = flags;
@@ -25,7 +25,7 @@ fn take_option(flags: Flags, option: &[u8]) -> Option<Flags>
         if !expressions {
             return None;
         }
-        Some(Flags {
+        Some(OptionFlags {
             expressions: false,
             blocks,
         })
@@ -33,7 +33,7 @@ fn take_option(flags: Flags, option: &[u8]) -> Option<Flags>
         if !blocks {
             return None;
         }
-        Some(Flags {
+        Some(OptionFlags {
             expressions,
             blocks: false,
         })
@@ -44,12 +44,12 @@ fn take_option(flags: Flags, option: &[u8]) -> Option<Flags>
 
 /// The flags that the options at the front of these words leave on, and how many words they are, the `:` behind them
 /// included.
-pub fn options_of(words: &[&[u8]]) -> Option<(Flags, usize)>
+pub fn options_of(words: &[&[u8]]) -> Option<(OptionFlags, usize)>
     ensures { MatchOption result (options_of true true (texts words.now) ≡ None)
         (λ o. (options_of true true (texts words.now) ≡ Some (o.0.expressions, o.0.blocks, drop o.1 (texts words.now)))
         × (o.1 ≤ length words.now)) }
 {
-    let mut flags = Flags {
+    let mut flags = OptionFlags {
         expressions: true,
         blocks: true,
     };

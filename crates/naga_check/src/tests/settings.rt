@@ -213,13 +213,22 @@ fn sets_of_flags(rt: HostRuntime) {
     }
 }
 
+const WITHOUT_EXPRESSIONS: ValidationFlags =
+    ValidationFlags(ValidationFlags::ALL.0 & !ValidationFlags::EXPRESSIONS.0);
+
+const WITHOUT_BLOCKS: ValidationFlags =
+    ValidationFlags(ValidationFlags::ALL.0 & !ValidationFlags::BLOCKS.0);
+
+const WITHOUT_BOTH: ValidationFlags =
+    ValidationFlags(WITHOUT_EXPRESSIONS.0 & !ValidationFlags::BLOCKS.0);
+
 /// Options, and the flags that they leave.
 const OPTIONS: [(&str, ValidationFlags); 5] = [
-    ("", ValidationFlags(0xf)),
-    (" -expressions", ValidationFlags(0xe)),
-    (" -blocks", ValidationFlags(0xd)),
-    (" -expressions -blocks", ValidationFlags(0xc)),
-    (" -blocks -expressions", ValidationFlags(0xc)),
+    ("", ValidationFlags::ALL),
+    (" -expressions", WITHOUT_EXPRESSIONS),
+    (" -blocks", WITHOUT_BLOCKS),
+    (" -expressions -blocks", WITHOUT_BOTH),
+    (" -blocks -expressions", WITHOUT_BOTH),
 ];
 
 /// What the program makes of an input with options behind its first byte, which is the bench.

@@ -16,6 +16,7 @@ use Rattle.naga_below.specs.declared.ir.types.Type.{«Type» as IrType}
 use Rattle.naga_below.specs.declared.ir.types.TypeInner.{TypeInner}
 use Rattle.naga_below.specs.declared.ir.types.TypeInner.TheVariants as inner
 use Rattle.naga_below.specs.declared.valid.capabilities.Capabilities.{Capabilities}
+use Rattle.naga_rules.specs.Spaces.{is_storage}
 use Rattle.naga_rules.specs.declared.function.AtomicError.{AtomicError}
 use Rattle.naga_rules.specs.declared.function.AtomicError.TheVariants as wrong
 use Rattle.naga_rules.specs.declared.function.FunctionError.{FunctionError}
@@ -24,12 +25,11 @@ use Rattle.naga_runs.specs.Handles.{Handles}
 use Rattle.naga_runs.specs.Visits.{Place}
 use Rattle.naga_below.specs.Points.{Point}
 use Rattle.naga_checks.specs.Context.{Context}
-use Rattle.naga_checks.specs.checks.Control.{is_integer}
 use Rattle.naga_checks.specs.Points.{Points, use_point, put_point}
 use Rattle.naga_checks.specs.checks.Results.{is_fresh}
 use Rattle.naga_checks.specs.Pointers.{space_at}
 use Rattle.naga_below.specs.TypeTests.{is_scalar, both_are, is_equivalent, it_is, is_exchange_struct}
-use Rattle.naga_checks.specs.Types.{expression_at, type_at}
+use Rattle.naga_checks.specs.Types.{is_integer, expression_at, type_at}
 
 -- a point whose fault stands inside InvalidAtomic
 abbrev pub atomic_point : Bool → AtomicError → Point FunctionError
@@ -82,10 +82,6 @@ abbrev pub is_done_on_floats : AtomicFunction → Bool
 is_done_on_floats Add = true
 is_done_on_floats Subtract = true
 is_done_on_floats fun = is_plain_exchange fun
-
-abbrev pub is_storage : AddressSpace → Bool
-is_storage (space.Storage access) = true
-is_storage _ = false
 
 -- the weakest capability that lets an operation be done on an integer of 64 bits: Min and Max in storage, where their
 -- result is not asked for, need less than the others

@@ -40,23 +40,23 @@ abbrev pub is_passed_as : Context → ℕ → ℕ → Bool
 is_passed_as context given declared = is_passed_for context declared (resolution_at context given)
 
 -- the argument of this index: in scope, and of the declared type
-abbrev pub argument_points : Context → Place → ℕ → ℕ → ℕ → CallPoints
-argument_points context place index declared given =
+abbrev pub passed_points : Context → Place → ℕ → ℕ → ℕ → CallPoints
+passed_points context place index declared given =
     (may_use place given, Argument index NotInScope)
     ∷ (is_passed_as context given declared, ArgumentType index declared given)
     ∷ []
 
 -- the arguments in order, the first of which has this index
-abbrev pub argument_points_from : Context → Place → ℕ → List FunctionArgument → List ℕ → CallPoints
-argument_points_from context place index (declared ∷ more) (given ∷ rest) =
-    argument_points context place index declared.ty given ++ argument_points_from context place (suc index) more rest
-argument_points_from context place index _ _ = []
+abbrev pub passed_points_from : Context → Place → ℕ → List FunctionArgument → List ℕ → CallPoints
+passed_points_from context place index (declared ∷ more) (given ∷ rest) =
+    passed_points context place index declared.ty given ++ passed_points_from context place (suc index) more rest
+passed_points_from context place index _ _ = []
 
 -- as many arguments as are declared, and each of them
-abbrev pub arguments_points : Context → Place → List FunctionArgument → List ℕ → CallPoints
-arguments_points context place declared given =
+abbrev pub all_passed_points : Context → Place → List FunctionArgument → List ℕ → CallPoints
+all_passed_points context place declared given =
     (length declared == length given, ArgumentCount (length declared) (length given))
-    ∷ argument_points_from context place 0 declared given
+    ∷ passed_points_from context place 0 declared given
 
 abbrev pub is_call_result_of : ℕ → Option Expression → Bool
 is_call_result_of f (Some (e.CallResult g)) = g == f
@@ -75,7 +75,7 @@ call_result_points context filled place f returns None = (not returns, Expressio
 abbrev pub callee_points : Context → Handles → Place → ℕ → List ℕ → Option ℕ → CallPoints
 callee_points context filled place f given result =
     let callee = slice_get context.program.functions f in
-    arguments_points context place (arguments_of callee) given
+    all_passed_points context place (arguments_of callee) given
     ++ call_result_points context filled place f (has_result callee) result
 
 -- Call: all that inside the fault of the function

@@ -1,6 +1,7 @@
 -- What the check lists of ImageStore and ImageAtomic share, the image and the texel; then the list of ImageStore.
 use Rattle.std.specs.Prelude.{ℕ, Bool, true, false, not, ◌||◌, List, [], ◌∷◌, ◌++◌, Option, None, Some, is_some, slice_get, option_and_then, unwrap_or}
 use Rattle.std.specs.Option.{option_map}
+use Rattle.naga_below.specs.Bits.{NO_ACCESS}
 use Rattle.naga_below.specs.Formats.{format_scalar}
 use Rattle.naga_below.specs.Points.{Point}
 use Rattle.naga_below.specs.TypeTests.{is_same_inner}
@@ -26,10 +27,9 @@ use Rattle.naga_rules.specs.declared.function.FunctionError.{FunctionError}
 use Rattle.naga_rules.specs.declared.function.FunctionError.TheVariants.{InvalidImageStore, InvalidStoreValue}
 use Rattle.naga_runs.specs.Visits.{Place}
 use Rattle.naga_checks.specs.Context.{Context}
-use Rattle.naga_checks.specs.checks.Control.{is_integer}
 use Rattle.naga_checks.specs.Points.{Points, use_point}
 use Rattle.naga_checks.specs.checks.Store.{access_base}
-use Rattle.naga_checks.specs.Types.{expression_at, type_at, named_type_at}
+use Rattle.naga_checks.specs.Types.{is_integer, expression_at, type_at, named_type_at}
 
 -- the type that the global is declared with which an expression is
 abbrev pub global_type_of : Context → Option Expression → Option ℕ
@@ -81,7 +81,7 @@ stored_format _ = R8Unorm
 
 abbrev pub stored_access : ImageClass → StorageAccess
 stored_access (class.Storage format access) = access
-stored_access _ = record { 0 = 0 }
+stored_access _ = NO_ACCESS
 
 -- the dimension that a coordinate is of
 abbrev pub coordinates_at : Context → ℕ → Option ImageDimension

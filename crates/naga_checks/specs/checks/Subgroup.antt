@@ -29,10 +29,10 @@ use Rattle.naga_rules.specs.declared.function.SubgroupError.TheVariants as wrong
 use Rattle.naga_runs.specs.Visits.{Place}
 use Rattle.naga_below.specs.Points.{Point}
 use Rattle.naga_checks.specs.Context.{Context}
-use Rattle.naga_checks.specs.checks.Control.{is_bool_kind, is_integer}
+use Rattle.naga_checks.specs.checks.Control.{is_bool_kind}
 use Rattle.naga_checks.specs.Points.{Points, use_point, put_point}
 use Rattle.naga_below.specs.TypeTests.{is_scalar, both_are, is_same_inner}
-use Rattle.naga_checks.specs.Types.{expression_at, type_at}
+use Rattle.naga_checks.specs.Types.{is_integer, expression_at, type_at}
 
 -- a point whose fault stands inside InvalidSubgroup
 abbrev pub subgroup_point : Bool → SubgroupError → Point FunctionError

@@ -25,16 +25,6 @@ AnswersState right state (Err refused) = Refuses right refused
 abbrev pub Finds : {T Fault : Type 0} → List (Point Fault) → Result T Fault → Type 0
 Finds points r = result_err r ≡ first_fault points
 
--- a refusal is for the fault of the first of these points that fails, or for want of memory
-abbrev pub IsFirstFault : Points → Refusal FunctionError → Type 0
-IsFirstFault points (refusal.Fault fault) = first_fault points ≡ Some fault
-IsFirstFault points refusal.Memory = ⊤
-
--- none of these points fails, or the answer is such a refusal
-abbrev pub AnswersPoints : {T : Type 0} → Points → Result T (Refusal FunctionError) → Type 0
-AnswersPoints points (Ok t) = first_fault points ≡ None
-AnswersPoints points (Err refused) = IsFirstFault points refused
-
 -- the refusal is for this fault, or for want of memory
 abbrev pub IsRefusalFor : FunctionError → Refusal FunctionError → Type 0
 IsRefusalFor fault (refusal.Fault given) = given ≡ fault

@@ -1,13 +1,16 @@
 -- Parts of the check list of Switch, as the code checks them: work of lemmas, cited by functions that the validator alone calls.
-use Rattle.std.specs.Prelude.{ℕ, not, [], ◌∷◌}
+use Rattle.std.specs.Prelude.{ℕ, ℤ, pos, int_le, true, not, Option, None, Some, [], ◌∷◌, if◌then◌else◌}
 use Rattle.std.specs.List.{list_any}
 use Rattle.naga_below.specs.Tree.{Cases}
+use Rattle.naga_below.specs.declared.ir.statements.SwitchValue.{SwitchValue}
+use Rattle.naga_below.specs.declared.ir.statements.SwitchValue.TheVariants.{I32, U32, Default}
 use Rattle.naga_rules.specs.declared.function.FunctionError.TheVariants.{InvalidSwitchType, MissingDefaultCase, LastCaseFallTrough}
 use Rattle.naga_runs.specs.Visits.{Place}
 use Rattle.naga_checks.specs.Context.{Context}
-use Rattle.naga_checks.specs.checks.Control.{is_integer, is_default, values_of, last_falls_through}
+use Rattle.naga_checks.specs.checks.Switch.{is_default, values_of, last_falls_through}
 use Rattle.naga_checks.specs.Points.{Points, use_point}
-use Rattle.naga_checks.specs.Types.{scalar_kind_at}
+use Rattle.naga_checks.specs.declared.checks.switch.Rising.{Rising}
+use Rattle.naga_checks.specs.Types.{is_integer, scalar_kind_at}
 
 -- the selector
 abbrev pub selector_points : Context → Place → ℕ → Points
@@ -20,3 +23,14 @@ cases_points cases =
     (list_any is_default (values_of cases), MissingDefaultCase)
     ∷ (not (last_falls_through cases), LastCaseFallTrough)
     ∷ []
+
+-- what is known behind a value, if its number is above those before it, or it is the first default
+abbrev pub risen_to : Rising → ℤ → Option Rising
+risen_to so_far n =
+    if int_le n so_far.last then None else Some (record { last = n; has_default = so_far.has_default })
+
+abbrev pub risen : Rising → SwitchValue → Option Rising
+risen so_far (I32 n) = risen_to so_far n
+risen so_far (U32 n) = risen_to so_far (pos n)
+risen so_far Default =
+    if so_far.has_default then None else Some (record { last = so_far.last; has_default = true })

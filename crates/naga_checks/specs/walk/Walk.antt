@@ -33,13 +33,13 @@ body_puts Done = []
 body_puts (Then x b) = puts x ++ body_puts b
 
 -- what the statements of a Loop's body list put up to the first that holds a Continue
-unfoldable pub sure_puts : Body → List ℕ
-sure_puts Done = []
-sure_puts (Then x b) = if holds_continue x then puts x else (puts x ++ sure_puts b)
+unfoldable pub puts_to_continue : Body → List ℕ
+puts_to_continue Done = []
+puts_to_continue (Then x b) = if holds_continue x then puts x else (puts x ++ puts_to_continue b)
 
 -- behind the body list of a Loop: its puts are in scope, and every run has put the first of them
 abbrev pub behind_loop_body : Sets → Body → Sets
-behind_loop_body s b = record { scope = with_all s.scope (body_puts b); must = with_all s.must (sure_puts b) }
+behind_loop_body s b = record { scope = with_all s.scope (body_puts b); must = with_all s.must (puts_to_continue b) }
 
 -- the same with these abilities
 abbrev pub place : Abilities → Sets → Place

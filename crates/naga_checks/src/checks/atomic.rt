@@ -4,19 +4,20 @@ ghost use Rattle.std.specs.Prelude.{◌≡◌, ◌<◌, OnOk, IfSome, Some, is_s
 ghost use Rattle.std.specs.Option.{option_copied};
 ghost use Rattle.naga_below.specs.View.{put_if};
 ghost use Rattle.naga_runs.specs.PutsAndUses.{puts_of};
-ghost use Rattle.naga_checks.specs.walk.Answers.{Finds, AnswersPoints};
-ghost use Rattle.naga_checks.specs.checks.Atomic.{atomic_scalar_at, is_int64, is_float32, is_min_or_max, is_plain_exchange, is_done_on_floats, is_storage, int64_capability, scalar_points, is_atomic_result, is_comparison, result_type_at, atomic_result_points, atomic_points};
+ghost use Rattle.naga_checks.specs.walk.Answers.{Finds};
+ghost use Rattle.naga_rules.specs.Answers.{AnswersPoints};
+ghost use Rattle.naga_checks.specs.checks.Atomic.{atomic_scalar_at, is_int64, is_float32, is_min_or_max, is_plain_exchange, is_done_on_floats, int64_capability, scalar_points, is_atomic_result, is_comparison, result_type_at, atomic_result_points, atomic_points};
+ghost use Rattle.naga_rules.specs.Spaces.{is_storage};
 ghost use Rattle.naga_checks.specs.walk.Atomic.{operated_points, compared_points, uncompared_points};
 ghost use Rattle.naga_checks.specs.Context.{ContextFits};
 ghost use Rattle.naga_checks.specs.walk.Place.{place_at};
 ghost use Rattle.naga_checks.specs.walk.Seen.{context_of};
 ghost use Rattle.naga_checks.specs.walk.Table.{HasPut, count, filled_in, known};
 
-use crate::checks::control::is_integer;
 use crate::checks::image::inner_at;
 use crate::checks::refuse::{answer, check_put, check_use};
 use crate::checks::results::is_fresh;
-use crate::checks::types::{is_equivalent, is_exchange_struct, is_scalar};
+use crate::checks::types::{is_equivalent, is_exchange_struct, is_integer, is_scalar};
 use crate::context::BlockContext;
 use crate::refused::Refused;
 use crate::table::{FilledColumn, ScopeColumn};

@@ -1,7 +1,8 @@
 //! The check list of ControlBarrier and of MemoryBarrier.
 
 ghost use Rattle.std.specs.Prelude.{◌≡◌};
-ghost use Rattle.naga_checks.specs.walk.Answers.{AnswersPoints, Finds};
+ghost use Rattle.naga_checks.specs.walk.Answers.{Finds};
+ghost use Rattle.naga_rules.specs.Answers.{AnswersPoints};
 ghost use Rattle.naga_checks.specs.checks.Barrier.{barrier_capabilities, barrier_points};
 
 use crate::checks::refuse::answer;

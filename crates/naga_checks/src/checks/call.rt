@@ -1,20 +1,22 @@
 //! The check list of Call.
 
 ghost use Rattle.std.specs.Prelude.{◌≡◌, ◌<◌, OnOk, IfSome, All, length};
-ghost use Rattle.std.specs.Result.{result_err};
-ghost use Rattle.std.specs.Option.{option_copied, option_map};
+ghost use Rattle.std.specs.Option.{option_copied};
 ghost use Rattle.naga_below.specs.FitsBody.{CalleeFits};
+ghost use Rattle.naga_below.specs.Points.{within};
 ghost use Rattle.naga_below.specs.View.{put_if};
+ghost use Rattle.naga_below.specs.declared.valid.expression_error.ExpressionError.TheVariants.{NotInScope};
+ghost use Rattle.naga_rules.specs.declared.function.CallError.TheVariants.{Argument, ArgumentCount, ArgumentType, ExpressionMismatch, ResultAlreadyInScope, ResultAlreadyPopulated};
 ghost use Rattle.naga_rules.specs.declared.function.FunctionError.TheVariants.{InvalidCall};
 ghost use Rattle.naga_runs.specs.PutsAndUses.{puts_of};
-ghost use Rattle.naga_checks.specs.walk.Answers.{Finds, AnswersPoints};
-ghost use Rattle.naga_checks.specs.checks.Call.{is_passed_as, argument_points, arguments_points, is_call_result_of, call_result_points, callee_points, call_points};
+ghost use Rattle.naga_checks.specs.walk.Answers.{IsRefusalFor};
+ghost use Rattle.naga_rules.specs.Answers.{AnswersPoints};
+ghost use Rattle.naga_checks.specs.checks.Call.{is_passed_as, passed_points, all_passed_points, is_call_result_of, call_result_points, callee_points, call_points};
 ghost use Rattle.naga_checks.specs.Context.{ContextFits};
 ghost use Rattle.naga_checks.specs.walk.Place.{place_at};
 ghost use Rattle.naga_checks.specs.walk.Seen.{context_of};
 ghost use Rattle.naga_checks.specs.walk.Table.{HasPut, count, filled_in, known};
 
-use crate::checks::refuse::answer;
 use crate::checks::results::is_fresh;
 use crate::context::BlockContext;
 use crate::refused::Refused;
@@ -28,12 +30,14 @@ use naga_below::proc::typifier::TypeResolution;
 use naga_below::span::Span;
 use naga_below::valid::expression_error::ExpressionError;
 use naga_rules::function::{CallError, FunctionError};
+use std::alloc::Global;
 
-/// What a Call calls, and the result that it names, if it names one.
+/// What a Call calls, the result that it names, if it names one, and its place.
 #[derive(Clone, Copy)]
 pub struct CallSite {
     pub function: Handle<tag::Function>,
     pub named: Option<Handle<tag::Expression>>,
+    pub span: Span,
 }
 
 /// Call: its arguments and its result, which is in scope afterwards.
@@ -43,7 +47,6 @@ pub fn validate_call(
     context: &BlockContext,
     site: &CallSite,
     arguments: &[Handle<tag::Expression>],
-    span: Span,
 ) -> Result<(), Refused>
     requires context { ContextFits (context_of context.now) }
     requires callee { CalleeFits (context_of context.now).program site.now.function }
@@ -53,26 +56,11 @@ pub fn validate_call(
         result }
     ensures scope { OnOk result (HasPut scope.old scope.new (puts_of (put_if site.now.named))) }
 {
-    let alloc = scope.allocator();
-    let checked = check_call(scope, filled, context, site, arguments);
-    answer(alloc, in_call(site.function, checked), span)?;
+    check_call(scope, filled, context, site, arguments)?;
     if let Some(handle) = &site.named {
         scope.put(*handle);
     }
     Ok(())
-}
-
-/// The fault of a call, inside the function's.
-fn in_call(
-    function: Handle<tag::Function>,
-    checked: Result<(), CallError>,
-) -> Result<(), FunctionError>
-    ensures { result_err result ≡ option_map (InvalidCall function) (result_err checked) }
-{
-    match checked {
-        Ok(()) => Ok(()),
-        Err(error) => Err(FunctionError::InvalidCall { function, error }),
-    }
 }
 
 /// The arguments and the result of a call, which stays out of scope.
@@ -82,18 +70,15 @@ fn check_call(
     context: &BlockContext,
     site: &CallSite,
     arguments: &[Handle<tag::Expression>],
-) -> Result<(), CallError>
+) -> Result<(), Refused>
     requires context { ContextFits (context_of context.now) }
     requires callee { CalleeFits (context_of context.now).program site.now.function }
-    ensures { Finds
-        (callee_points (context_of context.now) (filled_in filled.now) (place_at (known scope.now)) site.now.function arguments.now site.now.named)
+    ensures { AnswersPoints
+        (call_points (context_of context.now) (filled_in filled.now) (place_at (known scope.now)) site.now.function arguments.now site.now.named)
         result }
 {
     let callee = &context.program.functions[site.function];
-    let checked = check_arguments(scope, context, callee.arguments.as_slice(), arguments);
-    if checked.is_err() {
-        return checked;
-    }
+    check_arguments(scope, context, site, callee.arguments.as_slice(), arguments)?;
     let returns = callee.result.is_some();
     check_call_result(scope, filled, context, site, returns)
 }
@@ -102,21 +87,28 @@ fn check_call(
 fn check_arguments(
     scope: &ScopeColumn,
     context: &BlockContext,
+    site: &CallSite,
     declared: &[FunctionArgument],
     given: &[Handle<tag::Expression>],
-) -> Result<(), CallError>
+) -> Result<(), Refused>
     requires context { ContextFits (context_of context.now) }
     requires types { All (λ argument. argument.ty < length (context_of context.now).program.types) declared.now }
-    ensures { Finds (arguments_points (context_of context.now) (place_at (known scope.now)) declared.now given.now) result }
+    ensures { AnswersPoints
+        (within (InvalidCall site.now.function) (all_passed_points (context_of context.now) (place_at (known scope.now)) declared.now given.now))
+        result }
 {
     if declared.len() != given.len() {
-        return Err(CallError::ArgumentCount {
-            required: declared.len(),
-            seen: given.len(),
-        });
+        return Err(wrong_count(scope.allocator(), site, declared.len(), given.len()));
     }
     for index in 0..given.len() {
-        check_argument(scope, context, index, declared[index].ty, given[index])?;
+        check_argument(
+            scope,
+            context,
+            site,
+            index,
+            declared[index].ty,
+            given[index],
+        )?;
     }
     Ok(())
 }
@@ -125,26 +117,22 @@ fn check_arguments(
 fn check_argument(
     scope: &ScopeColumn,
     context: &BlockContext,
+    site: &CallSite,
     index: usize,
     declared: Handle<tag::Type>,
     given: Handle<tag::Expression>,
-) -> Result<(), CallError>
+) -> Result<(), Refused>
     requires context { ContextFits (context_of context.now) }
     requires declared { declared < length (context_of context.now).program.types }
-    ensures { Finds (argument_points (context_of context.now) (place_at (known scope.now)) index declared given) result }
+    ensures { AnswersPoints
+        (within (InvalidCall site.now.function) (passed_points (context_of context.now) (place_at (known scope.now)) index declared given))
+        result }
 {
     if !scope.may_use(given) {
-        return Err(CallError::Argument {
-            index,
-            source: ExpressionError::NotInScope,
-        });
+        return Err(argument_not_in_scope(scope.allocator(), site, index));
     }
     if !is_passed_as(context, given, declared) {
-        return Err(CallError::ArgumentType {
-            index,
-            required: declared,
-            seen_expression: given,
-        });
+        return Err(wrong_argument(scope.allocator(), site, index, declared, given));
     }
     Ok(())
 }
@@ -177,27 +165,28 @@ fn check_call_result(
     context: &BlockContext,
     site: &CallSite,
     returns: bool,
-) -> Result<(), CallError>
-    ensures { Finds
-        (call_result_points (context_of context.now) (filled_in filled.now) (place_at (known scope.now)) site.now.function returns site.now.named)
+) -> Result<(), Refused>
+    ensures { AnswersPoints
+        (within (InvalidCall site.now.function) (call_result_points (context_of context.now) (filled_in filled.now) (place_at (known scope.now)) site.now.function returns site.now.named))
         result }
 {
-    match site.named {
+    let alloc = scope.allocator();
+    match &site.named {
         Some(handle) => {
-            if scope.contains(handle) {
-                return Err(CallError::ResultAlreadyInScope(handle));
+            if scope.contains(*handle) {
+                return Err(result_in_scope(alloc, site, *handle));
             }
-            if !is_call_result_of(site.function, context.expression(handle)) || !returns {
-                return Err(CallError::ExpressionMismatch(Some(handle)));
+            if !is_call_result_of(site.function, context.expression(*handle)) || !returns {
+                return Err(wrong_result(alloc, site));
             }
-            if !is_fresh(filled, context, handle) {
-                return Err(CallError::ResultAlreadyPopulated(handle));
+            if !is_fresh(filled, context, *handle) {
+                return Err(result_populated(alloc, site, *handle));
             }
             Ok(())
         }
         None => {
             if returns {
-                return Err(CallError::ExpressionMismatch(None));
+                return Err(wrong_result(alloc, site));
             }
             Ok(())
         }
@@ -212,4 +201,82 @@ fn is_call_result_of(function: Handle<tag::Function>, expression: Option<&Expres
         Some(Expression::CallResult(called)) => *called == function,
         _ => false,
     }
+}
+
+/// The refusal of a call by this fault.
+fn refused(alloc: Global, site: &CallSite, error: CallError) -> Refused
+    ensures { IsRefusalFor (InvalidCall site.now.function error) result }
+{
+    let function = site.function;
+    Refused::placed(
+        alloc,
+        FunctionError::InvalidCall { function, error },
+        site.span,
+    )
+}
+
+/// The refusal of a call with so many arguments where so many are declared.
+#[cold]
+#[inline(never)]
+fn wrong_count(alloc: Global, site: &CallSite, required: usize, seen: usize) -> Refused
+    ensures { IsRefusalFor (InvalidCall site.now.function (ArgumentCount required seen)) result }
+{
+    refused(alloc, site, CallError::ArgumentCount { required, seen })
+}
+
+/// The refusal of an argument that is not in scope.
+#[cold]
+#[inline(never)]
+fn argument_not_in_scope(alloc: Global, site: &CallSite, index: usize) -> Refused
+    ensures { IsRefusalFor (InvalidCall site.now.function (Argument index NotInScope)) result }
+{
+    let source = ExpressionError::NotInScope;
+    refused(alloc, site, CallError::Argument { index, source })
+}
+
+/// The refusal of an argument of another type than is declared.
+#[cold]
+#[inline(never)]
+fn wrong_argument(
+    alloc: Global,
+    site: &CallSite,
+    index: usize,
+    required: Handle<tag::Type>,
+    seen_expression: Handle<tag::Expression>,
+) -> Refused
+    ensures { IsRefusalFor (InvalidCall site.now.function (ArgumentType index required seen_expression)) result }
+{
+    let error = CallError::ArgumentType {
+        index,
+        required,
+        seen_expression,
+    };
+    refused(alloc, site, error)
+}
+
+/// The refusal of a result that is in scope already.
+#[cold]
+#[inline(never)]
+fn result_in_scope(alloc: Global, site: &CallSite, handle: Handle<tag::Expression>) -> Refused
+    ensures { IsRefusalFor (InvalidCall site.now.function (ResultAlreadyInScope handle)) result }
+{
+    refused(alloc, site, CallError::ResultAlreadyInScope(handle))
+}
+
+/// The refusal of a result that is none of this function, or of none where the function returns one.
+#[cold]
+#[inline(never)]
+fn wrong_result(alloc: Global, site: &CallSite) -> Refused
+    ensures { IsRefusalFor (InvalidCall site.now.function (ExpressionMismatch site.now.named)) result }
+{
+    refused(alloc, site, CallError::ExpressionMismatch(site.named))
+}
+
+/// The refusal of a result that is filled already.
+#[cold]
+#[inline(never)]
+fn result_populated(alloc: Global, site: &CallSite, handle: Handle<tag::Expression>) -> Refused
+    ensures { IsRefusalFor (InvalidCall site.now.function (ResultAlreadyPopulated handle)) result }
+{
+    refused(alloc, site, CallError::ResultAlreadyPopulated(handle))
 }

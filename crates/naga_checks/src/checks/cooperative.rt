@@ -1,7 +1,8 @@
 //! The check list of CooperativeStore.
 
 ghost use Rattle.std.specs.Prelude.{◌≡◌};
-ghost use Rattle.naga_checks.specs.walk.Answers.{AnswersPoints, Finds};
+ghost use Rattle.naga_checks.specs.walk.Answers.{Finds};
+ghost use Rattle.naga_rules.specs.Answers.{AnswersPoints};
 ghost use Rattle.naga_checks.specs.Context.{ContextFits};
 ghost use Rattle.naga_checks.specs.checks.Cooperative.{matrix_scalar_at, base_scalar_at, cooperative_points};
 ghost use Rattle.naga_checks.specs.walk.Place.{place_at};

@@ -11,9 +11,9 @@ ghost use Rattle.naga_checks.specs.walk.Place.{place_at};
 ghost use Rattle.naga_checks.specs.walk.Seen.{context_of};
 ghost use Rattle.naga_checks.specs.walk.Table.{known};
 
-use crate::checks::control::is_integer;
 use crate::checks::refuse::check_use;
 use crate::checks::store::access_base;
+use crate::checks::types::is_integer;
 use crate::context::BlockContext;
 use crate::table::ScopeColumn;
 use naga_below::arena::handle::Handle;

@@ -3,7 +3,8 @@
 ghost use Rattle.std.specs.Prelude.{◌≡◌, ◌++◌};
 ghost use Rattle.std.specs.Option.{option_copied};
 ghost use Rattle.naga_below.specs.Types.{inner_at};
-ghost use Rattle.naga_checks.specs.walk.Answers.{AnswersPoints, Finds};
+ghost use Rattle.naga_checks.specs.walk.Answers.{Finds};
+ghost use Rattle.naga_rules.specs.Answers.{AnswersPoints};
 ghost use Rattle.naga_checks.specs.walk.Image.{changed_points, changed_format_points, changed_value_points, changed_class_points};
 ghost use Rattle.naga_checks.specs.checks.ImageAtomic.{element_or_itself, is_done_on_texels, operation_points, format_points, image_atomic_points};
 ghost use Rattle.naga_checks.specs.walk.Place.{place_at};

@@ -3,7 +3,8 @@
 ghost use Rattle.std.specs.Prelude.{◌≡◌, ◌++◌, IfOk, IfSome, IsOk};
 ghost use Rattle.std.specs.Option.{option_copied};
 ghost use Rattle.naga_below.specs.Types.{HasNoMembers};
-ghost use Rattle.naga_checks.specs.walk.Answers.{Finds, AnswersPoints};
+ghost use Rattle.naga_checks.specs.walk.Answers.{Finds};
+ghost use Rattle.naga_rules.specs.Answers.{AnswersPoints};
 ghost use Rattle.naga_checks.specs.walk.Image.{stored_points, texel_value_points};
 ghost use Rattle.naga_checks.specs.checks.Image.{stored_type, image_store_points};
 ghost use Rattle.naga_checks.specs.walk.Place.{place_at};

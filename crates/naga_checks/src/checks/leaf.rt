@@ -1,7 +1,7 @@
 //! The check lists of the statements that are neither jumps nor hold others.
 
 ghost use Rattle.std.specs.Prelude.{◌≡◌, OnOk};
-ghost use Rattle.naga_checks.specs.walk.Answers.{AnswersPoints};
+ghost use Rattle.naga_rules.specs.Answers.{AnswersPoints};
 ghost use Rattle.naga_checks.specs.Blocks.{tree_of};
 ghost use Rattle.naga_checks.specs.Context.{ContextFits};
 ghost use Rattle.naga_checks.specs.Ready.{IsStatementReady};
@@ -113,8 +113,9 @@ pub fn validate_leaf(
             let site = CallSite {
                 function: *function,
                 named: *result,
+                span,
             };
-            validate_call(scope, filled, context, &site, arguments.as_slice(), span)
+            validate_call(scope, filled, context, &site, arguments.as_slice())
         }
         Statement::CooperativeStore { target, source } => {
             check_cooperative_store(scope, context, *target, source.pointer, span)

@@ -3,7 +3,8 @@
 ghost use Rattle.std.specs.Prelude.{◌≡◌, true};
 ghost use Rattle.std.specs.Option.{option_copied, option_or};
 ghost use Rattle.naga_runs.specs.Positions.{StatementNode};
-ghost use Rattle.naga_checks.specs.walk.Answers.{AnswersPoints, Finds};
+ghost use Rattle.naga_checks.specs.walk.Answers.{Finds};
+ghost use Rattle.naga_rules.specs.Answers.{AnswersPoints};
 ghost use Rattle.naga_checks.specs.Blocks.{tree_of};
 ghost use Rattle.naga_checks.specs.checks.RayTrace.{is_payload_space, is_global, trace_ray_points};
 ghost use Rattle.naga_checks.specs.walk.Place.{place_at};
@@ -101,9 +102,10 @@ fn is_global(expression: Option<&Expression>) -> bool
     matches!(expression, Some(Expression::GlobalVariable(_)))
 }
 
-/// What ray traces leave behind a statement.
-pub fn trace_of(context: &BlockContext, trace: TraceState, located: &Located) -> TraceState
-    ensures { result ≡ with_trace (context_of context.now) trace (StatementNode (tree_of (context_of context.now) located.now)) }
+/// What ray traces leave behind a statement: only a ray trace changes it.
+pub fn advance_trace(trace: &mut TraceState, context: &BlockContext, located: &Located)
+    ensures { trace.new
+        ≡ with_trace (context_of context.now) trace.old (StatementNode (tree_of (context_of context.now) located.now)) }
 {
     match &located.statement {
         Statement::RayPipelineFunction(
@@ -113,18 +115,17 @@ pub fn trace_of(context: &BlockContext, trace: TraceState, located: &Located) ->
                 ..
             },
         ) => {
-            let span = located.span;
-            TraceState {
+            *trace = TraceState {
                 payload: payload_behind(context, &trace.payload, *payload),
                 vertex_return: vertex_return_behind(
                     context,
                     trace.vertex_return,
                     *acceleration_structure,
-                    span,
+                    located.span,
                 ),
-            }
+            };
         }
-        _ => trace,
+        _ => {}
     }
 }
 

@@ -1,7 +1,10 @@
 //! Uses, and refusals with the place of their statement.
 
 ghost use Rattle.std.specs.Prelude.{[], ◌∷◌};
-ghost use Rattle.naga_checks.specs.walk.Answers.{Finds, AnswersPoints};
+ghost use Rattle.naga_below.specs.declared.valid.expression_error.ExpressionError.TheVariants.{NotInScope};
+ghost use Rattle.naga_rules.specs.declared.function.FunctionError.TheVariants.{Expression, ExpressionAlreadyInScope};
+ghost use Rattle.naga_checks.specs.walk.Answers.{Finds, IsRefusalFor};
+ghost use Rattle.naga_rules.specs.Answers.{AnswersPoints};
 ghost use Rattle.naga_checks.specs.Points.{Points, use_point, put_point};
 ghost use Rattle.naga_checks.specs.walk.Place.{place_at};
 ghost use Rattle.naga_checks.specs.walk.Table.{known};
@@ -36,6 +39,30 @@ pub fn check_put(scope: &ScopeColumn, handle: Handle<tag::Expression>) -> Result
         return Err(FunctionError::ExpressionAlreadyInScope(handle));
     }
     Ok(())
+}
+
+/// The refusal of a use. What makes refusals stands apart from the checks that are asked most often, so that these hold no
+/// fault while all is well.
+#[cold]
+#[inline(never)]
+pub fn not_in_scope(alloc: Global, handle: Handle<tag::Expression>, span: Span) -> Refused
+    ensures { IsRefusalFor (Expression handle NotInScope) result }
+{
+    let fault = FunctionError::Expression {
+        handle,
+        source: ExpressionError::NotInScope,
+    };
+    Refused::placed(alloc, fault, span)
+}
+
+/// The refusal of a put.
+#[cold]
+#[inline(never)]
+pub fn already_in_scope(alloc: Global, handle: Handle<tag::Expression>, span: Span) -> Refused
+    ensures { IsRefusalFor (ExpressionAlreadyInScope handle) result }
+{
+    let fault = FunctionError::ExpressionAlreadyInScope(handle);
+    Refused::placed(alloc, fault, span)
 }
 
 /// The answer of a check of the statement at a place.

@@ -1,7 +1,7 @@
 //! The check list of a statement, and of a break condition.
 
 ghost use Rattle.std.specs.Prelude.{◌≡◌, OnOk};
-ghost use Rattle.naga_checks.specs.walk.Answers.{AnswersPoints};
+ghost use Rattle.naga_rules.specs.Answers.{AnswersPoints};
 ghost use Rattle.naga_checks.specs.Blocks.{tree_of};
 ghost use Rattle.naga_checks.specs.Context.{ContextFits};
 ghost use Rattle.naga_checks.specs.checks.Control.{break_if_points};
@@ -13,8 +13,8 @@ ghost use Rattle.naga_checks.specs.walk.State.{kept, seen};
 ghost use Rattle.naga_checks.specs.walk.Walk.{place, puts};
 ghost use Rattle.naga_checks.specs.walk.Table.{HasPut, IsTableOf, known};
 
-use crate::checks::control;
 use crate::checks::leaf::validate_leaf;
+use crate::checks::{control, switch};
 use crate::context::BlockContext;
 use crate::refused::Refused;
 use crate::state::BodyOutcome;
@@ -51,7 +51,7 @@ pub fn validate_points(
             control::check_condition(scope, context, *condition, span)
         }
         Statement::Switch { selector, cases } => {
-            control::check_switch(scope, context, *selector, cases.as_slice(), span)
+            switch::check_switch(scope, context, *selector, cases.as_slice(), span)
         }
         Statement::Break => control::check_break(alloc, abilities, span),
         Statement::Continue => control::check_continue(alloc, abilities, span),

@@ -1,16 +1,19 @@
 //! The check list of Store.
 
-ghost use Rattle.std.specs.Prelude.{◌≡◌, ◌∷◌, [], not, IfSome, Some, length};
+ghost use Rattle.std.specs.Prelude.{◌≡◌, true, IfSome, length};
 ghost use Rattle.std.specs.Option.{option_copied};
 ghost use Rattle.naga_below.specs.Types.{ResolutionFits};
-ghost use Rattle.naga_checks.specs.walk.Answers.{Finds, AnswersPoints};
+ghost use Rattle.naga_rules.specs.declared.function.FunctionError.TheVariants.{InvalidStorePointer, InvalidStoreTexture, InvalidStoreTypes};
+ghost use Rattle.naga_checks.specs.walk.Answers.{IsRefusalFor};
+ghost use Rattle.naga_rules.specs.Answers.{AnswersPoints};
 ghost use Rattle.naga_checks.specs.Context.{ContextFits};
 ghost use Rattle.naga_checks.specs.walk.Place.{place_at};
 ghost use Rattle.naga_checks.specs.walk.Seen.{context_of};
-ghost use Rattle.naga_checks.specs.checks.Store.{access_base, root_at, is_variable, texture_point, is_stored_as, store_points};
+ghost use Rattle.naga_checks.specs.checks.Store.{access_base, root_at, is_variable, is_texture, is_stored_as, store_points};
+ghost use Rattle.naga_checks.specs.Types.{named_type};
 ghost use Rattle.naga_checks.specs.walk.Table.{known};
 
-use crate::checks::refuse::{answer, check_use};
+use crate::checks::refuse::not_in_scope;
 use crate::checks::types::is_scalar;
 use crate::context::BlockContext;
 use crate::pointers::{base_type, is_writable};
@@ -24,8 +27,10 @@ use naga_below::proc::type_methods::compare_types;
 use naga_below::proc::typifier::TypeResolution;
 use naga_below::span::Span;
 use naga_rules::function::FunctionError;
+use std::alloc::Global;
 
-/// Store: its pointer and its value.
+/// Store: a pointer that leads back to a variable or an argument; a value, which is no texture; the type that is pointed to
+/// holds it, and its space takes stores.
 pub fn check_store(
     scope: &ScopeColumn,
     context: &BlockContext,
@@ -36,32 +41,23 @@ pub fn check_store(
     requires { ContextFits (context_of context.now) }
     ensures { AnswersPoints (store_points (context_of context.now) (place_at (known scope.now)) pointer value) result }
 {
-    let checked = check_store_points(scope, context, pointer, value);
-    answer(scope.allocator(), checked, span)
-}
-
-/// A pointer that leads back to a variable or an argument; a value, which is no texture; the type that is pointed to holds
-/// it, and its space takes stores.
-fn check_store_points(
-    scope: &ScopeColumn,
-    context: &BlockContext,
-    pointer: Handle<tag::Expression>,
-    value: Handle<tag::Expression>,
-) -> Result<(), FunctionError>
-    requires { ContextFits (context_of context.now) }
-    ensures { Finds (store_points (context_of context.now) (place_at (known scope.now)) pointer value) result }
-{
+    let alloc = scope.allocator();
     let root = root_of(context, pointer);
     if !is_variable(context.expression(root)) {
-        return Err(FunctionError::InvalidStorePointer(root));
+        return Err(no_store_pointer(alloc, root, span));
     }
-    check_use(scope, value)?;
-    check_texture(value, context.type_inner(value))?;
+    if !scope.may_use(value) {
+        return Err(not_in_scope(alloc, value, span));
+    }
+    let stored = context.type_inner(value);
+    if is_texture(stored) {
+        return Err(stored_texture(alloc, value, stored, span));
+    }
     if !is_stored_as(context, value, &base_type(context, pointer)) {
-        return Err(FunctionError::InvalidStoreTypes { pointer, value });
+        return Err(no_store_types(alloc, pointer, value, span));
     }
     if !is_writable(context, pointer) {
-        return Err(FunctionError::InvalidStorePointer(pointer));
+        return Err(no_store_pointer(alloc, pointer, span));
     }
     Ok(())
 }
@@ -104,34 +100,14 @@ fn is_variable(expression: Option<&Expression>) -> bool
     )
 }
 
-/// An image or a sampler is never stored.
-fn check_texture(
-    value: Handle<tag::Expression>,
-    inner: Option<&TypeInner>,
-) -> Result<(), FunctionError>
-    ensures { Finds (texture_point value (option_copied inner.entry) ∷ []) result }
+/// Whether a type is that of an image or of a sampler, which is never stored.
+fn is_texture(inner: Option<&TypeInner>) -> bool
+    ensures { result ≡ is_texture (option_copied inner.entry) }
 {
-    let actual_ty = match inner {
-        Some(
-            TypeInner::Image {
-                dim,
-                arrayed,
-                class,
-            },
-        ) => TypeInner::Image {
-            dim: *dim,
-            arrayed: *arrayed,
-            class: *class,
-        },
-        Some(TypeInner::Sampler { comparison }) => TypeInner::Sampler {
-            comparison: *comparison,
-        },
-        _ => return Ok(()),
-    };
-    Err(FunctionError::InvalidStoreTexture {
-        actual: value,
-        actual_ty,
-    })
+    matches!(
+        inner,
+        Some(TypeInner::Image { .. } | TypeInner::Sampler { .. })
+    )
 }
 
 /// Whether a value is what this type holds: an atomic its scalar, any other a value of the type.
@@ -154,4 +130,67 @@ fn is_stored_as(
             None => false,
         },
     }
+}
+
+/// The refusal of a pointer that leads back to no variable, or into a space that takes no stores.
+#[cold]
+#[inline(never)]
+fn no_store_pointer(alloc: Global, handle: Handle<tag::Expression>, span: Span) -> Refused
+    ensures { IsRefusalFor (InvalidStorePointer handle) result }
+{
+    Refused::placed(alloc, FunctionError::InvalidStorePointer(handle), span)
+}
+
+/// The refusal of an image or a sampler as a value.
+#[cold]
+#[inline(never)]
+fn stored_texture(
+    alloc: Global,
+    value: Handle<tag::Expression>,
+    inner: Option<&TypeInner>,
+    span: Span,
+) -> Refused
+    requires { is_texture (option_copied inner) ≡ true }
+    ensures { IsRefusalFor (InvalidStoreTexture value (named_type (option_copied inner.entry))) result }
+{
+    let actual_ty = match inner {
+        Some(
+            TypeInner::Image {
+                dim,
+                arrayed,
+                class,
+            },
+        ) => TypeInner::Image {
+            dim: *dim,
+            arrayed: *arrayed,
+            class: *class,
+        },
+        Some(TypeInner::Sampler { comparison }) => TypeInner::Sampler {
+            comparison: *comparison,
+        },
+        _ => unreachable!(),
+    };
+    let fault = FunctionError::InvalidStoreTexture {
+        actual: value,
+        actual_ty,
+    };
+    Refused::placed(alloc, fault, span)
+}
+
+/// The refusal of a value that the type that is pointed to does not hold.
+#[cold]
+#[inline(never)]
+fn no_store_types(
+    alloc: Global,
+    pointer: Handle<tag::Expression>,
+    value: Handle<tag::Expression>,
+    span: Span,
+) -> Refused
+    ensures { IsRefusalFor (InvalidStoreTypes pointer value) result }
+{
+    Refused::placed(
+        alloc,
+        FunctionError::InvalidStoreTypes { pointer, value },
+        span,
+    )
 }

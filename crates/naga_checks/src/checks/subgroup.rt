@@ -2,7 +2,8 @@
 
 ghost use Rattle.std.specs.Prelude.{◌≡◌, ◌<◌, ◌∷◌, [], OnOk};
 ghost use Rattle.std.specs.Option.{option_copied};
-ghost use Rattle.naga_checks.specs.walk.Answers.{Finds, AnswersPoints};
+ghost use Rattle.naga_checks.specs.walk.Answers.{Finds};
+ghost use Rattle.naga_rules.specs.Answers.{AnswersPoints};
 ghost use Rattle.naga_checks.specs.walk.Place.{place_at};
 ghost use Rattle.naga_checks.specs.walk.Subgroup.{combined_points};
 ghost use Rattle.naga_checks.specs.walk.Seen.{context_of};

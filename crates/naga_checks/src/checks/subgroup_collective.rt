@@ -2,15 +2,16 @@
 
 ghost use Rattle.std.specs.Prelude.{◌≡◌, ◌<◌, ◌∷◌, [], OnOk};
 ghost use Rattle.std.specs.Option.{option_copied};
-ghost use Rattle.naga_checks.specs.walk.Answers.{Finds, AnswersPoints};
+ghost use Rattle.naga_checks.specs.walk.Answers.{Finds};
+ghost use Rattle.naga_rules.specs.Answers.{AnswersPoints};
 ghost use Rattle.naga_checks.specs.walk.Place.{place_at};
 ghost use Rattle.naga_checks.specs.walk.Seen.{context_of};
 ghost use Rattle.naga_checks.specs.checks.Subgroup.{is_wide_integer, is_combined_by, takes_vectors, is_operand_of, is_scanned, is_done_over, collective_points};
 ghost use Rattle.naga_checks.specs.walk.Table.{HasPut, count, known};
 
-use crate::checks::control::is_integer;
 use crate::checks::refuse::{answer, check_use};
 use crate::checks::subgroup::{check_combined, check_operations, check_subgroups, is_number_kind};
+use crate::checks::types::is_integer;
 use crate::context::BlockContext;
 use crate::refused::Refused;
 use crate::table::ScopeColumn;

@@ -3,10 +3,11 @@
 ghost use Rattle.std.specs.Prelude.{◌≡◌, IfSome, length};
 ghost use Rattle.std.specs.Option.{option_copied};
 ghost use Rattle.naga_below.specs.Types.{NamesTypesBelow};
+ghost use Rattle.naga_checks.specs.Types.{is_integer};
 ghost use Rattle.naga_below.specs.TypeTests.{both_are, is_same_inner, is_scalar, is_equivalent, it_is, is_exchange_struct};
 
 use naga_below::ir::module::Module;
-use naga_below::ir::types::{Scalar, TypeInner};
+use naga_below::ir::types::{Scalar, ScalarKind, TypeInner};
 
 /// Whether a type is this scalar.
 pub fn is_scalar(scalar: Scalar, inner: Option<&TypeInner>) -> bool
@@ -59,4 +60,11 @@ pub fn are_same_inners(first: Option<&TypeInner>, second: Option<&TypeInner>) ->
         },
         None => false,
     }
+}
+
+/// Whether a kind is that of integers of either sign.
+pub fn is_integer(kind: Option<ScalarKind>) -> bool
+    ensures { result ≡ is_integer kind }
+{
+    matches!(kind, Some(ScalarKind::Uint | ScalarKind::Sint))
 }

@@ -2,8 +2,8 @@
 
 use crate::tests::check;
 use naga_below::{
-    AtomicFunction, CollectiveOperation, CooperativeData, Expression, FunctionArgument, GatherMode,
-    Literal, Range, RayPipelineFunction, RayQueryFunction, SubgroupOperation, SwitchValue,
+    AtomicFunction, CollectiveOperation, CooperativeData, Expression, GatherMode, Literal, Range,
+    RayPipelineFunction, RayQueryFunction, SubgroupOperation, SwitchValue,
 };
 use std::test::Fail;
 

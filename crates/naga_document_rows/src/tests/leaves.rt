@@ -3,7 +3,7 @@
 use crate::tests::check;
 use naga_below::{
     Barrier, Capabilities, GlobalUse, Handle, MemoryDecorations, Name, Sequence, ShaderStages,
-    StorageAccess, SubgroupOperationSet, Type, TypeFlags, ValidationFlags, tag,
+    StorageAccess, SubgroupOperationSet, TypeFlags, ValidationFlags, tag,
 };
 use std::num::NonZeroU32;
 use std::test::Fail;

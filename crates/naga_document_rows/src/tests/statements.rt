@@ -1,65 +1,187 @@
 //! Statements and functions.
 
 use crate::tests::check;
-use naga_below::{Block, BuiltIn, Function, FunctionArgument, FunctionResult, LocalVariable};
+use naga_below::{Block, Function, FunctionArgument, FunctionResult, LocalVariable, Span};
 use std::test::Fail;
 
-#[test]
-fn statements(rt: HostRuntime) -> Result<(), Fail> {
-    check::<Block>(
-        &rt,
+/// Blocks of each kind of statement, each in a good form and in three bad ones.
+const BLOCKS: [(&str, [&str; 3]); 21] = [
+    (
         r#"["Kill",{"span":[5,13],"statement":{"Return":{"value":0}}}]"#,
         [
             r#""Kill""#,
             r#"[{"span":[5],"statement":"Kill"}]"#,
             r#"[{"span":[5,13],"statement":"Kill","at":0}]"#,
         ],
-    )?;
-    check::<Block>(
-        &rt,
+    ),
+    (
+        r#"[{"Block":["Kill"]}]"#,
+        [
+            r#"[{"Block":"Kill"}]"#,
+            r#"["Block"]"#,
+            r#"[{"Block":{"list":["Kill"]}}]"#,
+        ],
+    ),
+    (
         r#"[{"If":{"condition":0,"accept":[],"reject":["Break"]}}]"#,
         [
             r#"[{"If":{"condition":0,"accept":[]}}]"#,
             r#"[{"If":{"condition":0,"accept":[],"reject":"Break"}}]"#,
             r#"["If"]"#,
         ],
-    )?;
-    check::<Block>(
-        &rt,
+    ),
+    (
         r#"[{"Switch":{"selector":0,"cases":[{"value":"Default","body":[],"fall_through":false}]}}]"#,
         [
             r#"[{"Switch":{"selector":0,"cases":[{"value":"Default","body":[]}]}}]"#,
             r#"[{"Switch":{"selector":0,"cases":{}}}]"#,
             r#"[{"Switch":{"selector":0,"cases":[{"value":0,"body":[],"fall_through":false}]}}]"#,
         ],
-    )?;
-    check::<Block>(
-        &rt,
+    ),
+    (
         r#"[{"Loop":{"body":[],"continuing":["Continue"],"break_if":3}}]"#,
         [
             r#"[{"Loop":{"body":[],"continuing":[]}}]"#,
             r#"[{"Loop":{"body":[],"continuing":["continue"],"break_if":3}}]"#,
             r#"[{"Loop":{"body":[],"continuing":[],"break_if":"3"}}]"#,
         ],
-    )?;
-    check::<Block>(
-        &rt,
-        r#"[{"ControlBarrier":["STORAGE"]},{"Emit":{"start":0,"end":1}}]"#,
+    ),
+    (
+        r#"[{"Emit":{"start":0,"end":1}}]"#,
+        [
+            r#"[{"Emit":[0,1]}]"#,
+            r#"[{"Emit":{"start":0}}]"#,
+            r#"["Emit"]"#,
+        ],
+    ),
+    (
+        r#"[{"Return":{"value":null}}]"#,
+        [
+            r#"[{"Return":{}}]"#,
+            r#"[{"Return":null}]"#,
+            r#"["Return"]"#,
+        ],
+    ),
+    (
+        r#"[{"ControlBarrier":["STORAGE"]}]"#,
         [
             r#"[{"ControlBarrier":"STORAGE"}]"#,
             r#"[{"ControlBarrier":null}]"#,
-            r#"[{"Emit":[0,1]}]"#,
+            r#"["ControlBarrier"]"#,
         ],
-    )?;
-    check::<Block>(
-        &rt,
-        r#"[{"Call":{"function":0,"arguments":[1],"result":null}},{"Store":{"pointer":0,"value":1}}]"#,
+    ),
+    (
+        r#"[{"MemoryBarrier":["WORK_GROUP","STORAGE"]}]"#,
         [
-            r#"[{"Call":{"function":0,"arguments":[1]}}]"#,
+            r#"[{"MemoryBarrier":["STORAGE","STORAGE"]}]"#,
+            r#"[{"MemoryBarrier":null}]"#,
+            r#"["MemoryBarrier"]"#,
+        ],
+    ),
+    (
+        r#"[{"Store":{"pointer":0,"value":1}}]"#,
+        [
             r#"[{"Store":{"pointer":0,"value":null}}]"#,
             r#"[{"Store":{"pointer":0}}]"#,
+            r#"[{"Store":[0,1]}]"#,
         ],
-    )?;
+    ),
+    (
+        r#"[{"ImageStore":{"image":0,"coordinate":1,"array_index":null,"value":2}}]"#,
+        [
+            r#"[{"ImageStore":{"image":0,"coordinate":1,"value":2}}]"#,
+            r#"[{"ImageStore":{"image":0,"coordinate":null,"array_index":null,"value":2}}]"#,
+            r#"[{"ImageStore":{"image":0,"coordinate":1,"array_index":[],"value":2}}]"#,
+        ],
+    ),
+    (
+        r#"[{"Atomic":{"pointer":0,"fun":"Add","value":1,"result":2}}]"#,
+        [
+            r#"[{"Atomic":{"pointer":0,"fun":"Add","value":1}}]"#,
+            r#"[{"Atomic":{"pointer":0,"fun":"add","value":1,"result":2}}]"#,
+            r#"[{"Atomic":{"pointer":null,"fun":"Add","value":1,"result":2}}]"#,
+        ],
+    ),
+    (
+        r#"[{"ImageAtomic":{"image":0,"coordinate":1,"array_index":2,"fun":{"Exchange":{"compare":null}},"value":3}}]"#,
+        [
+            r#"[{"ImageAtomic":{"image":0,"coordinate":1,"array_index":2,"fun":"Exchange","value":3}}]"#,
+            r#"[{"ImageAtomic":{"image":0,"coordinate":1,"fun":"Max","value":3}}]"#,
+            r#"[{"ImageAtomic":{"image":0,"coordinate":1,"array_index":2,"fun":"Max","value":3,"result":null}}]"#,
+        ],
+    ),
+    (
+        r#"[{"WorkGroupUniformLoad":{"pointer":0,"result":1}}]"#,
+        [
+            r#"[{"WorkGroupUniformLoad":{"pointer":0}}]"#,
+            r#"[{"WorkGroupUniformLoad":{"pointer":0,"result":null}}]"#,
+            r#"[{"WorkgroupUniformLoad":{"pointer":0,"result":1}}]"#,
+        ],
+    ),
+    (
+        r#"[{"Call":{"function":0,"arguments":[1],"result":null}}]"#,
+        [
+            r#"[{"Call":{"function":0,"arguments":[1]}}]"#,
+            r#"[{"Call":{"function":0,"arguments":1,"result":null}}]"#,
+            r#"[{"Call":{"function":"f","arguments":[],"result":null}}]"#,
+        ],
+    ),
+    (
+        r#"[{"RayQuery":{"query":0,"fun":"Terminate"}}]"#,
+        [
+            r#"[{"RayQuery":{"query":0}}]"#,
+            r#"[{"RayQuery":{"query":0,"fun":"Initialize"}}]"#,
+            r#"[{"RayQuery":{"query":-1,"fun":"Terminate"}}]"#,
+        ],
+    ),
+    (
+        r#"[{"SubgroupBallot":{"result":0,"predicate":null}}]"#,
+        [
+            r#"[{"SubgroupBallot":{"result":0}}]"#,
+            r#"[{"SubgroupBallot":{"result":null,"predicate":null}}]"#,
+            r#"["SubgroupBallot"]"#,
+        ],
+    ),
+    (
+        r#"[{"SubgroupCollectiveOperation":{"op":"Add","collective_op":"Reduce","argument":0,"result":1}}]"#,
+        [
+            r#"[{"SubgroupCollectiveOperation":{"op":"Add","argument":0,"result":1}}]"#,
+            r#"[{"SubgroupCollectiveOperation":{"op":"Reduce","collective_op":"Add","argument":0,"result":1}}]"#,
+            r#"[{"SubgroupCollectiveOperation":{"op":"Add","collective_op":"Reduce","argument":0,"result":null}}]"#,
+        ],
+    ),
+    (
+        r#"[{"SubgroupGather":{"mode":"BroadcastFirst","argument":0,"result":1}}]"#,
+        [
+            r#"[{"SubgroupGather":{"mode":"Broadcast","argument":0,"result":1}}]"#,
+            r#"[{"SubgroupGather":{"mode":"BroadcastFirst","result":1}}]"#,
+            r#"[{"SubgroupGather":{"mode":null,"argument":0,"result":1}}]"#,
+        ],
+    ),
+    (
+        r#"[{"CooperativeStore":{"target":0,"source":{"pointer":1,"detail":2}}}]"#,
+        [
+            r#"[{"CooperativeStore":{"target":0,"source":1}}]"#,
+            r#"[{"CooperativeStore":{"target":0,"source":{"pointer":1}}}]"#,
+            r#"[{"CooperativeStore":{"source":{"pointer":1,"detail":2}}}]"#,
+        ],
+    ),
+    (
+        r#"[{"RayPipelineFunction":{"TraceRay":{"acceleration_structure":0,"descriptor":1,"payload":2}}}]"#,
+        [
+            r#"[{"RayPipelineFunction":"TraceRay"}]"#,
+            r#"[{"RayPipelineFunction":{"TraceRay":{"acceleration_structure":0,"descriptor":1}}}]"#,
+            r#"[{"TraceRay":{"acceleration_structure":0,"descriptor":1,"payload":2}}]"#,
+        ],
+    ),
+];
+
+#[test]
+fn statements(rt: HostRuntime) -> Result<(), Fail> {
+    for (good, bad) in BLOCKS {
+        check::<Block>(&rt, good, bad)?;
+    }
+    check::<Span>(&rt, "[7,5]", ["[7]", "[1,2,3]", r#"{"start":1,"end":2}"#])?;
     Ok(())
 }
 

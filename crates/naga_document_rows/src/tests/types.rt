@@ -2,8 +2,8 @@
 
 use crate::tests::check;
 use naga_below::{
-    AddressSpace, ArraySize, Binding, BuiltIn, Constant, Handle, ImageClass, ImageDimension,
-    Interpolation, ResourceBinding, Sampling, Scalar, StorageFormat, StructMember, Type, TypeInner,
+    AddressSpace, ArraySize, Binding, BuiltIn, ImageClass, ImageDimension, Interpolation,
+    ResourceBinding, Sampling, Scalar, ScalarKind, StorageFormat, StructMember, Type, TypeInner,
     TypeResolution, VectorSize,
 };
 use std::test::Fail;
@@ -18,6 +18,11 @@ fn types(rt: HostRuntime) -> Result<(), Fail> {
             r#"{"kind":"Uint","width":4,"x":0}"#,
             r#"{"kind":"uint","width":4}"#,
         ],
+    )?;
+    check::<ScalarKind>(
+        &rt,
+        r#""AbstractInt""#,
+        [r#""Int""#, "0", r#"{"AbstractInt":null}"#],
     )?;
     check::<VectorSize>(&rt, r#""Tri""#, ["3", r#""tri""#, r#"{"Tri":null}"#])?;
     check::<ArraySize>(

@@ -1,13 +1,24 @@
-//! Global variables, entry points and facts.
+//! Global variables, entry points, modules, facts and documents.
 
 use crate::tests::check;
 use naga_below::{
-    Constant, EntryPoint, Expression, ExpressionError, GlobalVariable, MeshStageInfo, Override,
-    ShaderStage, SpecialTypes, TypeInfo,
+    Constant, Disalignment, EarlyDepthTest, EntryPoint, ExpressionError, GlobalVariable, Handle,
+    ImmediateError, MeshOutputTopology, MeshStageInfo, Module, Override, ShaderStage, SpecialTypes,
+    TypeInfo, tag,
 };
-use naga_layers::{ExpressionFact, FunctionFact, InfoFact, LowerFunctionError};
+use naga_document::{Document, KnownFacts};
+use naga_layers::{ExpressionFact, FunctionFact, InfoFact, LowerFunctionError, MeshAnalysisFact};
 use naga_rules::MeshFault;
 use std::test::Fail;
+
+/// The alignment of a layout, or the type that spoils it and why.
+type Layout = Result<u32, (Handle<tag::Type>, Disalignment)>;
+
+/// Whether a type can be an immediate, and why not.
+type Immediates = Result<(), ImmediateError>;
+
+/// The overrides of the greatest numbers of a mesh.
+type Overrides = [Option<Handle<tag::Override>>; 2];
 
 #[test]
 fn globals_and_entry_points(rt: HostRuntime) -> Result<(), Fail> {
@@ -50,11 +61,37 @@ fn globals_and_entry_points(rt: HostRuntime) -> Result<(), Fail> {
             r#"{"stage":"Task","early_depth_test":0,"workgroup_size":[1,1,1],"function":null,"mesh_info":null,"task_payload":0}"#,
         ],
     )?;
+    check::<MeshOutputTopology>(
+        &rt,
+        r#""Triangles""#,
+        [r#""triangles""#, "2", r#"["Lines"]"#],
+    )?;
+    check::<EarlyDepthTest>(&rt, "7", ["-1", "true", "[7]"])?;
+    check::<Module>(
+        &rt,
+        r#"{"types":[],"special_types":{"ray_desc":null},"constants":[],"overrides":[],"global_variables":[],"global_expressions":[],"functions":[],"entry_points":[]}"#,
+        [
+            r#"{"types":[],"special_types":{"ray_desc":null},"constants":[],"global_variables":[],"global_expressions":[],"functions":[],"entry_points":[]}"#,
+            r#"{"types":{},"special_types":{"ray_desc":null},"constants":[],"overrides":[],"global_variables":[],"global_expressions":[],"functions":[],"entry_points":[]}"#,
+            r#"{"types":[],"special_types":null,"constants":[],"overrides":[],"global_variables":[],"global_expressions":[],"functions":[],"entry_points":[]}"#,
+        ],
+    )?;
     Ok(())
 }
 
 #[test]
 fn facts(rt: HostRuntime) -> Result<(), Fail> {
+    check::<Layout>(
+        &rt,
+        r#"{"Err":[0,7]}"#,
+        [r#"{"Err":7}"#, r#""Ok""#, r#"{"Ok":4,"Err":[0,7]}"#],
+    )?;
+    check::<Immediates>(
+        &rt,
+        r#"{"Ok":null}"#,
+        [r#"{"Ok":4}"#, r#""Ok""#, r#"{"Err":null}"#],
+    )?;
+    check::<Overrides>(&rt, "[null,1]", ["[null]", "[null,1,2]", r#"[null,"1"]"#])?;
     check::<TypeInfo>(
         &rt,
         r#"{"flags":["DATA"],"storage_layout":{"Ok":4},"uniform_layout":{"Err":[0,7]},"immediates_compatibility":{"Ok":null}}"#,
@@ -112,6 +149,33 @@ fn facts(rt: HostRuntime) -> Result<(), Fail> {
             r#"{"types":[],"uses":[],"stages":[],"expressions":[]}"#,
             r#"{"types":[0],"uses":[],"stages":[],"dual_source_blending":true,"expressions":[]}"#,
             r#"{"types":[],"uses":["READ"],"stages":[],"dual_source_blending":true,"expressions":[]}"#,
+        ],
+    )?;
+    check::<MeshAnalysisFact>(
+        &rt,
+        r#"{"implied":{"topology":"Points","max_vertices":1,"max_vertices_override":null,"max_primitives":1,"max_primitives_override":null,"vertex_output_type":0,"primitive_output_type":0,"output_variable":0},"overrides":[null,0],"fault":"OutputType"}"#,
+        [
+            r#"{"implied":{"topology":"Points","max_vertices":1,"max_vertices_override":null,"max_primitives":1,"max_primitives_override":null,"vertex_output_type":0,"primitive_output_type":0,"output_variable":0},"overrides":[null,0]}"#,
+            r#"{"implied":{"topology":"Points","max_vertices":1,"max_vertices_override":null,"max_primitives":1,"max_primitives_override":null,"vertex_output_type":0,"primitive_output_type":0,"output_variable":0},"overrides":[null],"fault":null}"#,
+            r#"{"implied":null,"overrides":[null,0],"fault":"OutputType"}"#,
+        ],
+    )?;
+    check::<KnownFacts>(
+        &rt,
+        r#"{"type_infos":[],"global_types":[{"Handle":0}],"sizes":[null,4],"mesh_analyses":[null],"functions":[],"entry_points":[]}"#,
+        [
+            r#"{"type_infos":[],"global_types":[{"Handle":0}],"sizes":[null,4],"functions":[],"entry_points":[]}"#,
+            r#"{"type_infos":[],"global_types":[{"Handle":0}],"sizes":[null,-4],"mesh_analyses":[null],"functions":[],"entry_points":[]}"#,
+            r#"{"type_infos":[],"global_types":[{"Handle":0}],"sizes":[null,4],"mesh_analyses":[null],"functions":null,"entry_points":[]}"#,
+        ],
+    )?;
+    check::<Document>(
+        &rt,
+        r#"{"flags":[],"capabilities":[],"subgroup_stages":[],"subgroup_operations":[],"module":{"types":[],"special_types":{"ray_desc":null},"constants":[],"overrides":[],"global_variables":[],"global_expressions":[],"functions":[],"entry_points":[]},"facts":{"type_infos":[],"global_types":[],"sizes":[],"mesh_analyses":[],"functions":[],"entry_points":[]}}"#,
+        [
+            r#"{"flags":[],"capabilities":[],"subgroup_stages":[],"module":{"types":[],"special_types":{"ray_desc":null},"constants":[],"overrides":[],"global_variables":[],"global_expressions":[],"functions":[],"entry_points":[]},"facts":{"type_infos":[],"global_types":[],"sizes":[],"mesh_analyses":[],"functions":[],"entry_points":[]}}"#,
+            r#"{"settings":{"flags":[],"capabilities":[],"subgroup_stages":[],"subgroup_operations":[]},"module":{"types":[],"special_types":{"ray_desc":null},"constants":[],"overrides":[],"global_variables":[],"global_expressions":[],"functions":[],"entry_points":[]},"facts":{"type_infos":[],"global_types":[],"sizes":[],"mesh_analyses":[],"functions":[],"entry_points":[]}}"#,
+            r#"{"flags":[],"capabilities":[],"subgroup_stages":[],"subgroup_operations":[],"module":{"types":[],"special_types":{"ray_desc":null},"constants":[],"overrides":[],"global_variables":[],"global_expressions":[],"functions":[],"entry_points":[]},"facts":null}"#,
         ],
     )?;
     Ok(())

@@ -210,6 +210,11 @@ fn unbound_uniform() -> GlobalVariable {
     global(AddressSpace::Uniform, U32, None)
 }
 
+/// A global of a type that isn't there.
+fn of_no_type() -> GlobalVariable {
+    global(AddressSpace::Private, 99, None)
+}
+
 /// A task payload whose size the plain layer doesn't know.
 fn boundless() -> GlobalVariable {
     global(AddressSpace::TaskPayload, STRUCTURE_TYPE, None)
@@ -231,16 +236,22 @@ fn missing_payload() -> Case {
 #[test]
 fn the_parts_of_a_module_are_judged_in_order(rt: HostRuntime) -> Result<(), Fail> {
     let private = global(AddressSpace::Private, U32, None);
-    let nowhere = global(AddressSpace::Private, 99, None);
     let outside = FunctionError::BreakOutsideOfLoopOrSwitch;
     let break_in_entry = EntryPointError::Function(FunctionError::BreakOutsideOfLoopOrSwitch);
     let itself = at_fragment().doing(Step::Call(0));
+    let breaks_and_calls_itself = Case {
+        body: [Some(Step::Break), Some(Step::Call(0))],
+        ..at_fragment()
+    };
+    let no_type_behind = of_globals(unbound_uniform(), Some(of_no_type()));
     let uniform = of_globals(unbound_uniform(), None);
     let later_uniform = of_globals(private, Some(unbound_uniform()));
     let rows = [
         (NOTHING, None),
         (calling(NOTHING, itself, None), Some(ModuleFault::NotFit)),
-        (of_globals(nowhere, None), Some(ModuleFault::NotFit)),
+        (of_globals(of_no_type(), None), Some(ModuleFault::NotFit)),
+        // whether what globals name is there, the globals
+        (no_type_behind, Some(ModuleFault::NotFit)),
         (
             later_uniform,
             in_global(1, GlobalVariableError::InvalidBinding),
@@ -249,6 +260,11 @@ fn the_parts_of_a_module_are_judged_in_order(rt: HostRuntime) -> Result<(), Fail
         (
             calling(uniform, breaking(), None),
             in_global(0, GlobalVariableError::InvalidBinding),
+        ),
+        // whether what a function names is there, the function
+        (
+            calling(NOTHING, breaks_and_calls_itself, None),
+            Some(ModuleFault::NotFit),
         ),
         // a function, whether what a later one names is there
         (

@@ -29,7 +29,7 @@ pub const GOOD: TypeInfo = TypeInfo {
 };
 
 /// Every check, by its bits: a call of `all` or `difference` of `bitflags` takes a minute and more to prove.
-pub const ALL_CHECKS: ValidationFlags = ValidationFlags(0xf);
+pub const ALL_CHECKS: ValidationFlags = ValidationFlags::ALL;
 
 /// A module of these types, globals and functions, and whose ray descriptors are of no type.
 pub fn module_of(

@@ -286,7 +286,7 @@ pub fn global_types_of(
 
 /// Every check, for a target with everything.
 const SETTINGS: Settings = Settings {
-    flags: ValidationFlags(0xf),
+    flags: ValidationFlags::ALL,
     capabilities: Capabilities::ALL,
     subgroup_stages: ShaderStages::ALL,
     subgroup_operations: SubgroupOperationSet::ALL,

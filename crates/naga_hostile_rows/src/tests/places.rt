@@ -46,7 +46,7 @@ fn tests_of_givens(
 ) -> (bool, bool) {
     let infos = made(rt, infos_of_types(rt.alloc(), handles));
     let below = Plain::without_mesh_shaders();
-    let validator = Validator::new(below, ValidationFlags(0xf), Capabilities::ALL).with_types(
+    let validator = Validator::new(below, ValidationFlags::ALL, Capabilities::ALL).with_types(
         infos,
     );
     let mut known = ModuleInfo::new(rt.alloc());

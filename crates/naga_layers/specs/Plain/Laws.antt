@@ -6,7 +6,7 @@ use Rattle.std.proofs.lemmas.List.{length-append, length-set, length-replicate}
 use Rattle.std.proofs.lemmas.List.Elements.{All-push, All-nil}
 use Rattle.std.proofs.lemmas.Option.{slice_get_within, get_or_from_slice_get, option_and_then_some, same_Some}
 use Rattle.std.proofs.lemmas.Result.{IfOk-at_ok}
-use Rattle.naga_below.specs.Bits.{READ}
+use Rattle.naga_below.specs.Bits.{READ, NO_USE}
 use Rattle.naga_below.specs.Types.{ResolutionFits, pointer_base_of, resolved}
 use Rattle.naga_below.specs.declared.ir.expressions.Expression.{Expression}
 use Rattle.naga_below.specs.declared.ir.expressions.Expression.TheVariants as e
@@ -31,7 +31,6 @@ use Rattle.naga_rules.specs.Lawful.{IsNoStruct}
 use Rattle.naga_rules.specs.declared.function.FunctionError.{FunctionError}
 use Rattle.naga_rules.specs.declared.function.FunctionError.TheVariants.{Expression as InExpression}
 use Rattle.naga_below.specs.declared.valid.expression_error.ExpressionError.TheVariants.{Lower}
-use Rattle.naga_layers.specs.EmptySets.{NO_USE}
 use Rattle.naga_layers.specs.Plain.Infos.{plain_info, info_of, with_types}
 use Rattle.naga_layers.specs.Kinds.{kinds_from, kind_of}
 use Rattle.naga_layers.specs.Plain.Types.{type_at, pointer_to, global_type, known_type, loaded_type, own_type, type_of, or_refuse, types_from}

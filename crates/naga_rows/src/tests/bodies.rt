@@ -38,7 +38,7 @@ pub const GOOD: TypeInfo = TypeInfo {
 };
 
 /// Every check, by its bits: a call of `all` or `difference` of `bitflags` takes a minute and more to prove.
-pub const ALL_CHECKS: ValidationFlags = ValidationFlags(0xf);
+pub const ALL_CHECKS: ValidationFlags = ValidationFlags::ALL;
 
 /// All capabilities, all stages and all groups of operations.
 pub const EVERYTHING: Target = Target {

@@ -18,8 +18,8 @@ use Rattle.naga_checks.specs.declared.trace.TraceState.{TraceState}
 use Rattle.std.specs.Prelude.{length}
 
 -- something holds of every entry point that the judgement accepts where bodies are looked at
-abbrev pub OfAcceptedEntry : (Meaning → Settings → List TypeInfo → Module → ModuleInfo → EntryPoint → Type 0) → Type 0
-OfAcceptedEntry Holds =
+abbrev pub OfAcceptedLooked : (Meaning → Settings → List TypeInfo → Module → ModuleInfo → EntryPoint → Type 0) → Type 0
+OfAcceptedLooked Holds =
     (below : Meaning) (settings : Settings) (types : List TypeInfo) (trace : TraceState) (m : Module) (infos : ModuleInfo) →
     (ep : EntryPoint) (outcome : FunctionOutcome) →
     entry_judgement below settings types trace m infos ep ≡ Ok outcome → checks_blocks settings.flags ≡ true →
@@ -28,11 +28,11 @@ OfAcceptedEntry Holds =
 -- all runs of its body are sure
 abbrev pub AcceptedEntryIsSound : Type 0
 AcceptedEntryIsSound =
-    OfAcceptedEntry (λ below settings types m infos ep. RunsAreSure (pre_emitted_of ep.function) (body_of ep.function))
+    OfAcceptedLooked (λ below settings types m infos ep. RunsAreSure (pre_emitted_of ep.function) (body_of ep.function))
 
 -- with vetted infos, its stage is kept to through all chains of calls
 abbrev pub AcceptedEntryKeepsItsStage : Type 0
 AcceptedEntryKeepsItsStage =
-    OfAcceptedEntry (λ below settings types m infos ep.
+    OfAcceptedLooked (λ below settings types m infos ep.
     AreVetted below settings types m infos → CallsBelow (length infos.functions) (body_of ep.function) →
     ChainsKeepTo below settings types m infos ep.function (only ep.stage))

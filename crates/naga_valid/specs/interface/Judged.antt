@@ -51,12 +51,12 @@ module _ (below : Meaning) (settings : Settings) (infos : List TypeInfo) (progra
       within fault_of (payload_points program.global_variables ep.stage ep.task_payload) ++ used_points (with_own_uses ep info)
 
   -- what is known of an accepted entry point, where this is known of its function
-  abbrev pub outcome_of : FunctionOutcome → FunctionOutcome
-  outcome_of outcome =
+  abbrev pub entry_outcome : FunctionOutcome → FunctionOutcome
+  entry_outcome outcome =
       record outcome { info = with_blending program.types infos ep (with_own_uses ep outcome.info) }
 
   abbrev pub interface_step : FunctionOutcome → Result FunctionOutcome EntryFault
-  interface_step outcome = answer (first_fault (interface_points outcome.info)) (outcome_of outcome)
+  interface_step outcome = answer (first_fault (interface_points outcome.info)) (entry_outcome outcome)
 
 -- The judgement of an entry point of a module, with the infos of the functions before it, where these are the infos of the
 -- module's types, and ray traces left this: the steps up to its function, the function, the steps behind it. It is the first

@@ -3,7 +3,7 @@
 ghost use Rattle.std.specs.Prelude.{◌≡◌, OnOk, Result};
 ghost use Rattle.naga_below.specs.declared.valid.expression_error.ExpressionError.{ExpressionError as Source};
 ghost use Rattle.naga_below.specs.declared.valid.flags.ShaderStages.{ShaderStages as Mask};
-ghost use Rattle.naga_rules.specs.Answers.{Answers};
+ghost use Rattle.naga_rules.specs.Answers.{Refuses};
 ghost use Rattle.naga_checks.specs.walk.Answers.{AnswersLeaving};
 ghost use Rattle.naga_checks.specs.Expressions.{with_stages, of_expression};
 ghost use Rattle.naga_checks.specs.walk.Seen.{asked_by, stages_of_all};
@@ -23,20 +23,21 @@ use naga_rules::below::Below;
 use naga_rules::function::FunctionError;
 use std::alloc::Global;
 
-/// The answer of the lower layer about an expression, as one about its function. It keeps the places.
-fn of_expression(
+/// The refusal of an expression by the lower layer, as one of its function. It keeps the places.
+#[cold]
+#[inline(never)]
+fn refused_expression(
     handle: Handle<tag::Expression>,
-    asked: Result<ShaderStages, Refusal<ExpressionError>>,
-) -> Result<ShaderStages, Refusal<FunctionError>>
-    ensures { (right : Result Mask Source) → Answers right asked → Answers (of_expression handle right) result }
+    refusal: Refusal<ExpressionError>,
+) -> Refusal<FunctionError>
+    ensures { (right : Result Mask Source) → Refuses right refusal → Refuses (of_expression handle right) result }
 {
-    match asked {
-        Ok(stages) => Ok(stages),
-        Err(Refusal::Fault(fault)) => {
+    match refusal {
+        Refusal::Fault(fault) => {
             let source = *fault.as_inner();
-            Err(Refusal::Fault(fault.with_fault(FunctionError::Expression { handle, source })))
+            Refusal::Fault(fault.with_fault(FunctionError::Expression { handle, source }))
         }
-        Err(Refusal::Memory) => Err(Refusal::Memory),
+        Refusal::Memory => Refusal::Memory,
     }
 }
 
@@ -64,8 +65,10 @@ impl<B: Below> Validator<B> {
             let asked = self.below.validate_expression(
                 alloc, settings, handle, fun, module, info, mod_info, kinds,
             );
-            let mask = of_expression(handle, asked)?;
-            info.available_stages = info.available_stages.intersection(mask);
+            match asked {
+                Ok(mask) => info.available_stages = info.available_stages.intersection(mask),
+                Err(refusal) => return Err(refused_expression(handle, refusal)),
+            }
         }
         Ok(())
     }

@@ -4,7 +4,7 @@ use Rattle.naga_checks.specs.checks.Results.{is_result}
 use Rattle.naga_checks.specs.walk.Place.{place_at}
 use Rattle.naga_checks.specs.walk.Seen.{context_of}
 use Rattle.naga_checks.specs.walk.Table.{known}
-use Rattle.naga_checks.proofs.Emits.{emitted_stops, emitted_next}
+use Rattle.naga_checks.proofs.Emits.{emitted_stops, emitted_twice, emitted_once}
 use Rattle.naga_checks.proofs.checks.control.check_emitted.Goals as goal
 
 pub returns-in_err-check_operands : goal.returns-in_err-check_operands
@@ -14,8 +14,14 @@ returns-in_err-check_operands c =
     let stops = emitted_stops (context_of c.args.context.now) (place_at (known c.args.scope.now)) c.args.handle o c.in_err-check_operands.field-0.0 c.expression-expression.ensures no c.in_err-check_operands.ensures in
     search (rules, stops)
 
+pub returns-then-contains : goal.returns-then-contains
+returns-then-contains c =
+    let o = option_copied c.expression-expression.result in
+    let no : is_result o ≡ false = sym c.is_result.ensures ∙ c.if-is_result.false in
+    emitted_twice (context_of c.args.context.now) (place_at (known c.args.scope.now)) c.args.handle o _ c.expression-expression.ensures no c.in_ok-check_operands.ensures (sym c.contains.ensures ∙ c.if-contains.true) c.already_in_scope.ensures
+
 pub returns : goal.returns
 returns c =
     let o = option_copied c.expression-expression.result in
     let no : is_result o ≡ false = sym c.is_result.ensures ∙ c.if-is_result.false in
-    emitted_next (context_of c.args.context.now) (place_at (known c.args.scope.now)) c.args.handle o _ c.expression-expression.ensures no c.in_ok-check_operands.ensures c.check_put.ensures
+    emitted_once (context_of c.args.context.now) (place_at (known c.args.scope.now)) c.args.handle o c.expression-expression.ensures no c.in_ok-check_operands.ensures (sym c.contains.ensures ∙ c.if-contains.false)

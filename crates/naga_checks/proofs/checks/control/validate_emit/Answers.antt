@@ -1,6 +1,7 @@
-use Rattle.std.proofs.Common.{rules, ◌≡◌, arith, subst, sym, ◌∙◌}
+use Rattle.std.proofs.Common.{rules, ◌≡◌, None, arith, subst, sym, ◌∙◌}
+use Rattle.naga_below.specs.Points.{first_fault}
 use Rattle.naga_checks.specs.checks.Control.{emit_points, emitted_points, within_emit}
-use Rattle.naga_checks.specs.walk.Answers.{Finds}
+use Rattle.naga_rules.specs.Answers.{IsFirstFault}
 use Rattle.naga_checks.specs.walk.Place.{place_at}
 use Rattle.naga_checks.specs.walk.Seen.{context_of}
 use Rattle.naga_checks.specs.walk.Table.{HasPut, known}
@@ -9,25 +10,21 @@ use Rattle.naga_checks.proofs.Emits.{asked_is, emitted_new, emit_stops, emit_nex
 use Rattle.naga_checks.proofs.Lists.{between_more, between_end}
 use Rattle.naga_checks.proofs.checks.control.validate_emit.Goals as goal
 
-pub returns-in_err-answer-clause-fault : goal.returns-in_err-answer-clause-fault
-returns-in_err-answer-clause-fault c =
+pub returns-in_err-check_emitted-clause-fault : goal.returns-in_err-check_emitted-clause-fault
+returns-in_err-check_emitted-clause-fault c =
     let context = context_of c.args.context.now in
     let s = known c.args.scope.now in
     let start = c.args.range.start in
     let h = c.loop-index.index in
-    let here = emitted_points context (within_emit (place_at s) start h) (place_at s) h in
     let asked = asked_is context s start h c.loop-index.auto.index (known c.loop-index.scope) c.loop-index.invariant.scope.inside in
-    let finds = subst (λ ps. Finds ps c.check_emitted-checked.result) asked (rw c.new-handle.ensures at c.check_emitted-checked.ensures) in
+    let here = subst (λ ps. IsFirstFault ps c.in_err-check_emitted.field-0.0) asked (rw c.new-handle.ensures at c.in_err-check_emitted.ensures) in
     let whole = emit_points context (place_at s) start c.args.range.end in
-    let stops = emit_stops context (place_at s) start h c.args.range.end c.loop-index-test.true whole c.in_err-answer.field-0.0 c.loop-index.invariant.faults (c.in_err-answer.ensures here finds) in
+    let stops = emit_stops context (place_at s) start h c.args.range.end c.loop-index-test.true whole c.in_err-check_emitted.field-0.0 c.loop-index.invariant.faults here in
     search (rules, stops)
 
 pub put-requires-clause-new : goal.put-requires-clause-new
 put-requires-clause-new c =
-    let context = context_of c.args.context.now in
-    let place = place_at (known c.loop-index.scope) in
-    let asked = emitted_points context place place c.new-handle.result in
-    emitted_new context place c.new-handle.result (c.in_ok-answer.ensures asked c.check_emitted-checked.ensures)
+    emitted_new (context_of c.args.context.now) (place_at (known c.loop-index.scope)) c.new-handle.result c.in_ok-check_emitted.ensures
 
 pub loop-index-preserved : goal.loop-index-preserved
 loop-index-preserved c =
@@ -35,14 +32,13 @@ loop-index-preserved c =
     let s = known c.args.scope.now in
     let start = c.args.range.start in
     let h = c.loop-index.index in
-    let here = emitted_points context (within_emit (place_at s) start h) (place_at s) h in
     let asked = asked_is context s start h c.loop-index.auto.index (known c.loop-index.scope) c.loop-index.invariant.scope.inside in
-    let finds = subst (λ ps. Finds ps c.check_emitted-checked.result) asked (rw c.new-handle.ensures at c.check_emitted-checked.ensures) in
+    let here = subst (λ ps. first_fault ps ≡ None) asked (rw c.new-handle.ensures at c.in_ok-check_emitted.ensures) in
     let whole = emit_points context (place_at s) start c.args.range.end in
     record {
       scope = rw (between_more start h c.loop-index.auto.index) (both_put c.loop-index.invariant.scope (rw c.new-handle.ensures at c.put.ensures));
       stays = omega arith;
-      faults = emit_next context (place_at s) start h c.args.range.end c.loop-index-test.true whole c.loop-index.invariant.faults (c.in_ok-answer.ensures here finds);
+      faults = emit_next context (place_at s) start h c.args.range.end c.loop-index-test.true whole c.loop-index.invariant.faults here;
     }
 
 pub returns-clause-fault : goal.returns-clause-fault

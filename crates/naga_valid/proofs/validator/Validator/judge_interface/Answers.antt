@@ -1,7 +1,7 @@
 use Rattle.std.proofs.Common.{rules, ◌++◌}
 use Rattle.naga_below.specs.Points.{within}
 use Rattle.naga_valid.specs.interface.Faults.{fault_of, Judges}
-use Rattle.naga_valid.specs.interface.Judged.{used_points, outcome_of}
+use Rattle.naga_valid.specs.interface.Judged.{used_points, entry_outcome}
 use Rattle.naga_valid.specs.interface.Uses.{payload_points, with_own_uses}
 use Rattle.naga_valid.proofs.EntryJudgement.{points_refuse}
 use Rattle.naga_valid.proofs.EntrySteps.{judges_first}
@@ -20,4 +20,4 @@ returns-in_err-judged g c =
     let first = within fault_of payload in
     let second = used_points below settings infos program ep (with_own_uses ep outcome.info) in
     let here : Judges first r = search (rules, c.judged.ensures payload (c.answer.ensures payload c.check_payload.ensures)) in
-    points_refuse (first ++ second) (outcome_of below settings infos program ep outcome) r (search rules) (judges_first r first second (search rules) here)
+    points_refuse (first ++ second) (entry_outcome below settings infos program ep outcome) r (search rules) (judges_first r first second (search rules) here)
