@@ -8,6 +8,7 @@ pub mod report;
 pub mod worked;
 
 pub use crate::check::{Given, ModuleFault, check_module};
+pub use crate::laws::module_law;
 pub use crate::report::{Subject, write_fault, write_module_fault, write_refusal};
 pub use naga_layers::{
     ExpressionFact, Facts, FunctionFact, InfoFact, LowerFunctionError, MeshAnalysisFact, Plain,

@@ -1,11 +1,12 @@
 -- What a Continue skips and what it does not: what every run has put, the answer of the plainest rules, and runs beside
 -- them, worked by hand from the definitions in words. Handles below 7, at most one turn of each Loop.
 use Rattle.std.specs.Prelude.{ℕ, List, None, Ok, Err, map, ◌≡◌, ◌∷◌, []}
-use Rattle.naga_below.specs.Tree.{Act, Body, Use, Put, Loop, Done, Then}
+use Rattle.naga_below.specs.declared.ir.statements.Statement as s
+use Rattle.naga_below.specs.Tree.{Act, Stmt, Body, Use, Put, Leaf, Loop, Done, Then}
 use Rattle.naga_runs.specs.Machine.{run, events_of, Next, Returned, Stopped, Stuck}
 use Rattle.naga_runs.specs.PlainRules.{NotInScope, ContinueOutside}
 use Rattle.naga_runs.specs.Positions.{Position, Root, LoopBody, Continuing, Condition, In}
-use Rattle.naga_runs.specs.Samples.{given, members_below, emit, emit_5, emit_6, reads, one, may_continue_here, sure_loop, continue_in_switch, dead_continue, continue_in_inner_block, continue_in_continuing, continue_behind_return, two_continues, inner_continue_before, emits_round_continue}
+use Rattle.naga_runs.specs.Samples.{given, members_below, nowhere, emit, emit_5, emit_6, reads, one, may_continue_here, sure_loop, continue_in_switch, dead_continue, continue_in_inner_block, continue_in_continuing, continue_behind_return, two_continues, inner_continue_before, emits_round_continue}
 use Rattle.naga_runs.specs.Skipped.{skipped_at}
 use Rattle.naga_runs.specs.WorkedJudgements.{plainly}
 use Rattle.naga_runs.specs.WorkedPlaces.{musts}
@@ -16,6 +17,10 @@ abbrev pub told : Body → List ℕ → List (Act × Position × List ℕ × Lis
 told b choices =
     map (λ e. (e.act, e.position, members_below 7 e.live, members_below 7 (skipped_at b e.position e.cuts)))
     (events_of (run b given 1 choices))
+
+-- a Call of function 0 with one argument, and without a result
+abbrev pub calls_with : ℕ → Stmt
+calls_with h = Leaf (Use h ∷ []) (s.Call 0 (h ∷ []) None) nowhere
 
 -- A Continue in a Block in an If: the index is that of the If, and what stands behind the If is skipped.
 pub record InnerBlockContinues : Type 0 where
@@ -189,4 +194,9 @@ pub record RowsRun : Type 0 where
       (Use 0, In Root 0 ∷ In LoopBody 0 ∷ [], 0 ∷ 1 ∷ 2 ∷ 4 ∷ [], [])
       ∷ (Use 5, In Root 0 ∷ In Continuing 0 ∷ [], 0 ∷ 1 ∷ 2 ∷ 4 ∷ [], 5 ∷ [])
       ∷ (Put 6, In Root 0 ∷ In Continuing 0 ∷ [], 0 ∷ 1 ∷ 2 ∷ 4 ∷ [], 5 ∷ [])
+      ∷ []
+  -- loop { if 0 { continue } { } emit 3 } { a call with the argument 3 }
+  pub argument_skipped : told (one (Loop (Then may_continue_here (one (emit 3))) (one (calls_with 3)) None)) (0 ∷ []) ≡
+      (Use 0, In Root 0 ∷ In LoopBody 0 ∷ [], 0 ∷ 1 ∷ 2 ∷ 4 ∷ [], [])
+      ∷ (Use 3, In Root 0 ∷ In Continuing 0 ∷ [], 0 ∷ 1 ∷ 2 ∷ 4 ∷ [], 3 ∷ [])
       ∷ []

@@ -25,10 +25,9 @@ use Rattle.naga_rules.proofs.TypesAt.{inner_is, named_at}
 use Rattle.naga_rules.specs.BuiltIns.{built_in_rule, canonical, is_same_built_in}
 use Rattle.naga_rules.specs.TypeInfos.{type_has}
 use Rattle.naga_rules.specs.VaryingFaults.{Itself}
-use Rattle.naga_rules.specs.Varyings.{Part, Placed, Bound, BlendSources, UnboundMember, Unbound, built_in_points, go_same_way, is_built_in, member_part, member_parts, part_points, parts_of, placed, placed_parts, placed_points, ruled_points, seen_at, unbound_parts}
+use Rattle.naga_rules.specs.Varyings.{Part, Placed, Bound, BlendSources, UnboundMember, Unbound, built_in_points, go_same_way, is_built_in, member_part, member_parts, part_points, parts_of, placed, placed_parts, placed_points, ruled_points, seen_at, unbound_parts, group_parts}
 use Rattle.naga_rules.specs.declared.varying.MeshOutputType.TheVariants.{Neither}
 use Rattle.naga_rules.specs.declared.varying.VaryingPlace.{VaryingPlace}
-use Rattle.naga_valid.specs.walk.Groups.{parts_of_all}
 use Rattle.naga_valid.specs.interface.Faults.{OfArgument}
 use Rattle.naga_valid.specs.interface.Facts.{IsBuiltIn, BuiltInsAreDistinct, AcceptedBuiltInsAreDistinct}
 use Rattle.naga_valid.specs.interface.Varyings.{argument_item, argument_points, place_of}
@@ -89,12 +88,12 @@ module _ (types : List IrType) where
     placed_there place (p ∷ ps) h = (record { at = refl; typed = h.0 }, placed_there place ps h.1)
 
     arguments_there : (settings : Settings) (ep : EntryPoint) (arguments : List FunctionArgument) → All (λ a. a.ty < length types) arguments →
-        AllByRecursion (IsThere (place_of settings ep false Neither) types) (parts_of_all types infos (map (argument_item settings ep) arguments))
+        AllByRecursion (IsThere (place_of settings ep false Neither) types) (group_parts types infos (map (argument_item settings ep) arguments))
     arguments_there settings ep [] h = tt
     arguments_there settings ep (a ∷ more) h =
         let place = place_of settings ep false Neither in
         let first : 0 < length (a ∷ more) = omega arith in
-        all_both (IsThere place types) (placed_parts types infos (argument_item settings ep a)) (parts_of_all types infos (map (argument_item settings ep) more)) (placed_there place (parts_of types infos a.ty a.binding) (typed_parts a.ty a.binding (h 0 a first))) (arguments_there settings ep more (λ k d lt. let later : suc k < length (a ∷ more) = omega arith in h (suc k) d later))
+        all_both (IsThere place types) (placed_parts types infos (argument_item settings ep a)) (group_parts types infos (map (argument_item settings ep) more)) (placed_there place (parts_of types infos a.ty a.binding) (typed_parts a.ty a.binding (h 0 a first))) (arguments_there settings ep more (λ k d lt. let later : suc k < length (a ∷ more) = omega arith in h (suc k) d later))
 
   -- a part that passes is a built-in that is new
   new_at : (infos : List TypeInfo) (place : VaryingPlace) (earlier : List Placed) (part : Part) (b : BuiltIn) → HasType types part → IsBuiltIn b part → first_fault (part_points place types infos (seen_at place earlier) part) ≡ None →
@@ -142,4 +141,4 @@ accepted_built_ins below settings infos trace program earlier ep outcome e fits 
     let items = map (argument_item settings ep) ep.function.arguments in
     let points = (both_hold (argument_points settings types infos ep) _ (arguments_hold below settings infos program ep k.function.info k.points)).0 in
     let there = arguments_there types (types_name_each_other program fits) infos settings ep ep.function.arguments signature.arguments in
-    built_ins_are_distinct types infos (place_of settings ep false Neither) (parts_of_all types infos items) there (group_none types infos OfArgument items [] 0 points)
+    built_ins_are_distinct types infos (place_of settings ep false Neither) (group_parts types infos items) there (group_none types infos OfArgument items [] 0 points)

@@ -38,7 +38,7 @@ use Rattle.naga_valid.specs.interface.Globals.{binding_at, binding_points, globa
 use Rattle.naga_valid.specs.interface.Judged.{interface_points, used_points}
 use Rattle.naga_valid.specs.interface.Mesh.{mesh_points}
 use Rattle.naga_valid.specs.interface.Uses.{payload_points, stage_points, with_own_uses}
-use Rattle.naga_valid.specs.interface.Facts.{IsUsedAt, BindingsAreDistinct, IsPosition, HasPositionMember, ReturnsPosition, AcceptedBindingsAreDistinct, AcceptedVertexHasPosition, AcceptedHasAcceptedFunction}
+use Rattle.naga_valid.specs.interface.Facts.{IsUsedAt, BindingsAreDistinct, IsPosition, HasPositionMember, IsReturnedPosition, ReturnsPosition, AcceptedBindingsAreDistinct, AcceptedVertexHasPosition, AcceptedHasAcceptedFunction}
 use Rattle.naga_valid.specs.interface.Varyings.{are_blend_sources, argument_points, declared_points, has_built_in, result_parts, result_points, returned_points}
 use Rattle.naga_checks.specs.Judged.{FunctionOutcome}
 use Rattle.naga_valid.specs.declared.interface.EntryPointError.TheVariants.{MissingVertexOutputPosition}
@@ -148,9 +148,9 @@ single : (b : Bool) → (b || false) ≡ true → b ≡ true
 single true e = refl
 single false e = cc
 
-of_parts : (types : List IrType) (infos : List TypeInfo) (ty : ℕ) (given : Option Binding) → has_built_in (Position false) (parts_of types infos ty given) ≡ true → IsPosition given ⊎ HasPositionMember (inner_at types ty)
-of_parts types infos ty None e = inr (of_unbound (type_has infos ty IO_SHAREABLE) (inner_at types ty) e)
-of_parts types infos ty (Some given) e = inl (of_bound ty given (single (is_built_in (Position false) (Bound ty given)) e))
+of_parts : (types : List IrType) (infos : List TypeInfo) (ty : ℕ) (given : Option Binding) → has_built_in (Position false) (parts_of types infos ty given) ≡ true → IsReturnedPosition types ty given
+of_parts types infos ty None e = of_unbound (type_has infos ty IO_SHAREABLE) (inner_at types ty) e
+of_parts types infos ty (Some given) e = of_bound ty given (single (is_built_in (Position false) (Bound ty given)) e)
 
 pub returns_position : (types : List IrType) (infos : List TypeInfo) (declared : Option FunctionResult) → has_built_in (Position false) (result_parts types infos declared) ≡ true → ReturnsPosition types declared
 returns_position types infos None e = cc

@@ -19,10 +19,9 @@ use Rattle.naga_rules.specs.Locations.{carried_type, interpolation_points, locat
 use Rattle.naga_rules.specs.WhatIsChecked.{checks_bindings}
 use Rattle.naga_rules.specs.Meaning.{Meaning}
 use Rattle.naga_rules.specs.VaryingFaults.{VaryingFault, Itself}
-use Rattle.naga_rules.specs.Varyings.{Item, Part, Placed, Bound, BlendSources, UnboundMember, Unbound, blend_points, group_points_from, is_at, item_points, part_points, placed, placed_parts, placed_points, seen_at}
+use Rattle.naga_rules.specs.Varyings.{Item, Part, Placed, Bound, BlendSources, UnboundMember, Unbound, blend_points, group_points_from, is_at, item_points, part_points, placed, placed_parts, placed_points, seen_at, group_parts}
 use Rattle.naga_rules.specs.declared.varying.MeshOutputType.TheVariants.{VertexOutput, PrimitiveOutput}
 use Rattle.naga_rules.specs.declared.varying.VaryingPlace.{VaryingPlace}
-use Rattle.naga_valid.specs.walk.Groups.{parts_of_all}
 use Rattle.naga_valid.specs.interface.Faults.{EntryFault, OfArgument, OfResult, fault_of}
 use Rattle.naga_valid.specs.interface.Globals.{globals_points}
 use Rattle.naga_valid.specs.interface.Judged.{interface_points}
@@ -85,10 +84,10 @@ takes_at l (UnboundMember index) e = absurd e
 takes_at l Unbound e = absurd e
 
 module _ (types : List IrType) (infos : List TypeInfo) where
-  all_parts : (items : List Item) → AllByRecursion (λ (x : Item). IsChecked x.place) items → AllByRecursion (λ (p : Placed). IsChecked p.place) (parts_of_all types infos items)
+  all_parts : (items : List Item) → AllByRecursion (λ (x : Item). IsChecked x.place) items → AllByRecursion (λ (p : Placed). IsChecked p.place) (group_parts types infos items)
   all_parts [] h = tt
   all_parts (x ∷ xs) h =
-      all_both (λ (p : Placed). IsChecked p.place) (placed_parts types infos x) (parts_of_all types infos xs) (all_placed x.place _ h.0) (all_parts xs h.1)
+      all_both (λ (p : Placed). IsChecked p.place) (placed_parts types infos x) (group_parts types infos xs) (all_placed x.place _ h.0) (all_parts xs h.1)
 
   placed_both : (ps qs earlier : List Placed) → placed_points types infos earlier (ps ++ qs) ≡ placed_points types infos earlier ps ++ placed_points types infos (earlier ++ ps) qs
   placed_both [] qs earlier = ap (λ e. placed_points types infos e qs) (sym (append-nil earlier))
@@ -98,12 +97,12 @@ module _ (types : List IrType) (infos : List TypeInfo) where
       ∙ sym (append_assoc here (placed_points types infos (earlier ++ p ∷ []) ps) (placed_points types infos ((earlier ++ p ∷ []) ++ ps) qs))
       ∙ ap (λ e. (here ++ placed_points types infos (earlier ++ p ∷ []) ps) ++ placed_points types infos e qs) (append_assoc earlier (p ∷ []) ps)
 
-  pub group_none : (fault : ℕ → VaryingFault → EntryFault) (items : List Item) (earlier : List Placed) (index : ℕ) → first_fault (group_points_from types infos fault earlier index items) ≡ None → first_fault (placed_points types infos earlier (parts_of_all types infos items)) ≡ None
+  pub group_none : (fault : ℕ → VaryingFault → EntryFault) (items : List Item) (earlier : List Placed) (index : ℕ) → first_fault (group_points_from types infos fault earlier index items) ≡ None → first_fault (placed_points types infos earlier (group_parts types infos items)) ≡ None
   group_none fault [] earlier index h = refl
   group_none fault (x ∷ xs) earlier index h =
       let both = both_hold (within (fault index) (item_points types infos earlier x)) (group_points_from types infos fault (earlier ++ placed_parts types infos x) (suc index) xs) h in
-      ap first_fault (placed_both (placed_parts types infos x) (parts_of_all types infos xs) earlier)
-      ∙ none_joined (item_points types infos earlier x) (placed_points types infos (earlier ++ placed_parts types infos x) (parts_of_all types infos xs)) (none_within (fault index) (item_points types infos earlier x) both.0) (group_none fault xs (earlier ++ placed_parts types infos x) (suc index) both.1)
+      ap first_fault (placed_both (placed_parts types infos x) (group_parts types infos xs) earlier)
+      ∙ none_joined (item_points types infos earlier x) (placed_points types infos (earlier ++ placed_parts types infos x) (group_parts types infos xs)) (none_within (fault index) (item_points types infos earlier x) both.0) (group_none fault xs (earlier ++ placed_parts types infos x) (suc index) both.1)
 
   abbrev pub Passes : List Placed → Placed → Type 0
   Passes earlier p = first_fault (part_points p.place types infos (seen_at p.place earlier) p.part) ≡ None
@@ -160,11 +159,11 @@ module _ (below : Meaning) (settings : Settings) (infos : List TypeInfo) (progra
   results_checked None = tt
   results_checked (Some declared) = (on, tt)
 
-  of_items : (fault : ℕ → VaryingFault → EntryFault) (items : List Item) → AllByRecursion (λ (x : Item). IsChecked x.place) items → first_fault (group_points_from program.types infos fault [] 0 items) ≡ None → LocationsAreDistinct (parts_of_all program.types infos items)
+  of_items : (fault : ℕ → VaryingFault → EntryFault) (items : List Item) → AllByRecursion (λ (x : Item). IsChecked x.place) items → first_fault (group_points_from program.types infos fault [] 0 items) ≡ None → LocationsAreDistinct (group_parts program.types infos items)
   of_items fault items checked none =
-      locations_are_distinct program.types infos (parts_of_all program.types infos items) (all_parts program.types infos items checked) (group_none program.types infos fault items [] 0 none)
+      locations_are_distinct program.types infos (group_parts program.types infos items) (all_parts program.types infos items checked) (group_none program.types infos fault items [] 0 none)
 
-  of_mesh : (m : Option MeshStageInfo) → first_fault (mesh_points below settings infos program ep m) ≡ None → LocationsAreDistinct (parts_of_all program.types infos (mesh_items settings ep m))
+  of_mesh : (m : Option MeshStageInfo) → first_fault (mesh_points below settings infos program ep m) ≡ None → LocationsAreDistinct (group_parts program.types infos (mesh_items settings ep m))
   of_mesh None none = no_parts
   of_mesh (Some mesh) none =
       let types = program.types in
@@ -180,7 +179,7 @@ module _ (below : Meaning) (settings : Settings) (infos : List TypeInfo) (progra
       let second = none_within OfResult (item_points types infos vertices primitive) (first_holds _ _ (within OfResult (item_points types infos vertices primitive)) (both_hold (output_points settings types infos ep PrimitiveOutput vertices mesh.primitive_output_type) _ both.1).0).1 in
       let later = subst (λ ps. first_fault (placed_points types infos vertices ps) ≡ None) (sym (append-nil primitives)) second in
       let all = ap first_fault (placed_both types infos vertices (primitives ++ []) []) ∙ none_joined (placed_points types infos [] vertices) (placed_points types infos vertices (primitives ++ [])) first later in
-      locations_are_distinct types infos (parts_of_all types infos (vertex ∷ primitive ∷ [])) (all_parts types infos (vertex ∷ primitive ∷ []) (on, (on, tt))) all
+      locations_are_distinct types infos (group_parts types infos (vertex ∷ primitive ∷ [])) (all_parts types infos (vertex ∷ primitive ∷ []) (on, (on, tt))) all
 
   pub groups_are_distinct : (info : FunctionInfo) → first_fault (interface_points below settings infos program ep info) ≡ None → GroupsAreDistinct settings program.types infos ep
   groups_are_distinct info none =

@@ -17,25 +17,24 @@ use Rattle.naga_below.specs.Types.{inner_at}
 use Rattle.naga_rules.proofs.Seeing.{points_are_by_position}
 use Rattle.naga_rules.specs.Seen.{Seen}
 use Rattle.naga_rules.specs.VaryingFaults.{VaryingFault}
-use Rattle.naga_rules.specs.Varyings.{Item, Placed, placed_parts, item_points, group_points, group_points_from, points_from, seen_at}
+use Rattle.naga_rules.specs.Varyings.{Item, Placed, placed_parts, item_points, group_points, group_points_from, points_from, seen_at, group_parts}
 use Rattle.naga_rules.specs.declared.varying.MeshOutputType.{MeshOutputType}
 use Rattle.naga_rules.specs.declared.varying.VaryingPlace.{VaryingPlace}
-use Rattle.naga_valid.specs.walk.Groups.{parts_of_all}
 use Rattle.naga_valid.specs.interface.Faults.{EntryFault, OfResult, Other, Judges}
 use Rattle.naga_valid.specs.interface.Varyings.{is_struct, output_points, place_of}
 use Rattle.naga_valid.specs.declared.interface.EntryPointError.{EntryPointError}
 use Rattle.naga_valid.specs.declared.interface.EntryPointError.TheVariants as fault
 
 module _ (types : List IrType) (infos : List TypeInfo) where
-  parts_more : (items : List Item) (x : Item) → parts_of_all types infos (items ++ x ∷ []) ≡ parts_of_all types infos items ++ placed_parts types infos x
+  parts_more : (items : List Item) (x : Item) → group_parts types infos (items ++ x ∷ []) ≡ group_parts types infos items ++ placed_parts types infos x
   parts_more [] x = append-nil (placed_parts types infos x)
   parts_more (y ∷ ys) x =
       ap (λ l. placed_parts types infos y ++ l) (parts_more ys x)
-      ∙ sym (append_assoc (placed_parts types infos y) (parts_of_all types infos ys) (placed_parts types infos x))
+      ∙ sym (append_assoc (placed_parts types infos y) (group_parts types infos ys) (placed_parts types infos x))
 
   module _ (fault : ℕ → VaryingFault → EntryFault) (items : List Item) (i : ℕ) where
     abbrev before : ℕ → List Placed
-    before n = parts_of_all types infos (take n items)
+    before n = group_parts types infos (take n items)
 
     abbrev rest : List Placed → ℕ → List Item → Option EntryFault
     rest earlier index left = first_fault (group_points_from types infos fault earlier index left)
@@ -43,8 +42,8 @@ module _ (types : List IrType) (infos : List TypeInfo) where
     -- one item more is done
     pub parts_taken : (x : Item) → i < length items → x ≡ get_or items i x → before (i + 1) ≡ before i ++ placed_parts types infos x
     parts_taken x lt is =
-        ap (parts_of_all types infos) (take_more items i x lt)
-        ∙ ap (λ z. parts_of_all types infos (take i items ++ z ∷ [])) (sym is)
+        ap (group_parts types infos) (take_more items i x lt)
+        ∙ ap (λ z. group_parts types infos (take i items ++ z ∷ [])) (sym is)
         ∙ parts_more (take i items) x
 
     pub group_turn : (x : Item) → i < length items → x ≡ get_or items i x →

@@ -9,6 +9,6 @@ mod outcome;
 pub mod validator;
 
 pub use crate::interface::EntryPointError;
-pub use crate::laws::{chains_law, function_law};
+pub use crate::laws::{chains_law, entry_law, function_law};
 pub use crate::validator::Validator;
 pub use naga_checks::trace::{TraceRayVertexReturnState, TraceState};

@@ -27,7 +27,7 @@ pub fn expression(index: u8) -> Handle<tag::Expression>
 pub fn push(list: &mut Sequence<Located>, statement: Statement) -> Result<(), AllocError>
     ensures { OnOk result (list.new ≡ list.old ++ placed statement ∷ []) }
 {
-    let span = Span { start: 0, end: 0 };
+    let span = Span::UNDEFINED;
     list.push(Located { statement, span })?;
     Ok(())
 }

@@ -1,5 +1,5 @@
 -- What is known of each entry point that the judgement accepts: in words over the entry point, not over the points.
-use Rattle.std.specs.Prelude.{◌≡◌, ◌≢◌, ◌⊎◌, ⊤, ℕ, true, List, [], ◌∷◌, Option, None, Some, Ok, map, slice_get}
+use Rattle.std.specs.Prelude.{◌≡◌, ◌≢◌, ⊤, ℕ, true, List, [], ◌∷◌, Option, None, Some, Ok, map, slice_get}
 use Rattle.naga_below.specs.Fits.{FitsTypes}
 use Rattle.naga_below.specs.FitsBody.{SignatureFits}
 use Rattle.naga_below.specs.Types.{inner_at}
@@ -25,9 +25,8 @@ use Rattle.naga_below.specs.declared.valid.types.TypeInfo.{TypeInfo}
 use Rattle.naga_rules.specs.BuiltIns.{canonical}
 use Rattle.naga_rules.specs.WhatIsChecked.{checks_bindings}
 use Rattle.naga_rules.specs.Meaning.{Meaning}
-use Rattle.naga_rules.specs.Varyings.{Item, Part, Placed, Bound, BlendSources}
+use Rattle.naga_rules.specs.Varyings.{Item, Part, Placed, Bound, BlendSources, group_parts}
 use Rattle.naga_rules.specs.declared.varying.MeshOutputType.TheVariants.{VertexOutput, PrimitiveOutput}
-use Rattle.naga_valid.specs.walk.Groups.{parts_of_all}
 use Rattle.naga_valid.specs.interface.Judged.{entry_judgement}
 use Rattle.naga_valid.specs.interface.Varyings.{argument_item, result_items, output_item}
 use Rattle.naga_checks.specs.Judged.{FunctionOutcome, function_judgement}
@@ -79,17 +78,21 @@ HasPositionMember (Some (inner.Struct members span)) =
     (k : ℕ) × (m : StructMember) × (slice_get members k ≡ Some m) × IsPosition m.binding
 HasPositionMember _ = ⊥
 
--- a result that is a position, or a struct with one
+-- what is returned is bound as a position, or is bound to nothing, and a struct with one
+abbrev pub IsReturnedPosition : List IrType → ℕ → Option Binding → Type 0
+IsReturnedPosition types ty None = HasPositionMember (inner_at types ty)
+IsReturnedPosition types ty (Some bound) = IsPosition (Some bound)
+
 abbrev pub ReturnsPosition : List IrType → Option FunctionResult → Type 0
 ReturnsPosition types None = ⊥
-ReturnsPosition types (Some declared) = IsPosition declared.binding ⊎ HasPositionMember (inner_at types declared.ty)
+ReturnsPosition types (Some declared) = IsReturnedPosition types declared.ty declared.binding
 
 -- the parts of the arguments, those of the result, and those of the two outputs of a mesh
 abbrev pub argument_parts : Settings → List IrType → List TypeInfo → EntryPoint → List Placed
-argument_parts settings types infos ep = parts_of_all types infos (map (argument_item settings ep) ep.function.arguments)
+argument_parts settings types infos ep = group_parts types infos (map (argument_item settings ep) ep.function.arguments)
 
 abbrev pub returned_parts : Settings → List IrType → List TypeInfo → EntryPoint → List Placed
-returned_parts settings types infos ep = parts_of_all types infos (result_items settings ep ep.function.result)
+returned_parts settings types infos ep = group_parts types infos (result_items settings ep ep.function.result)
 
 abbrev pub mesh_items : Settings → EntryPoint → Option MeshStageInfo → List Item
 mesh_items settings ep None = []
@@ -97,7 +100,7 @@ mesh_items settings ep (Some mesh) =
     output_item settings ep VertexOutput mesh.vertex_output_type ∷ output_item settings ep PrimitiveOutput mesh.primitive_output_type ∷ []
 
 abbrev pub mesh_parts : Settings → List IrType → List TypeInfo → EntryPoint → List Placed
-mesh_parts settings types infos ep = parts_of_all types infos (mesh_items settings ep ep.mesh_info)
+mesh_parts settings types infos ep = group_parts types infos (mesh_items settings ep ep.mesh_info)
 
 -- the locations of each group are distinct
 pub record GroupsAreDistinct (settings : Settings) (types : List IrType) (infos : List TypeInfo) (ep : EntryPoint) : Type 0 where

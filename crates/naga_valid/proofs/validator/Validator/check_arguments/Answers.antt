@@ -5,10 +5,9 @@ use Rattle.naga_below.specs.Points.{first_fault, within}
 use Rattle.naga_below.specs.declared.ir.functions.FunctionArgument.{FunctionArgument}
 use Rattle.naga_rules.proofs.Seeing.{leaves_the_next}
 use Rattle.naga_rules.specs.Seen.{Seen}
-use Rattle.naga_rules.specs.Varyings.{group_points, parts_of, points_from, seen_at, seen_in, seen_with}
+use Rattle.naga_rules.specs.Varyings.{group_points, parts_of, points_from, seen_at, seen_in, seen_with, group_parts}
 use Rattle.naga_rules.specs.declared.varying.MeshOutputType.TheVariants.{Neither}
 use Rattle.naga_rules.specs.declared.varying.VaryingPlace.{VaryingPlace}
-use Rattle.naga_valid.specs.walk.Groups.{parts_of_all}
 use Rattle.naga_valid.specs.interface.Faults.{OfArgument, Judges}
 use Rattle.naga_valid.specs.interface.Varyings.{argument_item, place_of}
 use Rattle.naga_valid.proofs.Groups.{group_stops, group_goes_on, group_ends, parts_taken, seen_by_position}
@@ -26,7 +25,7 @@ returns-in_err-check_argument g c =
     let r = c.from_residual.result in
     let items = map (argument_item settings ep) xs in
     let item = argument_item settings ep x in
-    let before = parts_of_all types infos (take i items) in
+    let before = group_parts types infos (take i items) in
     let place = place_of settings ep false Neither in
     let lt : i < length items = rw length-map c.loop-index-test.true in
     let is : item ≡ get_or items i item = ap (argument_item settings ep) c.index-arguments-index.is ∙ sym (get_or-map (argument_item settings ep) xs i x) in
@@ -47,7 +46,7 @@ loop-index-preserved g c =
     let x = c.index-arguments-index.result in
     let items = map (argument_item settings ep) xs in
     let item = argument_item settings ep x in
-    let before = parts_of_all types infos (take i items) in
+    let before = group_parts types infos (take i items) in
     let place = place_of settings ep false Neither in
     let parts = parts_of types infos x.ty x.binding in
     let lt : i < length items = rw length-map c.loop-index-test.true in
@@ -55,14 +54,14 @@ loop-index-preserved g c =
     let seen : seen_in c.loop-index.state ≡ seen_at place before = subst (λ (p : VaryingPlace). seen_in c.loop-index.state ≡ seen_at p before) c.place_of-place.ensures c.loop-index.invariant.seen in
     let here = subst (λ (p : VaryingPlace). first_fault (within (OfArgument i) (points_from p types infos (seen_in c.loop-index.state) x.ty x.binding)) ≡ None) c.place_of-place.ensures c.in_ok-check_argument.ensures.fault in
     let none = subst (λ points. first_fault (within (OfArgument i) points) ≡ None) (seen_by_position types infos place before (seen_in c.loop-index.state) x.ty x.binding seen) here in
-    let left : seen_in c.check_argument.new.state ≡ seen_at place (parts_of_all types infos (take (i + 1) items)) =
+    let left : seen_in c.check_argument.new.state ≡ seen_at place (group_parts types infos (take (i + 1) items)) =
     c.in_ok-check_argument.ensures.seen
     ∙ ap (λ (s : Seen). seen_with s parts) seen
     ∙ leaves_the_next place before parts
     ∙ ap (seen_at place) (sym (parts_taken types infos OfArgument items i item lt is)) in
     record {
       faults = group_goes_on types infos OfArgument items i item lt is c.loop-index.invariant.faults none;
-      seen = subst (λ (p : VaryingPlace). seen_in c.check_argument.new.state ≡ seen_at p (parts_of_all types infos (take (i + 1) items))) (sym c.place_of-place.ensures) left;
+      seen = subst (λ (p : VaryingPlace). seen_in c.check_argument.new.state ≡ seen_at p (group_parts types infos (take (i + 1) items))) (sym c.place_of-place.ensures) left;
     }
 
 pub returns : goal.returns

@@ -1,7 +1,6 @@
 use Rattle.std.proofs.Common.{◌≡◌, [], drop, map, take}
 use Rattle.naga_below.specs.Points.{first_fault}
-use Rattle.naga_rules.specs.Varyings.{group_points_from, seen_at, seen_in}
-use Rattle.naga_valid.specs.walk.Groups.{parts_of_all}
+use Rattle.naga_rules.specs.Varyings.{group_points_from, seen_at, seen_in, group_parts}
 use Rattle.naga_valid.specs.interface.Faults.{OfArgument}
 use Rattle.naga_valid.specs.interface.Varyings.{argument_item}
 use Rattle.naga_valid.proofs.validator.Validator.check_arguments.Given as goal
@@ -12,7 +11,7 @@ invariant-loop-index g l =
     let types = l.module.types in
     let infos = l.self.types in
     let items = map (argument_item l.self.settings l.ep) l.arguments in
-    let before = parts_of_all types infos (take l.index items) in record {
+    let before = group_parts types infos (take l.index items) in record {
       faults : first_fault (group_points_from types infos OfArgument before l.index (drop l.index items)) ≡ first_fault (group_points_from types infos OfArgument [] 0 items);
       seen : seen_in l.state ≡ seen_at l.place before;
     }
