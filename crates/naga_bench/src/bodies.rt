@@ -45,6 +45,10 @@ pub enum Shape {
     },
     /// A Switch with so many cases, in rising order, and the default.
     Switch(u32),
+    /// The same in no order.
+    Scattered(u32),
+    /// The statements of `Mix` and a Return, in a function with arguments, more locals and a result.
+    Whole(u32),
 }
 
 /// The expressions of a function, and its body.
@@ -68,7 +72,9 @@ pub fn make(alloc: Global, shape: Shape) -> Result<Made, AllocError> {
         } => nest(alloc, holder, depth, width),
         Shape::Own { blocks, loads } => own_blocks(alloc, blocks, loads),
         Shape::Blocks { blocks, stores } => blocks_of_stores(alloc, blocks, stores),
-        Shape::Switch(count) => switch(alloc, count),
+        Shape::Switch(count) => switch(alloc, count, 1),
+        Shape::Scattered(count) => switch(alloc, count, SCATTER),
+        Shape::Whole(count) => whole(alloc, count),
     }
 }
 
@@ -162,6 +168,14 @@ fn calls(alloc: Global, count: u32) -> Result<Made, AllocError> {
         push(&mut body, call(alloc, index.wrapping_add(3)))?;
     }
     Ok(Made { expressions, body })
+}
+
+/// A mixed body, and a Return of the `u32` behind it.
+fn whole(alloc: Global, count: u32) -> Result<Made, AllocError> {
+    let mut made = mix(alloc, count)?;
+    let value = Some(Handle::new(1));
+    push(&mut made.body, Statement::Return { value })?;
+    Ok(made)
 }
 
 /// A Load, a Unary of it, and the result of a call.
@@ -282,11 +296,15 @@ fn case_of(alloc: Global, value: SwitchValue) -> Result<SwitchCase, AllocError> 
     })
 }
 
-fn switch(alloc: Global, count: u32) -> Result<Made, AllocError> {
+/// By what the values of a Switch in no order are multiplied: odd, so that no two are the same.
+const SCATTER: u32 = 2654435761;
+
+fn switch(alloc: Global, count: u32, factor: u32) -> Result<Made, AllocError> {
     let expressions = shared(alloc)?;
     let mut cases = Sequence::new(alloc);
     for index in 0..count {
-        cases.push(case_of(alloc, SwitchValue::U32(index))?)?;
+        let value = SwitchValue::U32(index.wrapping_mul(factor));
+        cases.push(case_of(alloc, value)?)?;
     }
     cases.push(case_of(alloc, SwitchValue::Default)?)?;
     let mut body = Block::new(alloc);

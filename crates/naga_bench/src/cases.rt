@@ -10,6 +10,8 @@ pub enum Subject {
     Body(Shape),
     /// The same, by a validator that judged one of a million expressions before.
     AfterLarge(Shape),
+    /// The first such function behind one of a million expressions.
+    FirstAfterLarge(Shape),
     /// So many functions of a shape, one behind the other.
     Functions(Shape, u32),
     /// An entry point that takes in varyings, from a location on, and uses globals.
@@ -28,7 +30,7 @@ pub struct Case {
     pub subject: Subject,
 }
 
-pub static CASES: [Case; 40] = [
+pub static CASES: [Case; 58] = [
     Case {
         name: "a emit 1000",
         statements: 1000,
@@ -182,6 +184,114 @@ pub static CASES: [Case; 40] = [
         }),
     },
     Case {
+        name: "b if depth 200 width 2",
+        statements: 1200,
+        subject: Subject::Body(Shape::Nest {
+            holder: Holder::If,
+            depth: 200,
+            width: 2,
+        }),
+    },
+    Case {
+        name: "b if depth 200 width 25",
+        statements: 10400,
+        subject: Subject::Body(Shape::Nest {
+            holder: Holder::If,
+            depth: 200,
+            width: 25,
+        }),
+    },
+    Case {
+        name: "b if depth 200 width 250",
+        statements: 100400,
+        subject: Subject::Body(Shape::Nest {
+            holder: Holder::If,
+            depth: 200,
+            width: 250,
+        }),
+    },
+    Case {
+        name: "b if depth 200 width 2500",
+        statements: 1000400,
+        subject: Subject::Body(Shape::Nest {
+            holder: Holder::If,
+            depth: 200,
+            width: 2500,
+        }),
+    },
+    Case {
+        name: "b loop depth 200 width 2",
+        statements: 1200,
+        subject: Subject::Body(Shape::Nest {
+            holder: Holder::Loop,
+            depth: 200,
+            width: 2,
+        }),
+    },
+    Case {
+        name: "b loop depth 200 width 25",
+        statements: 10400,
+        subject: Subject::Body(Shape::Nest {
+            holder: Holder::Loop,
+            depth: 200,
+            width: 25,
+        }),
+    },
+    Case {
+        name: "b loop depth 200 width 250",
+        statements: 100400,
+        subject: Subject::Body(Shape::Nest {
+            holder: Holder::Loop,
+            depth: 200,
+            width: 250,
+        }),
+    },
+    Case {
+        name: "b loop depth 200 width 2500",
+        statements: 1000400,
+        subject: Subject::Body(Shape::Nest {
+            holder: Holder::Loop,
+            depth: 200,
+            width: 2500,
+        }),
+    },
+    Case {
+        name: "b mix depth 200 width 2",
+        statements: 1200,
+        subject: Subject::Body(Shape::Nest {
+            holder: Holder::Mix,
+            depth: 200,
+            width: 2,
+        }),
+    },
+    Case {
+        name: "b mix depth 200 width 25",
+        statements: 10400,
+        subject: Subject::Body(Shape::Nest {
+            holder: Holder::Mix,
+            depth: 200,
+            width: 25,
+        }),
+    },
+    Case {
+        name: "b mix depth 200 width 250",
+        statements: 100400,
+        subject: Subject::Body(Shape::Nest {
+            holder: Holder::Mix,
+            depth: 200,
+            width: 250,
+        }),
+    },
+    Case {
+        name: "b mix depth 200 width 2500",
+        statements: 1000400,
+        subject: Subject::Body(Shape::Nest {
+            holder: Holder::Mix,
+            depth: 200,
+            width: 2500,
+        }),
+    },
+    Case {
         name: "c own 10000 blocks of 10",
         statements: 30000,
         subject: Subject::Body(Shape::Own {
@@ -250,9 +360,39 @@ pub static CASES: [Case; 40] = [
         subject: Subject::Body(Shape::Switch(1000000)),
     },
     Case {
+        name: "c scattered switch 1000",
+        statements: 1002,
+        subject: Subject::Body(Shape::Scattered(1000)),
+    },
+    Case {
+        name: "c scattered switch 10000",
+        statements: 10002,
+        subject: Subject::Body(Shape::Scattered(10000)),
+    },
+    Case {
+        name: "c scattered switch 100000",
+        statements: 100002,
+        subject: Subject::Body(Shape::Scattered(100000)),
+    },
+    Case {
+        name: "c scattered switch 1000000",
+        statements: 1000002,
+        subject: Subject::Body(Shape::Scattered(1000000)),
+    },
+    Case {
+        name: "d whole function",
+        statements: 1001,
+        subject: Subject::Body(Shape::Whole(1000)),
+    },
+    Case {
         name: "d small after large",
         statements: 1000,
         subject: Subject::AfterLarge(Shape::Mix(1000)),
+    },
+    Case {
+        name: "d first after large",
+        statements: 1000,
+        subject: Subject::FirstAfterLarge(Shape::Mix(1000)),
     },
     Case {
         name: "d small alone",

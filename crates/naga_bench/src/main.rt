@@ -127,6 +127,31 @@ fn shape<C: Clock>(
     functions(clock, alloc, validator, &module, count)
 }
 
+/// The first function of a shape behind one of a million expressions, the fastest of ten such turns.
+fn first_after_large<C: Clock>(
+    clock: &C,
+    alloc: Global,
+    validator: &mut Validator<Plain>,
+    shape: Shape,
+) -> io::Result<Option<Times>> {
+    let small = module(alloc, shape, 1)?;
+    let Some(infos) = infos_of_first(alloc, validator, &small)? else {
+        return Ok(None);
+    };
+    let large = module(alloc, Shape::Emits(1_000_000), 1)?;
+    let mut times = Times::NONE;
+    for _ in 0..10u64 {
+        if once(clock, alloc, validator, &large, &infos)?.is_none() {
+            return Ok(None);
+        }
+        match once(clock, alloc, validator, &small, &infos)? {
+            Some(next) => times = times.fastest(next),
+            None => return Ok(None),
+        }
+    }
+    Ok(Some(times))
+}
+
 /// An entry point with so many varyings, from a location on, and so many globals.
 fn entry<C: Clock>(
     clock: &C,
@@ -155,6 +180,7 @@ fn times_of<C: Clock>(
             shape(clock, alloc, validator, Shape::Emits(1_000_000), 1, 1)?;
             shape(clock, alloc, validator, body, 1, count)
         }
+        Subject::FirstAfterLarge(body) => first_after_large(clock, alloc, validator, body),
         Subject::Functions(body, of) => shape(clock, alloc, validator, body, of, count),
         Subject::Entry {
             location,

@@ -60,23 +60,55 @@ pub fn callee(alloc: Global) -> Result<Function, AllocError> {
     Ok(fun)
 }
 
-fn locals(alloc: Global) -> Result<Arena<LocalVariable>, AllocError> {
+fn locals(alloc: Global, count: u32) -> Result<Arena<LocalVariable>, AllocError> {
     let mut locals = Arena::new(alloc);
-    let ty = Handle::new(1);
-    let variable = LocalVariable {
-        name: None,
-        ty,
-        init: None,
-    };
-    locals.append(variable, Span::UNDEFINED)?;
+    for _ in 0..count {
+        let variable = LocalVariable {
+            name: None,
+            ty: Handle::new(1),
+            init: None,
+        };
+        if locals.is_full() {
+            return Err(AllocError);
+        }
+        locals.append(variable, Span::UNDEFINED)?;
+    }
     Ok(locals)
 }
 
-/// A function of a shape, with a local of `u32`.
+/// The arguments of a function of a shape, how many locals it has, and what it returns.
+fn signature(
+    alloc: Global,
+    shape: Shape,
+) -> Result<(Sequence<FunctionArgument>, u32, Option<FunctionResult>), AllocError> {
+    let mut arguments = Sequence::new(alloc);
+    match shape {
+        Shape::Whole(_) => {
+            for _ in 0..16u32 {
+                arguments.push(FunctionArgument {
+                    name: None,
+                    ty: Handle::new(1),
+                    binding: None,
+                })?;
+            }
+            let result = FunctionResult {
+                ty: Handle::new(1),
+                binding: None,
+            };
+            Ok((arguments, 16, Some(result)))
+        }
+        _ => Ok((arguments, 1, None)),
+    }
+}
+
+/// A function of a shape, with a local of `u32`; a whole one has sixteen such locals and arguments, and returns a `u32`.
 pub fn function(alloc: Global, shape: Shape) -> Result<Function, AllocError> {
     let Made { expressions, body } = make(alloc, shape)?;
-    let local_variables = locals(alloc)?;
+    let (arguments, count, result) = signature(alloc, shape)?;
+    let local_variables = locals(alloc, count)?;
     let mut fun = Function::new(alloc);
+    fun.arguments = arguments;
+    fun.result = result;
     fun.local_variables = local_variables;
     fun.expressions = expressions;
     fun.body = body;

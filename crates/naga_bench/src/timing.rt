@@ -19,7 +19,7 @@ const INFO: TypeInfo = TypeInfo {
     immediates_compatibility: Ok(()),
 };
 
-/// Every check, by its bits: a call of `all` of `bitflags` takes a minute and more to prove.
+/// Every check.
 const ALL_CHECKS: ValidationFlags = ValidationFlags::ALL;
 
 /// A validator over the plain layer, with all flags, capabilities and subgroup settings, and an info for each of so many

@@ -11,7 +11,7 @@ use Rattle.naga_below.specs.declared.valid.expression_error.ExpressionError.TheV
 use Rattle.naga_rules.specs.declared.function.CallError.{CallError}
 use Rattle.naga_rules.specs.declared.function.CallError.TheVariants.{Argument, ArgumentCount, ArgumentType, ExpressionMismatch, ResultAlreadyInScope, ResultAlreadyPopulated}
 use Rattle.naga_rules.specs.declared.function.FunctionError.TheVariants.{InvalidCall}
-use Rattle.naga_below.proofs.Points.{first_holds, both_hold, first_of_both, first_within, not_holds}
+use Rattle.naga_below.proofs.Points.{first_holds, both_hold, first_within, not_holds}
 use Rattle.naga_runs.specs.Handles.{Handles}
 use Rattle.naga_runs.specs.Visits.{Place}
 use Rattle.naga_below.specs.Points.{Point, first_fault, within}

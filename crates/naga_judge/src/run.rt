@@ -25,21 +25,27 @@ fn text_of(alloc: Global, verdict: &Verdict, form: Form) -> Result<String, fmt::
     Ok(text)
 }
 
-/// Writes a verdict, or that there is no memory to write it, and answers the exit status.
+/// Writes a verdict, or that there is no memory to judge or to write it, which takes none, and answers the exit status.
 fn reply<W: Write>(alloc: Global, writer: &mut W, verdict: &Verdict, form: Form) -> io::Result<u8> {
+    if let Verdict::Memory = verdict {
+        return reply_memory(writer, form);
+    }
     match text_of(alloc, verdict, form) {
         Ok(text) => {
             writer.write_all(text.as_str().as_bytes())?;
             Ok(verdict.status())
         }
-        Err(_) => {
-            match form {
-                Form::Lines => writer.write_all(b"memory\n".as_slice())?,
-                Form::Json => writer.write_all(b"\"memory\"\n".as_slice())?,
-            }
-            Ok(Verdict::Memory.status())
-        }
+        Err(_) => reply_memory(writer, form),
     }
+}
+
+/// Writes that there is no memory.
+fn reply_memory<W: Write>(writer: &mut W, form: Form) -> io::Result<u8> {
+    match form {
+        Form::Lines => writer.write_all(b"memory\n".as_slice())?,
+        Form::Json => writer.write_all(b"\"memory\"\n".as_slice())?,
+    }
+    Ok(Verdict::Memory.status())
 }
 
 /// A document as its bytes come in. Of one that is too long only so much is kept that this can be told.

@@ -1,3 +1,4 @@
 //! What no clause says: whole runs, from a reader to a writer.
 
+mod failures;
 mod runs;

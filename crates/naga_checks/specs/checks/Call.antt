@@ -39,7 +39,7 @@ is_passed_for context declared (Some given) = is_same_type context.program.types
 abbrev pub is_passed_as : Context → ℕ → ℕ → Bool
 is_passed_as context given declared = is_passed_for context declared (resolution_at context given)
 
--- the argument of this index: in scope, and of the declared type
+-- the argument of this index: put by every run, and of the declared type
 abbrev pub passed_points : Context → Place → ℕ → ℕ → ℕ → CallPoints
 passed_points context place index declared given =
     (may_use place given, Argument index NotInScope)

@@ -53,7 +53,7 @@ abbrev pub is_bool_scalar : Option TypeInner → Bool
 is_bool_scalar (Some (inner.Scalar s)) = is_bool_kind s.kind
 is_bool_scalar _ = false
 
--- If, and the break condition of a Loop: a boolean in scope
+-- If, and the break condition of a Loop: a boolean that every run has put
 abbrev pub condition_points : Context → Place → ℕ → Points
 condition_points context place h =
     use_point place h ∷ (is_bool_scalar (type_at context h), InvalidIfType h) ∷ []
@@ -76,7 +76,7 @@ abbrev pub is_returned_as : Context → ℕ → Option ℕ → Bool
 is_returned_as context h None = false
 is_returned_as context h (Some declared) = is_given_as context.program.types (resolution_at context h) declared
 
--- Return: allowed here; the value, if there is one, in scope and of the declared type; and none where none is
+-- Return: allowed here; the value, if there is one, put by every run and of the declared type; and none where none is
 -- declared
 abbrev pub return_points : Context → Place → Option ℕ → Points
 return_points context place None =

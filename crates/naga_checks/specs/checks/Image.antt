@@ -100,7 +100,7 @@ abbrev pub is_integer_scalar : Option TypeInner → Bool
 is_integer_scalar (Some (inner.Scalar s)) = is_integer (Some s.kind)
 is_integer_scalar _ = false
 
--- the array index: there where the image is arrayed, in scope, and an integer. Its faults stand inside the statement's
+-- the array index: there where the image is arrayed, put by every run, and an integer. Its faults stand inside the statement's
 abbrev pub array_index_points : (ExpressionError → FunctionError) → Context → Place → Bool → Option ℕ → Points
 array_index_points inside context place arrayed None = (not arrayed, inside wrong.InvalidImageArrayIndex) ∷ []
 array_index_points inside context place arrayed (Some h) =

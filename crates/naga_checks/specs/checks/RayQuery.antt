@@ -51,7 +51,7 @@ is_set None = false
 abbrev pub descriptor_type : Context → Option TypeInner
 descriptor_type context = option_and_then (inner_at context.program.types) context.program.special_types.ray_desc
 
--- the descriptor of a ray: in scope, and of the module's type of ray descriptors
+-- the descriptor of a ray: put by every run, and of the module's type of ray descriptors
 abbrev pub descriptor_points : Context → Place → ℕ → Points
 descriptor_points context place descriptor =
     use_point place descriptor

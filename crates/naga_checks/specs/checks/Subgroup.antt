@@ -51,7 +51,7 @@ operations_point settings these =
 abbrev pub subgroups_point : Settings → Point FunctionError
 subgroups_point settings = (has_capability settings.capabilities bit.SUBGROUP, MissingCapability bit.SUBGROUP)
 
--- the predicate, if there is one: in scope, and a bool of one byte
+-- the predicate, if there is one: put by every run, and a bool of one byte
 abbrev pub predicate_points : Context → Place → Option ℕ → Points
 predicate_points context place None = []
 predicate_points context place (Some h) =
@@ -164,7 +164,7 @@ is_const _ = false
 abbrev pub is_const_at : Context → ℕ → Bool
 is_const_at context h = is_const (slice_get context.kinds h)
 
--- the index, if there is one: in scope, a u32, and in a broadcast const. What is no u32 is told of the argument
+-- the index, if there is one: put by every run, a u32, and in a broadcast const. What is no u32 is told of the argument
 abbrev pub index_points : Context → Place → Bool → ℕ → Option ℕ → Points
 index_points context place broadcasts argument None = []
 index_points context place broadcasts argument (Some index) =

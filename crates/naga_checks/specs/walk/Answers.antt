@@ -1,6 +1,6 @@
 -- What an answer of the code says of check points and of a judgement: work of lemmas, cited by functions that the validator
 -- alone calls.
-use Rattle.std.specs.Prelude.{◌≡◌, List, Result, Ok, Err, Some, None, ⊤}
+use Rattle.std.specs.Prelude.{◌≡◌, List, Result, Ok, Err, ⊤}
 use Rattle.std.specs.Result.{result_err}
 use Rattle.naga_below.specs.declared.span.Refusal.{Refusal}
 use Rattle.naga_below.specs.declared.span.Refusal.TheVariants as refusal

@@ -11,7 +11,7 @@ ghost use Rattle.naga_rules.specs.declared.function.FunctionError.TheVariants.{I
 ghost use Rattle.naga_runs.specs.PutsAndUses.{puts_of};
 ghost use Rattle.naga_checks.specs.walk.Answers.{IsRefusalFor};
 ghost use Rattle.naga_rules.specs.Answers.{AnswersPoints};
-ghost use Rattle.naga_checks.specs.checks.Call.{is_passed_as, passed_points, all_passed_points, is_call_result_of, call_result_points, callee_points, call_points};
+ghost use Rattle.naga_checks.specs.checks.Call.{is_passed_as, passed_points, all_passed_points, is_call_result_of, call_result_points, call_points};
 ghost use Rattle.naga_checks.specs.Context.{ContextFits};
 ghost use Rattle.naga_checks.specs.walk.Place.{place_at};
 ghost use Rattle.naga_checks.specs.walk.Seen.{context_of};
@@ -83,7 +83,7 @@ fn check_call(
     check_call_result(scope, filled, context, site, returns)
 }
 
-/// As many arguments as are declared, each in scope and of its declared type.
+/// As many arguments as are declared, each put by every run and of its declared type.
 fn check_arguments(
     scope: &ScopeColumn,
     context: &BlockContext,
@@ -98,7 +98,7 @@ fn check_arguments(
         result }
 {
     if declared.len() != given.len() {
-        return Err(wrong_count(scope.allocator(), site, declared.len(), given.len()));
+        return Err(argument_count(scope.allocator(), site, declared.len(), given.len()));
     }
     for index in 0..given.len() {
         check_argument(
@@ -113,7 +113,7 @@ fn check_arguments(
     Ok(())
 }
 
-/// An argument: in scope, and of its declared type.
+/// An argument: put by every run, and of its declared type.
 fn check_argument(
     scope: &ScopeColumn,
     context: &BlockContext,
@@ -132,7 +132,7 @@ fn check_argument(
         return Err(argument_not_in_scope(scope.allocator(), site, index));
     }
     if !is_passed_as(context, given, declared) {
-        return Err(wrong_argument(scope.allocator(), site, index, declared, given));
+        return Err(argument_type(scope.allocator(), site, index, declared, given));
     }
     Ok(())
 }
@@ -174,19 +174,19 @@ fn check_call_result(
     match &site.named {
         Some(handle) => {
             if scope.contains(*handle) {
-                return Err(result_in_scope(alloc, site, *handle));
+                return Err(result_already_in_scope(alloc, site, *handle));
             }
             if !is_call_result_of(site.function, context.expression(*handle)) || !returns {
-                return Err(wrong_result(alloc, site));
+                return Err(expression_mismatch(alloc, site));
             }
             if !is_fresh(filled, context, *handle) {
-                return Err(result_populated(alloc, site, *handle));
+                return Err(result_already_populated(alloc, site, *handle));
             }
             Ok(())
         }
         None => {
             if returns {
-                return Err(wrong_result(alloc, site));
+                return Err(expression_mismatch(alloc, site));
             }
             Ok(())
         }
@@ -218,7 +218,7 @@ fn refused(alloc: Global, site: &CallSite, error: CallError) -> Refused
 /// The refusal of a call with so many arguments where so many are declared.
 #[cold]
 #[inline(never)]
-fn wrong_count(alloc: Global, site: &CallSite, required: usize, seen: usize) -> Refused
+fn argument_count(alloc: Global, site: &CallSite, required: usize, seen: usize) -> Refused
     ensures { IsRefusalFor (InvalidCall site.now.function (ArgumentCount required seen)) result }
 {
     refused(alloc, site, CallError::ArgumentCount { required, seen })
@@ -237,7 +237,7 @@ fn argument_not_in_scope(alloc: Global, site: &CallSite, index: usize) -> Refuse
 /// The refusal of an argument of another type than is declared.
 #[cold]
 #[inline(never)]
-fn wrong_argument(
+fn argument_type(
     alloc: Global,
     site: &CallSite,
     index: usize,
@@ -257,7 +257,11 @@ fn wrong_argument(
 /// The refusal of a result that is in scope already.
 #[cold]
 #[inline(never)]
-fn result_in_scope(alloc: Global, site: &CallSite, handle: Handle<tag::Expression>) -> Refused
+fn result_already_in_scope(
+    alloc: Global,
+    site: &CallSite,
+    handle: Handle<tag::Expression>,
+) -> Refused
     ensures { IsRefusalFor (InvalidCall site.now.function (ResultAlreadyInScope handle)) result }
 {
     refused(alloc, site, CallError::ResultAlreadyInScope(handle))
@@ -266,7 +270,7 @@ fn result_in_scope(alloc: Global, site: &CallSite, handle: Handle<tag::Expressio
 /// The refusal of a result that is none of this function, or of none where the function returns one.
 #[cold]
 #[inline(never)]
-fn wrong_result(alloc: Global, site: &CallSite) -> Refused
+fn expression_mismatch(alloc: Global, site: &CallSite) -> Refused
     ensures { IsRefusalFor (InvalidCall site.now.function (ExpressionMismatch site.now.named)) result }
 {
     refused(alloc, site, CallError::ExpressionMismatch(site.named))
@@ -275,7 +279,11 @@ fn wrong_result(alloc: Global, site: &CallSite) -> Refused
 /// The refusal of a result that is filled already.
 #[cold]
 #[inline(never)]
-fn result_populated(alloc: Global, site: &CallSite, handle: Handle<tag::Expression>) -> Refused
+fn result_already_populated(
+    alloc: Global,
+    site: &CallSite,
+    handle: Handle<tag::Expression>,
+) -> Refused
     ensures { IsRefusalFor (InvalidCall site.now.function (ResultAlreadyPopulated handle)) result }
 {
     refused(alloc, site, CallError::ResultAlreadyPopulated(handle))

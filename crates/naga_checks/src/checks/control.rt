@@ -52,7 +52,7 @@ pub fn validate_emit(
     Ok(())
 }
 
-/// An expression that is emitted: no result of another statement, its operands in scope, and itself not in scope yet.
+/// An expression that is emitted: no result of another statement, its operands put by every run, and itself not in scope yet.
 fn check_emitted(
     scope: &ScopeColumn,
     context: &BlockContext,
@@ -74,7 +74,7 @@ fn check_emitted(
     Ok(())
 }
 
-/// The operands of an expression, each in scope.
+/// The operands of an expression, each put by every run.
 fn check_operands(
     scope: &ScopeColumn,
     expression: Option<&Expression>,
@@ -122,7 +122,7 @@ fn is_result(expression: Option<&Expression>) -> bool
     )
 }
 
-/// If, and the break condition of a Loop: a boolean in scope.
+/// If, and the break condition of a Loop: a boolean that every run has put.
 pub fn check_condition(
     scope: &ScopeColumn,
     context: &BlockContext,
@@ -135,7 +135,7 @@ pub fn check_condition(
         return Err(not_in_scope(scope.allocator(), condition, span));
     }
     if !is_bool_scalar(context.type_inner(condition)) {
-        return Err(no_condition(scope.allocator(), condition, span));
+        return Err(invalid_if_type(scope.allocator(), condition, span));
     }
     Ok(())
 }
@@ -152,7 +152,7 @@ fn is_bool_scalar(inner: Option<&TypeInner>) -> bool
     )
 }
 
-/// Return: allowed here, and its value in scope and of the function's result type.
+/// Return: allowed here, and its value put by every run and of the function's result type.
 pub fn check_return(
     scope: &ScopeColumn,
     context: &BlockContext,
@@ -165,7 +165,7 @@ pub fn check_return(
 {
     let alloc = scope.allocator();
     if !abilities.can_return {
-        return Err(no_return(alloc, span));
+        return Err(invalid_return_spot(alloc, span));
     }
     match &value {
         Some(handle) => {
@@ -173,13 +173,13 @@ pub fn check_return(
                 return Err(not_in_scope(alloc, *handle, span));
             }
             if !is_returned_as(context, *handle, declared_type(context)) {
-                return Err(no_return_type(alloc, context, &value, span));
+                return Err(invalid_return_type(alloc, context, &value, span));
             }
             Ok(())
         }
         None => {
             if declared_type(context).is_some() {
-                return Err(no_return_type(alloc, context, &value, span));
+                return Err(invalid_return_type(alloc, context, &value, span));
             }
             Ok(())
         }
@@ -253,7 +253,7 @@ fn emit_result(alloc: Global, handle: Handle<tag::Expression>, span: Span) -> Re
 /// The refusal of a condition that is no boolean.
 #[cold]
 #[inline(never)]
-fn no_condition(alloc: Global, handle: Handle<tag::Expression>, span: Span) -> Refused
+fn invalid_if_type(alloc: Global, handle: Handle<tag::Expression>, span: Span) -> Refused
     ensures { IsRefusalFor (InvalidIfType handle) result }
 {
     Refused::placed(alloc, FunctionError::InvalidIfType(handle), span)
@@ -262,7 +262,7 @@ fn no_condition(alloc: Global, handle: Handle<tag::Expression>, span: Span) -> R
 /// The refusal of a Return in a continuing part.
 #[cold]
 #[inline(never)]
-fn no_return(alloc: Global, span: Span) -> Refused
+fn invalid_return_spot(alloc: Global, span: Span) -> Refused
     ensures { IsRefusalFor InvalidReturnSpot result }
 {
     Refused::placed(alloc, FunctionError::InvalidReturnSpot, span)
@@ -271,7 +271,7 @@ fn no_return(alloc: Global, span: Span) -> Refused
 /// The refusal of a Return of another type than is declared, or of a value where none is declared, or of none where one is.
 #[cold]
 #[inline(never)]
-fn no_return_type(
+fn invalid_return_type(
     alloc: Global,
     context: &BlockContext,
     value: &Option<Handle<tag::Expression>>,

@@ -122,7 +122,7 @@ pub fn check_texel(
     check_array_index(statement, scope, context, shape.arrayed, texel.array_index)
 }
 
-/// The coordinate: in scope, and of the image's dimension.
+/// The coordinate: put by every run, and of the image's dimension.
 fn check_coordinate(
     statement: ImageStatement,
     scope: &ScopeColumn,
@@ -153,7 +153,7 @@ fn is_dimension(dim: ImageDimension, given: Option<ImageDimension>) -> bool
     }
 }
 
-/// The array index: there where the image is arrayed, in scope, and an integer.
+/// The array index: there where the image is arrayed, put by every run, and an integer.
 fn check_array_index(
     statement: ImageStatement,
     scope: &ScopeColumn,

@@ -216,7 +216,7 @@ fn is_done_on_texels(fun: &AtomicFunction) -> bool
     )
 }
 
-/// The value: in scope, and the format's scalar.
+/// The value: put by every run, and the format's scalar.
 fn check_value(
     scope: &ScopeColumn,
     context: &BlockContext,

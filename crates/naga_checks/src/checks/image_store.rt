@@ -154,7 +154,7 @@ fn check_stored(
     check_texel_value(scope, context, image.format, value, given)
 }
 
-/// The value: in scope, and what a texel holds.
+/// The value: put by every run, and what a texel holds.
 fn check_texel_value(
     scope: &ScopeColumn,
     context: &BlockContext,

@@ -164,7 +164,7 @@ pub fn structure_flag(context: &BlockContext, structure: Handle<tag::Expression>
     }
 }
 
-/// The descriptor of a ray: in scope, and of the module's type of ray descriptors.
+/// The descriptor of a ray: put by every run, and of the module's type of ray descriptors.
 pub fn check_descriptor(
     scope: &ScopeColumn,
     context: &BlockContext,

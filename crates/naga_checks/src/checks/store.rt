@@ -44,20 +44,20 @@ pub fn check_store(
     let alloc = scope.allocator();
     let root = root_of(context, pointer);
     if !is_variable(context.expression(root)) {
-        return Err(no_store_pointer(alloc, root, span));
+        return Err(invalid_store_pointer(alloc, root, span));
     }
     if !scope.may_use(value) {
         return Err(not_in_scope(alloc, value, span));
     }
     let stored = context.type_inner(value);
     if is_texture(stored) {
-        return Err(stored_texture(alloc, value, stored, span));
+        return Err(invalid_store_texture(alloc, value, stored, span));
     }
     if !is_stored_as(context, value, &base_type(context, pointer)) {
-        return Err(no_store_types(alloc, pointer, value, span));
+        return Err(invalid_store_types(alloc, pointer, value, span));
     }
     if !is_writable(context, pointer) {
-        return Err(no_store_pointer(alloc, pointer, span));
+        return Err(invalid_store_pointer(alloc, pointer, span));
     }
     Ok(())
 }
@@ -135,7 +135,7 @@ fn is_stored_as(
 /// The refusal of a pointer that leads back to no variable, or into a space that takes no stores.
 #[cold]
 #[inline(never)]
-fn no_store_pointer(alloc: Global, handle: Handle<tag::Expression>, span: Span) -> Refused
+fn invalid_store_pointer(alloc: Global, handle: Handle<tag::Expression>, span: Span) -> Refused
     ensures { IsRefusalFor (InvalidStorePointer handle) result }
 {
     Refused::placed(alloc, FunctionError::InvalidStorePointer(handle), span)
@@ -144,7 +144,7 @@ fn no_store_pointer(alloc: Global, handle: Handle<tag::Expression>, span: Span) 
 /// The refusal of an image or a sampler as a value.
 #[cold]
 #[inline(never)]
-fn stored_texture(
+fn invalid_store_texture(
     alloc: Global,
     value: Handle<tag::Expression>,
     inner: Option<&TypeInner>,
@@ -180,7 +180,7 @@ fn stored_texture(
 /// The refusal of a value that the type that is pointed to does not hold.
 #[cold]
 #[inline(never)]
-fn no_store_types(
+fn invalid_store_types(
     alloc: Global,
     pointer: Handle<tag::Expression>,
     value: Handle<tag::Expression>,

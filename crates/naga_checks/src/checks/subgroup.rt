@@ -85,7 +85,7 @@ fn check_ballot(
     check_put(scope, ballot)
 }
 
-/// The predicate, if there is one: in scope, and a bool of one byte.
+/// The predicate, if there is one: put by every run, and a bool of one byte.
 fn check_predicate(
     scope: &ScopeColumn,
     context: &BlockContext,

@@ -103,7 +103,7 @@ fn is_broadcast(mode: &GatherMode) -> bool
     )
 }
 
-/// The index: in scope, a u32, and in a broadcast const. What is no u32 is told of the argument, as naga does.
+/// The index: put by every run, a u32, and in a broadcast const. What is no u32 is told of the argument, as naga does.
 fn check_index(
     scope: &ScopeColumn,
     context: &BlockContext,

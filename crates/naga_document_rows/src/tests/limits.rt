@@ -114,6 +114,28 @@ fn a_pointer_leads_to_the_innermost_value(rt: HostRuntime) -> Result<(), Fail> {
     stops_at(&rt, cases, "/0/Switch/cases/0/value/I32")
 }
 
+/// Of a field that is written twice the last counts, and a text ends with its document.
+#[test]
+fn a_field_twice_and_a_text_behind(rt: HostRuntime) -> Result<(), Fail> {
+    let twice = r#"[{"Return":{"value":-1,"value":null}}]"#;
+    let text = document(rt.alloc(), twice)?;
+    let line = told(rt.alloc(), text.as_str())?;
+    assert_eq!(rt; line.as_str(), "a document");
+    stops_at(
+        &rt,
+        r#"[{"Return":{"value":null,"value":-1}}]"#,
+        "/0/Return/value",
+    )?;
+    let mut text = document(rt.alloc(), "[]")?;
+    text.push_str("{}")?;
+    let line = told(rt.alloc(), text.as_str())?;
+    assert_eq!(rt;
+        line.as_str(),
+        ": JSON in UTF-8, whose brackets nest at most 127 deep"
+    );
+    Ok(())
+}
+
 #[test]
 fn a_second_equal_type_is_unreadable(rt: HostRuntime) -> Result<(), Fail> {
     let ty = r#"{"name":null,"inner":{"Sampler":{"comparison":true}}}"#;

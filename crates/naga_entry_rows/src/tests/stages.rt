@@ -24,6 +24,12 @@ fn stages_need_capabilities(rt: HostRuntime) -> Result<(), Fail> {
     for (row, (case, needed)) in rows.into_iter().enumerate() {
         let lacking = EntryPointError::UnsupportedCapability(needed);
         refuses(&rt, &bench, row, &case.lacking(needed), lacking);
+        let none = Case {
+            capabilities: Capabilities::empty(),
+            ..case
+        };
+        let lacking = EntryPointError::UnsupportedCapability(needed);
+        refuses(&rt, &bench, row, &none, lacking);
         let alone = Case {
             capabilities: needed,
             ..case

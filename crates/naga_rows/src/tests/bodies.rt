@@ -37,7 +37,7 @@ pub const GOOD: TypeInfo = TypeInfo {
     immediates_compatibility: Ok(()),
 };
 
-/// Every check, by its bits: a call of `all` or `difference` of `bitflags` takes a minute and more to prove.
+/// Every check.
 pub const ALL_CHECKS: ValidationFlags = ValidationFlags::ALL;
 
 /// All capabilities, all stages and all groups of operations.

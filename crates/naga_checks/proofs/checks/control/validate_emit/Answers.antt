@@ -1,6 +1,6 @@
 use Rattle.std.proofs.Common.{rules, ◌≡◌, None, arith, subst, sym, ◌∙◌}
 use Rattle.naga_below.specs.Points.{first_fault}
-use Rattle.naga_checks.specs.checks.Control.{emit_points, emitted_points, within_emit}
+use Rattle.naga_checks.specs.checks.Control.{emit_points}
 use Rattle.naga_rules.specs.Answers.{IsFirstFault}
 use Rattle.naga_checks.specs.walk.Place.{place_at}
 use Rattle.naga_checks.specs.walk.Seen.{context_of}
