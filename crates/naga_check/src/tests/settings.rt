@@ -213,14 +213,17 @@ fn sets_of_flags(rt: HostRuntime) {
     }
 }
 
-const WITHOUT_EXPRESSIONS: ValidationFlags =
-    ValidationFlags(ValidationFlags::ALL.0 & !ValidationFlags::EXPRESSIONS.0);
+const WITHOUT_EXPRESSIONS: ValidationFlags = ValidationFlags(
+    ValidationFlags::ALL.0 & !ValidationFlags::EXPRESSIONS.0,
+);
 
-const WITHOUT_BLOCKS: ValidationFlags =
-    ValidationFlags(ValidationFlags::ALL.0 & !ValidationFlags::BLOCKS.0);
+const WITHOUT_BLOCKS: ValidationFlags = ValidationFlags(
+    ValidationFlags::ALL.0 & !ValidationFlags::BLOCKS.0,
+);
 
-const WITHOUT_BOTH: ValidationFlags =
-    ValidationFlags(WITHOUT_EXPRESSIONS.0 & !ValidationFlags::BLOCKS.0);
+const WITHOUT_BOTH: ValidationFlags = ValidationFlags(
+    WITHOUT_EXPRESSIONS.0 & !ValidationFlags::BLOCKS.0,
+);
 
 /// Options, and the flags that they leave.
 const OPTIONS: [(&str, ValidationFlags); 5] = [
