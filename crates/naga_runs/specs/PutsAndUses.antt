@@ -1,6 +1,6 @@
 -- Puts and uses: what a statement does with handles itself, without what its parts do.
 use Rattle.std.specs.Prelude.{ℕ, List, Option, Some, None, ◌∷◌, ◌++◌, []}
-use Rattle.naga_below.specs.Tree.{Act, Stmt, Body, Use, Put, Leaf, Block, Branch, Switch, Loop, Break, Continue, Return, Kill, Done, Then}
+use Rattle.naga_below.specs.Tree.{Act, Stmt, Body, Use, Put, Leaf, Branch, Switch, Return, Done, Then}
 use Rattle.naga_runs.specs.Handles.{Handles, with_handle}
 use Rattle.naga_runs.specs.Positions.{Node, NoNode, StatementNode, BreakIfNode}
 
@@ -13,14 +13,10 @@ value_acts (Some h) = Use h ∷ []
 -- its acts from the statement that it stands for.
 abbrev pub acts_of : Stmt → List Act
 acts_of (Leaf acts x span) = acts
-acts_of (Block b) = []
 acts_of (Branch h a r) = Use h ∷ []
 acts_of (Switch h cs) = Use h ∷ []
-acts_of (Loop b c q) = []
-acts_of Break = []
-acts_of Continue = []
 acts_of (Return v) = value_acts v
-acts_of Kill = []
+acts_of _ = []
 
 -- A break condition uses its one handle.
 abbrev pub node_acts : Node → List Act

@@ -2,7 +2,7 @@
 -- Loop; of two siblings the one with the lower index first, with all that lies in it.
 use Rattle.std.specs.List.{AllByRecursion}
 use Rattle.std.specs.Prelude.{⊤, ℕ, suc, List, Option, Some, None, map, Contains, ◌≡◌, ◌≢◌, ◌↔◌, ◌∷◌, ◌++◌, [], ◌<◌}
-use Rattle.naga_below.specs.Tree.{Stmt, Body, Cases, Leaf, Block, Branch, Switch, Loop, Break, Continue, Return, Kill, Done, Then, NoCase, OneCase}
+use Rattle.naga_below.specs.Tree.{Stmt, Body, Cases, Block, Branch, Switch, Loop, Done, Then, NoCase, OneCase}
 use Rattle.naga_runs.specs.Positions.{Part, Step, Position, node_at, Root, Inner, Accept, Reject, Case, LoopBody, Continuing, Condition, In, NoNode}
 
 abbrev pub condition_positions : Option ℕ → List Position
@@ -18,16 +18,12 @@ abbrev mutual
       (In part i ∷ []) ∷ (map (λ p. In part i ∷ p) (positions_below x) ++ positions_from part (suc i) b)
 
   pub positions_below : Stmt → List Position
-  positions_below (Leaf acts x span) = []
   positions_below (Block b) = positions_from Inner 0 b
   positions_below (Branch h a r) = positions_from Accept 0 a ++ positions_from Reject 0 r
   positions_below (Switch h cs) = positions_of_cases 0 cs
   positions_below (Loop b c q) =
       positions_from LoopBody 0 b ++ (positions_from Continuing 0 c ++ condition_positions q)
-  positions_below Break = []
-  positions_below Continue = []
-  positions_below (Return v) = []
-  positions_below Kill = []
+  positions_below _ = []
 
   pub positions_of_cases : ℕ → Cases → List Position
   positions_of_cases k NoCase = []
