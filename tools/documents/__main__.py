@@ -1,10 +1,10 @@
-"""Writes the rows of the tests as documents: python3 tools/documents [--check]
+"""Writes rows of the check lists as documents: python3 tools/documents [--check]
 
-Each row of the tests over the plain layer is a document in crates/naga_judge/stdin, and the verdict that the test expects of it
-stands at the same line of crates/naga_judge/stdout; what the rows are called stands in tools/documents/rows. The documents of
-the program's own rows and of examples/, with an unreadable one behind them, stand in front and stay as they are. Which rows
-change where a capability is taken away stands in tools/settings.expected. With --check nothing is written, and the status is 1
-where a file isn't what would be written.
+Each row is a document in crates/naga_judge/stdin, and the verdict that is expected of it stands at the same line of
+crates/naga_judge/stdout; what the rows are called stands in tools/documents/rows (docs/MODULES.md has which tests repeat them).
+The documents of rows of naga_check and of examples/, with an unreadable one behind them, stand in front and stay as they are.
+Which rows change where a capability is taken away stands in tools/settings.expected. With --check nothing is written, and the
+status is 1 where a file isn't what would be written.
 """
 
 import json

@@ -1,4 +1,4 @@
-"""Rows of what needs a capability, where no test has one that is accepted: for the table of capabilities (tools/settings)."""
+"""Rows of what needs a capability and is accepted, as other rows mostly are not: for the table of capabilities (tools/settings)."""
 
 import form as f
 from entry import AT_FRAGMENT, entry_row

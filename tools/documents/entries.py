@@ -166,7 +166,8 @@ def stages():
     for case, needed in needing:
         lacking = BARE_TASK if case == AT_TASK else case
         with_all = WITH_ALL if lacking == case else ()
-        found.append((lacking.lacking(needed), {"UnsupportedCapability": [needed]}, *with_all))
+        unsupported = {"UnsupportedCapability": [needed]}
+        found += [(target, unsupported, *with_all) for target in (lacking.lacking(needed), lacking.but(capabilities=()))]
         found.append((case.but(capabilities=(needed,)),))
     found += [(case.but(capabilities=()),) for case in (AT_VERTEX, AT_FRAGMENT, AT_COMPUTE)]
     found += [(case.doing(*calls(*functions)),) for case, functions in [

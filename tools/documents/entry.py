@@ -50,7 +50,7 @@ TWO_FACED = f.struct([INDICES, (PAIR, f.built_in("LineIndices"))], 32)
 PLACED = f.struct([INDICES, POSITION], 32)
 COLLIDING_FACELESS = f.struct([by_primitive(F32, 0)], 32)
 
-# The globals, in their order. The tests' sink takes stores alone, which no module may have: here it takes atomic operations too.
+# The globals, in their order. No module may have one that takes stores alone, so the sink takes atomic operations too.
 OUTPUT = Global("output", "WorkGroup", U32, None)
 PAYLOAD = Global("payload", "TaskPayload", U32, None)
 SHORT_PAYLOAD = Global("short payload", "TaskPayload", SHORT, None)

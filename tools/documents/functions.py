@@ -54,7 +54,7 @@ def declarations():
     ])
 
 
-# The order of the steps. What another lower layer of the tests refuses is recorded.
+# The order of the steps. What a lower layer refuses, and which stages it leaves, is recorded.
 
 STEPS = ["variable", "argument", "result", "expression", "body", "unfilled"]
 

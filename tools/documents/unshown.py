@@ -1,4 +1,4 @@
-"""Rows of faults that no test shows, worked out from the lists of docs/CHECKS.md: each fault by a document that is wrong in
+"""Rows of faults that no other row shows, worked out from the lists of docs/CHECKS.md: each fault by a document that is wrong in
 nothing earlier."""
 
 import form as f

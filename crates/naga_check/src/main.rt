@@ -1,17 +1,10 @@
 //! Judges one case: reads it from standard input, writes one line to standard output, and ends with the line's status.
 #![tactic(auto)]
 
-mod bench;
-mod bench_module;
-mod faults;
-mod judge;
-mod line;
-mod notation;
-mod run;
 #[cfg(test)]
 mod tests;
 
-use crate::run::run_case;
+use naga_case::run::run_case;
 use std::io;
 use std::process::ExitCode;
 

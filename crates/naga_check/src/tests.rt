@@ -3,10 +3,11 @@
 mod failures;
 mod inputs;
 mod made;
+mod notation;
 mod rows;
 mod settings;
 
-use crate::run::run_case;
+use naga_case::run::run_case;
 use std::alloc::Global;
 use std::io::{Read, Write};
 

@@ -1,11 +1,2 @@
-pub mod Failures
-pub mod Form
-pub mod Variants
-pub mod Reads
-pub mod ReadsFields
-pub mod ReadsVariants
-pub mod ReadsSets
-pub mod Numbers
-pub mod Sets
-pub mod Document
+pub mod Whole
 pub mod ReadsDocument

@@ -2,10 +2,10 @@
 use Rattle.std.specs.Prelude.{◌≡◌, ◌≤◌, ℕ, IsUtf8, List, length, Option, Some, Result, Ok, Err}
 use Rattle.serde_json.specs.Read as json
 use Rattle.naga_document.specs.declared.document.Document.{Document}
-use Rattle.naga_document.specs.declared.read.error.ReadError.{ReadError}
-use Rattle.naga_document.specs.Failures.{IsUnreadable}
-use Rattle.naga_document.specs.Form.{given}
-use Rattle.naga_document.specs.Document.Whole.{document_of}
+use Rattle.naga_from_json.specs.declared.read.error.ReadError.{ReadError}
+use Rattle.naga_from_json.specs.Failures.{IsUnreadable}
+use Rattle.naga_from_json.specs.Form.{given}
+use Rattle.naga_document.specs.Whole.{document_of}
 
 -- A text is a document: UTF-8, not too long, JSON whose brackets nest at most 127 deep, and a value of the form.
 abbrev pub IsDocument : List ℕ → Document → Type 0

@@ -1,12 +1,12 @@
 //! Documents: the settings of a validator, a module, and facts.
 
 ghost use Rattle.serde_json.specs.View.{view};
-ghost use Rattle.naga_document.specs.Reads.{Reads};
-ghost use Rattle.naga_document.specs.Document.Whole.{settings_in, known_facts_of, document_of};
+ghost use Rattle.naga_from_json.specs.Reads.{Reads};
+ghost use Rattle.naga_document.specs.Whole.{settings_in, known_facts_of, document_of};
 
-use crate::read::error::ReadError;
-use crate::read::from_json::{Fields, FromJson};
 use naga_below::{Module, Sequence, Settings, TypeInfo, TypeResolution};
+use naga_from_json::read::error::ReadError;
+use naga_from_json::read::from_json::{Fields, FromJson};
 use naga_layers::{FunctionFact, MeshAnalysisFact};
 use serde_json::Value;
 use std::alloc::Global;

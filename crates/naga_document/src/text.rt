@@ -3,8 +3,8 @@
 ghost use Rattle.naga_document.specs.ReadsDocument.{ReadsDocument};
 
 use crate::document::Document;
-use crate::read::error::ReadError;
-use crate::read::from_json::FromJson;
+use naga_from_json::read::error::ReadError;
+use naga_from_json::read::from_json::FromJson;
 use serde_json::Value;
 use std::alloc::Global;
 

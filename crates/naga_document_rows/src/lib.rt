@@ -1,5 +1,5 @@
-//! The tests of `naga_document`, over its public calls. A crate by itself, so that the gate does not prove `naga_document` twice,
-//! and proves these beside the crates of the validator.
+//! The tests of `naga_from_json` and `naga_document`, over their public calls. A crate by itself, so that the gate does not prove these
+//! twice, and proves the tests beside the crates of the validator.
 #![tactic(auto)]
 
 #[cfg(test)]

@@ -4,16 +4,12 @@
 #![tactic(auto)]
 
 mod arguments;
-mod judge;
-mod run;
 #[cfg(test)]
 mod tests;
-mod verdict;
-mod write;
 
 use crate::arguments::{Task, task_of};
-use crate::run::{Form, run_document, run_lines};
 use clap::error::ErrorKind;
+use naga_verdict::run::{Form, run_document, run_lines};
 use std::io;
 use std::process::ExitCode;
 

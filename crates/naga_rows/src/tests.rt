@@ -3,12 +3,8 @@
 mod bodies;
 mod entry_errors;
 mod globals;
-mod operands;
-mod picky;
 mod plain;
 mod rays;
 mod recorded;
 mod report;
 mod settings;
-mod skipped;
-mod steps;

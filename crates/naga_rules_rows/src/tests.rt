@@ -3,7 +3,6 @@
 mod bools;
 mod built_ins;
 mod clones;
-mod globals;
 mod laws;
 mod texts;
 mod varyings;

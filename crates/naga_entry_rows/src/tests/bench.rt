@@ -1,16 +1,15 @@
 //! One module for all rows of entry points, and what is answered of an entry point of it over the plain layer.
 
 use crate::tests::parts::{GOOD, HERE, NOWHERE, add, function_of, module_of, no_infos};
-use crate::tests::shape::{Part, at_location, built_in, by_primitive, position, smooth, unbound};
+use crate::tests::shape::{Part, built_in, position, smooth, unbound};
 use bitflags::Flags;
 use naga_below::arena::Arena;
 use naga_below::arena::handle::Handle;
 use naga_below::arena::unique_arena::UniqueArena;
 use naga_below::ir::built_in::BuiltIn;
-use naga_below::ir::expressions::{Expression, Literal};
-use naga_below::ir::flags::{Barrier, MemoryDecorations, StorageAccess};
+use naga_below::ir::flags::MemoryDecorations;
 use naga_below::ir::functions::Function;
-use naga_below::ir::module::{GlobalVariable, Module, Override, ResourceBinding, SpecialTypes};
+use naga_below::ir::module::{GlobalVariable, Module, ResourceBinding, SpecialTypes};
 use naga_below::ir::statements::Statement;
 use naga_below::ir::types::{
     AddressSpace, ArraySize, Scalar, StructMember, Type, TypeInner, VectorSize,
@@ -27,7 +26,7 @@ use std::process::Abort;
 // The types of the module.
 pub const U32: u32 = 0;
 
-pub const F32: u32 = 1;
+const F32: u32 = 1;
 
 /// A vector of three u32.
 pub const COUNTS: u32 = 2;
@@ -35,80 +34,49 @@ pub const COUNTS: u32 = 2;
 /// A vector of four f32.
 pub const COLOR: u32 = 3;
 
-/// A vector of two u32.
-const PAIR: u32 = 4;
-
 /// An array of three f32.
-pub const CORNERS: u32 = 5;
+pub const CORNERS: u32 = 4;
 
-pub const STRUCTURE_TYPE: u32 = 6;
-
-/// A struct of three bytes, without members.
-const SHORT: u32 = 7;
+const STRUCTURE_TYPE: u32 = 5;
 
 /// The struct of the two sources of a blend, the only one that is shared between stages.
-pub const SOURCES: u32 = 8;
+pub const SOURCES: u32 = 6;
 
-// What is put out of a vertex: Position and location 0; location 1; location 1 without an interpolation.
-pub const VERTEX: u32 = 9;
+/// What is put out of a vertex: Position and location 0.
+pub const VERTEX: u32 = 7;
 
-pub const PLACELESS: u32 = 10;
+/// What is put out of a primitive: the indices of a triangle.
+pub const FACE: u32 = 8;
 
-pub const ROUGH: u32 = 11;
-
-// What is put out of a primitive: the indices of a triangle; these and location 0; location 2 alone; two built-ins of
-// indices; the indices and Position.
-pub const FACE: u32 = 12;
-
-pub const COLLIDING: u32 = 13;
-
-pub const FACELESS: u32 = 14;
-
-pub const TWO_FACED: u32 = 15;
-
-pub const PLACED: u32 = 16;
-
-/// Location 0 alone.
-pub const COLLIDING_FACELESS: u32 = 17;
-
-const TYPES: usize = 18;
+const TYPES: usize = 9;
 
 // Its globals.
 /// A u32 in the memory of a work group.
 pub const OUTPUT: u32 = 0;
 
-/// A task payload of four bytes, and one of three.
+/// A task payload of four bytes.
 pub const PAYLOAD: u32 = 1;
 
-pub const SHORT_PAYLOAD: u32 = 2;
+pub const IMMEDIATE: u32 = 2;
 
-pub const IMMEDIATE: u32 = 3;
-
-pub const OTHER_IMMEDIATE: u32 = 4;
+pub const OTHER_IMMEDIATE: u32 = 3;
 
 /// Two uniforms with one binding.
-pub const UNIFORM: u32 = 5;
+pub const UNIFORM: u32 = 4;
 
-pub const TWIN: u32 = 6;
+pub const TWIN: u32 = 5;
 
-/// Storage that takes stores alone, with their binding.
-pub const SINK: u32 = 7;
+pub const RAY_PAYLOAD: u32 = 6;
 
-pub const RAY_PAYLOAD: u32 = 8;
-
-pub const INCOMING: u32 = 9;
-
-pub const STRUCTURE: u32 = 10;
+pub const STRUCTURE: u32 = 7;
 
 /// A ray payload of f32, where the other is of u32.
-pub const OTHER_RAY_PAYLOAD: u32 = 11;
+pub const OTHER_RAY_PAYLOAD: u32 = 8;
 
-// Its functions: one whose body is a Kill, one whose body is a barrier, and one whose body is empty.
+// Its functions: one whose body is a Kill, and one whose body is empty.
 pub const KILLS: u32 = 0;
 
-pub const WAITS: u32 = 1;
-
-pub const RESTS: u32 = 2;
+pub const RESTS: u32 = 1;
 
 /// A module, what is known of its types, and what is known of its functions.
 #[derive(Drop)]
@@ -126,25 +94,17 @@ pub fn made<T>(rt: &impl Abort, answer: Result<T, AllocError>) -> T {
     }
 }
 
-/// The members of each struct but the short one.
-fn members() -> [[Option<Part>; 2]; 10] {
-    let indices = built_in(COUNTS, BuiltIn::TriangleIndices);
+/// The members of each struct.
+fn members() -> [[Option<Part>; 2]; 3] {
     [
         [Some(unbound(COLOR)), Some(unbound(COLOR))],
         [Some(position()), Some(smooth(F32, 0))],
-        [Some(smooth(F32, 1)), None],
-        [Some(at_location(F32, 1, None)), None],
-        [Some(indices), None],
-        [Some(indices), Some(by_primitive(F32, 0))],
-        [Some(by_primitive(F32, 2)), None],
-        [Some(indices), Some(built_in(PAIR, BuiltIn::LineIndices))],
-        [Some(indices), Some(position())],
-        [Some(by_primitive(F32, 0)), None],
+        [Some(built_in(COUNTS, BuiltIn::TriangleIndices)), None],
     ]
 }
 
 /// A struct of these members.
-fn structure(alloc: Global, parts: [Option<Part>; 2], span: u32) -> Result<TypeInner, AllocError> {
+fn structure(alloc: Global, parts: [Option<Part>; 2]) -> Result<TypeInner, AllocError> {
     let mut members = Sequence::new(alloc);
     for part in parts {
         if let Some(Part { ty, binding }) = part {
@@ -156,18 +116,17 @@ fn structure(alloc: Global, parts: [Option<Part>; 2], span: u32) -> Result<TypeI
             })?;
         }
     }
-    Ok(TypeInner::Struct { members, span })
+    Ok(TypeInner::Struct { members, span: 32 })
 }
 
-/// The types without members, 0 to 6.
-fn plain_types() -> [TypeInner; 7] {
+/// The types without members, 0 to 5.
+fn plain_types() -> [TypeInner; 6] {
     let vector = |size, scalar| TypeInner::Vector { size, scalar };
     [
         TypeInner::Scalar(Scalar::U32),
         TypeInner::Scalar(Scalar::F32),
         vector(VectorSize::Tri, Scalar::U32),
         vector(VectorSize::Quad, Scalar::F32),
-        vector(VectorSize::Bi, Scalar::U32),
         TypeInner::Array {
             base: Handle::new(F32),
             size: match NonZeroU32::new(3) {
@@ -199,10 +158,8 @@ pub fn types_of(rt: &(impl Abort + AllocGlobal)) -> Result<UniqueArena<Type>, Al
     for inner in plain_types() {
         add_type(rt, &mut types, inner)?;
     }
-    let short = structure(rt.alloc(), [None, None], 3)?;
-    add_type(rt, &mut types, short)?;
     for parts in members() {
-        let inner = structure(rt.alloc(), parts, 32)?;
+        let inner = structure(rt.alloc(), parts)?;
         add_type(rt, &mut types, inner)?;
     }
     Ok(types)
@@ -216,36 +173,29 @@ pub fn infos_of_types(rt: &(impl Abort + AllocGlobal)) -> Result<Vec<TypeInfo>, 
     };
     let mut infos = vec![in rt.alloc(); unshared; TYPES]?;
     assert!(rt; infos.len() == TYPES);
-    for index in 0..SHORT as usize {
+    for index in 0..=SOURCES as usize {
         infos[index] = GOOD;
     }
-    infos[SOURCES as usize] = GOOD;
     Ok(infos)
 }
 
 /// The space, the type and the binding of each global.
-fn globals() -> [(AddressSpace, u32, Option<u32>); 12] {
-    let sink = AddressSpace::Storage {
-        access: StorageAccess::STORE,
-    };
+fn globals() -> [(AddressSpace, u32, Option<u32>); 9] {
     [
         (AddressSpace::WorkGroup, U32, None),
         (AddressSpace::TaskPayload, U32, None),
-        (AddressSpace::TaskPayload, SHORT, None),
         (AddressSpace::Immediate, U32, None),
         (AddressSpace::Immediate, U32, None),
         (AddressSpace::Uniform, U32, Some(0)),
         (AddressSpace::Uniform, U32, Some(0)),
-        (sink, U32, Some(0)),
         (AddressSpace::RayPayload, U32, None),
-        (AddressSpace::IncomingRayPayload, U32, None),
         (AddressSpace::Handle, STRUCTURE_TYPE, Some(2)),
         (AddressSpace::RayPayload, F32, None),
     ]
 }
 
 /// A global in a space, of a type, with a binding in group 0 or none.
-pub fn global(space: AddressSpace, ty: u32, binding: Option<u32>) -> GlobalVariable {
+fn global(space: AddressSpace, ty: u32, binding: Option<u32>) -> GlobalVariable {
     GlobalVariable {
         space,
         binding: match binding {
@@ -277,13 +227,9 @@ fn callee(alloc: Global, statement: Option<Statement>) -> Result<Function, Alloc
 }
 
 /// The functions of the module.
-pub fn functions_of(rt: &(impl Abort + AllocGlobal)) -> Result<Arena<Function>, AllocError> {
+fn functions_of(rt: &(impl Abort + AllocGlobal)) -> Result<Arena<Function>, AllocError> {
     let mut functions = Arena::new(rt.alloc());
-    for statement in [
-        Some(Statement::Kill),
-        Some(Statement::ControlBarrier(Barrier::WORK_GROUP)),
-        None,
-    ] {
+    for statement in [Some(Statement::Kill), None] {
         let fun = callee(rt.alloc(), statement)?;
         assert!(rt; functions.len() < 16);
         functions.append(fun, NOWHERE)?;
@@ -291,41 +237,8 @@ pub fn functions_of(rt: &(impl Abort + AllocGlobal)) -> Result<Arena<Function>, 
     Ok(functions)
 }
 
-/// Global expressions 0 and 1, the overrides, and 2, a literal.
-fn global_expressions(rt: &(impl Abort + AllocGlobal)) -> Result<Arena<Expression>, AllocError> {
-    let literal = Literal {
-        scalar: Scalar::U32,
-        bits: 7,
-    };
-    let mut expressions = Arena::new(rt.alloc());
-    for expression in [
-        Expression::Override(Handle::new(0)),
-        Expression::Override(Handle::new(1)),
-        Expression::Literal(literal),
-    ] {
-        assert!(rt; expressions.len() < 16);
-        expressions.append(expression, NOWHERE)?;
-    }
-    Ok(expressions)
-}
-
-/// Two overrides of u32.
-fn overrides_of(rt: &(impl Abort + AllocGlobal)) -> Result<Arena<Override>, AllocError> {
-    let mut overrides = Arena::new(rt.alloc());
-    for ty in [U32, U32] {
-        assert!(rt; overrides.len() < 16);
-        overrides.append(
-            Override {
-                ty: Handle::new(ty),
-            },
-            NOWHERE,
-        )?;
-    }
-    Ok(overrides)
-}
-
 /// The info of each function, which may run at these stages.
-pub fn infos_of(alloc: Global, stages: [ShaderStages; 3]) -> Result<ModuleInfo, AllocError> {
+pub fn infos_of(alloc: Global, stages: [ShaderStages; 2]) -> Result<ModuleInfo, AllocError> {
     let mut infos = no_infos(alloc);
     for available_stages in stages {
         infos.functions.push(FunctionInfo {
@@ -347,18 +260,12 @@ fn module(rt: &(impl Abort + AllocGlobal)) -> Module {
     module.special_types = SpecialTypes {
         ray_desc: Some(Handle::new(COLOR)),
     };
-    module.overrides = made(rt, overrides_of(rt));
-    module.global_expressions = made(rt, global_expressions(rt));
     module
 }
 
 /// The module with all that is known of it: of its functions the stages with which they are judged.
 pub fn make_bench(rt: &(impl Abort + AllocGlobal)) -> Bench {
-    let stages = [
-        ShaderStages::FRAGMENT,
-        ShaderStages::COMPUTE_LIKE,
-        ShaderStages::ALL,
-    ];
+    let stages = [ShaderStages::FRAGMENT, ShaderStages::ALL];
     Bench {
         module: module(rt),
         types: made(rt, infos_of_types(rt)),

@@ -5,7 +5,7 @@ use crate::tests::bench::{
 };
 use crate::tests::faltering::Faltering;
 use crate::tests::judged::{layer, validator_over};
-use crate::tests::modules::{Parts, entered, fault_over, in_entry_point, of_a_kill};
+use crate::tests::modules::{Parts, beside_a_kill, fault_over, in_entry_point};
 use crate::tests::rows::{Row, alone, bad, expect_own, good, is_own, refusal_of};
 use crate::tests::shape::{Case, Step, at, at_compute, at_fragment, at_mesh};
 use naga_below::ir::module::ShaderStage;
@@ -26,7 +26,7 @@ const MANY: u32 = 24;
 fn falters_at(rt: &(impl Abort + AllocGlobal), bench: &Bench, row: &Row, refused: u32) -> bool {
     let calls = Cell::new(0);
     let below = Faltering {
-        plain: layer(rt.alloc(), &row.case),
+        plain: layer(),
         calls: &calls,
         refused,
     };
@@ -155,9 +155,9 @@ fn modules_over_a_layer_that_falters(rt: HostRuntime) -> Result<(), Fail> {
     let forbidden = EntryPointError::ForbiddenStageOperations;
     let call = Step::Call(0);
     for (parts, own) in [
-        (entered(of_a_kill(), at_fragment().doing(call), None), None),
+        (beside_a_kill(at_fragment().doing(call)), None),
         (
-            entered(of_a_kill(), at_compute().doing(call), None),
+            beside_a_kill(at_compute().doing(call)),
             in_entry_point(&rt, 0, forbidden),
         ),
     ] {

@@ -1,8 +1,8 @@
 //! An entry point from what it is like, and what is answered of it over the plain layer.
 
-use crate::tests::bench::{Bench, COLOR, made};
+use crate::tests::bench::{Bench, COLOR, FACE, OUTPUT, VERTEX, made};
 use crate::tests::parts::{HERE, NOWHERE, add, function_of};
-use crate::tests::shape::{Analysis, Case, Mesh, Part, Step};
+use crate::tests::shape::{Case, Part, Step};
 use naga_below::arena::Arena;
 use naga_below::arena::handle::Handle;
 use naga_below::fits::entry::fits_entry;
@@ -10,11 +10,11 @@ use naga_below::fits::function::fits_function;
 use naga_below::fits::types::fits_types;
 use naga_below::ir::expressions::Expression;
 use naga_below::ir::functions::{Function, FunctionArgument, FunctionResult};
-use naga_below::ir::module::{EarlyDepthTest, EntryPoint, MeshStageInfo};
+use naga_below::ir::module::{EntryPoint, MeshOutputTopology, MeshStageInfo};
 use naga_below::ir::operations::RayPipelineFunction;
 use naga_below::ir::statements::{Located, Statement};
 use naga_below::sequence::Sequence;
-use naga_below::span::{Refusal, WithSpan};
+use naga_below::span::Refusal;
 use naga_below::valid::info::FunctionInfo;
 use naga_layers::plain::Plain;
 use naga_rules::below::Below;
@@ -125,17 +125,17 @@ fn handle_of<T>(index: Option<u32>) -> Option<Handle<T>> {
     }
 }
 
-/// What is said of a mesh, of so many vertices.
-fn said(mesh: &Mesh, vertices: u32) -> MeshStageInfo {
+/// Triangles of three vertices, which is what the type of their output implies too.
+fn triangles() -> MeshStageInfo {
     MeshStageInfo {
-        topology: mesh.topology,
-        max_vertices: vertices,
-        max_vertices_override: handle_of(mesh.vertices_override),
+        topology: MeshOutputTopology::Triangles,
+        max_vertices: 3,
+        max_vertices_override: None,
         max_primitives: 1,
-        max_primitives_override: handle_of(mesh.primitives_override),
-        vertex_output_type: Handle::new(mesh.vertex),
-        primitive_output_type: Handle::new(mesh.primitive),
-        output_variable: Handle::new(mesh.output),
+        max_primitives_override: None,
+        vertex_output_type: Handle::new(VERTEX),
+        primitive_output_type: Handle::new(FACE),
+        output_variable: Handle::new(OUTPUT),
     }
 }
 
@@ -143,49 +143,30 @@ fn said(mesh: &Mesh, vertices: u32) -> MeshStageInfo {
 pub fn entry_point(rt: &(impl Abort + AllocGlobal), case: &Case) -> EntryPoint {
     EntryPoint {
         stage: case.stage,
-        early_depth_test: if case.tests_depth {
-            Some(EarlyDepthTest(0))
-        } else {
-            None
-        },
+        early_depth_test: None,
         workgroup_size: case.workgroup_size,
         function: function(rt, case),
-        mesh_info: match &case.mesh {
-            Some(mesh) => Some(said(mesh, 3)),
-            None => None,
+        mesh_info: if case.is_mesh {
+            Some(triangles())
+        } else {
+            None
         },
         task_payload: handle_of(case.payload),
     }
 }
 
-/// The plain layer, which implies of a mesh what its analysis says, and no override as a greatest number.
-pub fn layer(alloc: Global, case: &Case) -> Plain {
-    let Analysis {
-        vertices,
-        overrides,
-        fault,
-    } = case.analysis;
-    let Some(mesh) = case.mesh else {
-        return Plain::without_mesh_shaders();
-    };
-    let implied = Mesh {
-        vertices_override: None,
-        primitives_override: None,
-        ..mesh
-    };
+/// The plain layer, by which triangles are put out, and no override is a greatest number.
+pub fn layer() -> Plain {
     Plain::new(MeshAnalysis {
-        implied: said(&implied, vertices),
-        overrides: [handle_of(overrides[0]), handle_of(overrides[1])],
-        fault: match fault {
-            Some(fault) => Some(WithSpan::new(alloc, fault)),
-            None => None,
-        },
+        implied: triangles(),
+        overrides: [None, None],
+        fault: None,
     })
 }
 
 /// A validator for the entry point.
 pub fn validator(rt: &(impl Abort + AllocGlobal), bench: &Bench, case: &Case) -> Validator<Plain> {
-    validator_over(rt, bench, case, layer(rt.alloc(), case))
+    validator_over(rt, bench, case, layer())
 }
 
 /// The same over a lower layer.
@@ -258,30 +239,9 @@ pub fn fault_in(answer: Result<FunctionInfo, EntryPointError>) -> Option<EntryPo
     }
 }
 
-/// The fault of an entry point, if there is one.
-pub fn fault_of(
-    rt: &(impl Abort + AllocGlobal),
-    bench: &Bench,
-    case: &Case,
-) -> Option<EntryPointError> {
-    let mut validator = validator(rt, bench, case);
-    fault_in(answer_of(rt, &mut validator, bench, case))
-}
-
 /// An entry point is accepted.
 pub fn accepts(rt: &(impl Abort + AllocGlobal), bench: &Bench, case: &Case) {
-    let fault = fault_of(rt, bench, case);
+    let mut validator = validator(rt, bench, case);
+    let fault = fault_in(answer_of(rt, &mut validator, bench, case));
     assert!(rt; fault.is_none(), "refused: {fault:?}");
-}
-
-/// The entry point of a row is refused so.
-pub fn refuses(
-    rt: &(impl Abort + AllocGlobal),
-    bench: &Bench,
-    row: usize,
-    case: &Case,
-    fault: EntryPointError,
-) {
-    let found = fault_of(rt, bench, case);
-    assert!(rt; found == Some(fault), "row {row}: {found:?}");
 }

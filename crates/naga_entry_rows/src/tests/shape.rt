@@ -1,13 +1,12 @@
 //! What an entry point of the rows is like: numbers for what it names in the module of `bench`.
 
-use crate::tests::bench::{COLOR, COUNTS, FACE, OUTPUT, PAYLOAD, VERTEX};
+use crate::tests::bench::{COLOR, COUNTS, PAYLOAD};
 use crate::tests::parts::ALL_CHECKS;
 use naga_below::ir::built_in::BuiltIn;
-use naga_below::ir::module::{MeshOutputTopology, ShaderStage};
+use naga_below::ir::module::ShaderStage;
 use naga_below::ir::types::{Binding, Interpolation};
 use naga_below::valid::capabilities::Capabilities;
 use naga_below::valid::flags::ValidationFlags;
-use naga_rules::mesh::MeshFault;
 
 /// A type, and what it is bound to: an argument, a result, or a member of a struct.
 #[derive(Clone, Copy)]
@@ -29,52 +28,23 @@ pub enum Step {
     MisledRay,
 }
 
-/// What an entry point says of its mesh. The greatest numbers are 3 vertices and 1 primitive.
-#[derive(Clone, Copy)]
-pub struct Mesh {
-    pub topology: MeshOutputTopology,
-    pub vertices_override: Option<u32>,
-    pub primitives_override: Option<u32>,
-    pub vertex: u32,
-    pub primitive: u32,
-    pub output: u32,
-}
-
-/// What the lower layer says of the output variable of a mesh: how many vertices its type implies, which overrides, and
-/// what is wrong with it. All else is implied as the entry point says it.
-#[derive(Clone, Copy)]
-pub struct Analysis {
-    pub vertices: u32,
-    pub overrides: [Option<u32>; 2],
-    pub fault: Option<MeshFault>,
-}
-
 /// An entry point, whose function names these globals, and what it is judged over.
 #[derive(Clone, Copy)]
 pub struct Case {
     pub stage: ShaderStage,
-    pub tests_depth: bool,
     pub workgroup_size: [u32; 3],
-    pub mesh: Option<Mesh>,
+    /// Whether triangles are put out.
+    pub is_mesh: bool,
     pub payload: Option<u32>,
     pub globals: [Option<u32>; 2],
     pub body: [Option<Step>; 2],
     pub arguments: [Option<Part>; 2],
     pub declared: Option<Part>,
-    pub analysis: Analysis,
     pub capabilities: Capabilities,
     pub flags: ValidationFlags,
 }
 
 impl Case {
-    /// The same over a target without this.
-    pub fn lacking(self, capabilities: Capabilities) -> Case {
-        Case {
-            capabilities: Capabilities(Capabilities::ALL.0 & !capabilities.0),
-            ..self
-        }
-    }
-
     /// The same with a function that names these globals.
     pub fn naming(self, first: u32, second: u32) -> Case {
         Case {
@@ -114,14 +84,6 @@ impl Case {
             ..self
         }
     }
-
-    /// The same with this said of its mesh.
-    pub fn with_mesh(self, mesh: Mesh) -> Case {
-        Case {
-            mesh: Some(mesh),
-            ..self
-        }
-    }
 }
 
 /// An item that is bound to a built-in.
@@ -137,27 +99,8 @@ pub fn unbound(ty: u32) -> Part {
     Part { ty, binding: None }
 }
 
-/// An item at a location, interpolated so.
-pub fn at_location(ty: u32, location: u32, interpolation: Option<Interpolation>) -> Part {
-    Part {
-        ty,
-        binding: Some(Binding::Location {
-            location,
-            interpolation,
-            sampling: None,
-            blend_src: None,
-            per_primitive: false,
-        }),
-    }
-}
-
 /// An item at a location, interpolated with perspective.
 pub fn smooth(ty: u32, location: u32) -> Part {
-    at_location(ty, location, Some(Interpolation::Perspective))
-}
-
-/// An item at a location that goes by primitive.
-pub fn by_primitive(ty: u32, location: u32) -> Part {
     Part {
         ty,
         binding: Some(Binding::Location {
@@ -165,7 +108,7 @@ pub fn by_primitive(ty: u32, location: u32) -> Part {
             interpolation: Some(Interpolation::Perspective),
             sampling: None,
             blend_src: None,
-            per_primitive: true,
+            per_primitive: false,
         }),
     }
 }
@@ -179,26 +122,20 @@ pub fn position() -> Part {
 pub fn at(stage: ShaderStage) -> Case {
     Case {
         stage,
-        tests_depth: false,
         workgroup_size: [0, 0, 0],
-        mesh: None,
+        is_mesh: false,
         payload: None,
         globals: [None, None],
         body: [None, None],
         arguments: [None, None],
         declared: None,
-        analysis: Analysis {
-            vertices: 3,
-            overrides: [None, None],
-            fault: None,
-        },
         capabilities: Capabilities::ALL,
         flags: ALL_CHECKS,
     }
 }
 
 /// An entry point that does nothing, at a stage with work groups of one invocation.
-pub fn in_groups(stage: ShaderStage) -> Case {
+fn in_groups(stage: ShaderStage) -> Case {
     Case {
         workgroup_size: [1, 1, 1],
         ..at(stage)
@@ -225,19 +162,10 @@ pub fn at_task() -> Case {
         .giving(built_in(COUNTS, BuiltIn::MeshTaskSize))
 }
 
-/// Triangles, whose corners have positions.
-pub fn triangles() -> Mesh {
-    Mesh {
-        topology: MeshOutputTopology::Triangles,
-        vertices_override: None,
-        primitives_override: None,
-        vertex: VERTEX,
-        primitive: FACE,
-        output: OUTPUT,
-    }
-}
-
-/// A mesh entry point of triangles.
+/// A mesh entry point of triangles, whose corners have positions.
 pub fn at_mesh() -> Case {
-    in_groups(ShaderStage::Mesh).with_mesh(triangles())
+    Case {
+        is_mesh: true,
+        ..in_groups(ShaderStage::Mesh)
+    }
 }

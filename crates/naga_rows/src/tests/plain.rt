@@ -1,23 +1,19 @@
-//! The plain layer by itself, and the validator over it where no bench shows it.
+//! The plain layer by itself.
 
-use crate::tests::bodies::{
-    Answer, EVERYTHING, HERE, add, expect, function_of, judge, module_of, no_infos, validator_for,
-};
+use crate::tests::bodies::{HERE, function_of, module_of, no_infos};
 use bitflags::Flags;
 use naga_below::arena::Arena;
 use naga_below::arena::handle::Handle;
 use naga_below::arena::unique_arena::UniqueArena;
 use naga_below::ir::expressions::{Expression, Literal};
 use naga_below::ir::flags::MemoryDecorations;
-use naga_below::ir::functions::{Function, FunctionResult};
+use naga_below::ir::functions::Function;
 use naga_below::ir::module::{GlobalVariable, Module};
-use naga_below::ir::statements::{Located, Statement};
 use naga_below::ir::types::{AddressSpace, ArraySize, Scalar, Type, TypeInner, VectorSize};
 use naga_below::proc::typifier::TypeResolution;
 use naga_below::sequence::Sequence;
-use naga_below::span::{Refusal, Span};
+use naga_below::span::Refusal;
 use naga_below::valid::capabilities::Capabilities;
-use naga_below::valid::expression_error::ExpressionError;
 use naga_below::valid::flags::{GlobalUse, ShaderStages, ValidationFlags};
 use naga_below::valid::info::FunctionInfo;
 use naga_layers::plain::Plain;
@@ -50,80 +46,13 @@ const LITERAL: Expression = Expression::Literal(Literal {
     bits: 7,
 });
 
-/// A body that returns the literal where it returns something.
-fn body_of(alloc: Global, returns: bool) -> Result<Sequence<Located>, AllocError> {
-    let value = if returns { Some(Handle::new(0)) } else { None };
-    let mut list = Sequence::new(alloc);
-    add(&mut list, Statement::Return { value }, HERE)?;
-    Ok(list)
-}
-
-/// A function of this expression and a u32 literal before it, which returns the literal where a type is declared.
-fn function(
-    alloc: Global,
-    second: Expression,
-    declared: Option<u32>,
-) -> Result<Function, AllocError> {
+/// A function of this expression and a u32 literal before it.
+fn function(alloc: Global, second: Expression) -> Result<Function, AllocError> {
     let mut expressions = Arena::new(alloc);
     expressions.append(LITERAL, HERE)?;
     expressions.append(second, HERE)?;
-    let list = body_of(alloc, declared.is_some())?;
-    let mut fun = function_of(alloc, Arena::new(alloc), expressions, list);
-    if let Some(ty) = declared {
-        fun.result = Some(FunctionResult {
-            ty: Handle::new(ty),
-            binding: None,
-        });
-    }
-    Ok(fun)
-}
-
-/// A function has the expected answer in a module of scalars, a fault at this place.
-fn expect_of(
-    rt: &(impl Abort + AllocGlobal),
-    fun: &Function,
-    place: Option<Span>,
-    expected: Answer,
-) -> Result<(), AllocError> {
-    let module = scalars_module(rt.alloc())?;
-    let infos = no_infos(rt.alloc());
-    let mut validator = validator_for(rt, EVERYTHING, &module);
-    let answer = judge(rt, &mut validator, fun, &module, &infos, place);
-    expect(rt, answer, expected);
-    Ok(())
-}
-
-#[test]
-fn a_returned_literal_has_the_declared_type(rt: HostRuntime) -> Result<(), Fail> {
-    let fun = function(rt.alloc(), LITERAL, Some(1))?;
-    expect_of(&rt, &fun, None, Ok(ShaderStages::ALL))?;
-    Ok(())
-}
-
-#[test]
-fn a_returned_literal_has_another_type(rt: HostRuntime) -> Result<(), Fail> {
-    let fun = function(rt.alloc(), LITERAL, Some(2))?;
-    let declared = FunctionError::InvalidReturnType {
-        expression: Some(Handle::new(0)),
-        expected_ty: Some(Handle::new(2)),
-    };
-    expect_of(&rt, &fun, Some(HERE), Err(declared))?;
-    Ok(())
-}
-
-#[test]
-fn a_splat_has_no_type(rt: HostRuntime) -> Result<(), Fail> {
-    let splat = Expression::Splat {
-        operands: Sequence::new(rt.alloc()),
-        detail: 0,
-    };
-    let fun = function(rt.alloc(), splat, None)?;
-    let untyped = FunctionError::Expression {
-        handle: Handle::new(1),
-        source: ExpressionError::Lower(1),
-    };
-    expect_of(&rt, &fun, None, Err(untyped))?;
-    Ok(())
+    let list = Sequence::new(alloc);
+    Ok(function_of(alloc, Arena::new(alloc), expressions, list))
 }
 
 /// What the plain layer answers to a function, with no other before it.
@@ -174,7 +103,7 @@ fn type_of(
     module: &Module,
     expression: Expression,
 ) -> Result<Option<TypeResolution>, Fail> {
-    let fun = function(alloc, expression, None)?;
+    let fun = function(alloc, expression)?;
     match info_of(alloc, &fun, module) {
         Some(info) => type_in(alloc, &info, 1),
         None => Ok(None),
@@ -252,7 +181,7 @@ fn info_with_globals(alloc: Global, fun: &Function) -> Result<Option<FunctionInf
 #[test]
 fn a_global_is_read_and_stands_for_a_pointer(rt: HostRuntime) -> Result<(), Fail> {
     let alloc = rt.alloc();
-    let fun = function(alloc, Expression::GlobalVariable(Handle::new(1)), None)?;
+    let fun = function(alloc, Expression::GlobalVariable(Handle::new(1)))?;
     let Some(info) = info_with_globals(alloc, &fun)? else {
         panic!(rt; "refused");
     };
