@@ -1,4 +1,4 @@
-use Rattle.naga_document.specs.Failures.{IsUnreadable}
+use Rattle.naga_from_json.specs.Failures.{IsUnreadable}
 use Rattle.naga_verdict.proofs.judge.judge.Goals as goal
 
 pub returns-in-Err-Unreadable : goal.returns-in-Err-Unreadable
