@@ -1,6 +1,6 @@
 -- The info of a function after one more use of a global.
 use Rattle.std.specs.Prelude.{ℕ, slice_get, slice_set, bit_or, Option, None, Some}
-use Rattle.naga_below.specs.declared.valid.flags.GlobalUse.{GlobalUse}
+use Rattle.naga_flags.specs.declared.valid.GlobalUse.{GlobalUse}
 use Rattle.naga_below.specs.declared.valid.info.FunctionInfo.{FunctionInfo}
 
 -- the uses of a global, with one more joined in

@@ -1,6 +1,5 @@
 pub mod Tree
 pub mod Points
-pub mod Bits
 pub mod View
 pub mod Blocks
 pub mod Empty

@@ -1,10 +1,10 @@
 -- Which group of subgroup operations a statement requires of the target.
-use Rattle.naga_below.specs.Bits as bit
+use Rattle.naga_flags.specs.Bits as bit
 use Rattle.naga_below.specs.declared.ir.operations.SubgroupOperation.{SubgroupOperation}
 use Rattle.naga_below.specs.declared.ir.operations.SubgroupOperation.TheVariants as op
 use Rattle.naga_below.specs.declared.ir.operations.GatherMode.{GatherMode}
 use Rattle.naga_below.specs.declared.ir.operations.GatherMode.TheVariants as mode
-use Rattle.naga_below.specs.declared.valid.flags.SubgroupOperationSet.{SubgroupOperationSet}
+use Rattle.naga_flags.specs.declared.valid.SubgroupOperationSet.{SubgroupOperationSet}
 
 -- of a collective operation
 abbrev pub operation_group : SubgroupOperation → SubgroupOperationSet

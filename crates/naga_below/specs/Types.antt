@@ -2,7 +2,7 @@
 use Rattle.std.specs.Prelude.{ℕ, ◌<◌, ◌≡◌, List, [], ◌∷◌, Option, None, Some, All, ⊤, length, slice_get, unwrap_or, codes}
 use Rattle.std.specs.Int.RustNames.{bit_or}
 use Rattle.std.specs.Option.{option_map}
-use Rattle.naga_below.specs.Bits.{LOAD, STORE}
+use Rattle.naga_flags.specs.Bits.{LOAD, STORE}
 use Rattle.naga_below.specs.declared.ir.types.ScalarKind.{ScalarKind}
 use Rattle.naga_below.specs.declared.ir.types.ScalarKind.TheVariants.{Sint, Uint, Bool}
 use Rattle.naga_below.specs.declared.ir.types.Scalar.{Scalar}
@@ -16,7 +16,7 @@ use Rattle.naga_below.specs.declared.ir.types.StructMember.{StructMember}
 use Rattle.naga_below.specs.declared.ir.types.TypeInner.{TypeInner}
 use Rattle.naga_below.specs.declared.ir.types.TypeInner.TheVariants as inner
 use Rattle.naga_below.specs.declared.ir.types.Type.{«Type» as IrType}
-use Rattle.naga_below.specs.declared.ir.flags.StorageAccess.{StorageAccess}
+use Rattle.naga_flags.specs.declared.ir.StorageAccess.{StorageAccess}
 use Rattle.naga_below.specs.declared.proc.typifier.TypeResolution.{TypeResolution}
 use Rattle.naga_below.specs.declared.proc.typifier.TypeResolution.TheVariants.{Handle, Value}
 

@@ -2,7 +2,6 @@
 
 pub mod built_in;
 pub mod expressions;
-pub mod flags;
 pub mod functions;
 pub mod module;
 pub mod name;

@@ -5,11 +5,9 @@
 
 pub mod arena;
 pub mod duplicate;
-pub mod fits;
 pub mod ir;
 pub mod proc;
 pub mod sequence;
-mod set_text;
 pub mod span;
 pub mod valid;
 
@@ -18,13 +16,8 @@ pub use crate::arena::range::Range;
 pub use crate::arena::unique_arena::{Identical, UniqueArena};
 pub use crate::arena::{Arena, tag};
 pub use crate::duplicate::Duplicate;
-pub use crate::fits::entry::fits_entry;
-pub use crate::fits::function::fits_function;
-pub use crate::fits::globals::fits_globals;
-pub use crate::fits::types::{fits_types, names_types_below};
 pub use crate::ir::built_in::BuiltIn;
 pub use crate::ir::expressions::{Expression, Literal, Operands};
-pub use crate::ir::flags::{Barrier, MemoryDecorations, StorageAccess};
 pub use crate::ir::functions::{Function, FunctionArgument, FunctionResult, LocalVariable};
 pub use crate::ir::module::{
     Constant, EarlyDepthTest, EntryPoint, GlobalVariable, MeshOutputTopology, MeshStageInfo,
@@ -46,11 +39,12 @@ pub use crate::proc::type_methods::{compare_types, type_tests_law};
 pub use crate::proc::typifier::TypeResolution;
 pub use crate::sequence::Sequence;
 pub use crate::span::{Refusal, Span, WithSpan};
-pub use crate::valid::capabilities::Capabilities;
 pub use crate::valid::expression_error::ExpressionError;
-pub use crate::valid::flags::{
-    GlobalUse, ShaderStages, SubgroupOperationSet, TypeFlags, ValidationFlags,
-};
 pub use crate::valid::info::{FunctionInfo, ModuleInfo};
 pub use crate::valid::settings::Settings;
 pub use crate::valid::types::{Disalignment, ImmediateError, TypeInfo};
+pub use naga_flags::capabilities::Capabilities;
+pub use naga_flags::ir::{Barrier, MemoryDecorations, StorageAccess};
+pub use naga_flags::valid::{
+    GlobalUse, ShaderStages, SubgroupOperationSet, TypeFlags, ValidationFlags,
+};

@@ -1,8 +1,6 @@
 //! What validation goes by and what it finds: flags, capabilities, settings, and the infos of types and functions.
 
-pub mod capabilities;
 pub mod expression_error;
-pub mod flags;
 pub mod info;
 pub mod settings;
 pub mod subgroups;

@@ -58,23 +58,69 @@ pub struct Made {
     pub body: Block,
 }
 
+impl Made {
+    /// The three expressions that each body has, and no statement.
+    fn shared(alloc: Global) -> Result<Made, AllocError> {
+        let mut made = Made {
+            expressions: Arena::new(alloc),
+            body: Block::new(alloc),
+        };
+        append(&mut made.expressions, literal(Scalar::BOOL))?;
+        append(&mut made.expressions, literal(Scalar::U32))?;
+        append(
+            &mut made.expressions,
+            Expression::LocalVariable(Handle::new(0)),
+        )?;
+        Ok(made)
+    }
+
+    fn load(&mut self) -> Result<(), AllocError> {
+        let pointer = Handle::new(2);
+        append(&mut self.expressions, Expression::Load { pointer })
+    }
+
+    fn call_result(&mut self) -> Result<(), AllocError> {
+        append(
+            &mut self.expressions,
+            Expression::CallResult(Handle::new(0)),
+        )
+    }
+
+    /// A Load, a Unary of it, and the result of a call.
+    fn mixed(&mut self, alloc: Global, first: u32) -> Result<(), AllocError> {
+        self.load()?;
+        append(&mut self.expressions, unary(alloc, first)?)?;
+        self.call_result()
+    }
+
+    fn push(&mut self, statement: Statement) -> Result<(), AllocError> {
+        push(&mut self.body, statement)
+    }
+}
+
 /// The expressions and the body of a shape.
 pub fn make(alloc: Global, shape: Shape) -> Result<Made, AllocError> {
+    let mut made = Made::shared(alloc)?;
+    fill(alloc, &mut made, shape)?;
+    Ok(made)
+}
+
+fn fill(alloc: Global, made: &mut Made, shape: Shape) -> Result<(), AllocError> {
     match shape {
-        Shape::Emits(count) => emits(alloc, count),
-        Shape::Stores(count) => stores(alloc, count),
-        Shape::Calls(count) => calls(alloc, count),
-        Shape::Mix(count) => mix(alloc, count),
+        Shape::Emits(count) => emits(made, count),
+        Shape::Stores(count) => put_stores(&mut made.body, count),
+        Shape::Calls(count) => calls(alloc, made, count),
+        Shape::Mix(count) => mix(alloc, made, count),
         Shape::Nest {
             holder,
             depth,
             width,
-        } => nest(alloc, holder, depth, width),
-        Shape::Own { blocks, loads } => own_blocks(alloc, blocks, loads),
-        Shape::Blocks { blocks, stores } => blocks_of_stores(alloc, blocks, stores),
-        Shape::Switch(count) => switch(alloc, count, 1),
-        Shape::Scattered(count) => switch(alloc, count, SCATTER),
-        Shape::Whole(count) => whole(alloc, count),
+        } => nest(alloc, made, holder, depth, width),
+        Shape::Own { blocks, loads } => own_blocks(alloc, made, blocks, loads),
+        Shape::Blocks { blocks, stores } => blocks_of_stores(alloc, made, blocks, stores),
+        Shape::Switch(count) => switch(alloc, made, count, 1),
+        Shape::Scattered(count) => switch(alloc, made, count, SCATTER),
+        Shape::Whole(count) => whole(alloc, made, count),
     }
 }
 
@@ -94,22 +140,13 @@ fn literal(scalar: Scalar) -> Expression {
     Expression::Literal(Literal { scalar, bits: 1 })
 }
 
-/// The three expressions that each body has.
-fn shared(alloc: Global) -> Result<Arena<Expression>, AllocError> {
-    let mut expressions = Arena::new(alloc);
-    append(&mut expressions, literal(Scalar::BOOL))?;
-    append(&mut expressions, literal(Scalar::U32))?;
-    append(&mut expressions, Expression::LocalVariable(Handle::new(0)))?;
-    Ok(expressions)
-}
-
-fn load(expressions: &mut Arena<Expression>) -> Result<(), AllocError> {
-    let pointer = Handle::new(2);
-    append(expressions, Expression::Load { pointer })
-}
-
-fn call_result(expressions: &mut Arena<Expression>) -> Result<(), AllocError> {
-    append(expressions, Expression::CallResult(Handle::new(0)))
+fn unary(alloc: Global, operand: u32) -> Result<Expression, AllocError> {
+    let mut operands: Operands = Sequence::new(alloc);
+    operands.push(Handle::new(operand))?;
+    Ok(Expression::Unary {
+        operands,
+        detail: 0,
+    })
 }
 
 fn push(block: &mut Block, statement: Statement) -> Result<(), AllocError> {
@@ -136,80 +173,40 @@ fn call(alloc: Global, index: u32) -> Statement {
     }
 }
 
-fn emits(alloc: Global, count: u32) -> Result<Made, AllocError> {
-    let mut expressions = shared(alloc)?;
-    let mut body = Block::new(alloc);
+fn emits(made: &mut Made, count: u32) -> Result<(), AllocError> {
     for index in 0..count {
-        load(&mut expressions)?;
-        push(&mut body, emit(index.wrapping_add(3), 1))?;
+        made.load()?;
+        made.push(emit(index.wrapping_add(3), 1))?;
     }
-    Ok(Made { expressions, body })
+    Ok(())
 }
 
-fn list_of_stores(alloc: Global, count: u32) -> Result<Block, AllocError> {
-    let mut list = Block::new(alloc);
-    for _ in 0..count {
-        push(&mut list, store(Handle::new(1)))?;
-    }
-    Ok(list)
-}
-
-fn stores(alloc: Global, count: u32) -> Result<Made, AllocError> {
-    let expressions = shared(alloc)?;
-    let body = list_of_stores(alloc, count)?;
-    Ok(Made { expressions, body })
-}
-
-fn calls(alloc: Global, count: u32) -> Result<Made, AllocError> {
-    let mut expressions = shared(alloc)?;
-    let mut body = Block::new(alloc);
+fn calls(alloc: Global, made: &mut Made, count: u32) -> Result<(), AllocError> {
     for index in 0..count {
-        call_result(&mut expressions)?;
-        push(&mut body, call(alloc, index.wrapping_add(3)))?;
+        made.call_result()?;
+        made.push(call(alloc, index.wrapping_add(3)))?;
     }
-    Ok(Made { expressions, body })
+    Ok(())
 }
 
 /// A mixed body, and a Return of the `u32` behind it.
-fn whole(alloc: Global, count: u32) -> Result<Made, AllocError> {
-    let mut made = mix(alloc, count)?;
+fn whole(alloc: Global, made: &mut Made, count: u32) -> Result<(), AllocError> {
+    mix(alloc, made, count)?;
     let value = Some(Handle::new(1));
-    push(&mut made.body, Statement::Return { value })?;
-    Ok(made)
+    made.push(Statement::Return { value })
 }
 
-/// A Load, a Unary of it, and the result of a call.
-fn mixed_expressions(
-    alloc: Global,
-    expressions: &mut Arena<Expression>,
-    first: u32,
-) -> Result<(), AllocError> {
-    load(expressions)?;
-    let mut operands: Operands = Sequence::new(alloc);
-    operands.push(Handle::new(first))?;
-    append(
-        expressions,
-        Expression::Unary {
-            operands,
-            detail: 0,
-        },
-    )?;
-    call_result(expressions)
-}
-
-fn mix(alloc: Global, count: u32) -> Result<Made, AllocError> {
-    let mut expressions = shared(alloc)?;
-    let mut body = Block::new(alloc);
+fn mix(alloc: Global, made: &mut Made, count: u32) -> Result<(), AllocError> {
     for index in 0..count / 4 {
         let first = index.wrapping_mul(3).wrapping_add(3);
         let third = first.wrapping_add(2);
-        mixed_expressions(alloc, &mut expressions, first)?;
-        push(&mut body, emit(first, 2))?;
-        push(&mut body, store(Handle::new(first.wrapping_add(1))))?;
-        push(&mut body, call(alloc, third))?;
-        push(&mut body, store(Handle::new(third)))?;
+        made.mixed(alloc, first)?;
+        made.push(emit(first, 2))?;
+        made.push(store(Handle::new(first.wrapping_add(1))))?;
+        made.push(call(alloc, third))?;
+        made.push(store(Handle::new(third)))?;
     }
-    Ok(Made { expressions, body })
+    Ok(())
 }
 
 fn hold(alloc: Global, holder: Holder, level: u32, list: Block) -> Statement {
@@ -229,13 +226,12 @@ fn hold(alloc: Global, holder: Holder, level: u32, list: Block) -> Statement {
 }
 
 /// The Emits of a level.
-fn level_of(alloc: Global, level: u32, width: u32) -> Result<Block, AllocError> {
-    let mut list = Block::new(alloc);
+fn put_emits(list: &mut Block, level: u32, width: u32) -> Result<(), AllocError> {
     for index in 0..width {
         let place = level.wrapping_mul(width).wrapping_add(index);
-        push(&mut list, emit(place.wrapping_add(3), 1))?;
+        push(list, emit(place.wrapping_add(3), 1))?;
     }
-    Ok(list)
+    Ok(())
 }
 
 fn put_stores(list: &mut Block, count: u32) -> Result<(), AllocError> {
@@ -245,46 +241,72 @@ fn put_stores(list: &mut Block, count: u32) -> Result<(), AllocError> {
     Ok(())
 }
 
-fn nest(alloc: Global, holder: Holder, depth: u32, width: u32) -> Result<Made, AllocError> {
-    let mut expressions = shared(alloc)?;
-    for _ in 0..depth.wrapping_add(1).wrapping_mul(width) {
-        load(&mut expressions)?;
-    }
-    let mut body = level_of(alloc, depth, width)?;
-    put_stores(&mut body, width)?;
-    for from_inside in 0..depth {
-        let level = depth.wrapping_sub(from_inside).wrapping_sub(1);
-        let mut list = level_of(alloc, level, width)?;
-        push(&mut list, hold(alloc, holder, level, body))?;
-        put_stores(&mut list, width)?;
-        body = list;
-    }
-    Ok(Made { expressions, body })
+fn list_of_stores(alloc: Global, count: u32) -> Result<Block, AllocError> {
+    let mut list = Block::new(alloc);
+    put_stores(&mut list, count)?;
+    Ok(list)
 }
 
-fn own_blocks(alloc: Global, blocks: u32, loads: u32) -> Result<Made, AllocError> {
-    let mut expressions = shared(alloc)?;
-    let mut body = Block::new(alloc);
+/// The list of a level, which holds what lies within it.
+fn level_of(alloc: Global, level: u32, width: u32, inner: Statement) -> Result<Block, AllocError> {
+    let mut list = Block::new(alloc);
+    put_emits(&mut list, level, width)?;
+    push(&mut list, inner)?;
+    put_stores(&mut list, width)?;
+    Ok(list)
+}
+
+fn nest(
+    alloc: Global,
+    made: &mut Made,
+    holder: Holder,
+    depth: u32,
+    width: u32,
+) -> Result<(), AllocError> {
+    for _ in 0..depth.wrapping_add(1).wrapping_mul(width) {
+        made.load()?;
+    }
+    let mut list = Block::new(alloc);
+    put_emits(&mut list, depth, width)?;
+    put_stores(&mut list, width)?;
+    for from_inside in 0..depth {
+        let level = depth.wrapping_sub(from_inside).wrapping_sub(1);
+        let inner = hold(alloc, holder, level, list);
+        list = level_of(alloc, level, width, inner)?;
+    }
+    made.body = list;
+    Ok(())
+}
+
+/// A list of an Emit and a Store.
+fn own_block(alloc: Global, first: u32, loads: u32) -> Result<Block, AllocError> {
+    let mut list = Block::new(alloc);
+    push(&mut list, emit(first, loads))?;
+    push(&mut list, store(Handle::new(first)))?;
+    Ok(list)
+}
+
+fn own_blocks(alloc: Global, made: &mut Made, blocks: u32, loads: u32) -> Result<(), AllocError> {
     for index in 0..blocks {
         let first = index.wrapping_mul(loads).wrapping_add(3);
         for _ in 0..loads {
-            load(&mut expressions)?;
+            made.load()?;
         }
-        let mut list = Block::new(alloc);
-        push(&mut list, emit(first, loads))?;
-        push(&mut list, store(Handle::new(first)))?;
-        push(&mut body, Statement::Block(list))?;
+        made.push(Statement::Block(own_block(alloc, first, loads)?))?;
     }
-    Ok(Made { expressions, body })
+    Ok(())
 }
 
-fn blocks_of_stores(alloc: Global, blocks: u32, count: u32) -> Result<Made, AllocError> {
-    let expressions = shared(alloc)?;
-    let mut body = Block::new(alloc);
+fn blocks_of_stores(
+    alloc: Global,
+    made: &mut Made,
+    blocks: u32,
+    count: u32,
+) -> Result<(), AllocError> {
     for _ in 0..blocks {
-        push(&mut body, Statement::Block(list_of_stores(alloc, count)?))?;
+        made.push(Statement::Block(list_of_stores(alloc, count)?))?;
     }
-    Ok(Made { expressions, body })
+    Ok(())
 }
 
 fn case_of(alloc: Global, value: SwitchValue) -> Result<SwitchCase, AllocError> {
@@ -299,16 +321,18 @@ fn case_of(alloc: Global, value: SwitchValue) -> Result<SwitchCase, AllocError> 
 /// By what the values of a Switch in no order are multiplied: odd, so that no two are the same.
 const SCATTER: u32 = 2654435761;
 
-fn switch(alloc: Global, count: u32, factor: u32) -> Result<Made, AllocError> {
-    let expressions = shared(alloc)?;
+fn cases(alloc: Global, count: u32, factor: u32) -> Result<Sequence<SwitchCase>, AllocError> {
     let mut cases = Sequence::new(alloc);
     for index in 0..count {
         let value = SwitchValue::U32(index.wrapping_mul(factor));
         cases.push(case_of(alloc, value)?)?;
     }
     cases.push(case_of(alloc, SwitchValue::Default)?)?;
-    let mut body = Block::new(alloc);
+    Ok(cases)
+}
+
+fn switch(alloc: Global, made: &mut Made, count: u32, factor: u32) -> Result<(), AllocError> {
+    let cases = cases(alloc, count, factor)?;
     let selector = Handle::new(1);
-    push(&mut body, Statement::Switch { selector, cases })?;
-    Ok(Made { expressions, body })
+    made.push(Statement::Switch { selector, cases })
 }

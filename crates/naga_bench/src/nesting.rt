@@ -4,7 +4,8 @@
 use crate::bodies::{Holder, Shape};
 use crate::infos_of_first;
 use crate::modules::module;
-use naga_below::{Module, ModuleInfo, fits_function, fits_types};
+use naga_below::{Module, ModuleInfo};
+use naga_fits::{fits_function, fits_types};
 use naga_module::Plain;
 use naga_valid::Validator;
 use std::io;

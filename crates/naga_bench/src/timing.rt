@@ -2,8 +2,9 @@
 
 use naga_below::{
     Capabilities, EntryPoint, Function, Module, ModuleInfo, ShaderStages, SubgroupOperationSet,
-    TypeFlags, TypeInfo, ValidationFlags, fits_entry, fits_function, fits_types,
+    TypeFlags, TypeInfo, ValidationFlags,
 };
+use naga_fits::{fits_entry, fits_function, fits_types};
 use naga_module::Plain;
 use naga_rules::Below;
 use naga_valid::Validator;

@@ -5,11 +5,11 @@ use Rattle.std.proofs.Math.Seq.{take-append-add}
 use Rattle.std.specs.Prelude.{IfSome, slice_get}
 use Rattle.std.specs.Io.KnownBytes.{Appends}
 use Rattle.naga_below.specs.declared.ir.module.Module.{Module}
-use Rattle.naga_below.specs.declared.valid.flags.ShaderStages.{ShaderStages}
+use Rattle.naga_flags.specs.declared.valid.ShaderStages.{ShaderStages}
 use Rattle.naga_below.specs.declared.valid.info.FunctionInfo.{FunctionInfo}
 use Rattle.naga_below.specs.declared.valid.info.ModuleInfo.{ModuleInfo}
 use Rattle.naga_rules.specs.declared.function.FunctionError.{FunctionError}
-use Rattle.naga_below.specs.Bits.{NO_STAGE}
+use Rattle.naga_flags.specs.Bits.{NO_STAGE}
 use Rattle.naga_case.specs.BenchModule.{bench_module}
 use Rattle.naga_case.specs.Judged.{IsPlainAnswer, IsJudgementOf, module_of, settings_of, stages_of_last}
 use Rattle.naga_case.specs.Line.{Replies, IsDue, Writes, IsLine, IsLineOf, reply_line, reply_status}

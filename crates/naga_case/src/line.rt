@@ -9,7 +9,7 @@ use crate::faults::{call_name, expression_name, fault_handle, fault_name};
 use bitflags::Flags;
 use naga_below::arena::handle::Handle;
 use naga_below::arena::tag;
-use naga_below::valid::flags::ShaderStages;
+use naga_flags::valid::ShaderStages;
 use naga_rules::function::FunctionError;
 use std::io;
 use std::io::Write;

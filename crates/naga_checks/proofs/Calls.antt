@@ -19,14 +19,14 @@ use Rattle.naga_below.specs.declared.span.Refusal.{Refusal}
 use Rattle.naga_rules.specs.declared.function.FunctionError.{FunctionError}
 use Rattle.naga_runs.specs.Soundness.{Fit}
 use Rattle.naga_checks.specs.checks.Call.{arguments_of, has_result, is_passed_as, passed_points, passed_points_from, all_passed_points, is_call_result_of, call_result_points, callee_points, call_points}
-use Rattle.naga_checks.specs.Context.{Context}
+use Rattle.naga_context.specs.Context.{Context}
 use Rattle.naga_runs.specs.PutsAndUses.{puts_of}
-use Rattle.naga_checks.specs.Points.{Points, may_use, is_in_scope}
+use Rattle.naga_context.specs.Points.{Points, may_use, is_in_scope}
 use Rattle.naga_rules.specs.Answers.{AnswersPoints}
-use Rattle.naga_checks.specs.checks.Results.{is_fresh}
-use Rattle.naga_checks.specs.Types.{expression_at}
+use Rattle.naga_context.specs.Results.{is_fresh}
+use Rattle.naga_context.specs.Types.{expression_at}
 use Rattle.naga_checks.proofs.Lists.{within-append}
-use Rattle.naga_checks.proofs.Refusals.{refuses_first, refuses_second}
+use Rattle.naga_context.proofs.Refusals.{refuses_first, refuses_second}
 
 -- a point whose fault stands inside another fails where it does
 within_none : {Inner Outer : Type 0} (o : Option Inner) (f : Inner → Outer) → option_map f o ≡ None → o ≡ None

@@ -18,20 +18,20 @@ use Rattle.naga_below.specs.declared.ir.expressions.Expression.{Expression}
 use Rattle.naga_runs.specs.Handles.{Handles, with_handle}
 use Rattle.naga_runs.specs.PutsAndUses.{puts_of}
 use Rattle.naga_runs.specs.Visits.{Place}
-use Rattle.naga_checks.specs.Blocks.{emitted_operands, operands_if}
-use Rattle.naga_checks.specs.Context.{Context}
-use Rattle.naga_checks.specs.Points.{Points, use_point, put_point, may_use, is_in_scope}
+use Rattle.naga_context.specs.Blocks.{emitted_operands, operands_if}
+use Rattle.naga_context.specs.Context.{Context}
+use Rattle.naga_context.specs.Points.{Points, use_point, put_point, may_use, is_in_scope}
 use Rattle.naga_checks.specs.checks.Control.{within_emit, emitted_points, emit_points_from, emit_points}
-use Rattle.naga_checks.specs.checks.Results.{is_result}
-use Rattle.naga_checks.specs.Types.{expression_at}
-use Rattle.naga_checks.specs.walk.Answers.{IsRefusalFor}
+use Rattle.naga_context.specs.Results.{is_result}
+use Rattle.naga_context.specs.Types.{expression_at}
+use Rattle.naga_context.specs.walk.Answers.{IsRefusalFor}
 use Rattle.naga_rules.specs.Answers.{IsFirstFault}
-use Rattle.naga_checks.specs.walk.Place.{Sets, place_at}
-use Rattle.naga_checks.specs.walk.Table.{with_all, with_puts}
+use Rattle.naga_context.specs.walk.Place.{Sets, place_at}
+use Rattle.naga_context.specs.walk.Table.{with_all, with_puts}
 use Rattle.naga_checks.specs.walk.Walk.{handles_from, handles_between}
 use Rattle.naga_checks.proofs.Calls.{call_puts}
 use Rattle.naga_checks.proofs.Lists.{in_scope_before}
-use Rattle.naga_checks.proofs.Refusals.{first_refused, refuses_fault}
+use Rattle.naga_context.proofs.Refusals.{first_refused, refuses_fault}
 
 or_true : (b : Bool) → (b || true) ≡ true
 or_true true = refl

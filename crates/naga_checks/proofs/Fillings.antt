@@ -2,17 +2,17 @@
 use Rattle.std.proofs.Common.{◌≡◌, ℕ, suc, ◌+◌, ◌-◌, ◌<◌, ◌≤◌, ◌==◌, Bool, true, false, not, ◌&&◌, ◌||◌, List, [], ◌∷◌, ◌++◌, Option, None, Some, cond, refl, sym, ap, ◌∙◌, arith}
 use Rattle.std.specs.Prelude.{if◌then◌else◌}
 use Rattle.std.proofs.lemmas.List.Folds.{list_any-append}
-use Rattle.naga_below.specs.declared.valid.flags.ShaderStages.{ShaderStages}
+use Rattle.naga_flags.specs.declared.valid.ShaderStages.{ShaderStages}
 use Rattle.naga_rules.specs.declared.function.FunctionError.{FunctionError}
 use Rattle.naga_rules.specs.declared.function.FunctionError.TheVariants.{UnvisitedExpression}
 use Rattle.naga_below.proofs.Points.{not_holds}
 use Rattle.naga_runs.specs.Handles.{Handles}
 use Rattle.naga_below.specs.Points.{first_fault}
 use Rattle.naga_runs.specs.Visits.{Visit}
-use Rattle.naga_checks.specs.Context.{Context}
-use Rattle.naga_checks.specs.WhatIsChecked.{checks_expressions}
-use Rattle.naga_checks.specs.Types.{expression_at}
-use Rattle.naga_checks.specs.checks.Results.{result_of, is_this, fills, is_to_fill, is_fresh, filled_before, is_unfilled, filled_points_from}
+use Rattle.naga_context.specs.Context.{Context}
+use Rattle.naga_context.specs.WhatIsChecked.{checks_expressions}
+use Rattle.naga_context.specs.Types.{expression_at}
+use Rattle.naga_context.specs.Results.{result_of, is_this, fills, is_to_fill, is_fresh, filled_before, is_unfilled, filled_points_from}
 use Rattle.naga_checks.specs.Rules.{stages_behind, stages_left}
 use Rattle.naga_checks.specs.walk.State.{with_result}
 

@@ -11,12 +11,12 @@ use Rattle.naga_below.specs.Points.{Point, within}
 use Rattle.naga_runs.specs.Handles.{Handles, with_handle}
 use Rattle.naga_below.specs.View.{list_cases}
 use Rattle.naga_runs.specs.Visits.{Place}
-use Rattle.naga_checks.specs.Blocks.{case_list}
-use Rattle.naga_checks.specs.Context.{Context}
-use Rattle.naga_checks.specs.Points.{Points, use_point}
-use Rattle.naga_checks.specs.Types.{is_integer, scalar_kind_at}
+use Rattle.naga_context.specs.Blocks.{case_list}
+use Rattle.naga_context.specs.Context.{Context}
+use Rattle.naga_context.specs.Points.{Points, use_point}
+use Rattle.naga_context.specs.Types.{is_integer, scalar_kind_at}
 use Rattle.naga_rules.specs.declared.function.FunctionError.TheVariants.{InvalidSwitchType, MissingDefaultCase, LastCaseFallTrough}
-use Rattle.naga_checks.specs.walk.Table.{with_all}
+use Rattle.naga_context.specs.walk.Table.{with_all}
 use Rattle.naga_checks.specs.walk.Walk.{handles_from, handles_between}
 use Rattle.naga_checks.specs.checks.Switch.{is_default, value_points, switch_points, values_of, last_falls_through}
 

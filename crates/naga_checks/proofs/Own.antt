@@ -9,8 +9,8 @@ use Rattle.naga_below.specs.declared.ir.statements.Statement.TheBlock.{shown-the
 use Rattle.naga_below.specs.declared.ir.statements.SwitchCase.{SwitchCase}
 use Rattle.naga_below.specs.declared.span.Span.{Span}
 use Rattle.naga_runs.specs.Visits.{Place}
-use Rattle.naga_checks.specs.Blocks.{emitted_operands}
-use Rattle.naga_checks.specs.Context.{Context}
+use Rattle.naga_context.specs.Blocks.{emitted_operands}
+use Rattle.naga_context.specs.Context.{Context}
 use Rattle.naga_checks.specs.Past.{Past}
 use Rattle.naga_checks.specs.Rules.{leaf_points, statement_points}
 

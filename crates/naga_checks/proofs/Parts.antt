@@ -11,11 +11,11 @@ use Rattle.naga_below.specs.declared.span.Span.{Span}
 use Rattle.naga_below.specs.declared.ir.statements.SwitchCase.{SwitchCase, out-SwitchCase}
 use Rattle.naga_below.specs.declared.ir.statements.SwitchValue.{SwitchValue}
 use Rattle.naga_runs.specs.Positions.{StatementNode}
-use Rattle.naga_checks.specs.checks.Results.{result_of}
+use Rattle.naga_context.specs.Results.{result_of}
 use Rattle.naga_below.proofs.OtherOperands.{body_fits-other}
 use Rattle.naga_below.specs.View.{no_operands}
-use Rattle.naga_checks.specs.Blocks.{emitted_operands, tree_of, body_of, block_of, list_of, cases_of}
-use Rattle.naga_checks.specs.Context.{Context}
+use Rattle.naga_context.specs.Blocks.{emitted_operands, tree_of, body_of, block_of, list_of, cases_of}
+use Rattle.naga_context.specs.Context.{Context}
 use Rattle.naga_checks.specs.Ready.{IsStatementReady, IsBodyReady, AreCasesReady}
 
 module _ (context : Context) where

@@ -9,7 +9,7 @@ use Rattle.naga_below.specs.declared.ir.statements.SwitchCase.{SwitchCase, out-S
 use Rattle.naga_below.specs.declared.ir.statements.SwitchValue.{SwitchValue}
 use Rattle.naga_below.specs.declared.ir.statements.SwitchValue.TheVariants.{I32, U32, Default}
 use Rattle.naga_checks.specs.declared.checks.switch.Rising.{Rising}
-use Rattle.naga_checks.specs.Blocks.{case_list}
+use Rattle.naga_context.specs.Blocks.{case_list}
 use Rattle.naga_checks.specs.checks.Switch.{same_value, values_of}
 use Rattle.naga_checks.specs.walk.Switch.{risen, risen_to}
 use Rattle.naga_checks.proofs.Values.{earlier}

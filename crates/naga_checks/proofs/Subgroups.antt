@@ -11,10 +11,10 @@ use Rattle.naga_below.specs.declared.ir.operations.SubgroupOperation.{SubgroupOp
 use Rattle.naga_runs.specs.Soundness.{Fit}
 use Rattle.naga_runs.specs.Visits.{Place}
 use Rattle.naga_checks.specs.walk.Subgroup.{gathered_points}
-use Rattle.naga_checks.specs.Context.{Context}
-use Rattle.naga_checks.specs.Points.{may_use, is_in_scope}
+use Rattle.naga_context.specs.Context.{Context}
+use Rattle.naga_context.specs.Points.{may_use, is_in_scope}
 use Rattle.naga_checks.specs.checks.Subgroup.{ballot_points, collective_points, index_of, is_broadcast, index_points, gather_points}
-use Rattle.naga_checks.proofs.Flat.{holds_at, holds_behind}
+use Rattle.naga_context.proofs.Flat.{holds_at, holds_behind}
 
 module _ (context : Context) (place : Place) where
   -- a ballot without a predicate puts its result; with one it uses that before

@@ -12,7 +12,7 @@ use Rattle.naga_below.specs.declared.ir.statements.SwitchCase.{SwitchCase, out-S
 use Rattle.naga_below.specs.declared.ir.statements.SwitchValue.{SwitchValue}
 use Rattle.naga_below.specs.declared.ir.statements.SwitchValue.TheVariants.{I32, U32, Default}
 use Rattle.naga_below.specs.Points.{first_fault}
-use Rattle.naga_checks.specs.Blocks.{case_list}
+use Rattle.naga_context.specs.Blocks.{case_list}
 use Rattle.naga_below.specs.declared.ir.types.ScalarKind.{ScalarKind}
 use Rattle.naga_rules.specs.declared.function.FunctionError.{FunctionError}
 use Rattle.naga_rules.specs.declared.function.FunctionError.TheVariants.{ConflictingCaseType}

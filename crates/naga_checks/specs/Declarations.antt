@@ -1,6 +1,6 @@
 -- The check lists of what a function declares: its local variables, its arguments and its result.
 use Rattle.std.specs.Prelude.{ℕ, Bool, true, false, ◌||◌, List, [], ◌∷◌, ◌++◌, Option, None, Some, is_none, unwrap_or, option_and_then}
-use Rattle.naga_below.specs.Bits.{ARGUMENT, CONSTRUCTIBLE}
+use Rattle.naga_flags.specs.Bits.{ARGUMENT, CONSTRUCTIBLE}
 use Rattle.naga_below.specs.Points.{within, points_of_each}
 use Rattle.naga_below.specs.Types.{inner_at, pointer_space_of}
 use Rattle.naga_below.specs.declared.ir.functions.FunctionArgument.{FunctionArgument}
@@ -12,8 +12,8 @@ use Rattle.naga_below.specs.declared.valid.types.TypeInfo.{TypeInfo}
 use Rattle.naga_rules.specs.Locals.{local_points}
 use Rattle.naga_rules.specs.TypeInfos.{type_has}
 use Rattle.naga_rules.specs.declared.function.FunctionError.TheVariants.{LocalVariable, InvalidArgumentPointerSpace, InvalidArgumentType, PipelineInputRegularFunction, NonConstructibleReturnType, PipelineOutputRegularFunction}
-use Rattle.naga_checks.specs.Context.{Context}
-use Rattle.naga_checks.specs.Points.{Points}
+use Rattle.naga_context.specs.Context.{Context}
+use Rattle.naga_context.specs.Points.{Points}
 
 -- a missing name is the empty text
 abbrev pub name_or_empty : Option (List ℕ) → List ℕ

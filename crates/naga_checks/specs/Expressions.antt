@@ -2,13 +2,13 @@
 use Rattle.std.specs.Prelude.{ℕ, zero, suc, List, [], ◌∷◌, Result, Ok, Err, length, if◌then◌else◌}
 use Rattle.naga_below.specs.Points.{and_then}
 use Rattle.naga_below.specs.declared.valid.expression_error.ExpressionError.{ExpressionError}
-use Rattle.naga_below.specs.declared.valid.flags.ShaderStages.{ShaderStages}
+use Rattle.naga_flags.specs.declared.valid.ShaderStages.{ShaderStages}
 use Rattle.naga_below.specs.declared.valid.info.FunctionInfo.{FunctionInfo}
 use Rattle.naga_rules.specs.Meaning.{Meaning}
 use Rattle.naga_rules.specs.declared.function.FunctionError.{FunctionError}
 use Rattle.naga_rules.specs.declared.function.FunctionError.TheVariants.{Expression}
-use Rattle.naga_checks.specs.Context.{Context}
-use Rattle.naga_checks.specs.WhatIsChecked.{checks_expressions}
+use Rattle.naga_context.specs.Context.{Context}
+use Rattle.naga_context.specs.WhatIsChecked.{checks_expressions}
 use Rattle.naga_checks.specs.Stages.{meet}
 
 -- an info with these stages

@@ -14,16 +14,16 @@ use Rattle.naga_rules.specs.Meaning.{Meaning}
 use Rattle.naga_rules.specs.declared.function.FunctionError.{FunctionError}
 use Rattle.naga_runs.specs.Judgement.{judgement}
 use Rattle.naga_runs.specs.Visits.{Visit}
-use Rattle.naga_checks.specs.Blocks.{body_of}
-use Rattle.naga_checks.specs.Context.{Context, pre_emitted}
+use Rattle.naga_context.specs.Blocks.{body_of}
+use Rattle.naga_context.specs.Context.{Context, pre_emitted}
 use Rattle.naga_checks.specs.Declarations.{declaration_points}
 use Rattle.naga_checks.specs.Expressions.{with_stages, expressions_step}
-use Rattle.naga_checks.specs.WhatIsChecked.{checks_blocks}
-use Rattle.naga_checks.specs.Points.{Points}
-use Rattle.naga_checks.specs.checks.Results.{filled_before, filled_points}
+use Rattle.naga_context.specs.WhatIsChecked.{checks_blocks}
+use Rattle.naga_context.specs.Points.{Points}
+use Rattle.naga_context.specs.Results.{filled_before, filled_points}
 use Rattle.naga_checks.specs.Rules.{body_rules, stages_left}
-use Rattle.naga_checks.specs.Traces.{trace_after}
-use Rattle.naga_checks.specs.declared.trace.TraceState.{TraceState}
+use Rattle.naga_memory.specs.Traces.{trace_after}
+use Rattle.naga_context.specs.declared.trace.TraceState.{TraceState}
 
 -- the judgement of a body: the fault of the first check point that fails, in visit order; else its visits
 unfoldable pub body_judgement : Context → Result (List Visit) FunctionError

@@ -1,12 +1,12 @@
 -- What contracts see of a validator: four parts and nothing else.
 use Rattle.std.specs.Prelude.{ℕ, ◌≡◌, ◌<◌, List, All, IfErr, Option, None, Some, length, []}
 use Rattle.naga_below.specs.declared.ir.module.Module.{Module}
-use Rattle.naga_below.specs.declared.valid.capabilities.Capabilities.{Capabilities}
-use Rattle.naga_below.specs.declared.valid.flags.ValidationFlags.{ValidationFlags}
+use Rattle.naga_flags.specs.declared.capabilities.Capabilities.{Capabilities}
+use Rattle.naga_flags.specs.declared.valid.ValidationFlags.{ValidationFlags}
 use Rattle.naga_below.specs.declared.valid.settings.Settings.{Settings}
 use Rattle.naga_below.specs.declared.valid.types.TypeInfo.{TypeInfo}
-use Rattle.naga_checks.specs.declared.trace.TraceState.{TraceState}
-use Rattle.naga_checks.specs.declared.trace.TraceRayVertexReturnState.TheVariants.{NoTraceRays}
+use Rattle.naga_context.specs.declared.trace.TraceState.{TraceState}
+use Rattle.naga_context.specs.declared.trace.TraceRayVertexReturnState.TheVariants.{NoTraceRays}
 
 -- the lower layer, the settings, the info of each type, and what ray traces left
 pub record Parts (B : Type 0) : Type 0 where

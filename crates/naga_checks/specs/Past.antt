@@ -2,9 +2,9 @@
 use Rattle.std.specs.Prelude.{ℕ, List, Option}
 use Rattle.naga_runs.specs.Handles.{Handles}
 use Rattle.naga_runs.specs.Visits.{Visit}
-use Rattle.naga_checks.specs.Context.{Context}
-use Rattle.naga_checks.specs.checks.Results.{filled_before}
-use Rattle.naga_checks.specs.Traces.{payload_before}
+use Rattle.naga_context.specs.Context.{Context}
+use Rattle.naga_context.specs.Results.{filled_before}
+use Rattle.naga_memory.specs.Traces.{payload_before}
 
 -- the results that they fill, and the payload type so far
 pub record Past : Type 0 where

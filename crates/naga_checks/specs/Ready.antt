@@ -2,7 +2,7 @@
 use Rattle.std.specs.Prelude.{length}
 use Rattle.naga_below.specs.FitsBody.{StatementFits, BodyFits, CasesFit}
 use Rattle.naga_below.specs.Tree.{Stmt, Body, Cases}
-use Rattle.naga_checks.specs.Context.{Context}
+use Rattle.naga_context.specs.Context.{Context}
 
 module _ (context : Context) where
   unfoldable pub IsStatementReady : Stmt → Type 0

@@ -1,33 +1,33 @@
 -- The rules of a body: the check list of each visit, asked with the visits before it, and the stages that are left.
 use Rattle.std.specs.Prelude.{ℕ, List, [], ◌∷◌, Option, None, Some, slice_get}
-use Rattle.naga_below.specs.Bits as bit
+use Rattle.naga_flags.specs.Bits as bit
 use Rattle.naga_below.specs.Tree.{Stmt, Leaf, Block, Branch, Switch, Loop, Break, Continue, Return, Kill}
 use Rattle.naga_below.specs.declared.ir.operations.RayPipelineFunction.TheVariants.{TraceRay}
 use Rattle.naga_below.specs.declared.ir.statements.Statement.{Statement, Switch'}
 use Rattle.naga_below.specs.declared.ir.statements.Statement as ir
-use Rattle.naga_below.specs.declared.valid.flags.ShaderStages.{ShaderStages}
+use Rattle.naga_flags.specs.declared.valid.ShaderStages.{ShaderStages}
 use Rattle.naga_below.specs.declared.valid.info.FunctionInfo.{FunctionInfo}
 use Rattle.naga_below.specs.declared.valid.info.ModuleInfo.{ModuleInfo}
 use Rattle.naga_rules.specs.declared.function.FunctionError.{FunctionError}
 use Rattle.naga_runs.specs.Judgement.{Rules, by_earlier}
 use Rattle.naga_runs.specs.Positions.{Node, NoNode, StatementNode, BreakIfNode}
 use Rattle.naga_runs.specs.Visits.{Place, Visit}
-use Rattle.naga_checks.specs.checks.Atomic.{atomic_points}
+use Rattle.naga_memory.specs.Atomic.{atomic_points}
 use Rattle.naga_checks.specs.Past.{Past, past_of}
 use Rattle.naga_checks.specs.checks.Barrier.{barrier_points}
 use Rattle.naga_checks.specs.checks.Call.{call_points}
-use Rattle.naga_checks.specs.Context.{Context}
+use Rattle.naga_context.specs.Context.{Context}
 use Rattle.naga_checks.specs.checks.Control.{emit_points, condition_points, return_points, break_points, continue_points}
 use Rattle.naga_checks.specs.checks.Switch.{switch_points}
-use Rattle.naga_checks.specs.checks.Cooperative.{cooperative_points}
-use Rattle.naga_checks.specs.checks.ImageAtomic.{image_atomic_points}
-use Rattle.naga_checks.specs.checks.Image.{image_store_points}
-use Rattle.naga_checks.specs.checks.Load.{load_points}
-use Rattle.naga_checks.specs.Points.{Points}
-use Rattle.naga_checks.specs.checks.RayQuery.{ray_query_points}
-use Rattle.naga_checks.specs.checks.RayTrace.{trace_ray_points}
+use Rattle.naga_memory.specs.Cooperative.{cooperative_points}
+use Rattle.naga_memory.specs.ImageAtomic.{image_atomic_points}
+use Rattle.naga_memory.specs.Image.{image_store_points}
+use Rattle.naga_memory.specs.Load.{load_points}
+use Rattle.naga_context.specs.Points.{Points}
+use Rattle.naga_memory.specs.RayQuery.{ray_query_points}
+use Rattle.naga_memory.specs.RayTrace.{trace_ray_points}
 use Rattle.naga_checks.specs.Stages.{meet}
-use Rattle.naga_checks.specs.checks.Store.{store_points}
+use Rattle.naga_memory.specs.Store.{store_points}
 use Rattle.naga_checks.specs.checks.Subgroup.{ballot_points, collective_points, gather_points}
 
 -- the check list of a statement that is neither a jump nor holds others, behind what the visits before it did

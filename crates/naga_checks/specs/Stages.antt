@@ -1,6 +1,6 @@
 -- Sets of stages.
 use Rattle.std.specs.Int.RustNames.{bit_and}
-use Rattle.naga_below.specs.declared.valid.flags.ShaderStages.{ShaderStages}
+use Rattle.naga_flags.specs.declared.valid.ShaderStages.{ShaderStages}
 
 -- the stages that are in both sets
 abbrev pub meet : ShaderStages → ShaderStages → ShaderStages

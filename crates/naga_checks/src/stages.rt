@@ -1,15 +1,15 @@
 //! The stages that a statement may run in.
 
 ghost use Rattle.std.specs.Prelude.{◌≡◌};
-ghost use Rattle.naga_checks.specs.Blocks.{tree_of};
+ghost use Rattle.naga_context.specs.Blocks.{tree_of};
 ghost use Rattle.naga_checks.specs.Rules.{callee_stages, stages_in};
-ghost use Rattle.naga_checks.specs.walk.Seen.{context_of};
+ghost use Rattle.naga_context.specs.walk.Seen.{context_of};
 
-use crate::context::BlockContext;
 use naga_below::arena::handle::Handle;
 use naga_below::arena::tag;
 use naga_below::ir::statements::{Located, Statement};
-use naga_below::valid::flags::ShaderStages;
+use naga_context::context::BlockContext;
+use naga_flags::valid::ShaderStages;
 
 /// The stages that a statement may run in.
 pub fn stages_of(context: &BlockContext, located: &Located) -> ShaderStages

@@ -3,22 +3,22 @@
 ghost use Rattle.std.specs.Prelude.{◌≡◌, ◌<◌, ℕ, List, IfSome};
 ghost use Rattle.naga_runs.specs.Positions.{StatementNode};
 ghost use Rattle.naga_below.specs.View.{tree_of};
-ghost use Rattle.naga_checks.specs.Blocks as in_context;
-ghost use Rattle.naga_checks.specs.checks.Results.{result_of};
-ghost use Rattle.naga_checks.specs.walk.Seen.{context_of};
+ghost use Rattle.naga_context.specs.Blocks as in_context;
+ghost use Rattle.naga_context.specs.Results.{result_of};
+ghost use Rattle.naga_context.specs.walk.Seen.{context_of};
 ghost use Rattle.naga_checks.specs.walk.State.{kept, with_statement};
-ghost use Rattle.naga_checks.specs.walk.Table.{marked};
+ghost use Rattle.naga_context.specs.walk.Table.{marked};
 
-use crate::checks::ray_trace::advance_trace;
-use crate::context::BlockContext;
 use crate::stages::stages_of;
-use crate::table::FilledColumn;
-use crate::trace::TraceState;
 use bitflags::Flags;
 use naga_below::arena::handle::Handle;
 use naga_below::arena::tag;
 use naga_below::ir::statements::{Located, Statement};
-use naga_below::valid::flags::ShaderStages;
+use naga_context::context::BlockContext;
+use naga_context::table::FilledColumn;
+use naga_context::trace::TraceState;
+use naga_flags::valid::ShaderStages;
+use naga_memory::ray_trace::advance_trace;
 
 /// What the statements so far leave, and behind the last one what an accepted body leaves.
 #[derive(Clone, Copy)]

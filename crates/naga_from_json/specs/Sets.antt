@@ -5,26 +5,26 @@ use Rattle.std.specs.Str.{bytes_eq}
 use Rattle.bitflags.specs.Sets.{Row, find_name}
 use Rattle.serde_json.specs.Data.{Data, Items, no_items, item}
 use Rattle.serde_json.specs.Find.{as_array, as_str}
-use Rattle.naga_below.specs.Bits.{contains}
+use Rattle.naga_flags.specs.Bits.{contains}
 use Rattle.naga_from_json.specs.Form.{given}
-use Rattle.naga_below.specs.declared.valid.flags.ValidationFlags.{ValidationFlags}
-use Rattle.naga_below.specs.contracts.valid.flags.ValidationFlagsFlags.TheImpl as validation_flags
-use Rattle.naga_below.specs.declared.valid.capabilities.Capabilities.{Capabilities}
-use Rattle.naga_below.specs.contracts.valid.capabilities.CapabilitiesFlags.TheImpl as capabilities
-use Rattle.naga_below.specs.declared.valid.flags.SubgroupOperationSet.{SubgroupOperationSet}
-use Rattle.naga_below.specs.contracts.valid.flags.SubgroupOperationSetFlags.TheImpl as subgroup_operations
-use Rattle.naga_below.specs.declared.valid.flags.TypeFlags.{TypeFlags}
-use Rattle.naga_below.specs.contracts.valid.flags.TypeFlagsFlags.TheImpl as type_flags
-use Rattle.naga_below.specs.declared.valid.flags.GlobalUse.{GlobalUse}
-use Rattle.naga_below.specs.contracts.valid.flags.GlobalUseFlags.TheImpl as global_use
-use Rattle.naga_below.specs.declared.ir.flags.StorageAccess.{StorageAccess}
-use Rattle.naga_below.specs.contracts.ir.flags.StorageAccessFlags.TheImpl as storage_access
-use Rattle.naga_below.specs.declared.ir.flags.Barrier.{Barrier}
-use Rattle.naga_below.specs.contracts.ir.flags.BarrierFlags.TheImpl as barrier
-use Rattle.naga_below.specs.declared.ir.flags.MemoryDecorations.{MemoryDecorations}
-use Rattle.naga_below.specs.contracts.ir.flags.MemoryDecorationsFlags.TheImpl as memory_decorations
-use Rattle.naga_below.specs.declared.valid.flags.ShaderStages.{ShaderStages}
-use Rattle.naga_below.specs.contracts.valid.flags.ShaderStagesFlags.TheImpl as stages
+use Rattle.naga_flags.specs.declared.valid.ValidationFlags.{ValidationFlags}
+use Rattle.naga_flags.specs.contracts.valid.ValidationFlagsFlags.TheImpl as validation_flags
+use Rattle.naga_flags.specs.declared.capabilities.Capabilities.{Capabilities}
+use Rattle.naga_flags.specs.contracts.capabilities.CapabilitiesFlags.TheImpl as capabilities
+use Rattle.naga_flags.specs.declared.valid.SubgroupOperationSet.{SubgroupOperationSet}
+use Rattle.naga_flags.specs.contracts.valid.SubgroupOperationSetFlags.TheImpl as subgroup_operations
+use Rattle.naga_flags.specs.declared.valid.TypeFlags.{TypeFlags}
+use Rattle.naga_flags.specs.contracts.valid.TypeFlagsFlags.TheImpl as type_flags
+use Rattle.naga_flags.specs.declared.valid.GlobalUse.{GlobalUse}
+use Rattle.naga_flags.specs.contracts.valid.GlobalUseFlags.TheImpl as global_use
+use Rattle.naga_flags.specs.declared.ir.StorageAccess.{StorageAccess}
+use Rattle.naga_flags.specs.contracts.ir.StorageAccessFlags.TheImpl as storage_access
+use Rattle.naga_flags.specs.declared.ir.Barrier.{Barrier}
+use Rattle.naga_flags.specs.contracts.ir.BarrierFlags.TheImpl as barrier
+use Rattle.naga_flags.specs.declared.ir.MemoryDecorations.{MemoryDecorations}
+use Rattle.naga_flags.specs.contracts.ir.MemoryDecorationsFlags.TheImpl as memory_decorations
+use Rattle.naga_flags.specs.declared.valid.ShaderStages.{ShaderStages}
+use Rattle.naga_flags.specs.contracts.valid.ShaderStagesFlags.TheImpl as stages
 
 -- the bit that a text names in a table; a name of several bits, which may be given, is none
 abbrev pub bit_named : List Row → List ℕ → List ℕ → Option ℕ

@@ -11,7 +11,7 @@ use naga_below::proc::typifier::TypeResolution;
 use naga_below::sequence::Sequence;
 use naga_below::span::WithSpan;
 use naga_below::valid::expression_error::ExpressionError;
-use naga_below::valid::flags::{GlobalUse, ShaderStages};
+use naga_flags::valid::{GlobalUse, ShaderStages};
 use naga_rules::analyzer::{UniformityDisruptor, UniformityRequirements};
 use naga_rules::function::FunctionError;
 use naga_rules::mesh::{MeshAnalysis, MeshFault};

@@ -11,17 +11,17 @@ use Rattle.naga_below.specs.declared.valid.info.ModuleInfo.{ModuleInfo}
 use Rattle.naga_below.specs.declared.valid.settings.Settings.{Settings}
 use Rattle.naga_below.specs.declared.valid.types.TypeInfo.{TypeInfo}
 use Rattle.naga_rules.specs.Meaning.{Meaning}
-use Rattle.naga_valid.proofs.Chains.{none_is_vetted, one_more_is_vetted, fits_calls_below}
+use Rattle.naga_function.proofs.Chains.{none_is_vetted, one_more_is_vetted, fits_calls_below}
 use Rattle.naga_valid.proofs.EntryChains.{entry_is_sound, entry_keeps_its_stage}
-use Rattle.naga_valid.proofs.FunctionLaw.{is_sound}
-use Rattle.naga_valid.specs.Chains.{AreVetted, ChainsKeepTo}
+use Rattle.naga_function.proofs.FunctionLaw.{is_sound}
+use Rattle.naga_function.specs.Chains.{AreVetted, ChainsKeepTo}
 use Rattle.naga_valid.specs.interface.Judged.{HasPayloadSizes, entry_judgement}
 use Rattle.naga_valid.specs.interface.Uses.{only}
-use Rattle.naga_valid.specs.InOrder.{with_info}
+use Rattle.naga_function.specs.InOrder.{with_info}
 use Rattle.naga_checks.specs.Judged.{FunctionOutcome, function_judgement}
 use Rattle.naga_checks.specs.Parts.{no_traces}
-use Rattle.naga_checks.specs.WhatIsChecked.{checks_blocks}
-use Rattle.naga_checks.specs.declared.trace.TraceState.{TraceState}
+use Rattle.naga_context.specs.WhatIsChecked.{checks_blocks}
+use Rattle.naga_context.specs.declared.trace.TraceState.{TraceState}
 use Rattle.naga_module.specs.ModuleJudgement.{Answer, Tested, Step, with_entry, first_infos, IsOfFunction, IsOfEntryPoint, EntriesAnswer, BehindFunctions, FunctionsAnswer, Fits, globals_step}
 use Rattle.naga_module.specs.ModuleLaw.{IsSoundFunction, infos_before, AcceptedModuleHolds}
 use Rattle.naga_module.specs.declared.check.ModuleFault.{ModuleFault}

@@ -17,10 +17,10 @@ use Rattle.naga_rules.specs.Meaning.{Meaning}
 use Rattle.naga_rules.specs.declared.function.FunctionError.{FunctionError}
 use Rattle.naga_valid.specs.interface.Faults.{fault_of}
 use Rattle.naga_valid.specs.interface.Judged.{entry_judgement}
-use Rattle.naga_valid.specs.InOrder.{with_info}
+use Rattle.naga_function.specs.InOrder.{with_info}
 use Rattle.naga_checks.specs.Judged.{FunctionOutcome, function_judgement}
 use Rattle.naga_valid.specs.declared.interface.EntryPointError.{EntryPointError}
-use Rattle.naga_checks.specs.declared.trace.TraceState.{TraceState}
+use Rattle.naga_context.specs.declared.trace.TraceState.{TraceState}
 use Rattle.naga_module.specs.CodeModule.{Leads, Stops, EntriesLead, EntriesStop}
 use Rattle.naga_module.specs.ModuleJudgement.{Answer, Step, with_entry, IsOfFunction, IsOfEntryPoint, EntriesAnswer, FunctionsAnswer}
 use Rattle.naga_module.specs.declared.check.ModuleFault.{ModuleFault}

@@ -15,11 +15,11 @@ use Rattle.naga_below.specs.declared.valid.settings.Settings.{Settings}
 use Rattle.naga_below.specs.declared.valid.types.TypeInfo.{TypeInfo}
 use Rattle.naga_rules.specs.Meaning.{Meaning}
 use Rattle.naga_rules.specs.declared.function.FunctionError.{FunctionError}
-use Rattle.naga_valid.specs.InOrder.{with_info}
+use Rattle.naga_function.specs.InOrder.{with_info}
 use Rattle.naga_checks.specs.Judged.{FunctionOutcome, function_judgement}
 use Rattle.naga_checks.specs.Parts.{no_traces}
 use Rattle.naga_valid.specs.interface.Judged.{HasPayloadSizes}
-use Rattle.naga_checks.specs.declared.trace.TraceState.{TraceState}
+use Rattle.naga_context.specs.declared.trace.TraceState.{TraceState}
 use Rattle.naga_module.specs.ModuleJudgement.{Answer, Step, IsOfFunction, first_infos, globals_step, points_of_global, EntriesAnswer, FunctionsAnswer}
 use Rattle.naga_module.specs.ModuleLaw.{IsToldOfFunctions, FunctionsAloneAreTold}
 use Rattle.naga_module.specs.declared.check.ModuleFault.{ModuleFault}

@@ -17,10 +17,10 @@ use Rattle.naga_rules.specs.Meaning.{Meaning}
 use Rattle.naga_valid.specs.interface.Faults.{EntryFault, fault_of}
 use Rattle.naga_valid.specs.interface.Judged.{HasPayloadSizes, entry_judgement}
 use Rattle.naga_valid.specs.interface.GlobalPoints.{module_global_points}
-use Rattle.naga_valid.specs.InOrder.{with_info}
+use Rattle.naga_function.specs.InOrder.{with_info}
 use Rattle.naga_checks.specs.Judged.{function_judgement}
 use Rattle.naga_checks.specs.Parts.{AreInfosOf, no_traces}
-use Rattle.naga_checks.specs.declared.trace.TraceState.{TraceState}
+use Rattle.naga_context.specs.declared.trace.TraceState.{TraceState}
 use Rattle.naga_module.specs.declared.check.ModuleFault.{ModuleFault}
 use Rattle.naga_module.specs.declared.check.ModuleFault.TheVariants as fault
 

@@ -11,11 +11,11 @@ use Rattle.naga_below.specs.declared.valid.settings.Settings.{Settings}
 use Rattle.naga_below.specs.declared.valid.types.TypeInfo.{TypeInfo}
 use Rattle.naga_rules.specs.Meaning.{Meaning}
 use Rattle.naga_runs.specs.Soundness.{RunsAreSure}
-use Rattle.naga_checks.specs.Blocks.{body_of}
-use Rattle.naga_valid.specs.Chains.{ChainsKeepTo}
-use Rattle.naga_checks.specs.Context.{pre_emitted_of}
+use Rattle.naga_context.specs.Blocks.{body_of}
+use Rattle.naga_function.specs.Chains.{ChainsKeepTo}
+use Rattle.naga_context.specs.Context.{pre_emitted_of}
 use Rattle.naga_valid.specs.interface.Uses.{only}
-use Rattle.naga_checks.specs.WhatIsChecked.{checks_blocks}
+use Rattle.naga_context.specs.WhatIsChecked.{checks_blocks}
 use Rattle.naga_module.specs.ModuleJudgement.{Fits, IsJudgement, IsAnswered}
 use Rattle.naga_module.specs.declared.check.ModuleFault.{ModuleFault}
 use Rattle.naga_module.specs.declared.check.ModuleFault.TheVariants as fault

@@ -1,6 +1,6 @@
 -- A chain of two calls, worked by hand over the plain layer: its infos are vetted, and its last function reaches its first.
 use Rattle.std.specs.Prelude.{false, [], ◌∷◌, None}
-use Rattle.naga_below.specs.Bits.{FRAGMENT}
+use Rattle.naga_flags.specs.Bits.{FRAGMENT}
 use Rattle.naga_below.specs.declared.ir.functions.Function.{Function}
 use Rattle.naga_below.specs.declared.ir.module.Module.{Module}
 use Rattle.naga_below.specs.declared.ir.statements.Block.{Block, roll-Block}
@@ -10,8 +10,8 @@ use Rattle.naga_below.specs.declared.ir.statements.Statement as ir
 use Rattle.naga_below.specs.declared.valid.info.FunctionInfo.{FunctionInfo}
 use Rattle.naga_below.specs.declared.valid.info.ModuleInfo.{ModuleInfo}
 use Rattle.naga_below.specs.declared.valid.settings.Settings.{Settings}
-use Rattle.naga_checks.specs.Blocks.{body_of}
-use Rattle.naga_valid.specs.Chains.{Reaches, AreVetted}
+use Rattle.naga_context.specs.Blocks.{body_of}
+use Rattle.naga_function.specs.Chains.{Reaches, AreVetted}
 use Rattle.naga_layers.specs.Plain.Meaning.{plain_meaning, plain_layer}
 
 -- a statement without a span, and a body of it alone

@@ -1,12 +1,12 @@
 -- How the function of an entry point may use a global, by the space that it lies in.
 use Rattle.std.specs.Prelude.{Bool, true, false, bit_or, Option, None, Some, if◌then◌else◌}
-use Rattle.naga_below.specs.Bits.{LOAD, STORE, ATOMIC, READ, WRITE, QUERY, ATOMIC_USE, contains}
-use Rattle.naga_below.specs.declared.ir.flags.StorageAccess.{StorageAccess}
+use Rattle.naga_flags.specs.Bits.{LOAD, STORE, ATOMIC, READ, WRITE, QUERY, ATOMIC_USE, contains}
+use Rattle.naga_flags.specs.declared.ir.StorageAccess.{StorageAccess}
 use Rattle.naga_below.specs.declared.ir.module.ShaderStage.{ShaderStage}
 use Rattle.naga_below.specs.declared.ir.module.ShaderStage.TheVariants as stage
 use Rattle.naga_below.specs.declared.ir.types.AddressSpace.{AddressSpace}
 use Rattle.naga_below.specs.declared.ir.types.AddressSpace.TheVariants as space
-use Rattle.naga_below.specs.declared.valid.flags.GlobalUse.{GlobalUse}
+use Rattle.naga_flags.specs.declared.valid.GlobalUse.{GlobalUse}
 
 -- what is in either set
 abbrev pub join : GlobalUse → GlobalUse → GlobalUse

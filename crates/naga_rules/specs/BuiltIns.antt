@@ -1,7 +1,7 @@
 -- The table of built-ins: of each group where it is visible, of which type it is, and what the target has to have.
 use Rattle.std.specs.Prelude.{Bool, true, false, not, ◌&&◌, List, [], ◌∷◌, Option, None, Some, if◌then◌else◌}
 use Rattle.std.specs.List.{list_any, find}
-use Rattle.naga_below.specs.Bits.{CLIP_DISTANCES, CULL_DISTANCE, DRAW_INDEX, MULTISAMPLED_SHADING, MULTIVIEW, PRIMITIVE_INDEX, SHADER_BARYCENTRICS, SUBGROUP}
+use Rattle.naga_flags.specs.Bits.{CLIP_DISTANCES, CULL_DISTANCE, DRAW_INDEX, MULTISAMPLED_SHADING, MULTIVIEW, PRIMITIVE_INDEX, SHADER_BARYCENTRICS, SUBGROUP}
 use Rattle.naga_below.specs.contracts.ir.built_in.BuiltInPartialEq.TheImpl as built_in
 use Rattle.naga_below.specs.contracts.ir.module.ShaderStagePartialEq.TheImpl as shader_stage
 use Rattle.naga_below.specs.declared.ir.built_in.BuiltIn.{BuiltIn}
@@ -12,7 +12,7 @@ use Rattle.naga_below.specs.declared.ir.types.Scalar.{Scalar}
 use Rattle.naga_below.specs.declared.ir.types.ScalarKind.TheVariants as kind
 use Rattle.naga_below.specs.declared.ir.types.TypeInner.TheVariants as inner
 use Rattle.naga_below.specs.declared.ir.types.VectorSize.TheVariants.{Bi, Tri, Quad}
-use Rattle.naga_below.specs.declared.valid.capabilities.Capabilities.{Capabilities}
+use Rattle.naga_flags.specs.declared.capabilities.Capabilities.{Capabilities}
 use Rattle.naga_rules.specs.declared.varying.MeshOutputType.{MeshOutputType}
 use Rattle.naga_rules.specs.declared.varying.MeshOutputType.TheVariants.{Neither, VertexOutput, PrimitiveOutput}
 use Rattle.naga_rules.specs.declared.varying.VaryingPlace.{VaryingPlace}

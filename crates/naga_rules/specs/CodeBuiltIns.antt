@@ -1,12 +1,12 @@
 -- The columns of the table of built-ins, built-in by built-in, as the code reads them.
 use Rattle.std.specs.Prelude.{Bool, true, false, List, [], ◌∷◌, Option}
 use Rattle.std.specs.List.{list_any}
-use Rattle.naga_below.specs.Bits.{CLIP_DISTANCES, CULL_DISTANCE, DRAW_INDEX, MULTISAMPLED_SHADING, MULTIVIEW, PRIMITIVE_INDEX, SHADER_BARYCENTRICS, SUBGROUP}
+use Rattle.naga_flags.specs.Bits.{CLIP_DISTANCES, CULL_DISTANCE, DRAW_INDEX, MULTISAMPLED_SHADING, MULTIVIEW, PRIMITIVE_INDEX, SHADER_BARYCENTRICS, SUBGROUP}
 use Rattle.naga_below.specs.declared.ir.built_in.BuiltIn.{BuiltIn}
 use Rattle.naga_below.specs.declared.ir.built_in.BuiltIn.TheVariants.{BaseInstance, BaseVertex, VertexIndex, InstanceIndex, DrawIndex, ClipDistances, CullDistance, PointSize, PointCoord, Position, ViewIndex, FragDepth, FrontFacing, PrimitiveIndex, Barycentric, SampleIndex, SampleMask, LocalInvocationIndex, GlobalInvocationId, LocalInvocationId, WorkGroupId, WorkGroupSize, NumWorkGroups, NumSubgroups, SubgroupId, SubgroupSize, SubgroupInvocationId, CullPrimitive, PointIndex, LineIndices, TriangleIndices, MeshTaskSize, RayInvocationId, NumRayInvocations, InstanceCustomData, GeometryIndex, HitKind, WorldRayOrigin, WorldRayDirection, ObjectRayOrigin, ObjectRayDirection, RayTmin, RayTCurrentMax, ObjectToWorld, WorldToObject, VertexCount, PrimitiveCount, Vertices, Primitives}
 use Rattle.naga_below.specs.declared.ir.module.ShaderStage.{ShaderStage}
 use Rattle.naga_below.specs.declared.ir.module.ShaderStage.TheVariants.{Vertex, Fragment, Compute, Mesh, Task, RayGeneration, AnyHit, ClosestHit, Miss}
-use Rattle.naga_below.specs.declared.valid.capabilities.Capabilities.{Capabilities}
+use Rattle.naga_flags.specs.declared.capabilities.Capabilities.{Capabilities}
 use Rattle.naga_rules.specs.BuiltIns.{Visible, Into, OutOf, InAndOutOf, IntoAllBut, IntoMeshWithoutPayload, OfPrimitives, OutOfMeshOfPrimitives, Needed, Nothing, Needs, NeedsBut, required_at, is_there, bool, uint, uint2, uint3, float, float2, float3, float4, float4x3}
 use Rattle.naga_rules.specs.declared.varying.VaryingPlace.{VaryingPlace}
 use Rattle.naga_rules.specs.declared.varying.rule.BuiltInType.{BuiltInType}

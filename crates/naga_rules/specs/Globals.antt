@@ -1,9 +1,9 @@
 -- The check list of a global variable.
 use Rattle.std.specs.Prelude.{ℕ, Bool, true, false, not, ◌||◌, ◌==◌, List, [], ◌∷◌, ◌++◌, Option, None, Some, Result, Ok, Err, is_none, is_some, slice_get, unwrap_or}
-use Rattle.naga_below.specs.Bits.{contains, has_capability, STORE, COHERENT, VOLATILE, MEMORY_DECORATION_COHERENT, MEMORY_DECORATION_VOLATILE}
+use Rattle.naga_flags.specs.Bits.{contains, has_capability, STORE, COHERENT, VOLATILE, MEMORY_DECORATION_COHERENT, MEMORY_DECORATION_VOLATILE}
 use Rattle.naga_below.specs.Points.{Point}
 use Rattle.naga_below.specs.Types.{inner_at}
-use Rattle.naga_below.specs.declared.ir.flags.MemoryDecorations.{MemoryDecorations}
+use Rattle.naga_flags.specs.declared.ir.MemoryDecorations.{MemoryDecorations}
 use Rattle.naga_below.specs.declared.ir.module.GlobalVariable.{GlobalVariable}
 use Rattle.naga_below.specs.declared.ir.module.ResourceBinding.{ResourceBinding}
 use Rattle.naga_below.specs.declared.ir.types.AddressSpace.{AddressSpace}
@@ -13,9 +13,9 @@ use Rattle.naga_below.specs.declared.ir.types.TypeInner.{TypeInner}
 use Rattle.naga_below.specs.declared.ir.types.TypeInner.TheVariants.{BindingArray}
 use Rattle.naga_below.specs.declared.proc.expression_kinds.ExpressionKind.{ExpressionKind}
 use Rattle.naga_below.specs.declared.proc.typifier.TypeResolution.{TypeResolution}
-use Rattle.naga_below.specs.declared.valid.capabilities.Capabilities.{Capabilities}
-use Rattle.naga_below.specs.declared.valid.flags.TypeFlags.{TypeFlags}
-use Rattle.naga_below.specs.declared.valid.flags.ValidationFlags.{ValidationFlags}
+use Rattle.naga_flags.specs.declared.capabilities.Capabilities.{Capabilities}
+use Rattle.naga_flags.specs.declared.valid.TypeFlags.{TypeFlags}
+use Rattle.naga_flags.specs.declared.valid.ValidationFlags.{ValidationFlags}
 use Rattle.naga_below.specs.declared.valid.types.Disalignment.{Disalignment}
 use Rattle.naga_below.specs.declared.valid.types.ImmediateError.{ImmediateError}
 use Rattle.naga_below.specs.declared.valid.types.TypeInfo.{TypeInfo}

@@ -1,6 +1,6 @@
 -- The check list of a local variable.
 use Rattle.std.specs.Prelude.{ℕ, Bool, true, false, List, [], ◌∷◌, Option, None, Some, slice_get}
-use Rattle.naga_below.specs.Bits.{CONSTRUCTIBLE}
+use Rattle.naga_flags.specs.Bits.{CONSTRUCTIBLE}
 use Rattle.naga_below.specs.Points.{Point}
 use Rattle.naga_below.specs.TypeTests.{is_same_type}
 use Rattle.naga_below.specs.declared.ir.functions.LocalVariable.{LocalVariable}

@@ -5,10 +5,10 @@ use Rattle.naga_below.specs.declared.ir.expressions.Expression.{Expression}
 use Rattle.naga_below.specs.declared.ir.functions.Function.{Function}
 use Rattle.naga_below.specs.declared.ir.module.Module.{Module}
 use Rattle.naga_below.specs.declared.proc.expression_kinds.ExpressionKind.{ExpressionKind}
-use Rattle.naga_below.specs.declared.valid.capabilities.Capabilities.{Capabilities}
+use Rattle.naga_flags.specs.declared.capabilities.Capabilities.{Capabilities}
 use Rattle.naga_below.specs.declared.valid.expression_error.ExpressionError.{ExpressionError}
-use Rattle.naga_below.specs.declared.valid.flags.ShaderStages.{ShaderStages}
-use Rattle.naga_below.specs.declared.valid.flags.ValidationFlags.{ValidationFlags}
+use Rattle.naga_flags.specs.declared.valid.ShaderStages.{ShaderStages}
+use Rattle.naga_flags.specs.declared.valid.ValidationFlags.{ValidationFlags}
 use Rattle.naga_below.specs.declared.valid.info.FunctionInfo.{FunctionInfo}
 use Rattle.naga_below.specs.declared.valid.info.ModuleInfo.{ModuleInfo}
 use Rattle.naga_below.specs.declared.valid.settings.Settings.{Settings}

@@ -1,7 +1,7 @@
 -- What type infos say of a type.
 use Rattle.std.specs.Prelude.{ℕ, Bool, false, List, Option, None, Some, slice_get}
-use Rattle.naga_below.specs.Bits.{contains}
-use Rattle.naga_below.specs.declared.valid.flags.TypeFlags.{TypeFlags}
+use Rattle.naga_flags.specs.Bits.{contains}
+use Rattle.naga_flags.specs.declared.valid.TypeFlags.{TypeFlags}
 use Rattle.naga_below.specs.declared.valid.types.TypeInfo.{TypeInfo}
 
 abbrev pub info_has : Option TypeInfo → TypeFlags → Bool

@@ -20,7 +20,7 @@ use Rattle.std.specs.Prelude.{◌≡◌, ℕ, suc, Bool, true, false, not, ◌&&
 use Rattle.std.specs.BTreeSet.{contains as set_contains}
 use Rattle.std.specs.List.{list_any}
 use Rattle.std.specs.Ordering.{nat_cmp}
-use Rattle.naga_below.specs.Bits.{IO_SHAREABLE, MESH_SHADER, has_capability}
+use Rattle.naga_flags.specs.Bits.{IO_SHAREABLE, MESH_SHADER, has_capability}
 use Rattle.naga_below.specs.Points.{Point, within}
 use Rattle.naga_below.specs.TypeTests.{is_same_inner, is_scalar}
 use Rattle.naga_below.specs.Types.{inner_at}
@@ -35,7 +35,7 @@ use Rattle.naga_below.specs.declared.ir.types.StructMember.{StructMember}
 use Rattle.naga_below.specs.declared.ir.types.Type.{«Type» as IrType}
 use Rattle.naga_below.specs.declared.ir.types.TypeInner.{TypeInner}
 use Rattle.naga_below.specs.declared.ir.types.TypeInner.TheVariants as inner
-use Rattle.naga_below.specs.declared.valid.capabilities.Capabilities.{Capabilities}
+use Rattle.naga_flags.specs.declared.capabilities.Capabilities.{Capabilities}
 use Rattle.naga_below.specs.declared.valid.types.TypeInfo.{TypeInfo}
 use Rattle.naga_rules.specs.BuiltIns.{built_in_rule, canonical, f32, is_same_built_in, is_stage}
 use Rattle.naga_rules.specs.Locations.{location_points, may_take}

@@ -1,7 +1,7 @@
 -- Which checks the flags ask for.
 use Rattle.std.specs.Prelude.{Bool}
-use Rattle.naga_below.specs.Bits.{contains, STRUCT_LAYOUTS, BINDINGS}
-use Rattle.naga_below.specs.declared.valid.flags.ValidationFlags.{ValidationFlags}
+use Rattle.naga_flags.specs.Bits.{contains, STRUCT_LAYOUTS, BINDINGS}
+use Rattle.naga_flags.specs.declared.valid.ValidationFlags.{ValidationFlags}
 
 -- whether layouts are looked at, and whether bindings are
 abbrev pub checks_layouts : ValidationFlags → Bool

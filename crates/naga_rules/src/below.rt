@@ -14,11 +14,11 @@ use naga_below::ir::functions::Function;
 use naga_below::ir::module::Module;
 use naga_below::proc::expression_kinds::ExpressionKindTracker;
 use naga_below::span::Refusal;
-use naga_below::valid::capabilities::Capabilities;
 use naga_below::valid::expression_error::ExpressionError;
-use naga_below::valid::flags::{ShaderStages, ValidationFlags};
 use naga_below::valid::info::{FunctionInfo, ModuleInfo};
 use naga_below::valid::settings::Settings;
+use naga_flags::capabilities::Capabilities;
+use naga_flags::valid::{ShaderStages, ValidationFlags};
 use std::alloc::{AllocError, Global};
 
 /// A lower layer: what naga 30.0.1's validation of functions and entry points asks of naga's other layers. Each

@@ -13,9 +13,9 @@ use naga_below::ir::name::Name;
 use naga_below::ir::operations::AtomicFunction;
 use naga_below::ir::statements::SwitchValue;
 use naga_below::ir::types::{AddressSpace, TypeInner};
-use naga_below::valid::capabilities::Capabilities;
 use naga_below::valid::expression_error::ExpressionError;
-use naga_below::valid::flags::SubgroupOperationSet;
+use naga_flags::capabilities::Capabilities;
+use naga_flags::valid::SubgroupOperationSet;
 use thiserror::Error;
 
 /// What is wrong with a call of a function.

@@ -12,15 +12,15 @@ use bitflags::Flags;
 use naga_below::arena::handle::Handle;
 use naga_below::arena::tag;
 use naga_below::arena::unique_arena::UniqueArena;
-use naga_below::ir::flags::{MemoryDecorations, StorageAccess};
 use naga_below::ir::module::GlobalVariable;
 use naga_below::ir::types::{AddressSpace, ImageClass, StorageFormat, Type, TypeInner};
 use naga_below::proc::expression_kinds::ExpressionKindTracker;
 use naga_below::proc::type_methods::compare_types;
 use naga_below::proc::typifier::TypeResolution;
-use naga_below::valid::capabilities::Capabilities;
-use naga_below::valid::flags::{TypeFlags, ValidationFlags};
 use naga_below::valid::types::{Disalignment, ImmediateError, TypeInfo};
+use naga_flags::capabilities::Capabilities;
+use naga_flags::ir::{MemoryDecorations, StorageAccess};
+use naga_flags::valid::{TypeFlags, ValidationFlags};
 
 /// Checks a global variable, in this order, and answers the first fault: a binding array lies where one may, and the
 /// target can do it (`InvalidUsage`, `UnsupportedCapability`); the type, or what the array has, is one for the space, whose

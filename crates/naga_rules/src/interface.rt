@@ -10,9 +10,9 @@ use naga_below::arena::tag;
 use naga_below::ir::built_in::BuiltIn;
 use naga_below::ir::module::ShaderStage;
 use naga_below::ir::types::{AddressSpace, Interpolation, Sampling, TypeInner};
-use naga_below::valid::capabilities::Capabilities;
-use naga_below::valid::flags::TypeFlags;
 use naga_below::valid::types::{Disalignment, ImmediateError};
+use naga_flags::capabilities::Capabilities;
+use naga_flags::valid::TypeFlags;
 use thiserror::Error;
 
 /// What is wrong with a global variable.

@@ -15,9 +15,9 @@ use naga_below::ir::types::Type;
 use naga_below::proc::expression_kinds::ExpressionKindTracker;
 use naga_below::proc::type_methods::compare_types;
 use naga_below::proc::typifier::TypeResolution;
-use naga_below::valid::flags::TypeFlags;
 use naga_below::valid::info::FunctionInfo;
 use naga_below::valid::types::TypeInfo;
+use naga_flags::valid::TypeFlags;
 
 /// Checks a local variable of a function: its type can be constructed (else `InvalidType`), its initializer has that
 /// type (else `InitializerType`) and is known before the pipeline runs (else `NonConstOrOverrideInitializer`). `infos`

@@ -17,8 +17,8 @@ ghost use Rattle.naga_rules.specs.Varyings.{seen_in, nothing_seen, without_built
 use naga_below::ir::built_in::BuiltIn;
 use naga_below::ir::module::ShaderStage;
 use naga_below::ir::types::Binding;
-use naga_below::valid::capabilities::Capabilities;
-use naga_below::valid::flags::ValidationFlags;
+use naga_flags::capabilities::Capabilities;
+use naga_flags::valid::ValidationFlags;
 use std::alloc::{AllocError, Global};
 use std::collections::BTreeSet;
 

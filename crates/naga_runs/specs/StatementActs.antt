@@ -8,7 +8,7 @@ use Rattle.std.specs.Prelude.{ℕ, List, Option, Some, None, ◌≡◌, ◌∷�
 use Rattle.naga_below.specs.Tree.{Act, Use, Put}
 use Rattle.naga_below.specs.declared.ir.statements.Block.{Block}
 use Rattle.naga_below.specs.View.{tree_of}
-use Rattle.naga_below.specs.declared.ir.flags.Barrier.{Barrier}
+use Rattle.naga_flags.specs.declared.ir.Barrier.{Barrier}
 use Rattle.naga_below.specs.declared.ir.operations.AtomicFunction.{AtomicFunction}
 use Rattle.naga_below.specs.declared.ir.operations.CollectiveOperation.{CollectiveOperation}
 use Rattle.naga_below.specs.declared.ir.operations.CooperativeData.{CooperativeData}

@@ -1,14 +1,14 @@
 -- What is known of an accepted entry point.
 use Rattle.std.proofs.Common.{◌≡◌, ℕ, Bool, true, false, List, Option, None, Some, Result, Ok, Err, refl, ◌∙◌}
 use Rattle.std.specs.Prelude.{if◌then◌else◌}
-use Rattle.naga_below.specs.Bits.{READ, WRITE}
+use Rattle.naga_flags.specs.Bits.{READ, WRITE}
 use Rattle.naga_below.specs.Points.{first_fault, answer, and_then, within}
 use Rattle.naga_below.specs.declared.ir.module.EntryPoint.{EntryPoint}
 use Rattle.naga_below.specs.declared.ir.module.MeshStageInfo.{MeshStageInfo}
 use Rattle.naga_below.specs.declared.ir.module.Module.{Module}
 use Rattle.naga_below.specs.declared.ir.module.ShaderStage.{ShaderStage}
 use Rattle.naga_below.specs.declared.ir.module.ShaderStage.TheVariants as stage
-use Rattle.naga_below.specs.declared.valid.flags.GlobalUse.{GlobalUse}
+use Rattle.naga_flags.specs.declared.valid.GlobalUse.{GlobalUse}
 use Rattle.naga_below.specs.declared.valid.info.FunctionInfo.{FunctionInfo}
 use Rattle.naga_below.specs.declared.valid.info.ModuleInfo.{ModuleInfo}
 use Rattle.naga_below.specs.declared.valid.settings.Settings.{Settings}
@@ -22,7 +22,7 @@ use Rattle.naga_valid.specs.interface.Start.{start_points}
 use Rattle.naga_valid.specs.interface.Uses.{with_use_of, output_variable_of, with_own_uses, with_uses_at}
 use Rattle.naga_valid.specs.interface.Varyings.{are_blend_sources}
 use Rattle.naga_checks.specs.Judged.{FunctionOutcome, function_judgement}
-use Rattle.naga_checks.specs.declared.trace.TraceState.{TraceState}
+use Rattle.naga_context.specs.declared.trace.TraceState.{TraceState}
 
 module _ (below : Meaning) (settings : Settings) (infos : List TypeInfo) (trace : TraceState) (program : Module) (earlier : ModuleInfo) (ep : EntryPoint) (outcome : FunctionOutcome) where
   -- its function is accepted, and no point behind it fails

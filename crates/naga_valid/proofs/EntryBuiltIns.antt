@@ -5,7 +5,7 @@ use Rattle.std.specs.List.{AllByRecursion, list_any}
 use Rattle.std.specs.Prelude.{⊤, All, IfSome}
 use Rattle.naga_below.proofs.Callers.{types_name_each_other}
 use Rattle.naga_below.proofs.Points.{both_hold, not_holds}
-use Rattle.naga_below.specs.Bits.{IO_SHAREABLE}
+use Rattle.naga_flags.specs.Bits.{IO_SHAREABLE}
 use Rattle.naga_below.specs.Points.{first_fault}
 use Rattle.naga_below.specs.Types.{inner_at, NameEachOther, NamesTypesBelow}
 use Rattle.naga_below.specs.contracts.ir.built_in.BuiltInEq.TheImpl.Laws.{laws-law as built_in_laws}
@@ -34,7 +34,7 @@ use Rattle.naga_valid.specs.interface.Varyings.{argument_item, argument_points, 
 use Rattle.naga_valid.proofs.EntryAccepted.{accepted_entry}
 use Rattle.naga_valid.proofs.EntryGroups.{any_at, all_at, all_both, group_none, part_none}
 use Rattle.naga_valid.proofs.EntryFacts.{none_within, arguments_hold}
-use Rattle.naga_checks.proofs.Flat.{holds_at}
+use Rattle.naga_context.proofs.Flat.{holds_at}
 
 -- there is a type where a part is bound
 abbrev HasType : List IrType → Part → Type 0

@@ -5,7 +5,7 @@ use Rattle.std.specs.Option.{option_map}
 use Rattle.std.specs.Prelude.{option_and_then, if◌then◌else◌}
 use Rattle.naga_below.proofs.Points.{first_holds, both_hold, first_within, not_holds}
 use Rattle.naga_below.specs.Points.{Point, first_fault, points_from, within}
-use Rattle.naga_below.specs.Bits.{IO_SHAREABLE}
+use Rattle.naga_flags.specs.Bits.{IO_SHAREABLE}
 use Rattle.naga_below.specs.EqualBuiltIns.{built_in_same}
 use Rattle.naga_below.specs.Types.{inner_at}
 use Rattle.naga_below.specs.declared.ir.built_in.BuiltIn.{BuiltIn}
@@ -23,8 +23,8 @@ use Rattle.naga_below.specs.declared.ir.types.StructMember.{StructMember}
 use Rattle.naga_below.specs.declared.ir.types.Type.{«Type» as IrType}
 use Rattle.naga_below.specs.declared.ir.types.TypeInner.{TypeInner}
 use Rattle.naga_below.specs.declared.ir.types.TypeInner.TheVariants as inner
-use Rattle.naga_below.specs.declared.valid.flags.GlobalUse.{GlobalUse}
-use Rattle.naga_below.specs.declared.valid.flags.ValidationFlags.{ValidationFlags}
+use Rattle.naga_flags.specs.declared.valid.GlobalUse.{GlobalUse}
+use Rattle.naga_flags.specs.declared.valid.ValidationFlags.{ValidationFlags}
 use Rattle.naga_below.specs.declared.valid.info.FunctionInfo.{FunctionInfo}
 use Rattle.naga_below.specs.declared.valid.settings.Settings.{Settings}
 use Rattle.naga_below.specs.declared.valid.types.TypeInfo.{TypeInfo}

@@ -31,7 +31,7 @@ use Rattle.naga_valid.specs.interface.Uses.{with_own_uses}
 use Rattle.naga_valid.specs.interface.Varyings.{argument_item, argument_points, declared_points, output_item, output_points, outputs_points, primitive_points, result_items, result_points, vertex_points}
 use Rattle.naga_valid.proofs.EntryAccepted.{accepted_entry}
 use Rattle.naga_valid.proofs.EntryFacts.{none_within, arguments_hold, results_hold}
-use Rattle.naga_checks.proofs.Flat.{holds_at}
+use Rattle.naga_context.proofs.Flat.{holds_at}
 
 pub none_joined : {Fault : Type 0} (ps qs : List (Point Fault)) → first_fault ps ≡ None → first_fault qs ≡ None → first_fault (ps ++ qs) ≡ None
 none_joined ps qs e f = first_of_both ps qs ∙ ap (λ o. option_or o (first_fault qs)) e ∙ f

@@ -18,7 +18,7 @@ use Rattle.naga_valid.specs.interface.Judged.{entry_judgement, of_function, inte
 use Rattle.naga_valid.specs.interface.Start.{start_points}
 use Rattle.naga_checks.specs.Judged.{FunctionOutcome, function_judgement}
 use Rattle.naga_valid.specs.declared.interface.EntryPointError.{EntryPointError}
-use Rattle.naga_checks.specs.declared.trace.TraceState.{TraceState}
+use Rattle.naga_context.specs.declared.trace.TraceState.{TraceState}
 
 module _ {A : Type 0} (points : List (Point EntryFault)) (x : A) where
   -- a refusal for one of the points

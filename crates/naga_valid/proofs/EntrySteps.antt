@@ -13,7 +13,7 @@ use Rattle.naga_valid.specs.interface.Faults.{EntryFault, OfArgument, OfResult, 
 use Rattle.naga_valid.specs.interface.Points.{EntryPoints, Meets}
 use Rattle.naga_valid.specs.declared.interface.EntryPointError.{EntryPointError}
 use Rattle.naga_valid.specs.declared.interface.EntryPointError.TheVariants as fault
-use Rattle.naga_checks.proofs.Refusals.{fault_first, fault_second}
+use Rattle.naga_context.proofs.Refusals.{fault_first, fault_second}
 
 pub ruleset finding = (fault_first, fault_second)
 

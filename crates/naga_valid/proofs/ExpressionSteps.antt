@@ -3,12 +3,12 @@ use Rattle.std.proofs.Common.{◌≡◌, ℕ, suc, ◌+◌, ◌-◌, ◌<◌, �
 use Rattle.naga_below.specs.Points.{and_then}
 use Rattle.naga_below.specs.declared.span.Refusal.{Refusal}
 use Rattle.naga_below.specs.declared.span.Refusal.TheVariants as refusal
-use Rattle.naga_below.specs.declared.valid.flags.ShaderStages.{ShaderStages}
+use Rattle.naga_flags.specs.declared.valid.ShaderStages.{ShaderStages}
 use Rattle.naga_below.specs.declared.valid.info.FunctionInfo.{FunctionInfo}
 use Rattle.naga_rules.specs.Answers.{Answers, Refuses}
 use Rattle.naga_rules.specs.Meaning.{Meaning}
 use Rattle.naga_rules.specs.declared.function.FunctionError.{FunctionError}
-use Rattle.naga_checks.specs.Context.{Context}
+use Rattle.naga_context.specs.Context.{Context}
 use Rattle.naga_checks.specs.Expressions.{with_stages, of_expression, mask_at, stages_from}
 use Rattle.naga_checks.specs.Stages.{meet}
 

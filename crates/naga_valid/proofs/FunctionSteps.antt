@@ -10,25 +10,25 @@ use Rattle.naga_below.specs.declared.span.Refusal.TheVariants as refusal
 use Rattle.naga_below.specs.declared.valid.info.FunctionInfo.{FunctionInfo}
 use Rattle.naga_below.specs.declared.valid.info.ModuleInfo.{ModuleInfo}
 use Rattle.naga_below.specs.declared.valid.settings.Settings.{Settings}
-use Rattle.naga_below.specs.declared.valid.flags.ShaderStages.{ShaderStages}
+use Rattle.naga_flags.specs.declared.valid.ShaderStages.{ShaderStages}
 use Rattle.naga_below.specs.declared.valid.types.TypeInfo.{TypeInfo}
 use Rattle.naga_rules.specs.Answers.{Answers, IsFirstFault, Refuses}
 use Rattle.naga_rules.specs.Meaning.{Meaning}
 use Rattle.naga_rules.specs.declared.function.FunctionError.{FunctionError}
 use Rattle.naga_runs.specs.Judgement.{viewed}
 use Rattle.naga_runs.specs.Visits.{Visit}
-use Rattle.naga_checks.specs.Context.{Context, ContextFits}
+use Rattle.naga_context.specs.Context.{Context, ContextFits}
 use Rattle.naga_checks.specs.Declarations.{declaration_points}
 use Rattle.naga_checks.specs.Expressions.{with_stages, stages_from, expressions_step}
-use Rattle.naga_checks.specs.WhatIsChecked.{checks_blocks, checks_expressions}
+use Rattle.naga_context.specs.WhatIsChecked.{checks_blocks, checks_expressions}
 use Rattle.naga_checks.specs.Judged.{FunctionOutcome, body_judgement, outcome_left, judged_with, declarations_step, expressions_known, context_with, lower_step, function_judgement}
-use Rattle.naga_checks.specs.checks.Results.{filled_before, filled_points}
-use Rattle.naga_checks.specs.walk.Seen.{asked_context, known_behind}
+use Rattle.naga_context.specs.Results.{filled_before, filled_points}
+use Rattle.naga_checks.specs.walk.Asked.{asked_context, known_behind}
 use Rattle.naga_checks.specs.walk.State.{body_outcome, body_left}
 use Rattle.naga_checks.specs.declared.state.BodyOutcome.{BodyOutcome}
-use Rattle.naga_checks.specs.declared.trace.TraceState.{TraceState}
-use Rattle.naga_valid.proofs.Accepted.{with_blocks}
-use Rattle.naga_valid.proofs.Traces.{no_trace}
+use Rattle.naga_context.specs.declared.trace.TraceState.{TraceState}
+use Rattle.naga_function.proofs.Accepted.{with_blocks}
+use Rattle.naga_function.proofs.Traces.{no_trace}
 
 -- what is known of a function whose body leaves this
 abbrev pub outcome_with : FunctionInfo → BodyOutcome → FunctionOutcome

@@ -1,15 +1,4 @@
-pub mod Traces
-pub mod StatesLeft
-pub mod Walk
-pub mod LoopBody
-pub mod PreEmitted
-pub mod Judged
-pub mod Accepted
-pub mod Shapes
-pub mod Guarded
-pub mod FunctionLaw
 pub mod FunctionSteps
-pub mod Each
 pub mod ExpressionSteps
 pub mod EntrySteps
 pub mod EntryGlobals
@@ -17,7 +6,6 @@ pub mod EntryUses
 pub mod EntryJudgement
 pub mod Groups
 pub mod EntryAccepted
-pub mod Chains
 pub mod GlobalFits
 pub mod EntryChains
 pub mod EntryFacts

@@ -1,23 +1,18 @@
 pub mod walk
-pub mod Accepted
-pub mod Shapes
-pub mod FunctionLaw
-pub mod InOrder
 pub mod interface
-pub mod Chains
 pub use Rattle.naga_below.specs.Fits.{FitsTypes, FitsGlobals, FitsFunction, FitsEntry}
 pub use Rattle.naga_rules.specs.Answers.{Answers, Refuses}
 pub use Rattle.naga_rules.specs.Meaning.{Meaning}
 pub use Rattle.naga_runs.specs.Soundness.{RunsAreSure}
-pub use Rattle.naga_valid.specs.Accepted.{ResultsAreFilledOnce, StagesAreOfAll}
-pub use Rattle.naga_checks.specs.Blocks.{body_of}
-pub use Rattle.naga_checks.specs.Context.{pre_emitted_of}
-pub use Rattle.naga_valid.specs.FunctionLaw.{AcceptedIsSound, AcceptedFillsOnce, AcceptedIsOfAllStages, AcceptedHasNoReturnInContinuing, AcceptedHasWholeSwitches, AcceptedStagesAreMet}
-pub use Rattle.naga_valid.specs.Shapes.{HasNoReturnInContinuing, HasWholeSwitches}
-pub use Rattle.naga_valid.specs.Chains.{Reaches, AreVetted, ChainsKeepTo, ChainsAreKept}
+pub use Rattle.naga_function.specs.Accepted.{ResultsAreFilledOnce, StagesAreOfAll}
+pub use Rattle.naga_context.specs.Blocks.{body_of}
+pub use Rattle.naga_context.specs.Context.{pre_emitted_of}
+pub use Rattle.naga_function.specs.FunctionLaw.{AcceptedIsSound, AcceptedFillsOnce, AcceptedIsOfAllStages, AcceptedHasNoReturnInContinuing, AcceptedHasWholeSwitches, AcceptedStagesAreMet}
+pub use Rattle.naga_function.specs.Shapes.{HasNoReturnInContinuing, HasWholeSwitches}
+pub use Rattle.naga_function.specs.Chains.{Reaches, AreVetted, ChainsKeepTo, ChainsAreKept}
 pub use Rattle.naga_checks.specs.Judged.{FunctionOutcome, AnswersTracing}
 pub use Rattle.naga_checks.specs.Parts.{AreInfosOf}
-pub use Rattle.naga_checks.specs.WhatIsChecked.{checks_blocks, checks_expressions}
+pub use Rattle.naga_context.specs.WhatIsChecked.{checks_blocks, checks_expressions}
 unfoldable pub use Rattle.naga_checks.specs.Judged.{function_judgement}
 pub use Rattle.naga_valid.specs.interface.Chains.{AcceptedEntryIsSound, AcceptedEntryKeepsItsStage}
 pub use Rattle.naga_valid.specs.interface.Facts.{BindingsAreDistinct, BuiltInsAreDistinct, GroupsAreDistinct, ReturnsPosition}

@@ -17,8 +17,8 @@ pub(crate) mod varyings;
 use naga_below::arena::handle::Handle;
 use naga_below::arena::tag;
 use naga_below::ir::module::ShaderStage;
-use naga_below::valid::capabilities::Capabilities;
-use naga_below::valid::flags::GlobalUse;
+use naga_flags::capabilities::Capabilities;
+use naga_flags::valid::GlobalUse;
 use naga_rules::function::FunctionError;
 use naga_rules::interface::VaryingError;
 

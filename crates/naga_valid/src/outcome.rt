@@ -1,7 +1,7 @@
 //! What is known of an accepted function.
 
 use naga_below::valid::info::FunctionInfo;
-use naga_checks::trace::TraceState;
+use naga_context::trace::TraceState;
 use std::marker::Model;
 
 /// The info of an accepted function, and what ray traces leave to later functions.

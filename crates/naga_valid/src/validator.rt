@@ -16,12 +16,12 @@ mod whole;
 use bitflags::Flags;
 use naga_below::ir::module::Module;
 use naga_below::sequence::Sequence;
-use naga_below::valid::capabilities::Capabilities;
-use naga_below::valid::flags::{ShaderStages, SubgroupOperationSet, ValidationFlags};
 use naga_below::valid::settings::Settings;
 use naga_below::valid::types::TypeInfo;
-use naga_checks::table::Table;
-use naga_checks::trace::{TraceRayVertexReturnState, TraceState};
+use naga_context::table::Table;
+use naga_context::trace::{TraceRayVertexReturnState, TraceState};
+use naga_flags::capabilities::Capabilities;
+use naga_flags::valid::{ShaderStages, SubgroupOperationSet, ValidationFlags};
 use naga_rules::below::Below;
 use std::marker::Model;
 

@@ -8,10 +8,10 @@ use crate::arena::unique_arena::{Identical, UniqueArena};
 use crate::arena::{Arena, tag};
 use crate::duplicate::{Duplicate, duplicates};
 use crate::ir::expressions::Expression;
-use crate::ir::flags::MemoryDecorations;
 use crate::ir::functions::Function;
 use crate::ir::types::{AddressSpace, Type};
 use crate::sequence::Sequence;
+use naga_flags::ir::MemoryDecorations;
 use std::alloc::{AllocError, Global};
 
 impl Identical for Type {

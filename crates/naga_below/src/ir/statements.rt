@@ -7,13 +7,13 @@ use crate::arena::handle::Handle;
 use crate::arena::range::Range;
 use crate::arena::tag;
 use crate::ir::expressions::Operands;
-use crate::ir::flags::Barrier;
 use crate::ir::operations::{
     AtomicFunction, CollectiveOperation, CooperativeData, GatherMode, RayPipelineFunction,
     RayQueryFunction, SubgroupOperation,
 };
 use crate::sequence::Sequence;
 use crate::span::Span;
+use naga_flags::ir::Barrier;
 use std::alloc::{AllocError, Global};
 
 /// The value of a case. A value of one sign never equals one of the other.

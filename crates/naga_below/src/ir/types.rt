@@ -5,9 +5,9 @@ mod clones;
 use crate::arena::handle::{Handle, Tagged};
 use crate::arena::tag;
 use crate::ir::built_in::BuiltIn;
-use crate::ir::flags::StorageAccess;
 use crate::ir::name::Name;
 use crate::sequence::Sequence;
+use naga_flags::ir::StorageAccess;
 use std::num::NonZeroU32;
 
 /// What a scalar is. In a module that passed, no type is of an abstract kind.

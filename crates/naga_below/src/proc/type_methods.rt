@@ -6,13 +6,13 @@ ghost use Rattle.naga_below.specs.TypeTests.{is_equivalent, is_exchange_struct, 
 ghost use Rattle.naga_below.specs.Formats.{format_kind, format_scalar};
 
 use crate::arena::unique_arena::UniqueArena;
-use crate::ir::flags::StorageAccess;
 use crate::ir::types::{
     AddressSpace, ImageDimension, Scalar, ScalarKind, StorageFormat, StructMember, Type, TypeInner,
     VectorSize,
 };
 use crate::proc::typifier::TypeResolution;
 use bitflags::Flags;
+use naga_flags::ir::StorageAccess;
 
 impl TypeInner {
     /// The scalar that a scalar, a vector or a matrix is made of.

@@ -2,8 +2,8 @@
 
 use crate::arena::handle::Handle;
 use crate::arena::tag;
-use crate::ir::flags::StorageAccess;
 use crate::ir::types::{ImageClass, ImageDimension, StorageFormat};
+use naga_flags::ir::StorageAccess;
 use std::fmt;
 
 /// What is wrong with an expression, or with an operand of a statement.

@@ -6,8 +6,8 @@ use crate::arena::handle::Handle;
 use crate::arena::tag;
 use crate::proc::typifier::TypeResolution;
 use crate::sequence::Sequence;
-use crate::valid::flags::{GlobalUse, ShaderStages};
 use bitflags::Flags;
+use naga_flags::valid::{GlobalUse, ShaderStages};
 use std::alloc::Global;
 
 /// What is known of a function: `expression_types` is indexed by the handles of its expressions, `global_uses` by those

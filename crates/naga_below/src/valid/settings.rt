@@ -1,7 +1,7 @@
 //! The settings of a validator.
 
-use crate::valid::capabilities::Capabilities;
-use crate::valid::flags::{ShaderStages, SubgroupOperationSet, ValidationFlags};
+use naga_flags::capabilities::Capabilities;
+use naga_flags::valid::{ShaderStages, SubgroupOperationSet, ValidationFlags};
 
 /// Which checks are made, and what the target can do.
 #[derive(Clone, Copy, PartialEq, Eq, Hash, Debug)]

@@ -4,7 +4,7 @@ ghost use Rattle.std.specs.Prelude.{◌≡◌};
 ghost use Rattle.naga_below.specs.Subgroups.{operation_group, gather_group};
 
 use crate::ir::operations::{GatherMode, SubgroupOperation};
-use crate::valid::flags::SubgroupOperationSet;
+use naga_flags::valid::SubgroupOperationSet;
 
 impl SubgroupOperation {
     /// The group of operations that this one belongs to.

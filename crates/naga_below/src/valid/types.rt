@@ -2,7 +2,7 @@
 
 use crate::arena::handle::Handle;
 use crate::arena::tag;
-use crate::valid::flags::TypeFlags;
+use naga_flags::valid::TypeFlags;
 
 /// Why a layout is bad: a number that is carried unread.
 #[derive(Clone, Copy, PartialEq, Eq, PartialOrd, Ord, Hash, Debug)]

@@ -4,13 +4,13 @@ use crate::tests::{arena_of, block_of};
 use naga_below::arena::Arena;
 use naga_below::arena::handle::Handle;
 use naga_below::arena::range::Range;
-use naga_below::fits::function::fits_function;
 use naga_below::ir::expressions::Expression;
 use naga_below::ir::functions::Function;
 use naga_below::ir::module::Module;
 use naga_below::ir::statements::Statement;
 use naga_below::sequence::Sequence;
 use naga_below::span::Span;
+use naga_fits::function::fits_function;
 use std::alloc::{AllocError, Global};
 use std::test::Fail;
 

@@ -7,7 +7,6 @@ use naga_below::arena::handle::Handle;
 use naga_below::arena::range::Range;
 use naga_below::arena::unique_arena::UniqueArena;
 use naga_below::ir::expressions::Expression;
-use naga_below::ir::flags::MemoryDecorations;
 use naga_below::ir::functions::{Function, FunctionArgument, FunctionResult, LocalVariable};
 use naga_below::ir::module::{Constant, EntryPoint, GlobalVariable, Module, Override, ShaderStage};
 use naga_below::ir::name::{Name, clone_name};
@@ -16,6 +15,7 @@ use naga_below::ir::types::{AddressSpace, Scalar, StructMember, Type, TypeInner}
 use naga_below::proc::typifier::TypeResolution;
 use naga_below::sequence::Sequence;
 use naga_below::span::Span;
+use naga_flags::ir::MemoryDecorations;
 use std::alloc::{AllocError, Global};
 use std::process::Abort;
 use std::test::Fail;

@@ -2,16 +2,16 @@
 
 use bitflags::Flags;
 use naga_below::arena::handle::Handle;
-use naga_below::ir::flags::{Barrier, MemoryDecorations, StorageAccess};
 use naga_below::ir::types::{ImageClass, ImageDimension, StorageFormat};
 use naga_below::sequence::Sequence;
 use naga_below::span::{Refusal, Span, WithSpan};
-use naga_below::valid::capabilities::Capabilities;
 use naga_below::valid::expression_error::ExpressionError;
-use naga_below::valid::flags::{
+use naga_below::valid::info::FunctionInfo;
+use naga_flags::capabilities::Capabilities;
+use naga_flags::ir::{Barrier, MemoryDecorations, StorageAccess};
+use naga_flags::valid::{
     GlobalUse, ShaderStages, SubgroupOperationSet, TypeFlags, ValidationFlags,
 };
-use naga_below::valid::info::FunctionInfo;
 use std::alloc::AllocError;
 use std::test::Fail;
 

@@ -5,11 +5,7 @@ use bitflags::Flags;
 use naga_below::arena::handle::Handle;
 use naga_below::arena::tag;
 use naga_below::arena::unique_arena::UniqueArena;
-use naga_below::fits::entry::fits_entry;
-use naga_below::fits::globals::fits_globals;
-use naga_below::fits::types::fits_types;
 use naga_below::ir::expressions::Expression;
-use naga_below::ir::flags::MemoryDecorations;
 use naga_below::ir::functions::Function;
 use naga_below::ir::module::{
     Constant, EntryPoint, GlobalVariable, MeshOutputTopology, MeshStageInfo, Module, Override,
@@ -22,6 +18,10 @@ use naga_below::proc::typifier::TypeResolution;
 use naga_below::sequence::Sequence;
 use naga_below::span::Span;
 use naga_below::valid::info::ModuleInfo;
+use naga_fits::entry::fits_entry;
+use naga_fits::globals::fits_globals;
+use naga_fits::types::fits_types;
+use naga_flags::ir::MemoryDecorations;
 use std::alloc::{AllocError, Global};
 use std::test::Fail;
 

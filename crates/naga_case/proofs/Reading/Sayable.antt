@@ -6,7 +6,7 @@ use Rattle.naga_below.specs.declared.span.Span.{Span}
 use Rattle.naga_below.specs.declared.ir.statements.Statement.{Statement}
 use Rattle.naga_below.specs.declared.ir.statements.Statement as statement
 use Rattle.naga_below.specs.Tree.{Act, Stmt, Leaf, Block, Branch, Switch, Loop, Break, Continue, Return, Kill, Body, Done, Then, Cases, NoCase, OneCase}
-use Rattle.naga_below.specs.Bits.{NO_MEMORY}
+use Rattle.naga_flags.specs.Bits.{NO_MEMORY}
 use Rattle.naga_case.specs.declared.bench.Bench.{Bench}
 use Rattle.naga_case.specs.declared.bench.Bench.TheVariants.{P, C, D}
 use Rattle.naga_case.specs.declared.notation.token.Token.{Token}

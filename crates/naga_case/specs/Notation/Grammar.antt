@@ -5,7 +5,7 @@ use Rattle.naga_below.specs.declared.ir.statements.Statement.{Statement}
 use Rattle.naga_below.specs.declared.ir.statements.Statement as statement
 use Rattle.naga_below.specs.Tree.{Stmt, Leaf, Block, Branch, Switch, Loop, Break, Continue, Return, Kill, Body, Done, Then, Cases, NoCase, OneCase}
 use Rattle.naga_below.specs.View.{tree_of, no_operands}
-use Rattle.naga_below.specs.Bits.{NO_MEMORY}
+use Rattle.naga_flags.specs.Bits.{NO_MEMORY}
 use Rattle.naga_case.specs.declared.notation.token.Token.{Token}
 use Rattle.naga_case.specs.declared.notation.token.Token.TheVariants as token
 

@@ -10,10 +10,10 @@ use bitflags::Flags;
 use naga_below::arena::handle::Handle;
 use naga_below::arena::range::Range;
 use naga_below::arena::tag;
-use naga_below::ir::flags::Barrier;
 use naga_below::ir::statements::{Block, Located, Statement, SwitchCase, SwitchValue};
 use naga_below::sequence::Sequence;
 use naga_below::span::Span;
+use naga_flags::ir::Barrier;
 use std::alloc::{AllocError, Global};
 
 /// The expression of a bench at this index.

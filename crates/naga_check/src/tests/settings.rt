@@ -1,13 +1,13 @@
 //! All sixteen sets of flags.
 
 use crate::tests::{Outcome, ROOM, again, run};
-use naga_below::valid::flags::ValidationFlags;
 use naga_below::valid::info::ModuleInfo;
 use naga_below::valid::settings::Settings;
 use naga_case::bench_module::bench_module;
 use naga_case::judge::{given, settings_of, stages_of_last};
 use naga_case::line::Reply;
 use naga_case::notation::{Case, ReadError, read_case};
+use naga_flags::valid::ValidationFlags;
 use naga_layers::plain::Plain;
 use naga_module::check::{ModuleFault, check_module};
 use std::alloc::Global;

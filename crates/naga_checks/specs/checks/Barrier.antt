@@ -1,13 +1,13 @@
 -- The check list of ControlBarrier and of MemoryBarrier.
 use Rattle.std.specs.Prelude.{Bool, [], ◌∷◌, if◌then◌else◌}
 use Rattle.std.specs.Int.RustNames.{bit_or}
-use Rattle.naga_below.specs.Bits as bit
-use Rattle.naga_below.specs.Bits.{contains, has_capability}
-use Rattle.naga_below.specs.declared.ir.flags.Barrier.{Barrier}
-use Rattle.naga_below.specs.declared.valid.capabilities.Capabilities.{Capabilities}
+use Rattle.naga_flags.specs.Bits as bit
+use Rattle.naga_flags.specs.Bits.{contains, has_capability}
+use Rattle.naga_flags.specs.declared.ir.Barrier.{Barrier}
+use Rattle.naga_flags.specs.declared.capabilities.Capabilities.{Capabilities}
 use Rattle.naga_below.specs.declared.valid.settings.Settings.{Settings}
 use Rattle.naga_rules.specs.declared.function.FunctionError.TheVariants.{MissingCapability}
-use Rattle.naga_checks.specs.Points.{Points}
+use Rattle.naga_context.specs.Points.{Points}
 use Rattle.naga_checks.specs.checks.Subgroup.{operations_point}
 
 -- whether a barrier is one of a subgroup

@@ -13,11 +13,11 @@ use Rattle.naga_rules.specs.declared.function.FunctionError.TheVariants.{Invalid
 use Rattle.naga_runs.specs.Handles.{Handles}
 use Rattle.naga_runs.specs.Visits.{Place}
 use Rattle.naga_below.specs.Points.{Point, within}
-use Rattle.naga_checks.specs.Context.{Context}
-use Rattle.naga_checks.specs.Points.{Points, may_use, is_in_scope}
-use Rattle.naga_checks.specs.checks.Results.{is_fresh}
+use Rattle.naga_context.specs.Context.{Context}
+use Rattle.naga_context.specs.Points.{Points, may_use, is_in_scope}
+use Rattle.naga_context.specs.Results.{is_fresh}
 use Rattle.naga_below.specs.TypeTests.{is_same_type}
-use Rattle.naga_checks.specs.Types.{expression_at, resolution_at}
+use Rattle.naga_context.specs.Types.{expression_at, resolution_at}
 
 abbrev pub CallPoints : Type 0
 CallPoints = List (Point CallError)

@@ -10,12 +10,12 @@ use Rattle.naga_below.specs.declared.proc.typifier.TypeResolution.{TypeResolutio
 use Rattle.naga_below.specs.declared.proc.typifier.TypeResolution.TheVariants.{Handle}
 use Rattle.naga_rules.specs.declared.function.FunctionError.TheVariants.{EmitResult, BreakOutsideOfLoopOrSwitch, ContinueOutsideOfLoop, InvalidReturnSpot, InvalidReturnType, InvalidIfType}
 use Rattle.naga_runs.specs.Visits.{Place}
-use Rattle.naga_checks.specs.Blocks.{emitted_operands}
-use Rattle.naga_checks.specs.Context.{Context}
-use Rattle.naga_checks.specs.Points.{Points, use_point, put_point}
-use Rattle.naga_checks.specs.checks.Results.{is_result}
+use Rattle.naga_context.specs.Blocks.{emitted_operands}
+use Rattle.naga_context.specs.Context.{Context}
+use Rattle.naga_context.specs.Points.{Points, use_point, put_point}
+use Rattle.naga_context.specs.Results.{is_result}
 use Rattle.naga_below.specs.TypeTests.{is_same_type}
-use Rattle.naga_checks.specs.Types.{expression_at, resolution_at, type_at}
+use Rattle.naga_context.specs.Types.{expression_at, resolution_at, type_at}
 
 -- a place within an Emit whose range begins at `start`: in front of the handle h the earlier handles of the range count too
 abbrev pub within_emit : Place → ℕ → ℕ → Place

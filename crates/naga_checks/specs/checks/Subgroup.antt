@@ -1,7 +1,7 @@
 -- The check lists of SubgroupBallot, SubgroupCollectiveOperation and SubgroupGather.
 use Rattle.std.specs.Prelude.{ℕ, Bool, true, false, not, ◌&&◌, ◌||◌, nat_le, List, [], ◌∷◌, ◌++◌, Option, None, Some, slice_get}
-use Rattle.naga_below.specs.Bits as bit
-use Rattle.naga_below.specs.Bits.{contains, has_capability}
+use Rattle.naga_flags.specs.Bits as bit
+use Rattle.naga_flags.specs.Bits.{contains, has_capability}
 use Rattle.naga_below.specs.Subgroups.{operation_group, gather_group}
 use Rattle.naga_below.specs.Types.{inner_at, bool_scalar}
 use Rattle.naga_below.specs.declared.ir.expressions.Expression.{Expression}
@@ -20,7 +20,7 @@ use Rattle.naga_below.specs.declared.ir.types.TypeInner.{TypeInner}
 use Rattle.naga_below.specs.declared.ir.types.TypeInner.TheVariants as inner
 use Rattle.naga_below.specs.declared.proc.expression_kinds.ExpressionKind.{ExpressionKind}
 use Rattle.naga_below.specs.declared.proc.expression_kinds.ExpressionKind.TheVariants as known
-use Rattle.naga_below.specs.declared.valid.flags.SubgroupOperationSet.{SubgroupOperationSet}
+use Rattle.naga_flags.specs.declared.valid.SubgroupOperationSet.{SubgroupOperationSet}
 use Rattle.naga_below.specs.declared.valid.settings.Settings.{Settings}
 use Rattle.naga_rules.specs.declared.function.FunctionError.{FunctionError}
 use Rattle.naga_rules.specs.declared.function.FunctionError.TheVariants.{InvalidSubgroup, MissingCapability}
@@ -28,11 +28,11 @@ use Rattle.naga_rules.specs.declared.function.SubgroupError.{SubgroupError}
 use Rattle.naga_rules.specs.declared.function.SubgroupError.TheVariants as wrong
 use Rattle.naga_runs.specs.Visits.{Place}
 use Rattle.naga_below.specs.Points.{Point}
-use Rattle.naga_checks.specs.Context.{Context}
+use Rattle.naga_context.specs.Context.{Context}
 use Rattle.naga_checks.specs.checks.Control.{is_bool_kind}
-use Rattle.naga_checks.specs.Points.{Points, use_point, put_point}
+use Rattle.naga_context.specs.Points.{Points, use_point, put_point}
 use Rattle.naga_below.specs.TypeTests.{is_scalar, both_are, is_same_inner}
-use Rattle.naga_checks.specs.Types.{is_integer, expression_at, type_at}
+use Rattle.naga_context.specs.Types.{is_integer, expression_at, type_at}
 
 -- a point whose fault stands inside InvalidSubgroup
 abbrev pub subgroup_point : Bool → SubgroupError → Point FunctionError

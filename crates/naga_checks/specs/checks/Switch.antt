@@ -10,9 +10,9 @@ use Rattle.naga_below.specs.declared.ir.types.ScalarKind.TheVariants as kind
 use Rattle.naga_rules.specs.declared.function.FunctionError.{FunctionError}
 use Rattle.naga_rules.specs.declared.function.FunctionError.TheVariants.{InvalidSwitchType, ConflictingSwitchCase, ConflictingCaseType, MissingDefaultCase, MultipleDefaultCases, LastCaseFallTrough}
 use Rattle.naga_runs.specs.Visits.{Place}
-use Rattle.naga_checks.specs.Context.{Context}
-use Rattle.naga_checks.specs.Points.{Points, use_point}
-use Rattle.naga_checks.specs.Types.{is_integer, scalar_kind_at}
+use Rattle.naga_context.specs.Context.{Context}
+use Rattle.naga_context.specs.Points.{Points, use_point}
+use Rattle.naga_context.specs.Types.{is_integer, scalar_kind_at}
 
 -- a case value of the selector's signedness
 abbrev pub has_signedness_of : Option ScalarKind → SwitchValue → Bool

@@ -4,20 +4,20 @@ use Rattle.std.specs.Prelude.{List, Option, None, Some, Result, ℕ}
 use Rattle.naga_below.specs.Points.{first_fault, answer, and_then}
 use Rattle.naga_below.specs.Tree.{Stmt}
 use Rattle.naga_rules.specs.declared.function.FunctionError.{FunctionError}
-use Rattle.naga_below.specs.declared.valid.flags.ShaderStages.{ShaderStages}
+use Rattle.naga_flags.specs.declared.valid.ShaderStages.{ShaderStages}
 use Rattle.naga_runs.specs.Handles.{Handles, no_handles, with_handle}
 use Rattle.naga_runs.specs.Judgement.{Rules}
 use Rattle.naga_runs.specs.Positions.{Node, StatementNode}
 use Rattle.naga_runs.specs.Visits.{Visit}
 use Rattle.naga_checks.specs.Past.{Past}
-use Rattle.naga_checks.specs.Context.{Context}
-use Rattle.naga_checks.specs.checks.Results.{result_of, filled_before, filled_points}
+use Rattle.naga_context.specs.Context.{Context}
+use Rattle.naga_context.specs.Results.{result_of, filled_before, filled_points}
 use Rattle.naga_checks.specs.Rules.{points_at, stages_behind, stages_left}
-use Rattle.naga_checks.specs.walk.Table.{filled_in}
-use Rattle.naga_checks.specs.Traces.{trace_after, with_trace}
+use Rattle.naga_context.specs.walk.Table.{filled_in}
+use Rattle.naga_memory.specs.Traces.{trace_after, with_trace}
 use Rattle.naga_checks.specs.declared.state.BodyOutcome.{BodyOutcome}
-use Rattle.naga_checks.specs.declared.table.FilledColumn.{FilledColumn}
-use Rattle.naga_checks.specs.declared.trace.TraceState.{TraceState}
+use Rattle.naga_context.specs.declared.table.FilledColumn.{FilledColumn}
+use Rattle.naga_context.specs.declared.trace.TraceState.{TraceState}
 
 pub record State : Type 0 where
   pub stages : ShaderStages

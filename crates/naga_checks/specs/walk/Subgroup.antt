@@ -4,10 +4,10 @@ use Rattle.std.specs.Prelude.{ℕ, [], ◌∷◌, ◌++◌}
 use Rattle.naga_below.specs.declared.ir.operations.GatherMode.{GatherMode}
 use Rattle.naga_rules.specs.declared.function.SubgroupError.TheVariants as wrong
 use Rattle.naga_runs.specs.Visits.{Place}
-use Rattle.naga_checks.specs.Context.{Context}
-use Rattle.naga_checks.specs.Points.{Points, use_point, put_point}
+use Rattle.naga_context.specs.Context.{Context}
+use Rattle.naga_context.specs.Points.{Points, use_point, put_point}
 use Rattle.naga_checks.specs.checks.Subgroup.{subgroup_point, index_of, is_broadcast, index_points, is_gathered, is_result_of}
-use Rattle.naga_checks.specs.Types.{type_at}
+use Rattle.naga_context.specs.Types.{type_at}
 
 -- the result of a collective operation or a gather
 abbrev pub combined_points : Context → Place → ℕ → ℕ → Points

@@ -6,11 +6,11 @@ use Rattle.naga_below.specs.declared.ir.statements.SwitchValue.{SwitchValue}
 use Rattle.naga_below.specs.declared.ir.statements.SwitchValue.TheVariants.{I32, U32, Default}
 use Rattle.naga_rules.specs.declared.function.FunctionError.TheVariants.{InvalidSwitchType, MissingDefaultCase, LastCaseFallTrough}
 use Rattle.naga_runs.specs.Visits.{Place}
-use Rattle.naga_checks.specs.Context.{Context}
+use Rattle.naga_context.specs.Context.{Context}
 use Rattle.naga_checks.specs.checks.Switch.{is_default, values_of, last_falls_through}
-use Rattle.naga_checks.specs.Points.{Points, use_point}
+use Rattle.naga_context.specs.Points.{Points, use_point}
 use Rattle.naga_checks.specs.declared.checks.switch.Rising.{Rising}
-use Rattle.naga_checks.specs.Types.{is_integer, scalar_kind_at}
+use Rattle.naga_context.specs.Types.{is_integer, scalar_kind_at}
 
 -- the selector
 abbrev pub selector_points : Context → Place → ℕ → Points

@@ -9,9 +9,9 @@ use Rattle.naga_runs.specs.Handles.{Handles}
 use Rattle.naga_runs.specs.PutsAndUses.{acts_of, puts_of}
 use Rattle.naga_runs.specs.Visits.{Place}
 use Rattle.naga_runs.specs.declared.Abilities.{Abilities}
-use Rattle.naga_checks.specs.Context.{Context, if_pre_emitted}
-use Rattle.naga_checks.specs.walk.Place.{Sets, place_at}
-use Rattle.naga_checks.specs.walk.Table.{with_all}
+use Rattle.naga_context.specs.Context.{Context, if_pre_emitted}
+use Rattle.naga_context.specs.walk.Place.{Sets, place_at}
+use Rattle.naga_context.specs.walk.Table.{with_all}
 use Rattle.naga_runs.specs.Must.{holds_continue}
 use Rattle.naga_checks.specs.walk.State.{State, kept_rules}
 

@@ -9,18 +9,14 @@ ghost use Rattle.naga_below.specs.declared.valid.expression_error.ExpressionErro
 ghost use Rattle.naga_rules.specs.declared.function.CallError.TheVariants.{Argument, ArgumentCount, ArgumentType, ExpressionMismatch, ResultAlreadyInScope, ResultAlreadyPopulated};
 ghost use Rattle.naga_rules.specs.declared.function.FunctionError.TheVariants.{InvalidCall};
 ghost use Rattle.naga_runs.specs.PutsAndUses.{puts_of};
-ghost use Rattle.naga_checks.specs.walk.Answers.{IsRefusalFor};
+ghost use Rattle.naga_context.specs.walk.Answers.{IsRefusalFor};
 ghost use Rattle.naga_rules.specs.Answers.{AnswersPoints};
 ghost use Rattle.naga_checks.specs.checks.Call.{is_passed_as, passed_points, all_passed_points, is_call_result_of, call_result_points, call_points};
-ghost use Rattle.naga_checks.specs.Context.{ContextFits};
-ghost use Rattle.naga_checks.specs.walk.Place.{place_at};
-ghost use Rattle.naga_checks.specs.walk.Seen.{context_of};
-ghost use Rattle.naga_checks.specs.walk.Table.{HasPut, count, filled_in, known};
+ghost use Rattle.naga_context.specs.Context.{ContextFits};
+ghost use Rattle.naga_context.specs.walk.Place.{place_at};
+ghost use Rattle.naga_context.specs.walk.Seen.{context_of};
+ghost use Rattle.naga_context.specs.walk.Table.{HasPut, count, filled_in, known};
 
-use crate::checks::results::is_fresh;
-use crate::context::BlockContext;
-use crate::refused::Refused;
-use crate::table::{FilledColumn, ScopeColumn};
 use naga_below::arena::handle::Handle;
 use naga_below::arena::tag;
 use naga_below::ir::expressions::Expression;
@@ -29,6 +25,10 @@ use naga_below::proc::type_methods::compare_types;
 use naga_below::proc::typifier::TypeResolution;
 use naga_below::span::Span;
 use naga_below::valid::expression_error::ExpressionError;
+use naga_context::context::BlockContext;
+use naga_context::refused::Refused;
+use naga_context::results::is_fresh;
+use naga_context::table::{FilledColumn, ScopeColumn};
 use naga_rules::function::{CallError, FunctionError};
 use std::alloc::Global;
 

@@ -2,37 +2,37 @@
 
 ghost use Rattle.std.specs.Prelude.{◌≡◌, OnOk};
 ghost use Rattle.naga_rules.specs.Answers.{AnswersPoints};
-ghost use Rattle.naga_checks.specs.Blocks.{tree_of};
-ghost use Rattle.naga_checks.specs.Context.{ContextFits};
+ghost use Rattle.naga_context.specs.Blocks.{tree_of};
+ghost use Rattle.naga_context.specs.Context.{ContextFits};
 ghost use Rattle.naga_checks.specs.Ready.{IsStatementReady};
 ghost use Rattle.naga_checks.specs.Rules.{leaf_points};
-ghost use Rattle.naga_checks.specs.walk.Place.{place_at};
-ghost use Rattle.naga_checks.specs.walk.Seen.{context_of};
+ghost use Rattle.naga_context.specs.walk.Place.{place_at};
+ghost use Rattle.naga_context.specs.walk.Seen.{context_of};
 ghost use Rattle.naga_checks.specs.walk.State.{kept, seen};
 ghost use Rattle.naga_checks.specs.walk.Walk.{puts};
-ghost use Rattle.naga_checks.specs.walk.Table.{HasPut, IsTableOf, known};
+ghost use Rattle.naga_context.specs.walk.Table.{HasPut, IsTableOf, known};
 
-use crate::checks::atomic::{AtomicOperation, validate_atomic};
 use crate::checks::barrier::check_barrier;
 use crate::checks::call::{CallSite, validate_call};
 use crate::checks::control;
-use crate::checks::cooperative::check_cooperative_store;
-use crate::checks::image::Texel;
-use crate::checks::image_atomic::{TexelOperation, check_image_atomic};
-use crate::checks::image_store::check_image_store;
-use crate::checks::load::validate_load;
-use crate::checks::ray_query::validate_ray_query;
-use crate::checks::ray_trace::{Ray, check_trace_ray};
-use crate::checks::store::check_store;
 use crate::checks::subgroup::validate_ballot;
 use crate::checks::subgroup_collective::{Collective, validate_collective};
 use crate::checks::subgroup_gather::validate_gather;
-use crate::context::BlockContext;
-use crate::refused::Refused;
 use crate::state::BodyOutcome;
-use crate::table::Table;
 use naga_below::ir::operations::RayPipelineFunction;
 use naga_below::ir::statements::{Located, Statement};
+use naga_context::context::BlockContext;
+use naga_context::refused::Refused;
+use naga_context::table::Table;
+use naga_memory::atomic::{AtomicOperation, validate_atomic};
+use naga_memory::cooperative::check_cooperative_store;
+use naga_memory::image::Texel;
+use naga_memory::image_atomic::{TexelOperation, check_image_atomic};
+use naga_memory::image_store::check_image_store;
+use naga_memory::load::validate_load;
+use naga_memory::ray_query::validate_ray_query;
+use naga_memory::ray_trace::{Ray, check_trace_ray};
+use naga_memory::store::check_store;
 
 /// The check list of a statement that is neither a jump nor holds others; of the others it is empty. What the statement
 /// puts is in scope afterwards.

@@ -2,27 +2,27 @@
 
 ghost use Rattle.std.specs.Prelude.{◌≡◌, OnOk};
 ghost use Rattle.naga_rules.specs.Answers.{AnswersPoints};
-ghost use Rattle.naga_checks.specs.Blocks.{tree_of};
-ghost use Rattle.naga_checks.specs.Context.{ContextFits};
+ghost use Rattle.naga_context.specs.Blocks.{tree_of};
+ghost use Rattle.naga_context.specs.Context.{ContextFits};
 ghost use Rattle.naga_checks.specs.checks.Control.{break_if_points};
 ghost use Rattle.naga_checks.specs.Ready.{IsStatementReady};
 ghost use Rattle.naga_checks.specs.Rules.{statement_points};
-ghost use Rattle.naga_checks.specs.walk.Place.{place_at};
-ghost use Rattle.naga_checks.specs.walk.Seen.{context_of};
+ghost use Rattle.naga_context.specs.walk.Place.{place_at};
+ghost use Rattle.naga_context.specs.walk.Seen.{context_of};
 ghost use Rattle.naga_checks.specs.walk.State.{kept, seen};
 ghost use Rattle.naga_checks.specs.walk.Walk.{place, puts};
-ghost use Rattle.naga_checks.specs.walk.Table.{HasPut, IsTableOf, known};
+ghost use Rattle.naga_context.specs.walk.Table.{HasPut, IsTableOf, known};
 
 use crate::checks::leaf::validate_leaf;
 use crate::checks::{control, switch};
-use crate::context::BlockContext;
-use crate::refused::Refused;
 use crate::state::BodyOutcome;
-use crate::table::{ScopeColumn, Table};
 use naga_below::arena::handle::Handle;
 use naga_below::arena::tag;
 use naga_below::ir::statements::{Located, Statement};
 use naga_below::span::Span;
+use naga_context::context::BlockContext;
+use naga_context::refused::Refused;
+use naga_context::table::{ScopeColumn, Table};
 use naga_runs::Abilities;
 
 /// The check list of a statement itself. What it puts is in scope afterwards.

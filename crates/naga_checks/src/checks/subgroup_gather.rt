@@ -2,25 +2,25 @@
 
 ghost use Rattle.std.specs.Prelude.{◌≡◌, ◌<◌, ◌∷◌, [], OnOk, Some};
 ghost use Rattle.std.specs.Option.{option_copied};
-ghost use Rattle.naga_checks.specs.walk.Answers.{Finds};
+ghost use Rattle.naga_context.specs.walk.Answers.{Finds};
 ghost use Rattle.naga_rules.specs.Answers.{AnswersPoints};
-ghost use Rattle.naga_checks.specs.walk.Place.{place_at};
+ghost use Rattle.naga_context.specs.walk.Place.{place_at};
 ghost use Rattle.naga_checks.specs.walk.Subgroup.{indexed_points, gathered_points};
-ghost use Rattle.naga_checks.specs.walk.Seen.{context_of};
+ghost use Rattle.naga_context.specs.walk.Seen.{context_of};
 ghost use Rattle.naga_checks.specs.checks.Subgroup.{index_of, is_broadcast, is_const_at, index_points, is_gathered, gather_points};
-ghost use Rattle.naga_checks.specs.walk.Table.{HasPut, count, known};
+ghost use Rattle.naga_context.specs.walk.Table.{HasPut, count, known};
 
-use crate::checks::refuse::{answer, check_use};
 use crate::checks::subgroup::{check_combined, check_operations, check_subgroups, is_number_kind};
-use crate::checks::types::is_scalar;
-use crate::context::BlockContext;
-use crate::refused::Refused;
-use crate::table::ScopeColumn;
 use naga_below::arena::handle::Handle;
 use naga_below::arena::tag;
 use naga_below::ir::operations::GatherMode;
 use naga_below::ir::types::{Scalar, TypeInner};
 use naga_below::span::Span;
+use naga_context::context::BlockContext;
+use naga_context::refuse::{answer, check_use};
+use naga_context::refused::Refused;
+use naga_context::table::ScopeColumn;
+use naga_context::types::is_scalar;
 use naga_rules::function::{FunctionError, SubgroupError};
 
 /// SubgroupGather: its index, its argument, and its result, which is in scope afterwards.

@@ -7,7 +7,6 @@ use naga_below::arena::Arena;
 use naga_below::arena::handle::Handle;
 use naga_below::arena::unique_arena::UniqueArena;
 use naga_below::ir::built_in::BuiltIn;
-use naga_below::ir::flags::MemoryDecorations;
 use naga_below::ir::functions::Function;
 use naga_below::ir::module::{GlobalVariable, Module, ResourceBinding, SpecialTypes};
 use naga_below::ir::statements::Statement;
@@ -15,9 +14,10 @@ use naga_below::ir::types::{
     AddressSpace, ArraySize, Scalar, StructMember, Type, TypeInner, VectorSize,
 };
 use naga_below::sequence::Sequence;
-use naga_below::valid::flags::{ShaderStages, TypeFlags};
 use naga_below::valid::info::{FunctionInfo, ModuleInfo};
 use naga_below::valid::types::TypeInfo;
+use naga_flags::ir::MemoryDecorations;
+use naga_flags::valid::{ShaderStages, TypeFlags};
 use naga_rules::below::Below;
 use std::alloc::{AllocError, Global};
 use std::num::NonZeroU32;

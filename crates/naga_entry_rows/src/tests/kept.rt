@@ -10,8 +10,8 @@ use crate::tests::shape::{
 use bitflags::Flags;
 use naga_below::arena::handle::Handle;
 use naga_below::ir::module::ShaderStage;
-use naga_below::valid::flags::GlobalUse;
-use naga_checks::trace::{TraceRayVertexReturnState, TraceState};
+use naga_context::trace::{TraceRayVertexReturnState, TraceState};
+use naga_flags::valid::GlobalUse;
 use naga_valid::interface::EntryPointError;
 use std::process::Abort;
 use std::test::Fail;

@@ -9,9 +9,9 @@ use naga_below::ir::statements::{Block, Located, Statement};
 use naga_below::ir::types::Type;
 use naga_below::sequence::Sequence;
 use naga_below::span::Span;
-use naga_below::valid::flags::{TypeFlags, ValidationFlags};
 use naga_below::valid::info::ModuleInfo;
 use naga_below::valid::types::TypeInfo;
+use naga_flags::valid::{TypeFlags, ValidationFlags};
 use std::alloc::{AllocError, Global};
 
 /// Where nothing is.

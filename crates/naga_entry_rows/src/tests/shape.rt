@@ -5,8 +5,8 @@ use crate::tests::parts::ALL_CHECKS;
 use naga_below::ir::built_in::BuiltIn;
 use naga_below::ir::module::ShaderStage;
 use naga_below::ir::types::{Binding, Interpolation};
-use naga_below::valid::capabilities::Capabilities;
-use naga_below::valid::flags::ValidationFlags;
+use naga_flags::capabilities::Capabilities;
+use naga_flags::valid::ValidationFlags;
 
 /// A type, and what it is bound to: an argument, a result, or a member of a struct.
 #[derive(Clone, Copy)]

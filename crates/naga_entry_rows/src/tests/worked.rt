@@ -14,7 +14,7 @@ use naga_below::arena::handle::Handle;
 use naga_below::ir::built_in::BuiltIn;
 use naga_below::ir::module::ShaderStage;
 use naga_below::ir::types::{Binding, Interpolation, Sampling};
-use naga_below::valid::flags::ValidationFlags;
+use naga_flags::valid::ValidationFlags;
 use naga_rules::function::FunctionError;
 use naga_rules::interface::VaryingError;
 use naga_valid::interface::EntryPointError;

@@ -6,12 +6,12 @@ use crate::tests::module::{
     expect_unfit, expressions_of, global_types_of, locals_of, made, module,
 };
 use naga_below::arena::handle::Handle;
-use naga_below::fits::function::fits_function;
-use naga_below::fits::globals::fits_globals;
 use naga_below::ir::expressions::{Expression, Operands};
 use naga_below::ir::functions::Function;
 use naga_below::sequence::Sequence;
 use naga_below::valid::info::ModuleInfo;
+use naga_fits::function::fits_function;
+use naga_fits::globals::fits_globals;
 use std::alloc::{AllocError, Global};
 use std::process::Abort;
 use std::test::Fail;

@@ -7,7 +7,6 @@ use naga_below::arena::Arena;
 use naga_below::arena::handle::Handle;
 use naga_below::arena::unique_arena::UniqueArena;
 use naga_below::ir::expressions::Expression;
-use naga_below::ir::flags::MemoryDecorations;
 use naga_below::ir::functions::{Function, FunctionArgument, FunctionResult, LocalVariable};
 use naga_below::ir::module::{
     Constant, EntryPoint, GlobalVariable, MeshOutputTopology, MeshStageInfo, Module, Override,
@@ -17,10 +16,11 @@ use naga_below::ir::types::{AddressSpace, ArraySize, Scalar, StructMember, Type,
 use naga_below::proc::typifier::TypeResolution;
 use naga_below::sequence::Sequence;
 use naga_below::span::Span;
-use naga_below::valid::capabilities::Capabilities;
-use naga_below::valid::flags::{ShaderStages, SubgroupOperationSet, TypeFlags, ValidationFlags};
 use naga_below::valid::settings::Settings;
 use naga_below::valid::types::{Disalignment, TypeInfo};
+use naga_flags::capabilities::Capabilities;
+use naga_flags::ir::MemoryDecorations;
+use naga_flags::valid::{ShaderStages, SubgroupOperationSet, TypeFlags, ValidationFlags};
 use naga_layers::plain::Plain;
 use naga_module::check::{Given, ModuleFault, check_module};
 use std::alloc::{AllocError, Global};

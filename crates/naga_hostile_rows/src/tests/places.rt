@@ -3,15 +3,15 @@
 
 use crate::tests::handles::{FIRST, GREATEST, Handles};
 use crate::tests::module::{expect_unfit, global_types_of, infos_of_types, made, module};
-use naga_below::fits::entry::fits_entry;
-use naga_below::fits::function::fits_function;
-use naga_below::fits::globals::fits_globals;
-use naga_below::fits::types::fits_types;
 use naga_below::ir::module::Module;
 use naga_below::sequence::Sequence;
-use naga_below::valid::capabilities::Capabilities;
-use naga_below::valid::flags::ValidationFlags;
 use naga_below::valid::info::ModuleInfo;
+use naga_fits::entry::fits_entry;
+use naga_fits::function::fits_function;
+use naga_fits::globals::fits_globals;
+use naga_fits::types::fits_types;
+use naga_flags::capabilities::Capabilities;
+use naga_flags::valid::ValidationFlags;
 use naga_layers::plain::Plain;
 use naga_valid::validator::Validator;
 use std::process::Abort;

@@ -5,7 +5,6 @@ use crate::tests::module::{NOWHERE, expect_unfit, expressions_of, made, module};
 use naga_below::arena::handle::Handle;
 use naga_below::arena::range::Range;
 use naga_below::arena::tag;
-use naga_below::fits::function::fits_function;
 use naga_below::ir::functions::Function;
 use naga_below::ir::operations::{
     AtomicFunction, CollectiveOperation, CooperativeData, GatherMode, RayPipelineFunction,
@@ -13,6 +12,7 @@ use naga_below::ir::operations::{
 };
 use naga_below::ir::statements::{Block, Located, Statement, SwitchCase, SwitchValue};
 use naga_below::sequence::Sequence;
+use naga_fits::function::fits_function;
 use std::alloc::{AllocError, Global};
 use std::process::Abort;
 use std::test::Fail;

@@ -1,6 +1,6 @@
 -- What the plain layer knows of a function.
 use Rattle.std.specs.Prelude.{false, List, [], Result, Ok, Err}
-use Rattle.naga_below.specs.Bits.{ALL_STAGES}
+use Rattle.naga_flags.specs.Bits.{ALL_STAGES}
 use Rattle.naga_below.specs.declared.ir.functions.Function.{Function}
 use Rattle.naga_below.specs.declared.ir.module.Module.{Module}
 use Rattle.naga_below.specs.declared.proc.typifier.TypeResolution.{TypeResolution}

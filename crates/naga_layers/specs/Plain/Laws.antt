@@ -6,7 +6,7 @@ use Rattle.std.proofs.lemmas.List.{length-append, length-set, length-replicate}
 use Rattle.std.proofs.lemmas.List.Elements.{All-push, All-nil}
 use Rattle.std.proofs.lemmas.Option.{slice_get_within, get_or_from_slice_get, option_and_then_some, same_Some}
 use Rattle.std.proofs.lemmas.Result.{IfOk-at_ok}
-use Rattle.naga_below.specs.Bits.{READ, NO_USE}
+use Rattle.naga_flags.specs.Bits.{READ, NO_USE}
 use Rattle.naga_below.specs.Types.{ResolutionFits, pointer_base_of, resolved}
 use Rattle.naga_below.specs.declared.ir.expressions.Expression.{Expression}
 use Rattle.naga_below.specs.declared.ir.expressions.Expression.TheVariants as e
@@ -25,7 +25,7 @@ use Rattle.naga_below.specs.declared.ir.types.TypeInner.TheVariants as inner
 use Rattle.naga_below.specs.declared.proc.expression_kinds.ExpressionKind.{ExpressionKind}
 use Rattle.naga_below.specs.declared.proc.typifier.TypeResolution.{TypeResolution}
 use Rattle.naga_below.specs.declared.proc.typifier.TypeResolution.TheVariants.{Handle, Value}
-use Rattle.naga_below.specs.declared.valid.flags.GlobalUse.{GlobalUse}
+use Rattle.naga_flags.specs.declared.valid.GlobalUse.{GlobalUse}
 use Rattle.naga_below.specs.declared.valid.info.FunctionInfo.{FunctionInfo}
 use Rattle.naga_rules.specs.Lawful.{IsNoStruct}
 use Rattle.naga_rules.specs.declared.function.FunctionError.{FunctionError}

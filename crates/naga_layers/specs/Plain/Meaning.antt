@@ -1,6 +1,6 @@
 -- What the plain layer means.
 use Rattle.std.specs.Prelude.{[], ◌∷◌, None, Ok}
-use Rattle.naga_below.specs.Bits.{ALL_STAGES}
+use Rattle.naga_flags.specs.Bits.{ALL_STAGES}
 use Rattle.naga_below.specs.declared.ir.module.MeshOutputTopology.TheVariants.{Points}
 use Rattle.naga_rules.specs.Meaning.{Meaning}
 use Rattle.naga_layers.specs.Plain.Infos.{plain_info}

@@ -1,11 +1,11 @@
 -- The uses of globals that the plain layer finds: each that an expression names is read.
 use Rattle.std.specs.Prelude.{List, [], ◌∷◌, replicate, slice_set, length}
-use Rattle.naga_below.specs.Bits.{READ, NO_USE}
+use Rattle.naga_flags.specs.Bits.{READ, NO_USE}
 use Rattle.naga_below.specs.declared.ir.expressions.Expression.{Expression}
 use Rattle.naga_below.specs.declared.ir.expressions.Expression.TheVariants as e
 use Rattle.naga_below.specs.declared.ir.functions.Function.{Function}
 use Rattle.naga_below.specs.declared.ir.module.Module.{Module}
-use Rattle.naga_below.specs.declared.valid.flags.GlobalUse.{GlobalUse}
+use Rattle.naga_flags.specs.declared.valid.GlobalUse.{GlobalUse}
 
 -- the uses, with that of the global that an expression names, if it names one
 abbrev pub with_named : List GlobalUse → Expression → List GlobalUse

@@ -8,7 +8,7 @@ use Rattle.naga_below.specs.declared.proc.typifier.TypeResolution.{TypeResolutio
 use Rattle.naga_below.specs.declared.proc.typifier.TypeResolution.TheVariants.{Handle, Value}
 use Rattle.naga_below.specs.declared.valid.expression_error.ExpressionError.{ExpressionError}
 use Rattle.naga_below.specs.declared.valid.expression_error.ExpressionError.TheVariants.{Lower}
-use Rattle.naga_below.specs.declared.valid.flags.ShaderStages.{ShaderStages}
+use Rattle.naga_flags.specs.declared.valid.ShaderStages.{ShaderStages}
 use Rattle.naga_below.specs.declared.valid.info.FunctionInfo.{FunctionInfo}
 use Rattle.naga_rules.specs.declared.function.FunctionError.{FunctionError}
 use Rattle.naga_rules.specs.declared.function.FunctionError.TheVariants.{Expression as InExpression}

@@ -8,7 +8,7 @@ use naga_below::ir::expressions::Expression;
 use naga_below::ir::functions::Function;
 use naga_below::ir::module::Module;
 use naga_below::sequence::Sequence;
-use naga_below::valid::flags::GlobalUse;
+use naga_flags::valid::GlobalUse;
 use std::alloc::{AllocError, Global};
 
 /// One use for each global of the module: that it is read, where an expression of the function names it.

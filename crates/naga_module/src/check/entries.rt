@@ -9,11 +9,11 @@ ghost use Rattle.naga_checks.specs.Parts.{AreInfosOf};
 ghost use Rattle.naga_valid.specs.interface.Judged.{HasPayloadSizes};
 
 use crate::check::ModuleFault;
-use naga_below::fits::entry::fits_entry;
-use naga_below::fits::function::fits_function;
 use naga_below::ir::module::{EntryPoint, Module};
 use naga_below::span::Refusal;
 use naga_below::valid::info::ModuleInfo;
+use naga_fits::entry::fits_entry;
+use naga_fits::function::fits_function;
 use naga_rules::below::Below;
 use naga_valid::validator::Validator;
 use std::alloc::Global;

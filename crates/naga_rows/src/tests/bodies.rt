@@ -3,8 +3,6 @@
 
 use naga_below::arena::Arena;
 use naga_below::arena::unique_arena::UniqueArena;
-use naga_below::fits::function::fits_function;
-use naga_below::fits::types::fits_types;
 use naga_below::ir::expressions::Expression;
 use naga_below::ir::functions::{Function, LocalVariable};
 use naga_below::ir::module::{GlobalVariable, Module};
@@ -12,10 +10,12 @@ use naga_below::ir::statements::{Block, Located, Statement};
 use naga_below::ir::types::{Type, TypeInner};
 use naga_below::sequence::Sequence;
 use naga_below::span::{Refusal, Span};
-use naga_below::valid::capabilities::Capabilities;
-use naga_below::valid::flags::{ShaderStages, SubgroupOperationSet, TypeFlags, ValidationFlags};
 use naga_below::valid::info::{FunctionInfo, ModuleInfo};
 use naga_below::valid::types::TypeInfo;
+use naga_fits::function::fits_function;
+use naga_fits::types::fits_types;
+use naga_flags::capabilities::Capabilities;
+use naga_flags::valid::{ShaderStages, SubgroupOperationSet, TypeFlags, ValidationFlags};
 use naga_layers::plain::Plain;
 use naga_rules::below::Below;
 use naga_rules::function::FunctionError;

@@ -6,8 +6,9 @@ use crate::tests::bodies::{
 use naga_below::{
     AddressSpace, Arena, Capabilities, Expression, ExpressionError, Function, FunctionInfo, Handle,
     Literal, Module, Name, Refusal, Scalar, Sequence, Span, Statement, TypeInner, UniqueArena,
-    WithSpan, fits_function, fits_types,
+    WithSpan,
 };
+use naga_fits::{fits_function, fits_types};
 use naga_module::check::ModuleFault;
 use naga_module::report::{Subject, write_fault, write_module_fault, write_refusal};
 use naga_rules::{CallError, FunctionError, GlobalVariableError, LocalVariableError};

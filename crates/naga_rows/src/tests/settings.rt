@@ -7,14 +7,14 @@ use crate::tests::bodies::{
 use bitflags::Flags;
 use naga_below::arena::Arena;
 use naga_below::arena::unique_arena::UniqueArena;
-use naga_below::ir::flags::Barrier;
 use naga_below::ir::functions::Function;
 use naga_below::ir::module::Module;
 use naga_below::ir::statements::Statement;
 use naga_below::sequence::Sequence;
-use naga_below::valid::flags::{ShaderStages, SubgroupOperationSet, TypeFlags};
 use naga_below::valid::types::TypeInfo;
-use naga_checks::trace::{TraceRayVertexReturnState, TraceState};
+use naga_context::trace::{TraceRayVertexReturnState, TraceState};
+use naga_flags::ir::Barrier;
+use naga_flags::valid::{ShaderStages, SubgroupOperationSet, TypeFlags};
 use naga_layers::plain::Plain;
 use naga_rules::function::{FunctionError, SubgroupError};
 use naga_valid::validator::Validator;

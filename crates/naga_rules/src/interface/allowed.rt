@@ -4,10 +4,10 @@ ghost use Rattle.std.specs.Prelude.{◌≡◌};
 ghost use Rattle.naga_rules.specs.AllowedUses.{join, allowed_by, storage_use, resource_use, memory_use, payload_use, hands_payload, takes_payload, allowed_use};
 
 use bitflags::Flags;
-use naga_below::ir::flags::StorageAccess;
 use naga_below::ir::module::ShaderStage;
 use naga_below::ir::types::AddressSpace;
-use naga_below::valid::flags::GlobalUse;
+use naga_flags::ir::StorageAccess;
+use naga_flags::valid::GlobalUse;
 
 /// What the function of an entry point at this stage may do with a global in this space, where such a global may be used
 /// at all: none in `Function` may, one in `RayPayload` at RayGeneration, ClosestHit and Miss alone, and one in

@@ -1,7 +1,7 @@
 //! The check list of a built-in.
 
 ghost use Rattle.std.specs.Prelude.{◌≡◌, ◌<◌, ◌||◌, not, None, length, if◌then◌else◌};
-ghost use Rattle.naga_below.specs.Bits.{MESH_SHADER, has_capability};
+ghost use Rattle.naga_flags.specs.Bits.{MESH_SHADER, has_capability};
 ghost use Rattle.naga_below.specs.Types.{NamesTypesBelow, NameEachOther, inner_at};
 ghost use Rattle.naga_rules.specs.Answers.{AnswersPoints};
 ghost use Rattle.naga_rules.specs.Varyings.{built_in_points, has_built_in_type, has_one_dimension, has_required, is_distances, is_of_one_dimension, seen_in};
@@ -16,7 +16,7 @@ use naga_below::arena::unique_arena::UniqueArena;
 use naga_below::ir::built_in::BuiltIn;
 use naga_below::ir::types::{ArraySize, Scalar, Type, TypeInner};
 use naga_below::span::Refusal;
-use naga_below::valid::capabilities::Capabilities;
+use naga_flags::capabilities::Capabilities;
 
 /// What is bound to a built-in: it isn't there, the target has what it needs, it is visible at the place, and of its type.
 pub(crate) fn check_built_in(

@@ -2,7 +2,7 @@
 
 ghost use Rattle.std.specs.Prelude.{◌≡◌, ◌<◌, length};
 ghost use Rattle.std.specs.Prelude.{Some};
-ghost use Rattle.naga_below.specs.Bits.{IO_SHAREABLE};
+ghost use Rattle.naga_flags.specs.Bits.{IO_SHAREABLE};
 ghost use Rattle.naga_rules.specs.TypeInfos.{type_has};
 ghost use Rattle.naga_below.specs.Types.{NamesTypesBelow, NameEachOther, inner_at};
 
@@ -13,8 +13,8 @@ use naga_below::arena::tag;
 use naga_below::arena::unique_arena::UniqueArena;
 use naga_below::ir::types::{Type, TypeInner};
 use naga_below::span::{Refusal, WithSpan};
-use naga_below::valid::flags::TypeFlags;
 use naga_below::valid::types::TypeInfo;
+use naga_flags::valid::TypeFlags;
 use std::alloc::Global;
 
 /// The place of an item, the types of the module, and their infos.

@@ -22,8 +22,8 @@ use naga_below::arena::unique_arena::UniqueArena;
 use naga_below::ir::module::ShaderStage;
 use naga_below::ir::types::{Binding, StructMember, Type, TypeInner};
 use naga_below::span::Refusal;
-use naga_below::valid::flags::ValidationFlags;
 use naga_below::valid::types::TypeInfo;
+use naga_flags::valid::ValidationFlags;
 use std::alloc::{AllocError, Global};
 
 /// Checks an argument, a result or an output of a mesh, an item, at its place: itself where it has a binding; its members

@@ -16,8 +16,8 @@ use naga_below::arena::handle::Handle;
 use naga_below::arena::tag;
 use naga_below::ir::module::ShaderStage;
 use naga_below::ir::types::{ArraySize, Interpolation, Sampling, ScalarKind, TypeInner};
-use naga_below::valid::capabilities::Capabilities;
-use naga_below::valid::flags::ValidationFlags;
+use naga_flags::capabilities::Capabilities;
+use naga_flags::valid::ValidationFlags;
 
 /// What a binding says of a location.
 #[derive(Clone, Copy)]

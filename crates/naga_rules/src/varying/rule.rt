@@ -8,7 +8,7 @@ use crate::varying::{MeshOutputType, VaryingPlace};
 use naga_below::ir::built_in::BuiltIn as Bi;
 use naga_below::ir::module::ShaderStage as St;
 use naga_below::ir::types::{Scalar, TypeInner, VectorSize};
-use naga_below::valid::capabilities::Capabilities;
+use naga_flags::capabilities::Capabilities;
 
 /// What type a built-in has.
 #[derive(PartialEq, Debug, Drop)]

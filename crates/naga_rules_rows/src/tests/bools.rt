@@ -1,7 +1,7 @@
 //! A small lawful layer, so that what is generic over a lower layer runs once.
 
 ghost use Rattle.std.specs.Prelude.{◌≡◌, replicate, IfOk};
-ghost use Rattle.naga_below.specs.Bits.{READ};
+ghost use Rattle.naga_flags.specs.Bits.{READ};
 ghost use Rattle.naga_below.specs.Types.{bool_scalar};
 ghost use Rattle.naga_below.specs.declared.ir.types.TypeInner.TheVariants.{Scalar as ScalarType};
 ghost use Rattle.naga_below.specs.declared.proc.typifier.TypeResolution.TheVariants.{Value};
@@ -17,11 +17,11 @@ use naga_below::proc::expression_kinds::{ExpressionKind, ExpressionKindTracker};
 use naga_below::proc::typifier::TypeResolution;
 use naga_below::sequence::Sequence;
 use naga_below::span::{Refusal, WithSpan};
-use naga_below::valid::capabilities::Capabilities;
 use naga_below::valid::expression_error::ExpressionError;
-use naga_below::valid::flags::{GlobalUse, ShaderStages, ValidationFlags};
 use naga_below::valid::info::{FunctionInfo, ModuleInfo};
 use naga_below::valid::settings::Settings;
+use naga_flags::capabilities::Capabilities;
+use naga_flags::valid::{GlobalUse, ShaderStages, ValidationFlags};
 use naga_rules::below::Below;
 use naga_rules::function::FunctionError;
 use naga_rules::mesh::MeshAnalysis;
@@ -66,7 +66,7 @@ impl Below for Bools {
     ghost use Rattle.std.proofs.lemmas.List.{length-replicate};
     ghost use Rattle.std.proofs.lemmas.Result.{IfOk-at_ok};
     ghost use Rattle.std.proofs.lemmas.List.Elements.{All-replicate};
-    ghost use Rattle.naga_below.specs.Bits.{READ, ALL_STAGES};
+    ghost use Rattle.naga_flags.specs.Bits.{READ, ALL_STAGES};
     ghost use Rattle.naga_below.specs.Types.{bool_scalar, ResolutionFits};
     ghost use Rattle.naga_below.specs.declared.ir.module.MeshOutputTopology.TheVariants.{Points};
     ghost use Rattle.naga_below.specs.declared.ir.types.TypeInner.TheVariants.{Scalar as ScalarType};

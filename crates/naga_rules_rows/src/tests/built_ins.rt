@@ -2,8 +2,8 @@
 
 use naga_below::ir::built_in::BuiltIn;
 use naga_below::ir::module::ShaderStage;
-use naga_below::valid::capabilities::Capabilities;
-use naga_below::valid::flags::ValidationFlags;
+use naga_flags::capabilities::Capabilities;
+use naga_flags::valid::ValidationFlags;
 use naga_rules::varying::rule::builtin_rule;
 use naga_rules::varying::{MeshOutputType, VaryingPlace};
 use std::process::Abort;

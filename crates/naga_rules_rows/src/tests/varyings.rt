@@ -7,7 +7,6 @@ mod locations;
 use naga_below::arena::Arena;
 use naga_below::arena::handle::Handle;
 use naga_below::arena::unique_arena::UniqueArena;
-use naga_below::fits::types::fits_types;
 use naga_below::ir::built_in::BuiltIn;
 use naga_below::ir::module::{Module, SpecialTypes};
 use naga_below::ir::types::{
@@ -16,8 +15,9 @@ use naga_below::ir::types::{
 };
 use naga_below::sequence::Sequence;
 use naga_below::span::{Refusal, Span};
-use naga_below::valid::flags::TypeFlags;
 use naga_below::valid::types::TypeInfo;
+use naga_fits::types::fits_types;
+use naga_flags::valid::TypeFlags;
 use naga_rules::interface::VaryingError;
 use naga_rules::varying::item::check_varying_item;
 use naga_rules::varying::{VaryingPlace, VaryingState};

@@ -7,14 +7,14 @@ use Rattle.naga_below.specs.declared.valid.settings.Settings.{Settings}
 use Rattle.naga_below.specs.declared.valid.types.TypeInfo.{TypeInfo}
 use Rattle.naga_rules.specs.Meaning.{Meaning}
 use Rattle.naga_runs.specs.Soundness.{RunsAreSure}
-use Rattle.naga_checks.specs.Blocks.{body_of}
-use Rattle.naga_valid.specs.Chains.{CallsBelow, AreVetted, ChainsKeepTo}
-use Rattle.naga_checks.specs.Context.{pre_emitted_of}
+use Rattle.naga_context.specs.Blocks.{body_of}
+use Rattle.naga_function.specs.Chains.{CallsBelow, AreVetted, ChainsKeepTo}
+use Rattle.naga_context.specs.Context.{pre_emitted_of}
 use Rattle.naga_valid.specs.interface.Judged.{entry_judgement}
 use Rattle.naga_valid.specs.interface.Uses.{only}
 use Rattle.naga_checks.specs.Judged.{FunctionOutcome}
-use Rattle.naga_checks.specs.WhatIsChecked.{checks_blocks}
-use Rattle.naga_checks.specs.declared.trace.TraceState.{TraceState}
+use Rattle.naga_context.specs.WhatIsChecked.{checks_blocks}
+use Rattle.naga_context.specs.declared.trace.TraceState.{TraceState}
 use Rattle.std.specs.Prelude.{length}
 
 -- something holds of every entry point that the judgement accepts where bodies are looked at

@@ -18,7 +18,7 @@ use Rattle.naga_below.specs.declared.ir.types.StructMember.{StructMember}
 use Rattle.naga_below.specs.declared.ir.types.Type.{«Type» as IrType}
 use Rattle.naga_below.specs.declared.ir.types.TypeInner.{TypeInner}
 use Rattle.naga_below.specs.declared.ir.types.TypeInner.TheVariants as inner
-use Rattle.naga_below.specs.declared.valid.flags.GlobalUse.{GlobalUse}
+use Rattle.naga_flags.specs.declared.valid.GlobalUse.{GlobalUse}
 use Rattle.naga_below.specs.declared.valid.info.ModuleInfo.{ModuleInfo}
 use Rattle.naga_below.specs.declared.valid.settings.Settings.{Settings}
 use Rattle.naga_below.specs.declared.valid.types.TypeInfo.{TypeInfo}
@@ -30,7 +30,7 @@ use Rattle.naga_rules.specs.declared.varying.MeshOutputType.TheVariants.{VertexO
 use Rattle.naga_valid.specs.interface.Judged.{entry_judgement}
 use Rattle.naga_valid.specs.interface.Varyings.{argument_item, result_items, output_item}
 use Rattle.naga_checks.specs.Judged.{FunctionOutcome, function_judgement}
-use Rattle.naga_checks.specs.declared.trace.TraceState.{TraceState}
+use Rattle.naga_context.specs.declared.trace.TraceState.{TraceState}
 
 -- the global with this handle is used, and is bound here
 pub record IsUsedAt (globals : List GlobalVariable) (uses : List GlobalUse) (b : ResourceBinding) (h : ℕ) : Type 0 where

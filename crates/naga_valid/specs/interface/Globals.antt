@@ -1,10 +1,10 @@
 -- The steps of the globals that an entry point uses, where these are its uses of each global, its own joined in.
 use Rattle.std.specs.Prelude.{ℕ, zero, suc, ◌+◌, Bool, false, not, ◌&&◌, ◌||◌, ◌==◌, nat_le, List, [], ◌∷◌, ◌++◌, Option, None, Some, slice_get, length, option_and_then, unwrap_or, if◌then◌else◌}
-use Rattle.naga_below.specs.Bits.{contains}
+use Rattle.naga_flags.specs.Bits.{contains}
 use Rattle.naga_below.specs.Points.{points_of_each}
 use Rattle.naga_below.specs.TypeTests.{is_handle}
 use Rattle.naga_below.specs.Types.{inner_at}
-use Rattle.naga_below.specs.declared.ir.flags.StorageAccess.{StorageAccess}
+use Rattle.naga_flags.specs.declared.ir.StorageAccess.{StorageAccess}
 use Rattle.naga_below.specs.declared.ir.module.EntryPoint.{EntryPoint}
 use Rattle.naga_below.specs.declared.ir.module.GlobalVariable.{GlobalVariable}
 use Rattle.naga_below.specs.declared.ir.module.Module.{Module}
@@ -16,8 +16,8 @@ use Rattle.naga_below.specs.declared.ir.types.ImageClass.TheVariants as class
 use Rattle.naga_below.specs.declared.ir.types.Type.{«Type» as IrType}
 use Rattle.naga_below.specs.declared.ir.types.TypeInner.{TypeInner}
 use Rattle.naga_below.specs.declared.ir.types.TypeInner.TheVariants as inner
-use Rattle.naga_below.specs.declared.valid.flags.GlobalUse.{GlobalUse}
-use Rattle.naga_below.specs.declared.valid.flags.ValidationFlags.{ValidationFlags}
+use Rattle.naga_flags.specs.declared.valid.GlobalUse.{GlobalUse}
+use Rattle.naga_flags.specs.declared.valid.ValidationFlags.{ValidationFlags}
 use Rattle.naga_rules.specs.AllowedUses.{allowed_use, hands_payload, takes_payload}
 use Rattle.naga_rules.specs.WhatIsChecked.{checks_bindings}
 use Rattle.naga_rules.specs.Meaning.{Meaning}

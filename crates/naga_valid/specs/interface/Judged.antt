@@ -22,7 +22,7 @@ use Rattle.naga_valid.specs.interface.Varyings.{argument_points, result_points, 
 use Rattle.naga_checks.specs.Judged.{FunctionOutcome, function_judgement}
 use Rattle.naga_valid.specs.declared.interface.EntryPointError.{EntryPointError}
 use Rattle.naga_valid.specs.declared.interface.EntryPointError.TheVariants as fault
-use Rattle.naga_checks.specs.declared.trace.TraceState.{TraceState}
+use Rattle.naga_context.specs.declared.trace.TraceState.{TraceState}
 
 -- the lower layer knows the size of the type of each global that may be a task payload
 abbrev pub HasPayloadSizes : Meaning → Module → Type 0

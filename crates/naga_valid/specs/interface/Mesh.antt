@@ -1,6 +1,6 @@
 -- The step of the mesh: its output variable, what the type of that implies, and the outputs of its vertices and primitives.
 use Rattle.std.specs.Prelude.{ℕ, Bool, true, false, not, ◌||◌, List, [], ◌∷◌, ◌++◌, Option, None, Some, get_or, slice_get}
-use Rattle.naga_below.specs.Bits.{MESH_SHADER_POINT_TOPOLOGY, has_capability}
+use Rattle.naga_flags.specs.Bits.{MESH_SHADER_POINT_TOPOLOGY, has_capability}
 use Rattle.naga_below.specs.Points.{Point, within}
 use Rattle.naga_below.specs.TypeTests.{is_handle}
 use Rattle.naga_below.specs.contracts.ir.module.MeshStageInfoPartialEq.TheImpl as mesh_info
@@ -11,7 +11,7 @@ use Rattle.naga_below.specs.declared.ir.module.MeshOutputTopology.{MeshOutputTop
 use Rattle.naga_below.specs.declared.ir.module.MeshOutputTopology.TheVariants.{Points}
 use Rattle.naga_below.specs.declared.ir.module.MeshStageInfo.{MeshStageInfo}
 use Rattle.naga_below.specs.declared.ir.module.Module.{Module}
-use Rattle.naga_below.specs.declared.valid.capabilities.Capabilities.{Capabilities}
+use Rattle.naga_flags.specs.declared.capabilities.Capabilities.{Capabilities}
 use Rattle.naga_below.specs.declared.valid.settings.Settings.{Settings}
 use Rattle.naga_below.specs.declared.valid.types.TypeInfo.{TypeInfo}
 use Rattle.naga_rules.specs.Meaning.{Meaning}

@@ -2,13 +2,13 @@
 -- and whether something is said of a mesh. These are answered without memory.
 use Rattle.std.specs.Prelude.{ℕ, Bool, true, false, ◌&&◌, ◌==◌, nat_le, List, [], ◌∷◌, ◌++◌, Option, None, Some, is_none, is_some, if◌then◌else◌}
 use Rattle.std.specs.List.{list_all}
-use Rattle.naga_below.specs.Bits.{MESH_SHADER, RAY_TRACING_PIPELINE, EARLY_DEPTH_TEST, has_capability}
+use Rattle.naga_flags.specs.Bits.{MESH_SHADER, RAY_TRACING_PIPELINE, EARLY_DEPTH_TEST, has_capability}
 use Rattle.naga_below.specs.declared.ir.module.EarlyDepthTest.{EarlyDepthTest}
 use Rattle.naga_below.specs.declared.ir.module.EntryPoint.{EntryPoint}
 use Rattle.naga_below.specs.declared.ir.module.MeshStageInfo.{MeshStageInfo}
 use Rattle.naga_below.specs.declared.ir.module.ShaderStage.{ShaderStage}
 use Rattle.naga_below.specs.declared.ir.module.ShaderStage.TheVariants as stage
-use Rattle.naga_below.specs.declared.valid.capabilities.Capabilities.{Capabilities}
+use Rattle.naga_flags.specs.declared.capabilities.Capabilities.{Capabilities}
 use Rattle.naga_rules.specs.declared.interface.VaryingError.TheVariants as varying
 use Rattle.naga_valid.specs.interface.Points.{EntryPoints}
 use Rattle.naga_valid.specs.declared.interface.EntryPointError.TheVariants as fault

@@ -1,7 +1,7 @@
 -- The step of the payload, and how an entry point itself uses globals, beside what its function does; then its stage.
 use Rattle.std.specs.Prelude.{ℕ, Bool, true, false, List, [], ◌∷◌, Option, None, Some, is_none, slice_get}
 use Rattle.std.specs.Option.{option_map}
-use Rattle.naga_below.specs.Bits.{READ, WRITE, VERTEX, FRAGMENT, COMPUTE, MESH, TASK, RAY_GENERATION, ANY_HIT, CLOSEST_HIT, MISS, contains}
+use Rattle.naga_flags.specs.Bits.{READ, WRITE, VERTEX, FRAGMENT, COMPUTE, MESH, TASK, RAY_GENERATION, ANY_HIT, CLOSEST_HIT, MISS, contains}
 use Rattle.naga_below.specs.Infos.{with_global_use}
 use Rattle.naga_below.specs.declared.ir.module.EntryPoint.{EntryPoint}
 use Rattle.naga_below.specs.declared.ir.module.GlobalVariable.{GlobalVariable}
@@ -10,8 +10,8 @@ use Rattle.naga_below.specs.declared.ir.module.ShaderStage.{ShaderStage}
 use Rattle.naga_below.specs.declared.ir.module.ShaderStage.TheVariants as stage
 use Rattle.naga_below.specs.declared.ir.types.AddressSpace.{AddressSpace}
 use Rattle.naga_below.specs.declared.ir.types.AddressSpace.TheVariants as space
-use Rattle.naga_below.specs.declared.valid.flags.GlobalUse.{GlobalUse}
-use Rattle.naga_below.specs.declared.valid.flags.ShaderStages.{ShaderStages}
+use Rattle.naga_flags.specs.declared.valid.GlobalUse.{GlobalUse}
+use Rattle.naga_flags.specs.declared.valid.ShaderStages.{ShaderStages}
 use Rattle.naga_below.specs.declared.valid.info.FunctionInfo.{FunctionInfo}
 use Rattle.naga_rules.specs.AllowedUses.{join}
 use Rattle.naga_rules.specs.Spaces.{is_task_payload}

@@ -2,7 +2,7 @@
 -- one together.
 use Rattle.std.specs.Prelude.{ℕ, Bool, true, false, ◌&&◌, List, [], ◌∷◌, ◌++◌, Option, None, Some, is_some, is_none, map, if◌then◌else◌}
 use Rattle.std.specs.List.{list_any}
-use Rattle.naga_below.specs.Bits.{IO_SHAREABLE}
+use Rattle.naga_flags.specs.Bits.{IO_SHAREABLE}
 use Rattle.naga_below.specs.Points.{Point, within}
 use Rattle.naga_below.specs.TypeTests.{is_same_inner, it_is}
 use Rattle.naga_below.specs.Types.{inner_at}

@@ -4,7 +4,7 @@ use Rattle.std.specs.BTreeSet.{BTreeSet, contains}
 use Rattle.naga_below.specs.contracts.ir.module.ResourceBindingOrd.TheImpl as binding_order
 use Rattle.naga_below.specs.declared.ir.module.GlobalVariable.{GlobalVariable}
 use Rattle.naga_below.specs.declared.ir.module.ResourceBinding.{ResourceBinding}
-use Rattle.naga_below.specs.declared.valid.flags.GlobalUse.{GlobalUse}
+use Rattle.naga_flags.specs.declared.valid.GlobalUse.{GlobalUse}
 use Rattle.naga_valid.specs.interface.Globals.{is_taken_before}
 
 -- a set has the bindings of the globals before this handle that are used

@@ -4,7 +4,7 @@ ghost use Rattle.std.specs.Prelude.{◌≡◌, Result};
 ghost use Rattle.naga_below.specs.Points.{within};
 ghost use Rattle.naga_rules.specs.Answers.{Answers};
 ghost use Rattle.naga_rules.specs.declared.function.FunctionError.{FunctionError as Inner};
-ghost use Rattle.naga_checks.specs.walk.Answers.{Finds};
+ghost use Rattle.naga_context.specs.walk.Answers.{Finds};
 ghost use Rattle.naga_valid.specs.interface.Faults.{fault_of, Judges, AnswersFault};
 ghost use Rattle.naga_valid.specs.interface.Judged.{of_function};
 ghost use Rattle.naga_valid.specs.interface.Points.{EntryPoints, Meets};

@@ -1,7 +1,7 @@
 //! The bindings of the globals that an entry point uses.
 
 ghost use Rattle.std.specs.Prelude.{◌≡◌, ◌+◌, OnOk};
-ghost use Rattle.naga_checks.specs.walk.Answers.{Finds};
+ghost use Rattle.naga_context.specs.walk.Answers.{Finds};
 ghost use Rattle.naga_valid.specs.walk.Bindings.{AreTaken};
 ghost use Rattle.naga_valid.specs.interface.Globals.{binding_at, binding_points};
 
@@ -10,8 +10,8 @@ use crate::interface::globals::is_used;
 use naga_below::arena::handle::Handle;
 use naga_below::arena::tag;
 use naga_below::ir::module::{Module, ResourceBinding};
-use naga_below::valid::flags::ValidationFlags;
 use naga_below::valid::info::FunctionInfo;
+use naga_flags::valid::ValidationFlags;
 use std::alloc::AllocError;
 use std::collections::BTreeSet;
 

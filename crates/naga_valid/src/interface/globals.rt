@@ -3,7 +3,7 @@
 ghost use Rattle.std.specs.Prelude.{◌≡◌, ◌++◌, length, slice_get};
 ghost use Rattle.std.specs.Option.{option_copied};
 ghost use Rattle.naga_below.specs.Types.{inner_at};
-ghost use Rattle.naga_checks.specs.walk.Answers.{Finds};
+ghost use Rattle.naga_context.specs.walk.Answers.{Finds};
 ghost use Rattle.naga_valid.specs.interface.Globals.{is_used, is_used_immediate, used_immediates, immediate_points, image_access, access_in, ray_points, is_within, allowed_points};
 ghost use Rattle.naga_rules.specs.Spaces.{is_task_payload};
 
@@ -11,11 +11,11 @@ use crate::interface::EntryPointError;
 use bitflags::Flags;
 use naga_below::arena::handle::Handle;
 use naga_below::arena::tag;
-use naga_below::ir::flags::StorageAccess;
 use naga_below::ir::module::{GlobalVariable, Module, ShaderStage};
 use naga_below::ir::types::{AddressSpace, ImageClass, TypeInner};
-use naga_below::valid::flags::GlobalUse;
 use naga_below::valid::info::FunctionInfo;
+use naga_flags::ir::StorageAccess;
+use naga_flags::valid::GlobalUse;
 use naga_rules::interface::allowed::{allowed_use, hands_payload, takes_payload};
 
 /// How a global is used.

@@ -1,7 +1,7 @@
 //! The checks of what an entry point says of its mesh.
 
 ghost use Rattle.std.specs.Prelude.{◌≡◌};
-ghost use Rattle.naga_checks.specs.walk.Answers.{Finds};
+ghost use Rattle.naga_context.specs.walk.Answers.{Finds};
 ghost use Rattle.naga_valid.specs.interface.Mesh.{mesh_error, override_at, is_implied, with_overrides_of, is_points, variable_points, stated_points};
 ghost use Rattle.naga_valid.specs.interface.Uses.{is_work_group, lies_in};
 
@@ -11,7 +11,7 @@ use naga_below::arena::tag;
 use naga_below::ir::expressions::Expression;
 use naga_below::ir::module::{MeshOutputTopology, MeshStageInfo, Module};
 use naga_below::ir::types::AddressSpace;
-use naga_below::valid::capabilities::Capabilities;
+use naga_flags::capabilities::Capabilities;
 use naga_rules::mesh::MeshFault;
 
 /// What is wrong with the output variable, as a fault of the entry point.

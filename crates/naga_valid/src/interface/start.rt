@@ -2,12 +2,12 @@
 
 ghost use Rattle.std.specs.Prelude.{◌≡◌};
 ghost use Rattle.std.specs.List.{list_all};
-ghost use Rattle.naga_checks.specs.walk.Answers.{Finds};
+ghost use Rattle.naga_context.specs.walk.Answers.{Finds};
 ghost use Rattle.naga_valid.specs.interface.Start.{needed_by, needed_points, is_fragment, depth_points, has_work_groups, is_group_size, is_zero, size_points, mesh_info_points, start_points};
 
 use crate::interface::EntryPointError;
 use naga_below::ir::module::{EarlyDepthTest, EntryPoint, MeshStageInfo, ShaderStage};
-use naga_below::valid::capabilities::Capabilities;
+use naga_flags::capabilities::Capabilities;
 use naga_rules::interface::VaryingError;
 
 /// The most invocations that a work group has along a dimension.

@@ -2,7 +2,7 @@
 
 ghost use Rattle.std.specs.Prelude.{◌≡◌, ◌<◌, IfSome, length};
 ghost use Rattle.naga_rules.specs.Spaces.{is_task_payload};
-ghost use Rattle.naga_checks.specs.walk.Answers.{Finds};
+ghost use Rattle.naga_context.specs.walk.Answers.{Finds};
 ghost use Rattle.naga_valid.specs.interface.Uses.{lies_in, place_points, made_points, taken_points, payload_points, with_use_of, output_variable_of, with_own_uses, only, stage_points};
 
 use crate::interface::EntryPointError;
@@ -11,8 +11,8 @@ use naga_below::arena::handle::Handle;
 use naga_below::arena::tag;
 use naga_below::ir::module::{EntryPoint, MeshStageInfo, Module, ShaderStage};
 use naga_below::ir::types::AddressSpace;
-use naga_below::valid::flags::{GlobalUse, ShaderStages};
 use naga_below::valid::info::FunctionInfo;
+use naga_flags::valid::{GlobalUse, ShaderStages};
 
 /// The task payload: the task stage has one, the mesh stage may have one, others have none; and it lies in its space.
 pub fn check_payload(module: &Module, ep: &EntryPoint) -> Result<(), EntryPointError>

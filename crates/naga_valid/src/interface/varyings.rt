@@ -2,14 +2,14 @@
 
 ghost use Rattle.std.specs.Prelude.{◌≡◌, List};
 ghost use Rattle.std.specs.Option.{option_copied};
-ghost use Rattle.naga_below.specs.Bits.{IO_SHAREABLE};
+ghost use Rattle.naga_flags.specs.Bits.{IO_SHAREABLE};
 ghost use Rattle.naga_below.specs.Points.{Point, within};
 ghost use Rattle.naga_below.specs.TypeTests.{it_is};
 ghost use Rattle.naga_below.specs.declared.ir.built_in.BuiltIn.TheVariants.{PointIndex, LineIndices, TriangleIndices};
 ghost use Rattle.naga_rules.specs.TypeInfos.{type_has};
 ghost use Rattle.naga_rules.specs.VaryingFaults.{IsFirstVaryingFault, VaryingFault as Given};
 ghost use Rattle.naga_rules.specs.Varyings.{seen_in};
-ghost use Rattle.naga_checks.specs.walk.Answers.{Finds};
+ghost use Rattle.naga_context.specs.walk.Answers.{Finds};
 ghost use Rattle.naga_valid.specs.interface.Faults.{IsForFirstFault, OfArgument, OfResult};
 ghost use Rattle.naga_valid.specs.interface.Varyings.{is_struct, is_three_counts, returns_counts, is_one_of_three, returned_points, are_blend_sources, with_blending};
 
@@ -23,9 +23,9 @@ use naga_below::ir::functions::FunctionResult;
 use naga_below::ir::module::{EntryPoint, Module, ShaderStage};
 use naga_below::ir::types::{Scalar, TypeInner, VectorSize};
 use naga_below::span::Refusal;
-use naga_below::valid::flags::TypeFlags;
 use naga_below::valid::info::FunctionInfo;
 use naga_below::valid::types::TypeInfo;
+use naga_flags::valid::TypeFlags;
 use naga_rules::interface::VaryingError;
 use naga_rules::varying::VaryingState;
 use std::alloc::Global;

@@ -18,7 +18,7 @@ use crate::validator::Validator;
 use naga_below::ir::module::{EntryPoint, Module};
 use naga_below::span::Refusal;
 use naga_below::valid::info::{FunctionInfo, ModuleInfo};
-use naga_checks::table::Table;
+use naga_context::table::Table;
 use naga_rules::below::Below;
 use std::alloc::Global;
 

@@ -2,11 +2,11 @@
 
 ghost use Rattle.std.specs.Prelude.{◌≡◌, OnOk, Result};
 ghost use Rattle.naga_below.specs.declared.valid.expression_error.ExpressionError.{ExpressionError as Source};
-ghost use Rattle.naga_below.specs.declared.valid.flags.ShaderStages.{ShaderStages as Mask};
+ghost use Rattle.naga_flags.specs.declared.valid.ShaderStages.{ShaderStages as Mask};
 ghost use Rattle.naga_rules.specs.Answers.{Refuses};
-ghost use Rattle.naga_checks.specs.walk.Answers.{AnswersLeaving};
+ghost use Rattle.naga_context.specs.walk.Answers.{AnswersLeaving};
 ghost use Rattle.naga_checks.specs.Expressions.{with_stages, of_expression};
-ghost use Rattle.naga_checks.specs.walk.Seen.{asked_by, stages_of_all};
+ghost use Rattle.naga_checks.specs.walk.Asked.{asked_by, stages_of_all};
 
 use crate::validator::Validator;
 use bitflags::Flags;
@@ -17,8 +17,8 @@ use naga_below::ir::module::Module;
 use naga_below::proc::expression_kinds::ExpressionKindTracker;
 use naga_below::span::Refusal;
 use naga_below::valid::expression_error::ExpressionError;
-use naga_below::valid::flags::ShaderStages;
 use naga_below::valid::info::{FunctionInfo, ModuleInfo};
+use naga_flags::valid::ShaderStages;
 use naga_rules::below::Below;
 use naga_rules::function::FunctionError;
 use std::alloc::Global;

@@ -3,7 +3,7 @@
 ghost use Rattle.std.specs.Prelude.{◌≡◌, ◌↔◌, ◌<◌, IsTrue, IsSome, Some, [], slice_get, length};
 ghost use Rattle.naga_below.specs.Points.{points_of_each};
 ghost use Rattle.naga_below.specs.declared.ir.types.AddressSpace.TheVariants as space;
-ghost use Rattle.naga_checks.specs.walk.Answers.{Finds};
+ghost use Rattle.naga_context.specs.walk.Answers.{Finds};
 ghost use Rattle.naga_valid.specs.walk.Bindings.{AreTaken};
 ghost use Rattle.naga_valid.specs.interface.Globals.{used_payload_points, use_points, points_if_used, global_points, globals_points};
 ghost use Rattle.naga_valid.specs.interface.Judged.{HasPayloadSizes};
@@ -20,8 +20,8 @@ use naga_below::arena::tag;
 use naga_below::ir::module::{EntryPoint, GlobalVariable, Module, ResourceBinding};
 use naga_below::ir::types::AddressSpace;
 use naga_below::span::Refusal;
-use naga_below::valid::flags::GlobalUse;
 use naga_below::valid::info::FunctionInfo;
+use naga_flags::valid::GlobalUse;
 use naga_rules::below::Below;
 use std::alloc::Global;
 use std::collections::BTreeSet;

@@ -6,8 +6,8 @@ use naga_below::ir::name::Name;
 use naga_below::ir::operations::AtomicFunction;
 use naga_below::ir::statements::SwitchValue;
 use naga_below::ir::types::{AddressSpace, TypeInner};
-use naga_below::valid::capabilities::Capabilities;
 use naga_below::valid::expression_error::ExpressionError;
+use naga_flags::capabilities::Capabilities;
 use naga_rules::analyzer::{UniformityDisruptor, UniformityRequirements};
 use naga_rules::function::{
     AtomicError, CallError, FunctionError, LocalVariableError, SubgroupError,

@@ -2,12 +2,12 @@
 
 use crate::tests::texts::assert_told;
 use naga_below::arena::handle::Handle;
-use naga_below::ir::flags::StorageAccess;
 use naga_below::ir::operations::AtomicFunction;
 use naga_below::ir::types::{AddressSpace, ImageClass, ImageDimension, StorageFormat};
-use naga_below::valid::capabilities::Capabilities;
 use naga_below::valid::expression_error::ExpressionError;
-use naga_below::valid::flags::SubgroupOperationSet;
+use naga_flags::capabilities::Capabilities;
+use naga_flags::ir::StorageAccess;
+use naga_flags::valid::SubgroupOperationSet;
 use naga_rules::function::{AtomicError, CallError, LocalVariableError, SubgroupError};
 use std::test::Fail;
 

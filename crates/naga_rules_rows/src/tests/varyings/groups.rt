@@ -7,7 +7,7 @@ use crate::tests::varyings::{
 use bitflags::Flags;
 use naga_below::ir::built_in::BuiltIn;
 use naga_below::ir::module::ShaderStage;
-use naga_below::valid::flags::ValidationFlags;
+use naga_flags::valid::ValidationFlags;
 use naga_rules::interface::VaryingError;
 use naga_rules::varying::VaryingState;
 use std::test::Fail;

@@ -1,7 +1,7 @@
 use Rattle.std.proofs.Common.{rules}
-use Rattle.naga_checks.specs.walk.Place.{place_at}
-use Rattle.naga_checks.specs.walk.Seen.{context_of}
-use Rattle.naga_checks.specs.walk.Table.{filled_in, known}
+use Rattle.naga_context.specs.walk.Place.{place_at}
+use Rattle.naga_context.specs.walk.Seen.{context_of}
+use Rattle.naga_context.specs.walk.Table.{filled_in, known}
 use Rattle.naga_checks.proofs.Calls.{call_stops, call_next}
 use Rattle.naga_checks.proofs.checks.call.check_call.Goals as goal
 

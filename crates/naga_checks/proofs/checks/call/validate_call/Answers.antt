@@ -1,6 +1,6 @@
-use Rattle.naga_checks.specs.walk.Place.{place_at}
-use Rattle.naga_checks.specs.walk.Seen.{context_of}
-use Rattle.naga_checks.specs.walk.Table.{filled_in, known}
+use Rattle.naga_context.specs.walk.Place.{place_at}
+use Rattle.naga_context.specs.walk.Seen.{context_of}
+use Rattle.naga_context.specs.walk.Table.{filled_in, known}
 use Rattle.naga_checks.proofs.Calls.{callee_holds, result_is_new}
 use Rattle.naga_checks.proofs.checks.call.validate_call.Goals as goal
 

@@ -1,9 +1,9 @@
 use Rattle.std.proofs.Common.{◌<◌, ◌∙◌, subst, sym}
 use Rattle.std.specs.Prelude.{map}
 use Rattle.naga_below.specs.Operands.{operands_of}
-use Rattle.naga_checks.specs.Points.{use_point}
-use Rattle.naga_checks.specs.walk.Place.{place_at}
-use Rattle.naga_checks.specs.walk.Table.{known}
+use Rattle.naga_context.specs.Points.{use_point}
+use Rattle.naga_context.specs.walk.Place.{place_at}
+use Rattle.naga_context.specs.walk.Table.{known}
 use Rattle.naga_checks.proofs.Emits.{operand_stops, operand_next}
 use Rattle.naga_checks.proofs.Lists.{present}
 use Rattle.naga_checks.proofs.checks.control.check_each_operand.Goals.{in-Some+else-not-may_use, in_default}

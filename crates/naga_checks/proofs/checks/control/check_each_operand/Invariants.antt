@@ -2,9 +2,9 @@ use Rattle.std.proofs.Common.{◌≡◌, drop}
 use Rattle.std.specs.Prelude.{map}
 use Rattle.naga_below.specs.Operands.{operands_of}
 use Rattle.naga_below.specs.Points.{first_fault}
-use Rattle.naga_checks.specs.Points.{use_point}
-use Rattle.naga_checks.specs.walk.Place.{place_at}
-use Rattle.naga_checks.specs.walk.Table.{known}
+use Rattle.naga_context.specs.Points.{use_point}
+use Rattle.naga_context.specs.walk.Place.{place_at}
+use Rattle.naga_context.specs.walk.Table.{known}
 use Rattle.naga_checks.proofs.checks.control.check_each_operand.Given as goal
 
 -- what is left decides

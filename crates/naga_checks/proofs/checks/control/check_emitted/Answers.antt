@@ -1,9 +1,9 @@
 use Rattle.std.proofs.Common.{rules, ◌≡◌, false, sym, ◌∙◌}
 use Rattle.std.specs.Option.{option_copied}
-use Rattle.naga_checks.specs.checks.Results.{is_result}
-use Rattle.naga_checks.specs.walk.Place.{place_at}
-use Rattle.naga_checks.specs.walk.Seen.{context_of}
-use Rattle.naga_checks.specs.walk.Table.{known}
+use Rattle.naga_context.specs.Results.{is_result}
+use Rattle.naga_context.specs.walk.Place.{place_at}
+use Rattle.naga_context.specs.walk.Seen.{context_of}
+use Rattle.naga_context.specs.walk.Table.{known}
 use Rattle.naga_checks.proofs.Emits.{emitted_stops, emitted_twice, emitted_once}
 use Rattle.naga_checks.proofs.checks.control.check_emitted.Goals as goal
 

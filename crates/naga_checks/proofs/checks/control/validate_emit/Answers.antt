@@ -2,10 +2,10 @@ use Rattle.std.proofs.Common.{rules, ◌≡◌, None, arith, subst, sym, ◌∙�
 use Rattle.naga_below.specs.Points.{first_fault}
 use Rattle.naga_checks.specs.checks.Control.{emit_points}
 use Rattle.naga_rules.specs.Answers.{IsFirstFault}
-use Rattle.naga_checks.specs.walk.Place.{place_at}
-use Rattle.naga_checks.specs.walk.Seen.{context_of}
-use Rattle.naga_checks.specs.walk.Table.{HasPut, known}
-use Rattle.naga_checks.proofs.Columns.{both_put}
+use Rattle.naga_context.specs.walk.Place.{place_at}
+use Rattle.naga_context.specs.walk.Seen.{context_of}
+use Rattle.naga_context.specs.walk.Table.{HasPut, known}
+use Rattle.naga_context.proofs.Columns.{both_put}
 use Rattle.naga_checks.proofs.Emits.{asked_is, emitted_new, emit_stops, emit_next, emit_none}
 use Rattle.naga_checks.proofs.Lists.{between_more, between_end}
 use Rattle.naga_checks.proofs.checks.control.validate_emit.Goals as goal

@@ -1,9 +1,9 @@
 use Rattle.std.proofs.Common.{arith, ◌<◌, ◌-◌, IfSome, subst, sym}
 use Rattle.naga_below.specs.FitsBody.{QueryFits}
 use Rattle.naga_below.specs.View.{put_if}
-use Rattle.naga_checks.specs.Blocks.{emitted_operands}
-use Rattle.naga_checks.specs.walk.Seen.{context_of}
-use Rattle.naga_checks.proofs.Atomics.{atomic_puts}
+use Rattle.naga_context.specs.Blocks.{emitted_operands}
+use Rattle.naga_context.specs.walk.Seen.{context_of}
+use Rattle.naga_memory.proofs.Atomics.{atomic_puts}
 use Rattle.naga_checks.proofs.Calls.{call_puts}
 use Rattle.naga_checks.proofs.Emits.{emit_puts}
 use Rattle.naga_checks.proofs.Parts.{in_leaf}

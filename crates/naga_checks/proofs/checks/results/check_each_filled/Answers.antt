@@ -1,8 +1,8 @@
 use Rattle.std.proofs.Common.{◌≡◌, Some, true, false, length, sym, ap, ◌∙◌}
 use Rattle.naga_rules.specs.declared.function.FunctionError.TheVariants.{UnvisitedExpression}
-use Rattle.naga_checks.specs.checks.Results.{is_unfilled}
-use Rattle.naga_checks.specs.walk.Seen.{context_of}
-use Rattle.naga_checks.specs.walk.Table.{filled_in}
+use Rattle.naga_context.specs.Results.{is_unfilled}
+use Rattle.naga_context.specs.walk.Seen.{context_of}
+use Rattle.naga_context.specs.walk.Table.{filled_in}
 use Rattle.naga_checks.proofs.Fillings.{filled_stops, filled_next, filled_end}
 use Rattle.naga_checks.proofs.checks.results.check_each_filled.Goals as goal
 

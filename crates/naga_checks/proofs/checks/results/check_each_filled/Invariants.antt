@@ -1,8 +1,8 @@
 use Rattle.std.proofs.Common.{◌≡◌, ◌-◌, length}
 use Rattle.naga_below.specs.Points.{first_fault}
-use Rattle.naga_checks.specs.checks.Results.{filled_points_from}
-use Rattle.naga_checks.specs.walk.Seen.{context_of}
-use Rattle.naga_checks.specs.walk.Table.{filled_in}
+use Rattle.naga_context.specs.Results.{filled_points_from}
+use Rattle.naga_context.specs.walk.Seen.{context_of}
+use Rattle.naga_context.specs.walk.Table.{filled_in}
 use Rattle.naga_checks.proofs.checks.results.check_each_filled.Given as goal
 
 -- what is left decides

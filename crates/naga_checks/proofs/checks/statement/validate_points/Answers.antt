@@ -2,10 +2,10 @@ use Rattle.std.proofs.Common.{ap, ◌∙◌}
 use Rattle.naga_below.proofs.Rows.{tree_of-switch}
 use Rattle.naga_below.specs.View as view
 use Rattle.naga_below.specs.View.{no_operands}
-use Rattle.naga_checks.specs.Blocks.{emitted_operands}
-use Rattle.naga_checks.specs.walk.Seen.{context_of}
+use Rattle.naga_context.specs.Blocks.{emitted_operands}
+use Rattle.naga_context.specs.walk.Seen.{context_of}
 use Rattle.naga_checks.specs.walk.State.{kept, seen}
-use Rattle.naga_checks.specs.walk.Table.{known}
+use Rattle.naga_context.specs.walk.Table.{known}
 use Rattle.naga_checks.specs.walk.Walk.{place}
 use Rattle.naga_checks.proofs.Lists.{same_switch}
 use Rattle.naga_checks.proofs.Own.{points_of_leaf}

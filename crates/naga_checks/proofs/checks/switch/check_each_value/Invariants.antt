@@ -1,6 +1,6 @@
 use Rattle.std.proofs.Common.{◌≡◌, [], take, drop}
 use Rattle.naga_below.specs.Points.{first_fault}
-use Rattle.naga_checks.specs.Blocks.{case_list}
+use Rattle.naga_context.specs.Blocks.{case_list}
 use Rattle.naga_checks.specs.checks.Switch.{value_points, values_of}
 use Rattle.naga_checks.proofs.Values.{HasValues}
 use Rattle.naga_checks.proofs.checks.switch.check_each_value.Given as goal

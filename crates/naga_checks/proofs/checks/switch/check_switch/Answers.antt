@@ -1,12 +1,12 @@
 use Rattle.std.proofs.Common.{rules, [], ◌++◌}
-use Rattle.naga_checks.specs.Blocks.{case_list}
-use Rattle.naga_checks.specs.walk.Seen.{context_of}
-use Rattle.naga_checks.specs.Types.{scalar_kind_at}
+use Rattle.naga_context.specs.Blocks.{case_list}
+use Rattle.naga_context.specs.walk.Seen.{context_of}
+use Rattle.naga_context.specs.Types.{scalar_kind_at}
 use Rattle.naga_checks.specs.walk.Switch.{selector_points, cases_points}
 use Rattle.naga_checks.specs.checks.Switch.{value_points, values_of}
-use Rattle.naga_checks.specs.walk.Place.{place_at}
-use Rattle.naga_checks.specs.walk.Table.{known}
-use Rattle.naga_checks.proofs.Refusals.{refuses_first, refuses_second}
+use Rattle.naga_context.specs.walk.Place.{place_at}
+use Rattle.naga_context.specs.walk.Table.{known}
+use Rattle.naga_context.proofs.Refusals.{refuses_first, refuses_second}
 use Rattle.naga_checks.proofs.checks.switch.check_switch.Goals as goal
 
 pub returns-in_err-answer : goal.returns-in_err-answer

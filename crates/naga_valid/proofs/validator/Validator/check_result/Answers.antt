@@ -1,7 +1,7 @@
 use Rattle.std.proofs.Common.{rules, ◌∙◌, false, Bool, subst}
 use Rattle.naga_below.specs.Points.{within}
 use Rattle.naga_below.specs.declared.ir.built_in.BuiltIn.TheVariants.{Position}
-use Rattle.naga_checks.specs.walk.Answers.{Finds}
+use Rattle.naga_context.specs.walk.Answers.{Finds}
 use Rattle.naga_valid.specs.interface.Faults.{fault_of, Judges}
 use Rattle.naga_valid.specs.interface.Varyings.{declared_points, has_built_in, result_parts, returned_points}
 use Rattle.naga_valid.proofs.EntrySteps.{judges_first, judges_second}

@@ -1,0 +1,4 @@
+pub mod Columns
+pub mod Divided
+pub mod Flat
+pub mod Refusals

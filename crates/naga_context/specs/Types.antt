@@ -1,0 +1,36 @@
+-- The expressions of a function and their types, as the check lists ask for them.
+use Rattle.std.specs.Prelude.{ℕ, Bool, true, false, Option, Some, slice_get, option_and_then, unwrap_or}
+use Rattle.naga_below.specs.Types.{bool_scalar, resolved, scalar_kind_of}
+use Rattle.naga_below.specs.declared.ir.expressions.Expression.{Expression}
+use Rattle.naga_below.specs.declared.ir.types.ScalarKind.{ScalarKind}
+use Rattle.naga_below.specs.declared.ir.types.ScalarKind.TheVariants as kind
+use Rattle.naga_below.specs.declared.ir.types.TypeInner.{TypeInner}
+use Rattle.naga_below.specs.declared.ir.types.TypeInner.TheVariants.{Scalar}
+use Rattle.naga_below.specs.declared.proc.typifier.TypeResolution.{TypeResolution}
+use Rattle.naga_context.specs.Context.{Context}
+
+-- the expression at a handle, and its type
+abbrev pub expression_at : Context → ℕ → Option Expression
+expression_at context h = slice_get context.fun.expressions h
+
+abbrev pub resolution_at : Context → ℕ → Option TypeResolution
+resolution_at context h = slice_get context.info.expression_types h
+
+abbrev pub type_at : Context → ℕ → Option TypeInner
+type_at context h = option_and_then (resolved context.program.types) (resolution_at context h)
+
+-- a type as a fault names it; the conditions of a validation say that there is one
+abbrev pub named_type : Option TypeInner → TypeInner
+named_type ty = unwrap_or ty (Scalar bool_scalar)
+
+abbrev pub named_type_at : Context → ℕ → TypeInner
+named_type_at context h = named_type (type_at context h)
+
+abbrev pub scalar_kind_at : Context → ℕ → Option ScalarKind
+scalar_kind_at context h = option_and_then scalar_kind_of (type_at context h)
+
+-- integers of either sign
+abbrev pub is_integer : Option ScalarKind → Bool
+is_integer (Some kind.Uint) = true
+is_integer (Some kind.Sint) = true
+is_integer _ = false

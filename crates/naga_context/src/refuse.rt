@@ -1,0 +1,88 @@
+//! Uses, and refusals with the place of their statement.
+
+ghost use Rattle.std.specs.Prelude.{[], ◌∷◌};
+ghost use Rattle.naga_below.specs.declared.valid.expression_error.ExpressionError.TheVariants.{NotInScope};
+ghost use Rattle.naga_rules.specs.declared.function.FunctionError.TheVariants.{Expression, ExpressionAlreadyInScope};
+ghost use Rattle.naga_context.specs.walk.Answers.{Finds, IsRefusalFor};
+ghost use Rattle.naga_rules.specs.Answers.{AnswersPoints};
+ghost use Rattle.naga_context.specs.Points.{Points, use_point, put_point};
+ghost use Rattle.naga_context.specs.walk.Place.{place_at};
+ghost use Rattle.naga_context.specs.walk.Table.{known};
+
+use crate::refused::Refused;
+use crate::table::ScopeColumn;
+use naga_below::arena::handle::Handle;
+use naga_below::arena::tag;
+use naga_below::span::Span;
+use naga_below::valid::expression_error::ExpressionError;
+use naga_rules::function::FunctionError;
+use std::alloc::Global;
+
+/// A use: every run has put the expression where it comes here.
+pub fn check_use(scope: &ScopeColumn, handle: Handle<tag::Expression>) -> Result<(), FunctionError>
+    ensures { Finds (use_point (place_at (known scope.now)) handle ∷ []) result }
+{
+    if !scope.may_use(handle) {
+        return Err(FunctionError::Expression {
+            handle,
+            source: ExpressionError::NotInScope,
+        });
+    }
+    Ok(())
+}
+
+/// A put, before it is made: the expression is not in scope.
+pub fn check_put(scope: &ScopeColumn, handle: Handle<tag::Expression>) -> Result<(), FunctionError>
+    ensures { Finds (put_point (place_at (known scope.now)) handle ∷ []) result }
+{
+    if scope.contains(handle) {
+        return Err(FunctionError::ExpressionAlreadyInScope(handle));
+    }
+    Ok(())
+}
+
+/// The refusal of a use. What makes refusals stands apart from the checks that are asked most often, so that these hold no
+/// fault while all is well.
+#[cold]
+#[inline(never)]
+pub fn not_in_scope(alloc: Global, handle: Handle<tag::Expression>, span: Span) -> Refused
+    ensures { IsRefusalFor (Expression handle NotInScope) result }
+{
+    let fault = FunctionError::Expression {
+        handle,
+        source: ExpressionError::NotInScope,
+    };
+    Refused::placed(alloc, fault, span)
+}
+
+/// The refusal of a put.
+#[cold]
+#[inline(never)]
+pub fn already_in_scope(alloc: Global, handle: Handle<tag::Expression>, span: Span) -> Refused
+    ensures { IsRefusalFor (ExpressionAlreadyInScope handle) result }
+{
+    let fault = FunctionError::ExpressionAlreadyInScope(handle);
+    Refused::placed(alloc, fault, span)
+}
+
+/// The answer of a check of the statement at a place.
+#[tactic(auto, using(crate::proofs::Refusals::refuses_fault))]
+pub fn answer(alloc: Global, checked: Result<(), FunctionError>, span: Span) -> Result<(), Refused>
+    ensures { (points : Points) → Finds points checked → AnswersPoints points result }
+{
+    match checked {
+        Ok(()) => Ok(()),
+        Err(fault) => Err(Refused::placed(alloc, fault, span)),
+    }
+}
+
+/// The answer of a check of the function as a whole.
+#[tactic(auto, using(crate::proofs::Refusals::refuses_fault))]
+pub fn answer_of_function(alloc: Global, checked: Result<(), FunctionError>) -> Result<(), Refused>
+    ensures { (points : Points) → Finds points checked → AnswersPoints points result }
+{
+    match checked {
+        Ok(()) => Ok(()),
+        Err(fault) => Err(Refused::of_function(alloc, fault)),
+    }
+}

@@ -1,0 +1,47 @@
+//! Results of calls and of atomic operations that are still to be filled.
+
+ghost use Rattle.std.specs.Prelude.{◌≡◌};
+ghost use Rattle.std.specs.Option.{option_copied};
+ghost use Rattle.naga_context.specs.Results.{is_to_fill, is_unfilled, is_fresh};
+ghost use Rattle.naga_context.specs.walk.Seen.{context_of};
+ghost use Rattle.naga_context.specs.walk.Table.{filled_in};
+
+use crate::context::BlockContext;
+use crate::table::FilledColumn;
+use naga_below::arena::handle::Handle;
+use naga_below::arena::tag;
+use naga_below::ir::expressions::Expression;
+use naga_flags::valid::ValidationFlags;
+
+/// Whether an expression is of a kind that a Call or an Atomic fills.
+fn is_to_fill(expression: Option<&Expression>) -> bool
+    ensures { result ≡ is_to_fill (option_copied expression.entry) }
+{
+    matches!(
+        expression,
+        Some(Expression::CallResult(_) | Expression::AtomicResult { .. })
+    )
+}
+
+/// Whether an expression is a result that nothing filled so far.
+pub fn is_unfilled(
+    filled: &FilledColumn,
+    context: &BlockContext,
+    handle: Handle<tag::Expression>,
+) -> bool
+    ensures { result ≡ is_unfilled (context_of context.now) (filled_in filled.now) handle }
+{
+    is_to_fill(context.expression(handle)) && !filled.contains(handle)
+}
+
+/// Whether a result is still to be filled.
+pub fn is_fresh(
+    filled: &FilledColumn,
+    context: &BlockContext,
+    handle: Handle<tag::Expression>,
+) -> bool
+    ensures { result ≡ is_fresh (context_of context.now) (filled_in filled.now) handle }
+{
+    let flags = context.settings.flags;
+    flags.contains(ValidationFlags::EXPRESSIONS) && is_unfilled(filled, context, handle)
+}

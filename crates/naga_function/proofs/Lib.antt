@@ -1,0 +1,12 @@
+pub mod Traces
+pub mod StatesLeft
+pub mod Walk
+pub mod LoopBody
+pub mod PreEmitted
+pub mod Judged
+pub mod Accepted
+pub mod Shapes
+pub mod Guarded
+pub mod FunctionLaw
+pub mod Each
+pub mod Chains

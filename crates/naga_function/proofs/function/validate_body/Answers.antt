@@ -1,0 +1,24 @@
+use Rattle.std.proofs.Common.{rules}
+use Rattle.naga_checks.specs.Judged.{body_judgement}
+use Rattle.naga_context.specs.Results.{filled_points}
+use Rattle.naga_context.specs.walk.Table.{filled_in}
+use Rattle.naga_context.specs.walk.Seen.{context_of}
+use Rattle.naga_checks.specs.walk.State.{kept}
+use Rattle.naga_function.proofs.Judged.{unfilled_refuses, all_filled}
+use Rattle.naga_function.proofs.function.validate_body.Goals as goal
+
+pub returns-in_err-answer_of_function : goal.returns-in_err-answer_of_function
+returns-in_err-answer_of_function c =
+    let context = context_of c.args.context.now in
+    let filled = c.validate_body_statements.new.table.filled in
+    let state = kept filled c.in_ok-state.state in
+    let unfilled = c.in_err-answer_of_function.ensures (filled_points context (filled_in filled)) c.check_filled.ensures in
+    unfilled_refuses context (body_judgement context) state c.from_residual-in_err-answer_of_function.result c.in_ok-state.ensures (search rules) (search (rules, unfilled))
+
+pub returns : goal.returns
+returns c =
+    let context = context_of c.args.context.now in
+    let filled = c.validate_body_statements.new.table.filled in
+    let state = kept filled c.in_ok-state.state in
+    let none = c.in_ok-answer_of_function.ensures (filled_points context (filled_in filled)) c.check_filled.ensures in
+    all_filled context (body_judgement context) state c.in_ok-state.ensures none

@@ -1,0 +1,298 @@
+//! The judgement of a body of statements: naga's `validate_block`.
+
+ghost use Rattle.std.specs.Prelude.{◌≡◌, IfOk, OnOk, length};
+ghost use Rattle.naga_runs.specs.Must.{holds_continue, body_holds_continue, cases_hold_continue};
+ghost use Rattle.naga_context.specs.walk.Place.{no_sets};
+ghost use Rattle.naga_runs.specs.Judgement.{viewed};
+ghost use Rattle.naga_rules.specs.Answers.{Answers};
+ghost use Rattle.naga_context.specs.walk.Answers.{AnswersLeaving, AnswersState};
+ghost use Rattle.naga_context.specs.Blocks.{tree_of, body_of, block_of, cases_of};
+ghost use Rattle.naga_context.specs.Context.{ContextFits, pre_emitted};
+ghost use Rattle.naga_checks.specs.Judged.{body_judgement};
+ghost use Rattle.naga_checks.specs.Ready.{IsStatementReady, IsBodyReady, AreCasesReady};
+ghost use Rattle.naga_context.specs.walk.Seen.{context_of};
+ghost use Rattle.naga_checks.specs.walk.State.{kept, state_left, body_left};
+ghost use Rattle.naga_context.specs.walk.Table.{HasLooped, HasPut, IsTableOf, count, known, shown};
+ghost use Rattle.naga_checks.specs.walk.Walk.{puts, body_puts, puts_to_continue, parts_answer, stmt_answer, body_answer, cases_answer};
+
+use naga_below::arena::handle::Handle;
+use naga_below::ir::statements::{Block, Located, Statement, SwitchCase};
+use naga_below::span::Refusal;
+use naga_checks::checks::results::check_filled;
+use naga_checks::checks::statement::{check_break_if, validate_points};
+use naga_checks::state::{BodyOutcome, advance};
+use naga_context::context::BlockContext;
+use naga_context::refuse::answer_of_function;
+use naga_context::refused::Refused;
+use naga_context::table::{ScopeColumn, Table};
+use naga_rules::function::FunctionError;
+use naga_runs::Abilities;
+use std::alloc::Global;
+
+/// Judges the body of a function: the first fault in visit order, else the lowest result that is not filled, else what
+/// is left. A table is kept for later functions, for its memory alone.
+pub fn validate_function_body(
+    alloc: Global,
+    kept: &mut Option<Table>,
+    context: &BlockContext,
+) -> Result<BodyOutcome, Refusal<FunctionError>>
+    requires context { ContextFits (context_of context.now) }
+    requires ready { IsBodyReady (context_of context.now) (body_of (context_of context.now).fun) }
+    ensures { Answers (body_left (context_of context.now) (body_judgement (context_of context.now))) result }
+{
+    let mut table = Table::take_or_new(alloc, kept)?;
+    let judged = validate_body(alloc, &mut table, context);
+    *kept = Some(table);
+    match judged {
+        Ok(outcome) => Ok(outcome),
+        Err(refused) => Err(refused.into_refusal()),
+    }
+}
+
+/// Judges a body over a table, of which nothing is read that was there before.
+fn validate_body(
+    alloc: Global,
+    table: &mut Table,
+    context: &BlockContext,
+) -> Result<BodyOutcome, Refused>
+    requires context { ContextFits (context_of context.now) }
+    requires ready { IsBodyReady (context_of context.now) (body_of (context_of context.now).fun) }
+    ensures { Answers (body_left (context_of context.now) (body_judgement (context_of context.now))) result }
+{
+    let state = validate_body_statements(table, context)?;
+    answer_of_function(alloc, check_filled(&table.filled, context))?;
+    Ok(state)
+}
+
+/// Judges the statements of a function's body.
+fn validate_body_statements(
+    table: &mut Table,
+    context: &BlockContext,
+) -> Result<BodyOutcome, Refused>
+    requires context { ContextFits (context_of context.now) }
+    requires ready { IsBodyReady (context_of context.now) (body_of (context_of context.now).fun) }
+    ensures { AnswersState (viewed (state_left (context_of context.now)) (body_judgement (context_of context.now)))
+        (kept table.new.filled) result }
+{
+    let count = context.fun.expressions.len();
+    table.scope.begin(count)?;
+    table.filled.begin(count)?;
+    put_pre_emitted(&mut table.scope, context);
+    let mut state = BodyOutcome {
+        stages: context.info.available_stages,
+        trace: context.trace,
+    };
+    let abilities = Abilities::at_begin();
+    validate_statements(table, &mut state, context, abilities, &context.fun.body)?;
+    Ok(state)
+}
+
+/// Puts in scope what is there before the first statement.
+fn put_pre_emitted(scope: &mut ScopeColumn, context: &BlockContext)
+    requires none { known scope.old ≡ no_sets }
+    requires count { count scope.old ≡ length (context_of context.now).fun.expressions }
+    ensures scope { (known scope.new).scope ≡ pre_emitted (context_of context.now) }
+    ensures must { (known scope.new).must ≡ pre_emitted (context_of context.now) }
+    ensures count { count scope.new ≡ count scope.old }
+{
+    let count = context.fun.expressions.len() as u32;
+    for index in 0..count {
+        let handle = Handle::new(index);
+        if context.fun.expressions[handle].needs_pre_emit() {
+            scope.put(handle);
+        }
+    }
+}
+
+/// The parts of a statement. Answers whether it holds a Continue for the Loop in whose body it stands.
+#[tactic(auto, using(crate::proofs::Walk::walking))]
+#[cycle(walk)]
+fn validate_parts(
+    table: &mut Table,
+    state: &mut BodyOutcome,
+    context: &BlockContext,
+    abilities: Abilities,
+    located: &Located,
+) -> Result<bool, Refused>
+    requires context { ContextFits (context_of context.now) }
+    requires ready { IsStatementReady (context_of context.now) (tree_of (context_of context.now) located.now) }
+    requires table { IsTableOf (context_of context.now) table.old }
+    ensures fault { AnswersLeaving
+        (parts_answer (context_of context.now) (kept table.old.filled state.old) abilities (known table.old.scope)
+        (tree_of (context_of context.now) located.now))
+        (kept table.new.filled state.new) result }
+    ensures table { OnOk result (IsTableOf (context_of context.now) table.new) }
+    ensures scope { OnOk result (shown table.new.scope ≡ shown table.old.scope) }
+    ensures held { IfOk result (λ held. held ≡ holds_continue (tree_of (context_of context.now) located.now)) }
+{
+    match &located.statement {
+        Statement::Block(body) => validate_block(table, state, context, abilities, body),
+        Statement::If { accept, reject, .. } => {
+            let accepts = validate_block(table, state, context, abilities, accept)?;
+            let rejects = validate_block(table, state, context, abilities, reject)?;
+            Ok(accepts | rejects)
+        }
+        Statement::Switch { cases, .. } => {
+            let abilities = abilities.in_case();
+            validate_cases(table, state, context, abilities, cases.as_slice())
+        }
+        Statement::Loop {
+            body,
+            continuing,
+            break_if,
+        } => {
+            let outer = table.scope.enter()?;
+            let skipped = validate_loop_body(table, state, context, abilities.in_loop(), body)?;
+            validate_statements(
+                table,
+                state,
+                context,
+                Abilities::in_continuing(),
+                continuing,
+            )?;
+            check_break_if(&table.scope, context, *break_if, located.span)?;
+            table.scope.leave(outer, skipped);
+            Ok(false)
+        }
+        Statement::Continue => Ok(true),
+        _ => Ok(false),
+    }
+}
+
+/// The body list of a Loop: puts behind the first statement that holds a Continue stay in scope, and may not be used
+/// behind the list. Answers the number of the scope that has them, if one has.
+#[cycle(walk)]
+fn validate_loop_body(
+    table: &mut Table,
+    state: &mut BodyOutcome,
+    context: &BlockContext,
+    abilities: Abilities,
+    block: &Block,
+) -> Result<Option<usize>, Refused>
+    requires context { ContextFits (context_of context.now) }
+    requires ready { IsBodyReady (context_of context.now) (block_of (context_of context.now) block.now) }
+    requires table { IsTableOf (context_of context.now) table.old }
+    ensures fault { AnswersLeaving
+        (body_answer (context_of context.now) (kept table.old.filled state.old) abilities (known table.old.scope)
+        (block_of (context_of context.now) block.now))
+        (kept table.new.filled state.new) result }
+    ensures table { OnOk result (IsTableOf (context_of context.now) table.new) }
+    ensures scope { IfOk result (λ skipped. HasLooped table.old.scope table.new.scope skipped (puts_to_continue (block_of (context_of context.now) block.now)) (body_puts (block_of (context_of context.now) block.now))) }
+{
+    let mut home = None;
+    for located in block.list.as_slice() {
+        let held = validate_statement(table, state, context, abilities, located)?;
+        home = table.scope.divide(home, held)?;
+    }
+    match home {
+        Some(number) => Ok(Some(table.scope.skip(number))),
+        None => Ok(None),
+    }
+}
+
+/// A list of statements, whose puts stay in scope: naga's `validate_block_impl`. Answers whether it holds a Continue.
+#[cycle(walk)]
+fn validate_statements(
+    table: &mut Table,
+    state: &mut BodyOutcome,
+    context: &BlockContext,
+    abilities: Abilities,
+    block: &Block,
+) -> Result<bool, Refused>
+    requires context { ContextFits (context_of context.now) }
+    requires ready { IsBodyReady (context_of context.now) (block_of (context_of context.now) block.now) }
+    requires table { IsTableOf (context_of context.now) table.old }
+    ensures fault { AnswersLeaving
+        (body_answer (context_of context.now) (kept table.old.filled state.old) abilities (known table.old.scope)
+        (block_of (context_of context.now) block.now))
+        (kept table.new.filled state.new) result }
+    ensures table { OnOk result (IsTableOf (context_of context.now) table.new) }
+    ensures scope { OnOk result (HasPut table.old.scope table.new.scope (body_puts (block_of (context_of context.now) block.now))) }
+    ensures held { IfOk result (λ held. held ≡ body_holds_continue (block_of (context_of context.now) block.now)) }
+{
+    let mut held = false;
+    for located in block.list.as_slice() {
+        let holds = validate_statement(table, state, context, abilities, located)?;
+        held = held | holds;
+    }
+    Ok(held)
+}
+
+/// One statement: its own check list, its stages, and then its parts.
+#[cycle(walk)]
+fn validate_statement(
+    table: &mut Table,
+    state: &mut BodyOutcome,
+    context: &BlockContext,
+    abilities: Abilities,
+    located: &Located,
+) -> Result<bool, Refused>
+    requires context { ContextFits (context_of context.now) }
+    requires ready { IsStatementReady (context_of context.now) (tree_of (context_of context.now) located.now) }
+    requires table { IsTableOf (context_of context.now) table.old }
+    ensures fault { AnswersLeaving
+        (stmt_answer (context_of context.now) (kept table.old.filled state.old) abilities (known table.old.scope)
+        (tree_of (context_of context.now) located.now))
+        (kept table.new.filled state.new) result }
+    ensures table { OnOk result (IsTableOf (context_of context.now) table.new) }
+    ensures scope { OnOk result (HasPut table.old.scope table.new.scope (puts (tree_of (context_of context.now) located.now))) }
+    ensures held { IfOk result (λ held. held ≡ holds_continue (tree_of (context_of context.now) located.now)) }
+{
+    validate_points(table, state, context, abilities, located)?;
+    advance(&mut table.filled, state, context, located);
+    validate_parts(table, state, context, abilities, located)
+}
+
+/// A list of statements in a scope of its own: naga's `validate_block`.
+#[cycle(walk)]
+fn validate_block(
+    table: &mut Table,
+    state: &mut BodyOutcome,
+    context: &BlockContext,
+    abilities: Abilities,
+    block: &Block,
+) -> Result<bool, Refused>
+    requires context { ContextFits (context_of context.now) }
+    requires ready { IsBodyReady (context_of context.now) (block_of (context_of context.now) block.now) }
+    requires table { IsTableOf (context_of context.now) table.old }
+    ensures fault { AnswersLeaving
+        (body_answer (context_of context.now) (kept table.old.filled state.old) abilities (known table.old.scope)
+        (block_of (context_of context.now) block.now))
+        (kept table.new.filled state.new) result }
+    ensures table { OnOk result (IsTableOf (context_of context.now) table.new) }
+    ensures scope { OnOk result (shown table.new.scope ≡ shown table.old.scope) }
+    ensures held { IfOk result (λ held. held ≡ body_holds_continue (block_of (context_of context.now) block.now)) }
+{
+    let outer = table.scope.enter()?;
+    let held = validate_statements(table, state, context, abilities, block)?;
+    table.scope.leave(outer, None);
+    Ok(held)
+}
+
+/// The bodies of a Switch's cases, in order.
+#[cycle(walk)]
+fn validate_cases(
+    table: &mut Table,
+    state: &mut BodyOutcome,
+    context: &BlockContext,
+    abilities: Abilities,
+    cases: &[SwitchCase],
+) -> Result<bool, Refused>
+    requires context { ContextFits (context_of context.now) }
+    requires ready { AreCasesReady (context_of context.now) (cases_of (context_of context.now) cases.now) }
+    requires table { IsTableOf (context_of context.now) table.old }
+    ensures fault { AnswersLeaving
+        (cases_answer (context_of context.now) (kept table.old.filled state.old) abilities (known table.old.scope)
+        (cases_of (context_of context.now) cases.now))
+        (kept table.new.filled state.new) result }
+    ensures table { OnOk result (IsTableOf (context_of context.now) table.new) }
+    ensures scope { OnOk result (shown table.new.scope ≡ shown table.old.scope) }
+    ensures held { IfOk result (λ held. held ≡ cases_hold_continue (cases_of (context_of context.now) cases.now)) }
+{
+    let mut held = false;
+    for case in cases {
+        let holds = validate_block(table, state, context, abilities, &case.body)?;
+        held = held | holds;
+    }
+    Ok(held)
+}

@@ -1,0 +1,111 @@
+//! The check list of WorkGroupUniformLoad.
+
+ghost use Rattle.std.specs.Prelude.{◌≡◌, ◌<◌, ◌∷◌, [], OnOk, IfSome, length};
+ghost use Rattle.std.specs.Option.{option_copied};
+ghost use Rattle.naga_context.specs.walk.Answers.{Finds};
+ghost use Rattle.naga_rules.specs.Answers.{AnswersPoints};
+ghost use Rattle.naga_context.specs.Context.{ContextFits};
+ghost use Rattle.naga_memory.specs.Load.{is_work_group, loaded_type_at, points_to, load_points};
+ghost use Rattle.naga_context.specs.walk.Place.{place_at};
+ghost use Rattle.naga_context.specs.walk.Seen.{context_of};
+ghost use Rattle.naga_context.specs.walk.Table.{HasPut, count, known};
+
+use crate::atomic::atomic_scalar;
+use naga_below::arena::handle::Handle;
+use naga_below::arena::tag;
+use naga_below::ir::expressions::Expression;
+use naga_below::ir::types::{AddressSpace, TypeInner};
+use naga_below::span::Span;
+use naga_context::context::BlockContext;
+use naga_context::pointers::space;
+use naga_context::refuse::{answer, check_put, check_use};
+use naga_context::refused::Refused;
+use naga_context::table::ScopeColumn;
+use naga_context::types::{is_equivalent, is_scalar};
+use naga_rules::function::FunctionError;
+
+/// WorkGroupUniformLoad: its pointer and its result, which is in scope afterwards.
+pub fn validate_load(
+    scope: &mut ScopeColumn,
+    context: &BlockContext,
+    pointer: Handle<tag::Expression>,
+    loaded: Handle<tag::Expression>,
+    span: Span,
+) -> Result<(), Refused>
+    requires context { ContextFits (context_of context.now) }
+    requires result { loaded < count scope.old }
+    ensures fault { AnswersPoints (load_points (context_of context.now) (place_at (known scope.old)) pointer loaded) result }
+    ensures scope { OnOk result (HasPut scope.old scope.new (loaded ∷ [])) }
+{
+    let alloc = scope.allocator();
+    let checked = check_load(scope, context, pointer, loaded);
+    answer(alloc, checked, span)?;
+    scope.put(loaded);
+    Ok(())
+}
+
+/// All that is checked of a load. Its result stays out of scope.
+fn check_load(
+    scope: &ScopeColumn,
+    context: &BlockContext,
+    pointer: Handle<tag::Expression>,
+    loaded: Handle<tag::Expression>,
+) -> Result<(), FunctionError>
+    requires { ContextFits (context_of context.now) }
+    ensures { Finds (load_points (context_of context.now) (place_at (known scope.now)) pointer loaded) result }
+{
+    check_use(scope, pointer)?;
+    if !is_work_group(space(context, pointer)) {
+        return Err(FunctionError::WorkgroupUniformLoadInvalidPointer(pointer));
+    }
+    check_put(scope, loaded)?;
+    let Some(ty) = loaded_type(context, loaded) else {
+        return Err(FunctionError::WorkgroupUniformLoadExpressionMismatch(loaded));
+    };
+    if !points_to(context, pointer, ty) {
+        return Err(FunctionError::WorkgroupUniformLoadInvalidPointer(pointer));
+    }
+    Ok(())
+}
+
+fn is_work_group(space: Option<AddressSpace>) -> bool
+    ensures { result ≡ is_work_group space }
+{
+    matches!(space, Some(AddressSpace::WorkGroup))
+}
+
+/// The type that the result of a load is declared with.
+fn loaded_type(context: &BlockContext, loaded: Handle<tag::Expression>) -> Option<Handle<tag::Type>>
+    requires { ContextFits (context_of context.now) }
+    ensures is { result ≡ loaded_type_at (context_of context.now) loaded }
+    ensures fits { IfSome result (λ ty. ty < length (context_of context.now).program.types) }
+{
+    match context.expression(loaded) {
+        Some(Expression::WorkGroupUniformLoadResult { ty }) => Some(*ty),
+        _ => None,
+    }
+}
+
+/// Whether a pointer in the work group is one to this type, or to an atomic of this scalar.
+fn points_to(
+    context: &BlockContext,
+    pointer: Handle<tag::Expression>,
+    ty: Handle<tag::Type>,
+) -> bool
+    requires context { ContextFits (context_of context.now) }
+    requires ty { ty < length (context_of context.now).program.types }
+    ensures { result ≡ points_to (context_of context.now) pointer ty }
+{
+    let program = context.program;
+    let expected = TypeInner::Pointer {
+        base: ty,
+        space: AddressSpace::WorkGroup,
+    };
+    if is_equivalent(program, context.type_inner(pointer), Some(&expected)) {
+        return true;
+    }
+    match atomic_scalar(context, pointer) {
+        Some(scalar) => is_scalar(scalar, Some(&program.types[ty].inner)),
+        None => false,
+    }
+}

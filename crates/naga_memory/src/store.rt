@@ -1,0 +1,196 @@
+//! The check list of Store.
+
+ghost use Rattle.std.specs.Prelude.{◌≡◌, true, IfSome, length};
+ghost use Rattle.std.specs.Option.{option_copied};
+ghost use Rattle.naga_below.specs.Types.{ResolutionFits};
+ghost use Rattle.naga_rules.specs.declared.function.FunctionError.TheVariants.{InvalidStorePointer, InvalidStoreTexture, InvalidStoreTypes};
+ghost use Rattle.naga_context.specs.walk.Answers.{IsRefusalFor};
+ghost use Rattle.naga_rules.specs.Answers.{AnswersPoints};
+ghost use Rattle.naga_context.specs.Context.{ContextFits};
+ghost use Rattle.naga_context.specs.walk.Place.{place_at};
+ghost use Rattle.naga_context.specs.walk.Seen.{context_of};
+ghost use Rattle.naga_memory.specs.Store.{access_base, root_at, is_variable, is_texture, is_stored_as, store_points};
+ghost use Rattle.naga_context.specs.Types.{named_type};
+ghost use Rattle.naga_context.specs.walk.Table.{known};
+
+use naga_below::arena::handle::Handle;
+use naga_below::arena::tag;
+use naga_below::ir::expressions::Expression;
+use naga_below::ir::types::TypeInner;
+use naga_below::proc::type_methods::compare_types;
+use naga_below::proc::typifier::TypeResolution;
+use naga_below::span::Span;
+use naga_context::context::BlockContext;
+use naga_context::pointers::{base_type, is_writable};
+use naga_context::refuse::not_in_scope;
+use naga_context::refused::Refused;
+use naga_context::table::ScopeColumn;
+use naga_context::types::is_scalar;
+use naga_rules::function::FunctionError;
+use std::alloc::Global;
+
+/// Store: a pointer that leads back to a variable or an argument; a value, which is no texture; the type that is pointed to
+/// holds it, and its space takes stores.
+pub fn check_store(
+    scope: &ScopeColumn,
+    context: &BlockContext,
+    pointer: Handle<tag::Expression>,
+    value: Handle<tag::Expression>,
+    span: Span,
+) -> Result<(), Refused>
+    requires { ContextFits (context_of context.now) }
+    ensures { AnswersPoints (store_points (context_of context.now) (place_at (known scope.now)) pointer value) result }
+{
+    let alloc = scope.allocator();
+    let root = root_of(context, pointer);
+    if !is_variable(context.expression(root)) {
+        return Err(invalid_store_pointer(alloc, root, span));
+    }
+    if !scope.may_use(value) {
+        return Err(not_in_scope(alloc, value, span));
+    }
+    let stored = context.type_inner(value);
+    if is_texture(stored) {
+        return Err(invalid_store_texture(alloc, value, stored, span));
+    }
+    if !is_stored_as(context, value, &base_type(context, pointer)) {
+        return Err(invalid_store_types(alloc, pointer, value, span));
+    }
+    if !is_writable(context, pointer) {
+        return Err(invalid_store_pointer(alloc, pointer, span));
+    }
+    Ok(())
+}
+
+/// Where the walk from a pointer stops, which goes from an access to its base.
+fn root_of(context: &BlockContext, pointer: Handle<tag::Expression>) -> Handle<tag::Expression>
+    requires { ContextFits (context_of context.now) }
+    ensures { result ≡ root_at (context_of context.now) pointer }
+{
+    let mut handle = pointer;
+    while let Some(base) = access_base(context.expression(handle)) {
+        handle = base;
+    }
+    handle
+}
+
+/// The expression of which an access takes a part.
+pub fn access_base(expression: Option<&Expression>) -> Option<Handle<tag::Expression>>
+    ensures { result ≡ access_base (option_copied expression.entry) }
+{
+    match expression {
+        Some(Expression::Access { base, .. }) | Some(Expression::AccessIndex { base, .. }) => {
+            Some(*base)
+        }
+        _ => None,
+    }
+}
+
+/// Whether an expression is a variable or an argument.
+fn is_variable(expression: Option<&Expression>) -> bool
+    ensures { result ≡ is_variable (option_copied expression.entry) }
+{
+    matches!(
+        expression,
+        Some(
+            Expression::LocalVariable(_)
+                | Expression::GlobalVariable(_)
+                | Expression::FunctionArgument(_),
+        )
+    )
+}
+
+/// Whether a type is that of an image or of a sampler, which is never stored.
+fn is_texture(inner: Option<&TypeInner>) -> bool
+    ensures { result ≡ is_texture (option_copied inner.entry) }
+{
+    matches!(
+        inner,
+        Some(TypeInner::Image { .. } | TypeInner::Sampler { .. })
+    )
+}
+
+/// Whether a value is what this type holds: an atomic its scalar, any other a value of the type.
+fn is_stored_as(
+    context: &BlockContext,
+    value: Handle<tag::Expression>,
+    base: &Option<TypeResolution>,
+) -> bool
+    requires context { ContextFits (context_of context.now) }
+    requires base { IfSome base.now (ResolutionFits (length (context_of context.now).program.types)) }
+    ensures { result ≡ is_stored_as (context_of context.now) value base.now }
+{
+    let Some(base) = base else {
+        return false;
+    };
+    match base.inner_with(&context.program.types) {
+        TypeInner::Atomic(scalar) => is_scalar(*scalar, context.type_inner(value)),
+        _ => match context.resolution(value) {
+            Some(given) => compare_types(given, base, &context.program.types),
+            None => false,
+        },
+    }
+}
+
+/// The refusal of a pointer that leads back to no variable, or into a space that takes no stores.
+#[cold]
+#[inline(never)]
+fn invalid_store_pointer(alloc: Global, handle: Handle<tag::Expression>, span: Span) -> Refused
+    ensures { IsRefusalFor (InvalidStorePointer handle) result }
+{
+    Refused::placed(alloc, FunctionError::InvalidStorePointer(handle), span)
+}
+
+/// The refusal of an image or a sampler as a value.
+#[cold]
+#[inline(never)]
+fn invalid_store_texture(
+    alloc: Global,
+    value: Handle<tag::Expression>,
+    inner: Option<&TypeInner>,
+    span: Span,
+) -> Refused
+    requires { is_texture (option_copied inner) ≡ true }
+    ensures { IsRefusalFor (InvalidStoreTexture value (named_type (option_copied inner.entry))) result }
+{
+    let actual_ty = match inner {
+        Some(
+            TypeInner::Image {
+                dim,
+                arrayed,
+                class,
+            },
+        ) => TypeInner::Image {
+            dim: *dim,
+            arrayed: *arrayed,
+            class: *class,
+        },
+        Some(TypeInner::Sampler { comparison }) => TypeInner::Sampler {
+            comparison: *comparison,
+        },
+        _ => unreachable!(),
+    };
+    let fault = FunctionError::InvalidStoreTexture {
+        actual: value,
+        actual_ty,
+    };
+    Refused::placed(alloc, fault, span)
+}
+
+/// The refusal of a value that the type that is pointed to does not hold.
+#[cold]
+#[inline(never)]
+fn invalid_store_types(
+    alloc: Global,
+    pointer: Handle<tag::Expression>,
+    value: Handle<tag::Expression>,
+    span: Span,
+) -> Refused
+    ensures { IsRefusalFor (InvalidStoreTypes pointer value) result }
+{
+    Refused::placed(
+        alloc,
+        FunctionError::InvalidStoreTypes { pointer, value },
+        span,
+    )
+}
