@@ -1,6 +1,6 @@
-//! The lower layer of the validator: handles and arenas, the shader IR, sets of named bits, questions about
-//! types, and the tests of what a call asks of its arguments. It follows naga 30.0.1 in what naga's function
-//! and interface validation reads of these.
+//! The lower layer of the validator: handles and arenas, the shader IR, questions about types, and the infos of types and
+//! functions. It follows naga 30.0.1 in what naga's function and interface validation reads of these. The sets of named bits of
+//! `naga_flags` are passed on.
 #![tactic(auto)]
 
 pub mod arena;

@@ -1,5 +1,5 @@
-//! The tests of `naga_below`, over its public calls. A crate by itself, so that the gate does not prove `naga_below` twice, and
-//! proves these beside the crates above it.
+//! The tests of `naga_flags`, `naga_below` and `naga_fits`, over their public calls. A crate by itself, so that the gate does not
+//! prove these twice, and proves the tests beside the crates above.
 #![tactic(auto)]
 
 #[cfg(test)]
