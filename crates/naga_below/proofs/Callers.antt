@@ -1,11 +1,11 @@
 -- Lemmas for the crates above: what the tests of conditions give, and trees with other operands.
 use Rattle.std.proofs.Common.{◌≤◌, ℕ, List, length, slice_index_or, arith}
 use Rattle.std.proofs.lemmas.Option.{slice_get-get_or}
-use Rattle.naga_below.specs.declared.ir.types.TypeInner.{TypeInner}
-use Rattle.naga_below.specs.declared.ir.types.TypeInner.TheVariants as inner
-use Rattle.naga_below.specs.declared.ir.types.Type.{«Type» as IrType}
-use Rattle.naga_below.specs.declared.ir.module.Module.{Module}
-use Rattle.naga_below.specs.Types.{NamesTypesBelow, NameEachOther}
+use Rattle.naga_types.specs.declared.types.TypeInner.{TypeInner}
+use Rattle.naga_types.specs.declared.types.TypeInner.TheVariants as inner
+use Rattle.naga_types.specs.declared.types.Type.{«Type» as IrType}
+use Rattle.naga_ir.specs.declared.module.Module.{Module}
+use Rattle.naga_types.specs.Types.{NamesTypesBelow, NameEachOther}
 use Rattle.naga_below.specs.Each.{EachAt}
 use Rattle.naga_below.specs.Fits.{FitsTypes}
 

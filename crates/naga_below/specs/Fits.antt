@@ -1,23 +1,23 @@
 -- When the handles of a module, of a function and of an entry point are in range.
 use Rattle.std.specs.Prelude.{ℕ, ◌<◌, ◌≡◌, ◌≢◌, IfSome, IsSomeAnd, List, All, ⊤, length}
-use Rattle.naga_below.specs.declared.ir.types.TypeInner.{TypeInner}
-use Rattle.naga_below.specs.declared.ir.types.TypeInner.TheVariants as inner
-use Rattle.naga_below.specs.declared.ir.types.ImageClass.TheVariants.{External}
-use Rattle.naga_below.specs.declared.ir.types.AddressSpace.TheVariants as space
-use Rattle.naga_below.specs.declared.ir.types.Type.{«Type» as IrType}
-use Rattle.naga_below.specs.declared.ir.expressions.Expression.{Expression}
-use Rattle.naga_below.specs.declared.ir.expressions.Expression.TheVariants as e
-use Rattle.naga_below.specs.declared.ir.functions.LocalVariable.{LocalVariable}
-use Rattle.naga_below.specs.declared.ir.functions.Function.{Function}
-use Rattle.naga_below.specs.declared.ir.module.GlobalVariable.{GlobalVariable}
-use Rattle.naga_below.specs.declared.ir.module.MeshStageInfo.{MeshStageInfo}
-use Rattle.naga_below.specs.declared.ir.module.EntryPoint.{EntryPoint}
-use Rattle.naga_below.specs.declared.ir.module.Module.{Module}
+use Rattle.naga_types.specs.declared.types.TypeInner.{TypeInner}
+use Rattle.naga_types.specs.declared.types.TypeInner.TheVariants as inner
+use Rattle.naga_types.specs.declared.types.ImageClass.TheVariants.{External}
+use Rattle.naga_types.specs.declared.types.AddressSpace.TheVariants as space
+use Rattle.naga_types.specs.declared.types.Type.{«Type» as IrType}
+use Rattle.naga_ir.specs.declared.expressions.Expression.{Expression}
+use Rattle.naga_ir.specs.declared.expressions.Expression.TheVariants as e
+use Rattle.naga_ir.specs.declared.functions.LocalVariable.{LocalVariable}
+use Rattle.naga_ir.specs.declared.functions.Function.{Function}
+use Rattle.naga_ir.specs.declared.module.GlobalVariable.{GlobalVariable}
+use Rattle.naga_ir.specs.declared.module.MeshStageInfo.{MeshStageInfo}
+use Rattle.naga_ir.specs.declared.module.EntryPoint.{EntryPoint}
+use Rattle.naga_ir.specs.declared.module.Module.{Module}
 use Rattle.naga_below.specs.declared.valid.info.ModuleInfo.{ModuleInfo}
 use Rattle.naga_below.specs.Each.{EachAt}
-use Rattle.naga_below.specs.Types.{NamesTypesBelow, ResolutionFits, inner_at}
-use Rattle.naga_below.specs.Operands.{operands_of}
-use Rattle.naga_below.specs.View.{body_of, no_operands}
+use Rattle.naga_types.specs.Types.{NamesTypesBelow, ResolutionFits, inner_at}
+use Rattle.naga_ir.specs.Operands.{operands_of}
+use Rattle.naga_ir.specs.View.{body_of, no_operands}
 use Rattle.naga_below.specs.FitsBody.{BodyFits, CalleeFits, SignatureFits, FitsCount}
 
 -- how many members a struct has fits 32 bits

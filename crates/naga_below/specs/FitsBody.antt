@@ -1,18 +1,18 @@
 -- When whatever the statements of a body name, at any depth, is there.
 use Rattle.std.specs.Prelude.{ℕ, ◌<◌, ◌≤◌, IfSome, IsSomeAnd, All, ⊤, length, slice_get}
-use Rattle.naga_below.specs.declared.ir.operations.AtomicFunction.{AtomicFunction}
-use Rattle.naga_below.specs.declared.ir.operations.AtomicFunction.TheVariants as atomic
-use Rattle.naga_below.specs.declared.ir.operations.GatherMode.{GatherMode}
-use Rattle.naga_below.specs.declared.ir.operations.GatherMode.TheVariants as mode
-use Rattle.naga_below.specs.declared.ir.operations.RayQueryFunction.{RayQueryFunction}
-use Rattle.naga_below.specs.declared.ir.operations.RayQueryFunction.TheVariants as query
-use Rattle.naga_below.specs.declared.ir.operations.RayPipelineFunction.{RayPipelineFunction}
-use Rattle.naga_below.specs.declared.ir.operations.RayPipelineFunction.TheVariants.{TraceRay}
-use Rattle.naga_below.specs.declared.ir.statements.Statement.{Statement, Switch'}
-use Rattle.naga_below.specs.declared.ir.statements.Statement.TheVariants as s
-use Rattle.naga_below.specs.declared.ir.functions.Function.{Function}
-use Rattle.naga_below.specs.declared.ir.module.Module.{Module}
-use Rattle.naga_below.specs.Tree.{Stmt, Leaf, Block, Branch, Switch, Loop, Break, Continue, Return, Kill, Body, Done, Then, Cases, NoCase, OneCase}
+use Rattle.naga_ir.specs.declared.operations.AtomicFunction.{AtomicFunction}
+use Rattle.naga_ir.specs.declared.operations.AtomicFunction.TheVariants as atomic
+use Rattle.naga_ir.specs.declared.operations.GatherMode.{GatherMode}
+use Rattle.naga_ir.specs.declared.operations.GatherMode.TheVariants as mode
+use Rattle.naga_ir.specs.declared.operations.RayQueryFunction.{RayQueryFunction}
+use Rattle.naga_ir.specs.declared.operations.RayQueryFunction.TheVariants as query
+use Rattle.naga_ir.specs.declared.operations.RayPipelineFunction.{RayPipelineFunction}
+use Rattle.naga_ir.specs.declared.operations.RayPipelineFunction.TheVariants.{TraceRay}
+use Rattle.naga_ir.specs.declared.statements.Statement.{Statement, Switch'}
+use Rattle.naga_ir.specs.declared.statements.Statement.TheVariants as s
+use Rattle.naga_ir.specs.declared.functions.Function.{Function}
+use Rattle.naga_ir.specs.declared.module.Module.{Module}
+use Rattle.naga_ir.specs.Tree.{Stmt, Leaf, Block, Branch, Switch, Loop, Break, Continue, Return, Kill, Body, Done, Then, Cases, NoCase, OneCase}
 
 -- a number of things fits 32 bits
 abbrev pub FitsCount : ℕ → Type 0

@@ -1,7 +1,3 @@
-//! Questions about types and expressions.
+//! Questions about expressions.
 
 pub mod expression_kinds;
-pub mod expressions;
-pub mod operands;
-pub mod type_methods;
-pub mod typifier;

@@ -1,20 +1,19 @@
 //! Tables of cases, each public call once with ample memory, and refused growth.
 
 mod arenas;
-mod bodies;
 mod clones;
 mod errors;
 mod flags;
 mod made;
-mod modules;
 mod operands;
+mod spaces;
 mod types;
 
-use naga_below::arena::Arena;
-use naga_below::arena::handle::Tagged;
-use naga_below::ir::statements::{Block, Statement};
-use naga_below::ir::types::{Scalar, Type, TypeInner};
-use naga_below::span::Span;
+use naga_arena::arena::Arena;
+use naga_arena::handle::Tagged;
+use naga_arena::span::Span;
+use naga_ir::statements::{Block, Statement};
+use naga_types::types::{Scalar, Type, TypeInner};
 use std::alloc::{AllocError, Global};
 
 fn unnamed(inner: TypeInner) -> Type {

@@ -4,9 +4,9 @@ use naga_below::{
     Capabilities, EntryPoint, Function, Module, ModuleInfo, ShaderStages, SubgroupOperationSet,
     TypeFlags, TypeInfo, ValidationFlags,
 };
+use naga_errors::Below;
 use naga_fits::{fits_entry, fits_function, fits_types};
 use naga_module::Plain;
-use naga_rules::Below;
 use naga_valid::Validator;
 use std::alloc::{AllocError, Global};
 use std::io;
@@ -84,7 +84,7 @@ fn nanos(duration: Duration) -> u64 {
         .wrapping_add(u64::from(duration.subsec_nanos()))
 }
 
-/// The lower layer alone: types, uses and kinds.
+/// The lower layer alone: types, uses and kinds. What it answers is dropped behind the clock.
 fn lower<C: Clock>(
     clock: &C,
     alloc: Global,
@@ -97,9 +97,11 @@ fn lower<C: Clock>(
     let start = Instant::now(clock)?;
     let info = below.process_function(alloc, fun, module, infos, flags, Capabilities::ALL);
     let kinds = below.kinds(alloc, &fun.expressions);
-    let time = nanos(start.elapsed(clock)?);
-    let good = info.is_ok() && kinds.is_ok();
-    Ok(if good { time } else { u64::MAX })
+    let time = start.elapsed(clock);
+    let is_good = info.is_ok() && kinds.is_ok();
+    drop(info);
+    drop(kinds);
+    Ok(if is_good { nanos(time?) } else { u64::MAX })
 }
 
 /// One judgement of a function, `None` where it is refused. What it answers is dropped behind the clock.
@@ -121,10 +123,13 @@ pub fn function<C: Clock>(
     let conditions = nanos(start.elapsed(clock)?);
     let start = Instant::now(clock)?;
     let answer = validator.validate_function(alloc, fun, module, infos, false);
-    let whole = nanos(start.elapsed(clock)?);
-    if answer.is_err() {
+    let time = start.elapsed(clock);
+    let is_refused = answer.is_err();
+    drop(answer);
+    if is_refused {
         return Ok(None);
     }
+    let whole = nanos(time?);
     let lower = lower(clock, alloc, fun, module, infos)?;
     Ok(Some(Times {
         whole,
@@ -155,10 +160,13 @@ pub fn entry_point<C: Clock>(
     let conditions = nanos(start.elapsed(clock)?);
     let start = Instant::now(clock)?;
     let answer = validator.validate_entry_point(alloc, ep, module, infos);
-    let whole = nanos(start.elapsed(clock)?);
-    if answer.is_err() {
+    let time = start.elapsed(clock);
+    let is_refused = answer.is_err();
+    drop(answer);
+    if is_refused {
         return Ok(None);
     }
+    let whole = nanos(time?);
     let lower = lower(clock, alloc, &ep.function, module, infos)?;
     Ok(Some(Times {
         whole,

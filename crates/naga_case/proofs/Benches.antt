@@ -7,33 +7,33 @@ use Rattle.naga_below.proofs.Each.{EachFrom, each_from}
 use Rattle.naga_below.specs.Each.{EachAt}
 use Rattle.naga_below.specs.Fits.{FitsTypes, FitsGlobals, GlobalFits, FitsFunction, MemberCountFits, NameEarlierExpressions, ReferencesFit, LocalFits}
 use Rattle.naga_below.specs.FitsBody.{LeafFits, StatementFits, BodyFits, CasesFit, CalleeFits, SignatureFits}
-use Rattle.naga_below.specs.Operands.{operands_of}
-use Rattle.naga_below.specs.View.{body_of, no_operands}
-use Rattle.naga_below.specs.declared.ir.statements.Block.{Block}
-use Rattle.naga_below.specs.Tree.{Stmt, Leaf, Block as Nested, Branch, Switch, Loop, Break, Continue, Return, Kill, Body, Done, Then, Cases, NoCase, OneCase}
-use Rattle.naga_below.specs.Types.{NamesTypesBelow, ResolutionFits}
-use Rattle.naga_below.specs.declared.ir.expressions.Expression.{Expression}
-use Rattle.naga_below.specs.declared.ir.expressions.Expression.TheVariants.{CallResult, Unary}
-use Rattle.naga_below.specs.declared.ir.functions.FunctionArgument.{FunctionArgument}
-use Rattle.naga_below.specs.declared.ir.module.Constant.{Constant}
-use Rattle.naga_below.specs.declared.ir.module.Module.{Module}
-use Rattle.naga_below.specs.declared.ir.module.Override.{Override}
-use Rattle.naga_below.specs.declared.ir.statements.Statement.{Statement}
-use Rattle.naga_below.specs.declared.ir.statements.Statement as statement
-use Rattle.naga_below.specs.declared.ir.types.Type.{«Type» as IrType}
-use Rattle.naga_case.specs.Bench.{names_of, callees_of}
+use Rattle.naga_ir.specs.Operands.{operands_of}
+use Rattle.naga_ir.specs.View.{body_of, no_operands}
+use Rattle.naga_ir.specs.declared.statements.Block.{Block}
+use Rattle.naga_ir.specs.Tree.{Stmt, Leaf, Block as Nested, Branch, Switch, Loop, Break, Continue, Return, Kill, Body, Done, Then, Cases, NoCase, OneCase}
+use Rattle.naga_types.specs.Types.{NamesTypesBelow, ResolutionFits}
+use Rattle.naga_ir.specs.declared.expressions.Expression.{Expression}
+use Rattle.naga_ir.specs.declared.expressions.Expression.TheVariants.{CallResult, Unary}
+use Rattle.naga_ir.specs.declared.functions.FunctionArgument.{FunctionArgument}
+use Rattle.naga_ir.specs.declared.module.Constant.{Constant}
+use Rattle.naga_ir.specs.declared.module.Module.{Module}
+use Rattle.naga_ir.specs.declared.module.Override.{Override}
+use Rattle.naga_ir.specs.declared.statements.Statement.{Statement}
+use Rattle.naga_ir.specs.declared.statements.Statement as statement
+use Rattle.naga_types.specs.declared.types.Type.{«Type» as IrType}
+use Rattle.naga_notation.specs.Bench.{names_of, callees_of}
 use Rattle.naga_case.specs.BenchModule.{bench_types, shared_expressions, bench_expressions, bench_locals, bench_function, bench_functions, bench_module, callee_block, callee_function}
-use Rattle.naga_case.specs.Notation.Blocks.{list_of}
-use Rattle.naga_checks.specs.Parts.{NamesTypes, AreInfosOf}
+use Rattle.naga_notation.specs.Blocks.{list_of}
+use Rattle.naga_statements.specs.Parts.{NamesTypes, AreInfosOf}
 use Rattle.naga_below.specs.declared.valid.settings.Settings.{Settings}
 use Rattle.naga_case.specs.Judged.{bench_infos, IsPlainAnswer}
 use Rattle.naga_module.specs.ModuleJudgement.{Answer, Fits, first_infos}
 use Rattle.naga_module.specs.ModuleLaw.{IsToldOfFunctions, FunctionsAloneAreTold}
 use Rattle.naga_layers.specs.Plain.Meaning.{plain_meaning, plain_layer}
-use Rattle.naga_case.specs.Notation.Sayable.{is_sayable, is_sayable_statement, are_sayable_cases, is_below_if_any, is_sayable_leaf, is_empty}
-use Rattle.naga_case.specs.declared.bench.Bench.{Bench}
-use Rattle.naga_case.specs.declared.bench.Bench.TheVariants.{P, C, D}
-use Rattle.naga_case.proofs.Reading.Trees.{block_tree}
+use Rattle.naga_notation.specs.Sayable.{is_sayable, is_sayable_statement, are_sayable_cases, is_below_if_any, is_sayable_leaf, is_empty}
+use Rattle.naga_notation.specs.declared.bench.Bench.{Bench}
+use Rattle.naga_notation.specs.declared.bench.Bench.TheVariants.{P, C, D}
+use Rattle.naga_notation.proofs.Reading.Trees.{block_tree}
 
 both_hold : (a b : Bool) → (a && b) ≡ true → (a ≡ true) × (b ≡ true)
 both_hold true b e = (refl, e)

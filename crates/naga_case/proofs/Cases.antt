@@ -4,19 +4,19 @@ use Rattle.std.proofs.lemmas.List.{take_all, take-append-le, length-take}
 use Rattle.std.proofs.Math.Seq.{take-append-add}
 use Rattle.std.specs.Prelude.{IfSome, slice_get}
 use Rattle.std.specs.Io.KnownBytes.{Appends}
-use Rattle.naga_below.specs.declared.ir.module.Module.{Module}
+use Rattle.naga_ir.specs.declared.module.Module.{Module}
 use Rattle.naga_flags.specs.declared.valid.ShaderStages.{ShaderStages}
 use Rattle.naga_below.specs.declared.valid.info.FunctionInfo.{FunctionInfo}
 use Rattle.naga_below.specs.declared.valid.info.ModuleInfo.{ModuleInfo}
-use Rattle.naga_rules.specs.declared.function.FunctionError.{FunctionError}
+use Rattle.naga_errors.specs.declared.function.FunctionError.{FunctionError}
 use Rattle.naga_flags.specs.Bits.{NO_STAGE}
 use Rattle.naga_case.specs.BenchModule.{bench_module}
 use Rattle.naga_case.specs.Judged.{IsPlainAnswer, IsJudgementOf, module_of, settings_of, stages_of_last}
 use Rattle.naga_case.specs.Line.{Replies, IsDue, Writes, IsLine, IsLineOf, reply_line, reply_status}
-use Rattle.naga_case.specs.Notation.Case.{Case, HoldsBlock, Reads, case_of}
+use Rattle.naga_notation.specs.Case.{Case, HoldsBlock, Reads, case_of}
 use Rattle.naga_module.specs.ModuleJudgement.{Answer}
 use Rattle.naga_module.specs.declared.check.ModuleFault.TheVariants as told
-use Rattle.naga_case.specs.declared.notation.Case as declared
+use Rattle.naga_notation.specs.declared.case.Case as declared
 use Rattle.naga_case.specs.declared.line.Reply.{Reply}
 use Rattle.naga_case.specs.declared.line.Reply.TheVariants.{Accepted, Fault, Unreadable, Memory}
 

@@ -1,20 +1,20 @@
 -- The module of a bench, and its last function, into which the body of a case is put.
 use Rattle.std.specs.Prelude.{List, [], ◌∷◌, ◌++◌, None, Some}
-use Rattle.naga_below.specs.Tree.{Done, Then, Return}
-use Rattle.naga_below.specs.Types.{bool_scalar}
-use Rattle.naga_below.specs.declared.ir.expressions.Expression.{Expression}
-use Rattle.naga_below.specs.declared.ir.expressions.Expression.TheVariants.{Literal, Unary, LocalVariable as LocalPointer, Load, CallResult}
-use Rattle.naga_below.specs.declared.ir.functions.Function.{Function}
-use Rattle.naga_below.specs.declared.ir.functions.LocalVariable.{LocalVariable}
-use Rattle.naga_below.specs.declared.ir.module.Module.{Module}
-use Rattle.naga_below.specs.declared.ir.statements.Block.{Block}
-use Rattle.naga_below.specs.declared.ir.types.Scalar.{Scalar}
-use Rattle.naga_below.specs.declared.ir.types.ScalarKind.TheVariants.{Sint, Uint}
-use Rattle.naga_below.specs.declared.ir.types.Type.{«Type» as IrType}
-use Rattle.naga_below.specs.declared.ir.types.TypeInner.TheVariants.{Scalar as ScalarType}
-use Rattle.naga_case.specs.declared.bench.Bench.{Bench}
-use Rattle.naga_case.specs.declared.bench.Bench.TheVariants.{P, C, D}
-use Rattle.naga_case.specs.Notation.Blocks.{block_of}
+use Rattle.naga_ir.specs.Tree.{Done, Then, Return}
+use Rattle.naga_types.specs.Types.{bool_scalar}
+use Rattle.naga_ir.specs.declared.expressions.Expression.{Expression}
+use Rattle.naga_ir.specs.declared.expressions.Expression.TheVariants.{Literal, Unary, LocalVariable as LocalPointer, Load, CallResult}
+use Rattle.naga_ir.specs.declared.functions.Function.{Function}
+use Rattle.naga_ir.specs.declared.functions.LocalVariable.{LocalVariable}
+use Rattle.naga_ir.specs.declared.module.Module.{Module}
+use Rattle.naga_ir.specs.declared.statements.Block.{Block}
+use Rattle.naga_types.specs.declared.types.Scalar.{Scalar}
+use Rattle.naga_types.specs.declared.types.ScalarKind.TheVariants.{Sint, Uint}
+use Rattle.naga_types.specs.declared.types.Type.{«Type» as IrType}
+use Rattle.naga_types.specs.declared.types.TypeInner.TheVariants.{Scalar as ScalarType}
+use Rattle.naga_notation.specs.declared.bench.Bench.{Bench}
+use Rattle.naga_notation.specs.declared.bench.Bench.TheVariants.{P, C, D}
+use Rattle.naga_notation.specs.Blocks.{block_of}
 
 abbrev pub u32_scalar : Scalar
 u32_scalar = record { kind = Uint; width = 4 }

@@ -2,14 +2,14 @@
 use Rattle.std.specs.Prelude.{ℕ, List, [], ◌++◌, Option, None, Some, codes}
 use Rattle.naga_below.specs.declared.valid.expression_error.ExpressionError.{ExpressionError}
 use Rattle.naga_below.specs.declared.valid.expression_error.ExpressionError.TheVariants as expression
-use Rattle.naga_rules.specs.declared.function.AtomicError.{AtomicError}
-use Rattle.naga_rules.specs.declared.function.AtomicError.TheVariants as atomic
-use Rattle.naga_rules.specs.declared.function.CallError.{CallError}
-use Rattle.naga_rules.specs.declared.function.CallError.TheVariants as call
-use Rattle.naga_rules.specs.declared.function.FunctionError.{FunctionError}
-use Rattle.naga_rules.specs.declared.function.FunctionError.TheVariants.{Expression, ExpressionAlreadyInScope, LocalVariable, InvalidArgumentType, NonConstructibleReturnType, InvalidArgumentPointerSpace, BreakOutsideOfLoopOrSwitch, ContinueOutsideOfLoop, InvalidReturnSpot, InvalidReturnType, InvalidIfType, InvalidSwitchType, ConflictingSwitchCase, ConflictingCaseType, MissingDefaultCase, MultipleDefaultCases, LastCaseFallTrough, InvalidStorePointer, InvalidStoreTexture, InvalidStoreValue, InvalidStoreTypes, InvalidImageStore, InvalidImageAtomic, InvalidImageAtomicFunction, InvalidImageAtomicValue, InvalidCall, InvalidAtomic, InvalidRayQueryExpression, InvalidAccelerationStructure, MissingAccelerationStructureVertexReturn, MissingRayQueryVertexReturn, InvalidRayDescriptor, InvalidRayQueryType, InvalidHitDistanceType, MissingCapability, NonUniformControlFlow, PipelineInputRegularFunction, PipelineOutputRegularFunction, NonUniformWorkgroupUniformLoad, WorkgroupUniformLoadExpressionMismatch, WorkgroupUniformLoadInvalidPointer, InvalidSubgroup, InvalidCooperativeStoreTarget, InvalidCooperativeDataPointer, EmitResult, UnvisitedExpression, InvalidMeshFunctionCall, ConflictingMeshOutputTypes, ConflictingTaskPayloadVariables, InvalidMeshShaderOutputType, InvalidPayloadType, InvalidPayloadAddressSpace, MismatchedPayloadType, PayloadPointerNotGlobal}
-use Rattle.naga_rules.specs.declared.function.SubgroupError.{SubgroupError}
-use Rattle.naga_rules.specs.declared.function.SubgroupError.TheVariants as subgroup
+use Rattle.naga_errors.specs.declared.function.AtomicError.{AtomicError}
+use Rattle.naga_errors.specs.declared.function.AtomicError.TheVariants as atomic
+use Rattle.naga_errors.specs.declared.function.CallError.{CallError}
+use Rattle.naga_errors.specs.declared.function.CallError.TheVariants as call
+use Rattle.naga_errors.specs.declared.function.FunctionError.{FunctionError}
+use Rattle.naga_errors.specs.declared.function.FunctionError.TheVariants.{Expression, ExpressionAlreadyInScope, LocalVariable, InvalidArgumentType, NonConstructibleReturnType, InvalidArgumentPointerSpace, BreakOutsideOfLoopOrSwitch, ContinueOutsideOfLoop, InvalidReturnSpot, InvalidReturnType, InvalidIfType, InvalidSwitchType, ConflictingSwitchCase, ConflictingCaseType, MissingDefaultCase, MultipleDefaultCases, LastCaseFallTrough, InvalidStorePointer, InvalidStoreTexture, InvalidStoreValue, InvalidStoreTypes, InvalidImageStore, InvalidImageAtomic, InvalidImageAtomicFunction, InvalidImageAtomicValue, InvalidCall, InvalidAtomic, InvalidRayQueryExpression, InvalidAccelerationStructure, MissingAccelerationStructureVertexReturn, MissingRayQueryVertexReturn, InvalidRayDescriptor, InvalidRayQueryType, InvalidHitDistanceType, MissingCapability, NonUniformControlFlow, PipelineInputRegularFunction, PipelineOutputRegularFunction, NonUniformWorkgroupUniformLoad, WorkgroupUniformLoadExpressionMismatch, WorkgroupUniformLoadInvalidPointer, InvalidSubgroup, InvalidCooperativeStoreTarget, InvalidCooperativeDataPointer, EmitResult, UnvisitedExpression, InvalidMeshFunctionCall, ConflictingMeshOutputTypes, ConflictingTaskPayloadVariables, InvalidMeshShaderOutputType, InvalidPayloadType, InvalidPayloadAddressSpace, MismatchedPayloadType, PayloadPointerNotGlobal}
+use Rattle.naga_errors.specs.declared.function.SubgroupError.{SubgroupError}
+use Rattle.naga_errors.specs.declared.function.SubgroupError.TheVariants as subgroup
 
 -- the name of a fault: naga's
 unfoldable pub fault_name : FunctionError → List ℕ

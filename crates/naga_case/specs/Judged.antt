@@ -1,15 +1,15 @@
 -- The judgement of a case: that of the bench's module with the case's body, over the plain lower layer.
 use Rattle.std.specs.Prelude.{◌+◌, ℕ, Bool, List, [], ◌∷◌, Ok, if◌then◌else◌}
 use Rattle.naga_flags.specs.Bits.{STRUCT_LAYOUTS, BINDINGS, EXPRESSIONS, BLOCKS, ALL_STAGES, ALL_OPERATIONS, ALL_CAPABILITIES, ALL_TYPE_FLAGS, NO_STAGE}
-use Rattle.naga_below.specs.declared.ir.module.Module.{Module}
+use Rattle.naga_ir.specs.declared.module.Module.{Module}
 use Rattle.naga_flags.specs.declared.valid.ShaderStages.{ShaderStages}
 use Rattle.naga_flags.specs.declared.valid.ValidationFlags.{ValidationFlags}
 use Rattle.naga_below.specs.declared.valid.info.FunctionInfo.{FunctionInfo}
 use Rattle.naga_below.specs.declared.valid.settings.Settings.{Settings}
 use Rattle.naga_below.specs.declared.valid.types.TypeInfo.{TypeInfo}
 use Rattle.naga_case.specs.BenchModule.{bench_module}
-use Rattle.naga_case.specs.Notation.Blocks.{block_of}
-use Rattle.naga_case.specs.Notation.Case.{Case}
+use Rattle.naga_notation.specs.Blocks.{block_of}
+use Rattle.naga_notation.specs.Case.{Case}
 use Rattle.naga_module.specs.ModuleJudgement.{Answer, IsJudgement, IsAnswered}
 use Rattle.naga_layers.specs.Plain.Meaning.{plain_meaning, plain_layer}
 

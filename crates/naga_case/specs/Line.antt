@@ -3,10 +3,10 @@ use Rattle.std.specs.Prelude.{◌≡◌, ◌⊎◌, ◌/◌, ◌%◌, ℕ, false
 use Rattle.std.specs.Fmt.{digit_glyph}
 use Rattle.std.specs.Io.KnownBytes.{Appends}
 use Rattle.naga_flags.specs.declared.valid.ShaderStages.{ShaderStages}
-use Rattle.naga_rules.specs.declared.function.FunctionError.{FunctionError}
+use Rattle.naga_errors.specs.declared.function.FunctionError.{FunctionError}
 use Rattle.naga_case.specs.Faults.{fault_name, inner_text, fault_handle}
 use Rattle.naga_case.specs.Judged.{IsJudgementOf, stages_of_last}
-use Rattle.naga_case.specs.Notation.Case.{Case, Reads}
+use Rattle.naga_notation.specs.Case.{Case, Reads}
 use Rattle.naga_module.specs.ModuleJudgement.{Answer}
 use Rattle.naga_module.specs.declared.check.ModuleFault.TheVariants as told
 use Rattle.naga_case.specs.declared.line.Reply.{Reply}

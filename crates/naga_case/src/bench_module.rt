@@ -2,19 +2,19 @@
 
 ghost use Rattle.std.specs.Prelude.{◌≡◌, [], ◌∷◌, IfOk};
 ghost use Rattle.naga_case.specs.BenchModule.{bench_types, bench_locals, shared_expressions, bench_expressions, type_of, bench_function, callee_block, callee_function, bench_functions, bench_module};
-ghost use Rattle.naga_below.specs.declared.ir.expressions.Expression.TheVariants.{Literal as LiteralOf, Unary};
+ghost use Rattle.naga_ir.specs.declared.expressions.Expression.TheVariants.{Literal as LiteralOf, Unary};
 
-use crate::bench::Bench;
-use naga_below::arena::Arena;
-use naga_below::arena::handle::Handle;
-use naga_below::arena::unique_arena::UniqueArena;
-use naga_below::ir::expressions::{Expression, Literal};
-use naga_below::ir::functions::{Function, FunctionResult, LocalVariable};
-use naga_below::ir::module::Module;
-use naga_below::ir::statements::{Block, Statement};
-use naga_below::ir::types::{Scalar, Type, TypeInner};
-use naga_below::sequence::Sequence;
-use naga_below::span::Span;
+use naga_arena::arena::Arena;
+use naga_arena::handle::Handle;
+use naga_arena::sequence::Sequence;
+use naga_arena::span::Span;
+use naga_ir::expressions::{Expression, Literal};
+use naga_ir::functions::{Function, FunctionResult, LocalVariable};
+use naga_ir::module::Module;
+use naga_ir::statements::{Block, Statement};
+use naga_notation::bench::Bench;
+use naga_types::types::{Scalar, Type, TypeInner};
+use naga_types::unique_arena::UniqueArena;
 use std::alloc::{AllocError, Global};
 
 /// A type without a name.
@@ -120,7 +120,7 @@ fn bench_function(alloc: Global, bench: Bench, body: Block) -> Result<Function, 
 }
 
 /// The statements of `f`: it returns its literal.
-#[tactic(auto, unfolding(crate::specs::Notation::Blocks::list_of, crate::specs::Notation::Blocks::block_from))]
+#[tactic(auto, unfolding(naga_notation::specs::Blocks::list_of, naga_notation::specs::Blocks::block_from))]
 fn callee_body(alloc: Global) -> Result<Block, AllocError>
     ensures { IfOk result (λ b. b ≡ callee_block) }
 {

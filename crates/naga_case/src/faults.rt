@@ -3,10 +3,10 @@
 ghost use Rattle.std.specs.Prelude.{◌≡◌};
 ghost use Rattle.naga_case.specs.Faults.{fault_name, expression_name, call_name, expression_handle, call_handle, atomic_handle, subgroup_handle, fault_handle};
 
-use naga_below::arena::handle::Handle;
-use naga_below::arena::tag;
+use naga_arena::handle::Handle;
+use naga_arena::tag;
 use naga_below::valid::expression_error::ExpressionError;
-use naga_rules::function::{AtomicError, CallError, FunctionError, SubgroupError};
+use naga_errors::function::{AtomicError, CallError, FunctionError, SubgroupError};
 
 /// The name of a fault.
 #[tactic(auto, unfolding(crate::specs::Faults::fault_name))]

@@ -4,12 +4,11 @@ ghost use Rattle.std.specs.Prelude.{◌≡◌, [], IfOk, IfErr};
 ghost use Rattle.naga_module.specs.ModuleLaw.{IsToldOfFunctions};
 ghost use Rattle.naga_case.specs.Judged.{IsPlainAnswer, flags_of, settings_of, bench_infos, module_of, stages_of_last};
 ghost use Rattle.naga_case.specs.Line.{Replies};
-ghost use Rattle.naga_case.specs.Notation.Case.{HoldsBlock, case_of};
-ghost use Rattle.naga_case.specs.Notation.Sayable.{IsSayable};
+ghost use Rattle.naga_notation.specs.Case.{HoldsBlock, case_of};
+ghost use Rattle.naga_notation.specs.Sayable.{IsSayable};
 
 use crate::bench_module::bench_module;
 use crate::line::Reply;
-use crate::notation::{Case, ReadError, read_case};
 use bitflags::Flags;
 use naga_below::valid::info::{FunctionInfo, ModuleInfo};
 use naga_below::valid::settings::Settings;
@@ -19,6 +18,7 @@ use naga_flags::valid::{ShaderStages, SubgroupOperationSet, TypeFlags, Validatio
 use naga_layers::plain::Plain;
 use naga_module::check::{Given, ModuleFault, check_module};
 use naga_module::laws::module_law;
+use naga_notation::case::{Case, ReadError, read_case};
 use std::alloc::{AllocError, Global};
 
 /// The flags of a case: all but those that its options take away.

@@ -7,10 +7,10 @@ ghost use Rattle.naga_case.specs.Line.{accepted_line, fault_line, handle_text, h
 
 use crate::faults::{call_name, expression_name, fault_handle, fault_name};
 use bitflags::Flags;
-use naga_below::arena::handle::Handle;
-use naga_below::arena::tag;
+use naga_arena::handle::Handle;
+use naga_arena::tag;
+use naga_errors::function::FunctionError;
 use naga_flags::valid::ShaderStages;
-use naga_rules::function::FunctionError;
 use std::io;
 use std::io::Write;
 

@@ -5,7 +5,7 @@ ghost use Rattle.naga_case.specs.Line.{Replies, Writes};
 
 use crate::judge::reply_to;
 use crate::line::Reply;
-use crate::notation::MOST_BYTES;
+use naga_notation::case::MOST_BYTES;
 use std::alloc::{AllocError, Global};
 use std::io;
 use std::io::{Read, Write};

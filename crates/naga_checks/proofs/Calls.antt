@@ -3,26 +3,26 @@ use Rattle.std.proofs.Common.{◌≡◌, ℕ, suc, ◌==◌, Bool, true, false, 
 use Rattle.std.proofs.lemmas.Bool.Decides.{nat_tests}
 use Rattle.std.specs.Option.{option_map}
 use Rattle.std.specs.Prelude.{IfSome, IsErr, is_some, map}
-use Rattle.naga_below.specs.Tree.{Act, Use}
-use Rattle.naga_below.specs.View.{put_if}
-use Rattle.naga_below.specs.declared.ir.functions.Function.{Function}
-use Rattle.naga_below.specs.declared.ir.functions.FunctionArgument.{FunctionArgument}
+use Rattle.naga_ir.specs.Tree.{Act, Use}
+use Rattle.naga_ir.specs.View.{put_if}
+use Rattle.naga_ir.specs.declared.functions.Function.{Function}
+use Rattle.naga_ir.specs.declared.functions.FunctionArgument.{FunctionArgument}
 use Rattle.naga_below.specs.declared.valid.expression_error.ExpressionError.TheVariants.{NotInScope}
-use Rattle.naga_rules.specs.declared.function.CallError.{CallError}
-use Rattle.naga_rules.specs.declared.function.CallError.TheVariants.{Argument, ArgumentCount, ArgumentType, ExpressionMismatch, ResultAlreadyInScope, ResultAlreadyPopulated}
-use Rattle.naga_rules.specs.declared.function.FunctionError.TheVariants.{InvalidCall}
+use Rattle.naga_errors.specs.declared.function.CallError.{CallError}
+use Rattle.naga_errors.specs.declared.function.CallError.TheVariants.{Argument, ArgumentCount, ArgumentType, ExpressionMismatch, ResultAlreadyInScope, ResultAlreadyPopulated}
+use Rattle.naga_errors.specs.declared.function.FunctionError.TheVariants.{InvalidCall}
 use Rattle.naga_below.proofs.Points.{first_holds, both_hold, first_within, not_holds}
 use Rattle.naga_runs.specs.Handles.{Handles}
 use Rattle.naga_runs.specs.Visits.{Place}
 use Rattle.naga_below.specs.Points.{Point, first_fault, within}
-use Rattle.naga_below.specs.declared.span.Refusal.{Refusal}
-use Rattle.naga_rules.specs.declared.function.FunctionError.{FunctionError}
+use Rattle.naga_arena.specs.declared.span.Refusal.{Refusal}
+use Rattle.naga_errors.specs.declared.function.FunctionError.{FunctionError}
 use Rattle.naga_runs.specs.Soundness.{Fit}
 use Rattle.naga_checks.specs.checks.Call.{arguments_of, has_result, is_passed_as, passed_points, passed_points_from, all_passed_points, is_call_result_of, call_result_points, callee_points, call_points}
 use Rattle.naga_context.specs.Context.{Context}
 use Rattle.naga_runs.specs.PutsAndUses.{puts_of}
 use Rattle.naga_context.specs.Points.{Points, may_use, is_in_scope}
-use Rattle.naga_rules.specs.Answers.{AnswersPoints}
+use Rattle.naga_errors.specs.Answers.{AnswersPoints}
 use Rattle.naga_context.specs.Results.{is_fresh}
 use Rattle.naga_context.specs.Types.{expression_at}
 use Rattle.naga_checks.proofs.Lists.{within-append}

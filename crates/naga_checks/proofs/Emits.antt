@@ -6,15 +6,15 @@ use Rattle.std.specs.Prelude.{map, if◌then◌else◌}
 use Rattle.naga_below.proofs.Each.{from_here}
 use Rattle.naga_below.proofs.Points.{first_holds, both_hold, first_of_both, not_holds}
 use Rattle.naga_below.specs.Points.{first_fault}
-use Rattle.naga_below.specs.Tree.{Act}
-use Rattle.naga_below.specs.View.{emitted}
-use Rattle.naga_below.specs.declared.span.Refusal.{Refusal}
-use Rattle.naga_below.specs.declared.span.Refusal.TheVariants as refusal
+use Rattle.naga_ir.specs.Tree.{Act}
+use Rattle.naga_ir.specs.View.{emitted}
+use Rattle.naga_arena.specs.declared.span.Refusal.{Refusal}
+use Rattle.naga_arena.specs.declared.span.Refusal.TheVariants as refusal
 use Rattle.naga_below.specs.declared.valid.expression_error.ExpressionError.TheVariants.{NotInScope}
-use Rattle.naga_rules.specs.declared.function.FunctionError.{FunctionError}
-use Rattle.naga_rules.specs.declared.function.FunctionError.TheVariants.{EmitResult, ExpressionAlreadyInScope}
-use Rattle.naga_rules.specs.declared.function.FunctionError.TheVariants as fault
-use Rattle.naga_below.specs.declared.ir.expressions.Expression.{Expression}
+use Rattle.naga_errors.specs.declared.function.FunctionError.{FunctionError}
+use Rattle.naga_errors.specs.declared.function.FunctionError.TheVariants.{EmitResult, ExpressionAlreadyInScope}
+use Rattle.naga_errors.specs.declared.function.FunctionError.TheVariants as fault
+use Rattle.naga_ir.specs.declared.expressions.Expression.{Expression}
 use Rattle.naga_runs.specs.Handles.{Handles, with_handle}
 use Rattle.naga_runs.specs.PutsAndUses.{puts_of}
 use Rattle.naga_runs.specs.Visits.{Place}
@@ -25,10 +25,10 @@ use Rattle.naga_checks.specs.checks.Control.{within_emit, emitted_points, emit_p
 use Rattle.naga_context.specs.Results.{is_result}
 use Rattle.naga_context.specs.Types.{expression_at}
 use Rattle.naga_context.specs.walk.Answers.{IsRefusalFor}
-use Rattle.naga_rules.specs.Answers.{IsFirstFault}
+use Rattle.naga_errors.specs.Answers.{IsFirstFault}
 use Rattle.naga_context.specs.walk.Place.{Sets, place_at}
 use Rattle.naga_context.specs.walk.Table.{with_all, with_puts}
-use Rattle.naga_checks.specs.walk.Walk.{handles_from, handles_between}
+use Rattle.naga_checks.specs.walk.Emitted.{handles_from, handles_between}
 use Rattle.naga_checks.proofs.Calls.{call_puts}
 use Rattle.naga_checks.proofs.Lists.{in_scope_before}
 use Rattle.naga_context.proofs.Refusals.{first_refused, refuses_fault}

@@ -1,9 +1,6 @@
 pub mod Lists
 pub mod Emits
-pub mod Fillings
 pub mod Calls
 pub mod Values
 pub mod Subgroups
-pub mod Parts
-pub mod Own
 pub mod Rising

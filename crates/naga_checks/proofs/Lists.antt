@@ -4,20 +4,20 @@ use Rattle.std.proofs.lemmas.Bool.Decides.{nat_tests}
 use Rattle.std.proofs.lemmas.List.Elements.{All-contains, All-from_recursion}
 use Rattle.std.specs.List.{list_any, AllByRecursion}
 use Rattle.std.specs.Prelude.{Contains, take, if◌then◌else◌}
-use Rattle.naga_below.specs.declared.ir.statements.SwitchCase.{SwitchCase, out-SwitchCase}
-use Rattle.naga_below.specs.declared.ir.statements.SwitchValue.{SwitchValue}
+use Rattle.naga_ir.specs.declared.statements.SwitchCase.{SwitchCase, out-SwitchCase}
+use Rattle.naga_ir.specs.declared.statements.SwitchValue.{SwitchValue}
 use Rattle.naga_below.proofs.Points.{first_of_both}
 use Rattle.naga_below.specs.Points.{Point, within}
 use Rattle.naga_runs.specs.Handles.{Handles, with_handle}
-use Rattle.naga_below.specs.View.{list_cases}
+use Rattle.naga_ir.specs.View.{list_cases}
 use Rattle.naga_runs.specs.Visits.{Place}
 use Rattle.naga_context.specs.Blocks.{case_list}
 use Rattle.naga_context.specs.Context.{Context}
 use Rattle.naga_context.specs.Points.{Points, use_point}
 use Rattle.naga_context.specs.Types.{is_integer, scalar_kind_at}
-use Rattle.naga_rules.specs.declared.function.FunctionError.TheVariants.{InvalidSwitchType, MissingDefaultCase, LastCaseFallTrough}
+use Rattle.naga_errors.specs.declared.function.FunctionError.TheVariants.{InvalidSwitchType, MissingDefaultCase, LastCaseFallTrough}
 use Rattle.naga_context.specs.walk.Table.{with_all}
-use Rattle.naga_checks.specs.walk.Walk.{handles_from, handles_between}
+use Rattle.naga_checks.specs.walk.Emitted.{handles_from, handles_between}
 use Rattle.naga_checks.specs.checks.Switch.{is_default, value_points, switch_points, values_of, last_falls_through}
 
 -- what holds of all of two lists holds of each of them, and of each item

@@ -5,9 +5,9 @@ use Rattle.std.proofs.lemmas.Int.{ints}
 use Rattle.std.specs.List.{list_any, AllByRecursion}
 use Rattle.std.specs.Ordering.{int_eq}
 use Rattle.std.specs.Prelude.{if◌then◌else◌}
-use Rattle.naga_below.specs.declared.ir.statements.SwitchCase.{SwitchCase, out-SwitchCase}
-use Rattle.naga_below.specs.declared.ir.statements.SwitchValue.{SwitchValue}
-use Rattle.naga_below.specs.declared.ir.statements.SwitchValue.TheVariants.{I32, U32, Default}
+use Rattle.naga_ir.specs.declared.statements.SwitchCase.{SwitchCase, out-SwitchCase}
+use Rattle.naga_ir.specs.declared.statements.SwitchValue.{SwitchValue}
+use Rattle.naga_ir.specs.declared.statements.SwitchValue.TheVariants.{I32, U32, Default}
 use Rattle.naga_checks.specs.declared.checks.switch.Rising.{Rising}
 use Rattle.naga_context.specs.Blocks.{case_list}
 use Rattle.naga_checks.specs.checks.Switch.{same_value, values_of}

@@ -2,12 +2,12 @@
 use Rattle.std.proofs.Common.{◌≡◌, ℕ, Bool, true, false, [], ◌∷◌, ◌++◌, Option, None, Some}
 use Rattle.naga_below.proofs.Points.{both_hold, not_holds}
 use Rattle.naga_below.specs.Points.{first_fault}
-use Rattle.naga_below.specs.Tree.{Use, Put}
-use Rattle.naga_below.specs.View.{used_if, mode_acts}
-use Rattle.naga_below.specs.declared.ir.operations.CollectiveOperation.{CollectiveOperation}
-use Rattle.naga_below.specs.declared.ir.operations.GatherMode.{GatherMode}
-use Rattle.naga_below.specs.declared.ir.operations.GatherMode.TheVariants as gather
-use Rattle.naga_below.specs.declared.ir.operations.SubgroupOperation.{SubgroupOperation}
+use Rattle.naga_ir.specs.Tree.{Use, Put}
+use Rattle.naga_ir.specs.View.{used_if, mode_acts}
+use Rattle.naga_ir.specs.declared.operations.CollectiveOperation.{CollectiveOperation}
+use Rattle.naga_ir.specs.declared.operations.GatherMode.{GatherMode}
+use Rattle.naga_ir.specs.declared.operations.GatherMode.TheVariants as gather
+use Rattle.naga_ir.specs.declared.operations.SubgroupOperation.{SubgroupOperation}
 use Rattle.naga_runs.specs.Soundness.{Fit}
 use Rattle.naga_runs.specs.Visits.{Place}
 use Rattle.naga_checks.specs.walk.Subgroup.{gathered_points}

@@ -7,15 +7,15 @@ use Rattle.std.proofs.lemmas.List.Folds.{list_any-append}
 use Rattle.std.proofs.lemmas.List.{at_drop_more, take_more}
 use Rattle.std.specs.List.{list_any}
 use Rattle.std.specs.BTreeSet.{BTreeSet, contains, IsEmpty}
-use Rattle.naga_below.specs.contracts.ir.statements.SwitchValueOrd.TheImpl as value_order
-use Rattle.naga_below.specs.declared.ir.statements.SwitchCase.{SwitchCase, out-SwitchCase}
-use Rattle.naga_below.specs.declared.ir.statements.SwitchValue.{SwitchValue}
-use Rattle.naga_below.specs.declared.ir.statements.SwitchValue.TheVariants.{I32, U32, Default}
+use Rattle.naga_ir.specs.contracts.statements.SwitchValueOrd.TheImpl as value_order
+use Rattle.naga_ir.specs.declared.statements.SwitchCase.{SwitchCase, out-SwitchCase}
+use Rattle.naga_ir.specs.declared.statements.SwitchValue.{SwitchValue}
+use Rattle.naga_ir.specs.declared.statements.SwitchValue.TheVariants.{I32, U32, Default}
 use Rattle.naga_below.specs.Points.{first_fault}
 use Rattle.naga_context.specs.Blocks.{case_list}
-use Rattle.naga_below.specs.declared.ir.types.ScalarKind.{ScalarKind}
-use Rattle.naga_rules.specs.declared.function.FunctionError.{FunctionError}
-use Rattle.naga_rules.specs.declared.function.FunctionError.TheVariants.{ConflictingCaseType}
+use Rattle.naga_types.specs.declared.types.ScalarKind.{ScalarKind}
+use Rattle.naga_errors.specs.declared.function.FunctionError.{FunctionError}
+use Rattle.naga_errors.specs.declared.function.FunctionError.TheVariants.{ConflictingCaseType}
 use Rattle.naga_checks.specs.checks.Switch.{same_value, value_points, values_of, has_signedness_of, repeated_fault}
 
 nats_by_order : (m n : ℕ) → is_eq (nat_cmp m n) ≡ (m == n)

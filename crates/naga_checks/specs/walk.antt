@@ -1,7 +1,4 @@
--- What lemmas cite, and functions that the validator alone calls: the judgement along the tree and the parts of lists, as the
--- code goes through them.
-pub mod State
-pub mod Walk
+-- What lemmas cite, and functions that the validator alone calls: the parts of lists, as the code goes through them.
+pub mod Emitted
 pub mod Switch
 pub mod Subgroup
-pub mod Asked

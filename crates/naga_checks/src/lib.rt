@@ -1,7 +1,4 @@
-//! The check lists of the statements of a body that reach no memory, of all statements by their kind, and the stages that a
-//! statement leaves.
+//! The check lists of the statements of a body that reach no memory.
 #![tactic(auto)]
 
 pub mod checks;
-pub mod stages;
-pub mod state;

@@ -2,3 +2,4 @@ pub mod Columns
 pub mod Divided
 pub mod Flat
 pub mod Refusals
+pub mod InRange

@@ -3,10 +3,10 @@ use Rattle.std.proofs.Common.{◌≡◌, List, Option, None, Some, Ok, Err, Resu
 use Rattle.std.specs.Prelude.{IsErr}
 use Rattle.std.specs.Option.{option_or}
 use Rattle.std.specs.Result.{result_err}
-use Rattle.naga_below.specs.declared.span.Refusal.{Refusal}
-use Rattle.naga_below.specs.declared.span.Refusal.TheVariants as refusal
-use Rattle.naga_rules.specs.Answers.{AnswersPoints, IsFirstFault, Refuses}
-use Rattle.naga_rules.specs.declared.function.FunctionError.{FunctionError}
+use Rattle.naga_arena.specs.declared.span.Refusal.{Refusal}
+use Rattle.naga_arena.specs.declared.span.Refusal.TheVariants as refusal
+use Rattle.naga_errors.specs.Answers.{AnswersPoints, IsFirstFault, Refuses}
+use Rattle.naga_errors.specs.declared.function.FunctionError.{FunctionError}
 use Rattle.naga_below.specs.Points.{and_then, Point, first_fault}
 use Rattle.naga_context.specs.walk.Answers.{AnswersLeaving, IsRefusalFor}
 use Rattle.naga_context.specs.Points.{Points}

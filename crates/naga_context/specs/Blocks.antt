@@ -1,15 +1,15 @@
 -- The trees that the judgement speaks of: that of a function's body, and, for what is judged within it, those of its
 -- parts.
 use Rattle.std.specs.Prelude.{ℕ, List, [], Option, None, Some, slice_get}
-use Rattle.naga_below.specs.Operands.{operands_of}
-use Rattle.naga_below.specs.Tree.{Stmt, Body, Cases}
-use Rattle.naga_below.specs.View as view
-use Rattle.naga_below.specs.View.{no_operands}
-use Rattle.naga_below.specs.declared.ir.expressions.Expression.{Expression}
-use Rattle.naga_below.specs.declared.ir.functions.Function.{Function}
-use Rattle.naga_below.specs.declared.ir.statements.Block.{Block}
-use Rattle.naga_below.specs.declared.ir.statements.Located.{Located}
-use Rattle.naga_below.specs.declared.ir.statements.SwitchCase.{SwitchCase}
+use Rattle.naga_ir.specs.Operands.{operands_of}
+use Rattle.naga_ir.specs.Tree.{Stmt, Body, Cases}
+use Rattle.naga_ir.specs.View as view
+use Rattle.naga_ir.specs.View.{no_operands}
+use Rattle.naga_ir.specs.declared.expressions.Expression.{Expression}
+use Rattle.naga_ir.specs.declared.functions.Function.{Function}
+use Rattle.naga_ir.specs.declared.statements.Block.{Block}
+use Rattle.naga_ir.specs.declared.statements.Located.{Located}
+use Rattle.naga_ir.specs.declared.statements.SwitchCase.{SwitchCase}
 use Rattle.naga_context.specs.Context.{Context}
 
 abbrev pub operands_if : Option Expression → List ℕ

@@ -2,16 +2,16 @@
 -- the lower layer knows of it, the settings, and what the ray traces of earlier functions left.
 use Rattle.std.specs.Prelude.{◌≡◌, Bool, false, List, All, Option, None, Some, length, slice_get}
 use Rattle.naga_below.specs.Fits.{FitsTypes, FitsFunction}
-use Rattle.naga_below.specs.PreEmitted.{needs_pre_emit}
-use Rattle.naga_below.specs.Types.{ResolutionFits}
-use Rattle.naga_below.specs.declared.ir.expressions.Expression.{Expression}
-use Rattle.naga_below.specs.declared.ir.functions.Function.{Function}
-use Rattle.naga_below.specs.declared.ir.module.Module.{Module}
+use Rattle.naga_ir.specs.PreEmitted.{needs_pre_emit}
+use Rattle.naga_types.specs.Types.{ResolutionFits}
+use Rattle.naga_ir.specs.declared.expressions.Expression.{Expression}
+use Rattle.naga_ir.specs.declared.functions.Function.{Function}
+use Rattle.naga_ir.specs.declared.module.Module.{Module}
 use Rattle.naga_below.specs.declared.proc.expression_kinds.ExpressionKind.{ExpressionKind}
 use Rattle.naga_below.specs.declared.valid.info.FunctionInfo.{FunctionInfo}
 use Rattle.naga_below.specs.declared.valid.info.ModuleInfo.{ModuleInfo}
 use Rattle.naga_below.specs.declared.valid.settings.Settings.{Settings}
-use Rattle.naga_rules.specs.Lawful.{IsNoStruct}
+use Rattle.naga_errors.specs.Lawful.{IsNoStruct}
 use Rattle.naga_runs.specs.Handles.{Handles}
 use Rattle.naga_context.specs.declared.trace.TraceState.{TraceState}
 

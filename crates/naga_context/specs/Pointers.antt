@@ -1,9 +1,9 @@
 -- What pointers point to.
 use Rattle.std.specs.Prelude.{ℕ, Bool, false, Option, None, Some, option_and_then}
 use Rattle.naga_flags.specs.Bits.{STORE, contains}
-use Rattle.naga_below.specs.Types.{access_of, pointer_base_of, pointer_space_of}
-use Rattle.naga_below.specs.declared.ir.types.AddressSpace.{AddressSpace}
-use Rattle.naga_below.specs.declared.proc.typifier.TypeResolution.{TypeResolution}
+use Rattle.naga_types.specs.Types.{access_of, pointer_base_of, pointer_space_of}
+use Rattle.naga_types.specs.declared.types.AddressSpace.{AddressSpace}
+use Rattle.naga_types.specs.declared.typifier.TypeResolution.{TypeResolution}
 use Rattle.naga_context.specs.Context.{Context}
 use Rattle.naga_context.specs.Types.{type_at}
 

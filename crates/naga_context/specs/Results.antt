@@ -1,12 +1,12 @@
 -- The results of calls and of atomic operations: which statement fills one, and which must be filled.
 use Rattle.std.specs.Prelude.{ℕ, zero, suc, Bool, true, false, not, ◌&&◌, ◌==◌, List, [], ◌∷◌, Option, None, Some, length, if◌then◌else◌}
 use Rattle.std.specs.List.{list_any}
-use Rattle.naga_below.specs.Tree.{Leaf, Block, Branch, Switch, Loop, Break, Continue, Return, Kill}
-use Rattle.naga_below.specs.declared.ir.expressions.Expression.{Expression}
-use Rattle.naga_below.specs.declared.ir.expressions.Expression.TheVariants as e
-use Rattle.naga_below.specs.declared.ir.statements.Statement as ir
-use Rattle.naga_below.specs.declared.ir.statements.Statement.{Statement, Switch'}
-use Rattle.naga_rules.specs.declared.function.FunctionError.TheVariants.{UnvisitedExpression}
+use Rattle.naga_ir.specs.Tree.{Leaf, Block, Branch, Switch, Loop, Break, Continue, Return, Kill}
+use Rattle.naga_ir.specs.declared.expressions.Expression.{Expression}
+use Rattle.naga_ir.specs.declared.expressions.Expression.TheVariants as e
+use Rattle.naga_ir.specs.declared.statements.Statement as ir
+use Rattle.naga_ir.specs.declared.statements.Statement.{Statement, Switch'}
+use Rattle.naga_errors.specs.declared.function.FunctionError.TheVariants.{UnvisitedExpression}
 use Rattle.naga_runs.specs.Handles.{Handles}
 use Rattle.naga_runs.specs.Positions.{Node, NoNode, StatementNode, BreakIfNode}
 use Rattle.naga_runs.specs.Visits.{Visit}

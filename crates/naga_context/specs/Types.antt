@@ -1,12 +1,12 @@
 -- The expressions of a function and their types, as the check lists ask for them.
 use Rattle.std.specs.Prelude.{ℕ, Bool, true, false, Option, Some, slice_get, option_and_then, unwrap_or}
-use Rattle.naga_below.specs.Types.{bool_scalar, resolved, scalar_kind_of}
-use Rattle.naga_below.specs.declared.ir.expressions.Expression.{Expression}
-use Rattle.naga_below.specs.declared.ir.types.ScalarKind.{ScalarKind}
-use Rattle.naga_below.specs.declared.ir.types.ScalarKind.TheVariants as kind
-use Rattle.naga_below.specs.declared.ir.types.TypeInner.{TypeInner}
-use Rattle.naga_below.specs.declared.ir.types.TypeInner.TheVariants.{Scalar}
-use Rattle.naga_below.specs.declared.proc.typifier.TypeResolution.{TypeResolution}
+use Rattle.naga_types.specs.Types.{bool_scalar, resolved, scalar_kind_of}
+use Rattle.naga_ir.specs.declared.expressions.Expression.{Expression}
+use Rattle.naga_types.specs.declared.types.ScalarKind.{ScalarKind}
+use Rattle.naga_types.specs.declared.types.ScalarKind.TheVariants as kind
+use Rattle.naga_types.specs.declared.types.TypeInner.{TypeInner}
+use Rattle.naga_types.specs.declared.types.TypeInner.TheVariants.{Scalar}
+use Rattle.naga_types.specs.declared.typifier.TypeResolution.{TypeResolution}
 use Rattle.naga_context.specs.Context.{Context}
 
 -- the expression at a handle, and its type

@@ -2,20 +2,20 @@
 
 ghost use Rattle.std.specs.Prelude.{◌≡◌, ◌↔◌, IsTrue, length};
 ghost use Rattle.std.specs.Option.{option_copied};
-ghost use Rattle.naga_below.specs.Types.{NameEachOther, ResolutionFits};
+ghost use Rattle.naga_types.specs.Types.{NameEachOther, ResolutionFits};
 
 use crate::trace::TraceState;
-use naga_below::arena::handle::Handle;
-use naga_below::arena::tag;
-use naga_below::ir::expressions::Expression;
-use naga_below::ir::functions::Function;
-use naga_below::ir::module::Module;
-use naga_below::ir::types::{ScalarKind, TypeInner};
+use naga_arena::handle::Handle;
+use naga_arena::tag;
 use naga_below::proc::expression_kinds::ExpressionKindTracker;
-use naga_below::proc::type_methods::compare_types;
-use naga_below::proc::typifier::TypeResolution;
 use naga_below::valid::info::{FunctionInfo, ModuleInfo};
 use naga_below::valid::settings::Settings;
+use naga_ir::expressions::Expression;
+use naga_ir::functions::Function;
+use naga_ir::module::Module;
+use naga_types::type_methods::compare_types;
+use naga_types::types::{ScalarKind, TypeInner};
+use naga_types::typifier::TypeResolution;
 
 /// What the checks of a body read: naga's `BlockContext` without the abilities. Look-ups are by handle, and `None`
 /// where the handle is out of range.

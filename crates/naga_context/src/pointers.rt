@@ -1,17 +1,17 @@
 //! What pointers point to.
 
 ghost use Rattle.std.specs.Prelude.{◌≡◌, IfSome, length};
-ghost use Rattle.naga_below.specs.Types.{ResolutionFits};
+ghost use Rattle.naga_types.specs.Types.{ResolutionFits};
 ghost use Rattle.naga_context.specs.Context.{ContextFits};
 ghost use Rattle.naga_context.specs.Pointers.{base_type_at, space_at, is_writable};
 ghost use Rattle.naga_context.specs.walk.Seen.{context_of};
 
 use crate::context::BlockContext;
-use naga_below::arena::handle::Handle;
-use naga_below::arena::tag;
-use naga_below::ir::types::AddressSpace;
-use naga_below::proc::typifier::TypeResolution;
+use naga_arena::handle::Handle;
+use naga_arena::tag;
 use naga_flags::ir::StorageAccess;
+use naga_types::types::AddressSpace;
+use naga_types::typifier::TypeResolution;
 
 /// The type that a pointer points to.
 pub fn base_type(context: &BlockContext, pointer: Handle<tag::Expression>) -> Option<TypeResolution>

@@ -2,20 +2,20 @@
 
 ghost use Rattle.std.specs.Prelude.{[], ◌∷◌};
 ghost use Rattle.naga_below.specs.declared.valid.expression_error.ExpressionError.TheVariants.{NotInScope};
-ghost use Rattle.naga_rules.specs.declared.function.FunctionError.TheVariants.{Expression, ExpressionAlreadyInScope};
+ghost use Rattle.naga_errors.specs.declared.function.FunctionError.TheVariants.{Expression, ExpressionAlreadyInScope};
 ghost use Rattle.naga_context.specs.walk.Answers.{Finds, IsRefusalFor};
-ghost use Rattle.naga_rules.specs.Answers.{AnswersPoints};
+ghost use Rattle.naga_errors.specs.Answers.{AnswersPoints};
 ghost use Rattle.naga_context.specs.Points.{Points, use_point, put_point};
 ghost use Rattle.naga_context.specs.walk.Place.{place_at};
 ghost use Rattle.naga_context.specs.walk.Table.{known};
 
 use crate::refused::Refused;
 use crate::table::ScopeColumn;
-use naga_below::arena::handle::Handle;
-use naga_below::arena::tag;
-use naga_below::span::Span;
+use naga_arena::handle::Handle;
+use naga_arena::span::Span;
+use naga_arena::tag;
 use naga_below::valid::expression_error::ExpressionError;
-use naga_rules::function::FunctionError;
+use naga_errors::function::FunctionError;
 use std::alloc::Global;
 
 /// A use: every run has put the expression where it comes here.

@@ -1,7 +1,7 @@
 //! Refusals on their way through the walk.
 
-use naga_below::span::{Refusal, Span, WithSpan};
-use naga_rules::function::FunctionError;
+use naga_arena::span::{Refusal, Span, WithSpan};
+use naga_errors::function::FunctionError;
 use std::alloc::{AllocError, AllocFailed, Global};
 use std::marker::Model;
 
@@ -13,8 +13,8 @@ pub struct Refused {
 }
 
 impl Model for Refused {
-    ghost use Rattle.naga_below.specs.declared.span.Refusal.{Refusal};
-    ghost use Rattle.naga_rules.specs.declared.function.FunctionError.{FunctionError};
+    ghost use Rattle.naga_arena.specs.declared.span.Refusal.{Refusal};
+    ghost use Rattle.naga_errors.specs.declared.function.FunctionError.{FunctionError};
 
     ghost Value = { Refusal FunctionError };
 
@@ -72,7 +72,7 @@ impl Refused {
 
 impl From<AllocError> for Refused {
     ghost use Rattle.std.specs.Prelude.{◌≡◌};
-    ghost use Rattle.naga_below.specs.declared.span.Refusal.TheVariants.{Memory};
+    ghost use Rattle.naga_arena.specs.declared.span.Refusal.TheVariants.{Memory};
 
     ghost from_gives = { λ _ e. e ≡ Memory };
 
@@ -83,7 +83,7 @@ impl From<AllocError> for Refused {
 
 impl<T: Drop> From<AllocFailed<T>> for Refused {
     ghost use Rattle.std.specs.Prelude.{◌≡◌};
-    ghost use Rattle.naga_below.specs.declared.span.Refusal.TheVariants.{Memory};
+    ghost use Rattle.naga_arena.specs.declared.span.Refusal.TheVariants.{Memory};
 
     ghost from_gives = { λ _ e. e ≡ Memory };
 

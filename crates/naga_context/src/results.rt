@@ -8,10 +8,10 @@ ghost use Rattle.naga_context.specs.walk.Table.{filled_in};
 
 use crate::context::BlockContext;
 use crate::table::FilledColumn;
-use naga_below::arena::handle::Handle;
-use naga_below::arena::tag;
-use naga_below::ir::expressions::Expression;
+use naga_arena::handle::Handle;
+use naga_arena::tag;
 use naga_flags::valid::ValidationFlags;
+use naga_ir::expressions::Expression;
 
 /// Whether an expression is of a kind that a Call or an Atomic fills.
 fn is_to_fill(expression: Option<&Expression>) -> bool

@@ -1,8 +1,8 @@
 //! What a function's ray traces leave for those of later functions.
 
-use naga_below::arena::handle::Handle;
-use naga_below::arena::tag;
-use naga_below::span::Span;
+use naga_arena::handle::Handle;
+use naga_arena::span::Span;
+use naga_arena::tag;
 
 /// How the acceleration structures of the ray traces so far return vertices.
 #[derive(Clone, Copy, PartialEq, Eq, Debug)]

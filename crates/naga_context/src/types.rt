@@ -2,12 +2,16 @@
 
 ghost use Rattle.std.specs.Prelude.{◌≡◌, IfSome, length};
 ghost use Rattle.std.specs.Option.{option_copied};
-ghost use Rattle.naga_below.specs.Types.{NamesTypesBelow};
+ghost use Rattle.naga_types.specs.Types.{NamesTypesBelow, inner_at};
+ghost use Rattle.naga_context.specs.walk.Seen.{context_of};
 ghost use Rattle.naga_context.specs.Types.{is_integer};
-ghost use Rattle.naga_below.specs.TypeTests.{both_are, is_same_inner, is_scalar, is_equivalent, it_is, is_exchange_struct};
+ghost use Rattle.naga_types.specs.TypeTests.{both_are, is_same_inner, is_scalar, is_equivalent, it_is, is_exchange_struct};
 
-use naga_below::ir::module::Module;
-use naga_below::ir::types::{Scalar, ScalarKind, TypeInner};
+use crate::context::BlockContext;
+use naga_arena::handle::Handle;
+use naga_arena::tag;
+use naga_ir::module::Module;
+use naga_types::types::{Scalar, ScalarKind, TypeInner};
 
 /// Whether a type is this scalar.
 pub fn is_scalar(scalar: Scalar, inner: Option<&TypeInner>) -> bool
@@ -67,4 +71,14 @@ pub fn is_integer(kind: Option<ScalarKind>) -> bool
     ensures { result ≡ is_integer kind }
 {
     matches!(kind, Some(ScalarKind::Uint | ScalarKind::Sint))
+}
+
+/// The type at a handle.
+pub fn inner_at<'a>(context: &BlockContext<'a>, ty: Handle<tag::Type>) -> Option<&'a TypeInner>
+    ensures { option_copied result ≡ inner_at (context_of context.now).program.types ty }
+{
+    match context.program.types.as_slice().get(ty.index()) {
+        Some(ty) => Some(&ty.inner),
+        None => None,
+    }
 }

@@ -3,7 +3,7 @@
 #![tactic(auto)]
 
 ghost use Rattle.std.specs.Prelude.{ℕ, ◌≡◌, OnOk, Some, slice_get};
-ghost use Rattle.naga_below.specs.declared.ir.module.EntryPoint.{EntryPoint};
+ghost use Rattle.naga_ir.specs.declared.module.EntryPoint.{EntryPoint};
 ghost use Rattle.naga_valid.specs.{RunsAreSure, body_of, pre_emitted_of};
 
 use bitflags::Flags;

@@ -1,18 +1,16 @@
 //! Whether what the statements of a body name is there.
 
 ghost use Rattle.std.specs.Prelude.{◌<◌, ◌≤◌, ◌↔◌, IsTrue, IfSome, All};
-ghost use Rattle.naga_below.specs.View.{no_operands, tree_of, body_of, list_body, list_cases};
+ghost use Rattle.naga_ir.specs.View.{no_operands, tree_of, body_of, list_body, list_cases};
 ghost use Rattle.naga_below.specs.FitsBody.{LeafFits, StatementFits, BodyFits, CasesFit, AtomicFits, GatherFits, QueryFits, PipelineFits};
 
 use crate::expressions::are_below;
 use crate::function::callee_fits;
-use naga_below::arena::handle::Handle;
-use naga_below::arena::tag;
-use naga_below::ir::module::Module;
-use naga_below::ir::operations::{
-    AtomicFunction, GatherMode, RayPipelineFunction, RayQueryFunction,
-};
-use naga_below::ir::statements::{Block, Located, Statement, SwitchCase};
+use naga_arena::handle::Handle;
+use naga_arena::tag;
+use naga_ir::module::Module;
+use naga_ir::operations::{AtomicFunction, GatherMode, RayPipelineFunction, RayQueryFunction};
+use naga_ir::statements::{Block, Located, Statement, SwitchCase};
 
 /// How many expressions a function has.
 #[derive(Clone, Copy)]

@@ -2,12 +2,12 @@
 
 ghost use Rattle.std.specs.Prelude.{◌≢◌, ◌<◌, ◌↔◌, IsTrue, IfSome, All};
 ghost use Rattle.naga_below.specs.Fits.{FitsEntry, MeshFits};
-ghost use Rattle.naga_below.specs.declared.ir.types.AddressSpace.TheVariants as space;
+ghost use Rattle.naga_types.specs.declared.types.AddressSpace.TheVariants as space;
 
-use naga_below::arena::handle::Handle;
-use naga_below::arena::tag;
-use naga_below::ir::module::{EntryPoint, GlobalVariable, MeshStageInfo, Module};
-use naga_below::ir::types::AddressSpace;
+use naga_arena::handle::Handle;
+use naga_arena::tag;
+use naga_ir::module::{EntryPoint, GlobalVariable, MeshStageInfo, Module};
+use naga_types::types::AddressSpace;
 
 /// Whether what the entry point names besides its function is there, and no global lies in
 /// `AddressSpace::Function`.

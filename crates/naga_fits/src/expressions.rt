@@ -1,16 +1,16 @@
 //! Whether what expressions name is there.
 
 ghost use Rattle.std.specs.Prelude.{◌<◌, ◌↔◌, IsTrue, IsSomeAnd, All, slice_get};
-ghost use Rattle.naga_below.specs.Operands.{operands_of};
+ghost use Rattle.naga_ir.specs.Operands.{operands_of};
 ghost use Rattle.naga_below.specs.Fits.{NameEarlierExpressions, ReferencesFit};
 
 use crate::function::callee_fits;
-use naga_below::arena::handle::Handle;
-use naga_below::arena::tag;
-use naga_below::ir::expressions::Expression;
-use naga_below::ir::functions::Function;
-use naga_below::ir::module::Module;
-use naga_below::proc::operands::{operand, operand_count};
+use naga_arena::handle::Handle;
+use naga_arena::tag;
+use naga_ir::expressions::Expression;
+use naga_ir::functions::Function;
+use naga_ir::module::Module;
+use naga_ir::operands::{operand, operand_count};
 
 /// Whether each handle is below `count`.
 pub(crate) fn are_below(handles: &[Handle<tag::Expression>], count: usize) -> bool

@@ -6,10 +6,10 @@ ghost use Rattle.naga_below.specs.Fits.{FitsFunction, LocalFits};
 
 use crate::body::fits_block;
 use crate::expressions::{all_references_fit, name_earlier_expressions};
-use naga_below::arena::handle::Handle;
-use naga_below::arena::tag;
-use naga_below::ir::functions::{Function, FunctionArgument, FunctionResult, LocalVariable};
-use naga_below::ir::module::Module;
+use naga_arena::handle::Handle;
+use naga_arena::tag;
+use naga_ir::functions::{Function, FunctionArgument, FunctionResult, LocalVariable};
+use naga_ir::module::Module;
 
 /// Whether whatever the function names is there, its expressions name only earlier ones, its ranges lie in order
 /// within its expressions, its calls name one of the first `earlier` functions, and each function that it names has

@@ -1,16 +1,16 @@
 //! Whether the globals of a module fit.
 
 ghost use Rattle.std.specs.Prelude.{◌<◌, ◌↔◌, IsTrue, IsSomeAnd, All, length};
-ghost use Rattle.naga_below.specs.Types.{NameEachOther, ResolutionFits, inner_at};
+ghost use Rattle.naga_types.specs.Types.{NameEachOther, ResolutionFits, inner_at};
 ghost use Rattle.naga_below.specs.Fits.{FitsGlobals, GlobalFits, IsUnbindable, IsUnbindableArray};
 
 use crate::expressions::name_earlier_expressions;
 use crate::types::resolution_fits;
-use naga_below::arena::unique_arena::UniqueArena;
-use naga_below::ir::module::{GlobalVariable, Module};
-use naga_below::ir::types::{AddressSpace, ImageClass, Type, TypeInner};
-use naga_below::proc::typifier::TypeResolution;
 use naga_below::valid::info::ModuleInfo;
+use naga_ir::module::{GlobalVariable, Module};
+use naga_types::types::{AddressSpace, ImageClass, Type, TypeInner};
+use naga_types::typifier::TypeResolution;
+use naga_types::unique_arena::UniqueArena;
 
 /// Whether types and initializers of the globals are there, each global expression has a type and names only
 /// earlier ones, and no global in `AddressSpace::Handle` is a binding array of external images or ray queries.

@@ -2,14 +2,14 @@
 
 ghost use Rattle.std.specs.Prelude.{◌<◌, ◌↔◌, IsTrue, IfSome, All, length};
 ghost use Rattle.naga_below.specs.Each.{EachAt};
-ghost use Rattle.naga_below.specs.Types.{NamesTypesBelow, ResolutionFits};
+ghost use Rattle.naga_types.specs.Types.{NamesTypesBelow, ResolutionFits};
 ghost use Rattle.naga_below.specs.Fits.{FitsTypes, MemberCountFits};
 
-use naga_below::arena::handle::Handle;
-use naga_below::arena::tag;
-use naga_below::ir::module::{Constant, Module, Override};
-use naga_below::ir::types::{StructMember, Type, TypeInner};
-use naga_below::proc::typifier::TypeResolution;
+use naga_arena::handle::Handle;
+use naga_arena::tag;
+use naga_ir::module::{Constant, Module, Override};
+use naga_types::types::{StructMember, Type, TypeInner};
+use naga_types::typifier::TypeResolution;
 
 /// Whether each type names only earlier types, the number of members of each fits 32 bits, and the types of
 /// constants, overrides and ray descriptors are there.

@@ -2,8 +2,8 @@
 use Rattle.std.proofs.Common.{◌≡◌, ℕ, zero, suc, ◌-◌, List, Option, Some, None, refl, ap, ◌∙◌, arith}
 use Rattle.std.specs.Prelude.{option_map}
 use Rattle.serde_json.specs.Data.{Data}
-use Rattle.naga_below.specs.Blocks as blocks
-use Rattle.naga_below.specs.declared.ir.statements.Located.{Located}
+use Rattle.naga_ir.specs.Blocks as blocks
+use Rattle.naga_ir.specs.declared.statements.Located.{Located}
 use Rattle.naga_from_json.specs.Form.{list_of}
 use Rattle.naga_from_json.specs.Document.Statements.{block_at, located_with}
 

@@ -2,10 +2,10 @@
 use Rattle.std.proofs.Common.{◌≡◌, ℕ, zero, suc, ◌<◌, ◌≤◌, ◌+◌, List, [], ◌∷◌, ◌++◌, length, drop, slice_get, get_or, Bool, true, false, ◌||◌, true≢false, Option, Some, None, refl, ap, sym, ◌∙◌, subst, arith, rules}
 use Rattle.std.specs.List.{Contains}
 use Rattle.std.proofs.lemmas.List.{drop_more, length_push}
-use Rattle.naga_below.specs.EqualTypes.{type_same}
-use Rattle.naga_below.specs.contracts.ir.types.TypePartialEq.TheImpl as ir_type
-use Rattle.naga_below.specs.contracts.ir.types.TypeEq.TheImpl.Laws.{laws-law as type_laws}
-use Rattle.naga_below.specs.declared.ir.types.Type.{«Type» as IrType}
+use Rattle.naga_types.specs.EqualTypes.{type_same}
+use Rattle.naga_types.specs.contracts.types.TypePartialEq.TheImpl as ir_type
+use Rattle.naga_types.specs.contracts.types.TypeEq.TheImpl.Laws.{laws-law as type_laws}
+use Rattle.naga_types.specs.declared.types.Type.{«Type» as IrType}
 use Rattle.naga_from_json.specs.Document.Modules.{is_among, types_behind}
 
 same_is : (t : IrType) → (ir_type.ghosts).eq t t ≡ true

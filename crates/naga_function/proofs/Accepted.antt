@@ -6,13 +6,13 @@ use Rattle.std.proofs.lemmas.Option.{slice_get_within}
 use Rattle.std.specs.Int.Bits.{and_self}
 use Rattle.std.specs.List.{AllByRecursion}
 use Rattle.std.specs.Prelude.{map, if◌then◌else◌}
-use Rattle.naga_below.specs.Tree.{Body, Leaf}
-use Rattle.naga_below.specs.declared.ir.expressions.Expression.{Expression}
-use Rattle.naga_below.specs.declared.ir.expressions.Expression.TheVariants as e
-use Rattle.naga_below.specs.declared.ir.statements.Statement as ir
+use Rattle.naga_ir.specs.Tree.{Body, Leaf}
+use Rattle.naga_ir.specs.declared.expressions.Expression.{Expression}
+use Rattle.naga_ir.specs.declared.expressions.Expression.TheVariants as e
+use Rattle.naga_ir.specs.declared.statements.Statement as ir
 use Rattle.naga_flags.specs.declared.valid.ShaderStages.{ShaderStages}
-use Rattle.naga_rules.specs.declared.function.FunctionError.{FunctionError}
-use Rattle.naga_rules.specs.declared.function.FunctionError.TheVariants.{UnvisitedExpression}
+use Rattle.naga_errors.specs.declared.function.FunctionError.{FunctionError}
+use Rattle.naga_errors.specs.declared.function.FunctionError.TheVariants.{UnvisitedExpression}
 use Rattle.naga_runs.proofs.Judgements.{judgement_is_visits, earlier_is_all}
 use Rattle.naga_below.proofs.Points.{first_holds, not_holds}
 use Rattle.naga_below.specs.Points.{and_then, first_fault, answer}
@@ -28,16 +28,16 @@ use Rattle.naga_context.specs.Blocks.{body_of}
 use Rattle.naga_checks.specs.checks.Call.{is_call_result_of, has_result}
 use Rattle.naga_context.specs.Context.{Context, pre_emitted}
 use Rattle.naga_context.specs.WhatIsChecked.{checks_blocks, checks_expressions}
-use Rattle.naga_checks.specs.Judged.{FunctionOutcome, body_judgement, judged_with, outcome_left}
-use Rattle.naga_checks.specs.Past.{Past, past_of}
+use Rattle.naga_statements.specs.Judged.{FunctionOutcome, body_judgement, judged_with, outcome_left}
+use Rattle.naga_statements.specs.Past.{Past, past_of}
 use Rattle.naga_context.specs.Results.{is_to_fill, result_of, fills, filled_before, is_unfilled, filled_points_from, filled_points}
-use Rattle.naga_checks.specs.Rules.{points_at, stages_of, stages_behind, stages_left}
-use Rattle.naga_checks.specs.Stages.{meet}
-use Rattle.naga_checks.specs.walk.State.{State, seen, kept_rules, begin_state, state_behind, state_left}
+use Rattle.naga_statements.specs.Rules.{points_at, stages_of, stages_behind, stages_left}
+use Rattle.naga_statements.specs.Stages.{meet}
+use Rattle.naga_statements.specs.walk.State.{State, seen, kept_rules, begin_state, state_behind, state_left}
 use Rattle.naga_context.specs.Types.{expression_at}
 use Rattle.naga_memory.proofs.Atomics.{NamedHolds, atomic_named}
 use Rattle.naga_checks.proofs.Calls.{call_holds}
-use Rattle.naga_checks.proofs.Fillings.{or_false, with_is, unfilled}
+use Rattle.naga_statements.proofs.Fillings.{or_false, with_is, unfilled}
 use Rattle.naga_function.proofs.Judged.{kept}
 
 -- stages

@@ -6,21 +6,21 @@ use Rattle.std.specs.List.{AllByRecursion}
 use Rattle.std.specs.Prelude.{Contains, map, take, if◌then◌else◌}
 use Rattle.naga_below.specs.Fits.{FitsFunction}
 use Rattle.naga_below.specs.FitsBody.{StatementFits, BodyFits, CasesFit}
-use Rattle.naga_below.specs.Tree.{Stmt, Body, Cases, Leaf, Block, Branch, Switch, Loop, Done, Then, NoCase, OneCase}
-use Rattle.naga_below.specs.View.{no_operands}
-use Rattle.naga_below.specs.declared.ir.functions.Function.{Function}
-use Rattle.naga_below.specs.declared.ir.module.Module.{Module}
-use Rattle.naga_below.specs.declared.ir.statements.Statement.{Statement}
-use Rattle.naga_below.specs.declared.ir.statements.Statement as ir
-use Rattle.naga_below.specs.declared.span.Span.{Span}
+use Rattle.naga_ir.specs.Tree.{Stmt, Body, Cases, Leaf, Block, Branch, Switch, Loop, Done, Then, NoCase, OneCase}
+use Rattle.naga_ir.specs.View.{no_operands}
+use Rattle.naga_ir.specs.declared.functions.Function.{Function}
+use Rattle.naga_ir.specs.declared.module.Module.{Module}
+use Rattle.naga_ir.specs.declared.statements.Statement.{Statement}
+use Rattle.naga_ir.specs.declared.statements.Statement as ir
+use Rattle.naga_arena.specs.declared.span.Span.{Span}
 use Rattle.naga_flags.specs.declared.valid.ShaderStages.{ShaderStages}
 use Rattle.naga_below.specs.declared.valid.info.FunctionInfo.{FunctionInfo}
 use Rattle.naga_below.specs.declared.valid.info.ModuleInfo.{ModuleInfo}
 use Rattle.naga_below.specs.declared.valid.settings.Settings.{Settings}
 use Rattle.naga_below.specs.declared.valid.types.TypeInfo.{TypeInfo}
-use Rattle.naga_below.specs.Tree.{Act}
+use Rattle.naga_ir.specs.Tree.{Act}
 use Rattle.naga_below.proofs.OtherOperands.{body_fits-other}
-use Rattle.naga_rules.specs.Meaning.{Meaning}
+use Rattle.naga_errors.specs.Meaning.{Meaning}
 use Rattle.naga_runs.proofs.Laws.{all_listed}
 use Rattle.naga_runs.proofs.VisitOrders.{all_append}
 use Rattle.naga_runs.proofs.VisitsByTree.{visits_are}
@@ -33,12 +33,12 @@ use Rattle.naga_function.specs.Accepted.{nodes_of, AreAmong, AreOfStatement}
 use Rattle.naga_context.specs.Blocks.{body_of, emitted_operands}
 use Rattle.naga_function.specs.Chains.{Reaches, Calls, Through, CallsBelow, infos_below, IsVettedInfo, AreVetted, masks_of, KeepsTo, ChainsAreKept, NoneIsVetted, OneMoreIsVetted, CallsOfFittingAreBelow}
 use Rattle.naga_context.specs.Context.{Context}
-use Rattle.naga_checks.specs.Expressions.{mask_at, mask_and, masks_from}
+use Rattle.naga_statements.specs.Expressions.{mask_at, mask_and, masks_from}
 use Rattle.naga_function.specs.InOrder.{callee_of, callees_of, called_by, with_info}
-use Rattle.naga_checks.specs.Judged.{FunctionOutcome, context_with, function_judgement}
-use Rattle.naga_checks.specs.Parts.{no_traces}
-use Rattle.naga_checks.specs.Rules.{recorded_stages, callee_stages, leaf_stages, stages_of}
-use Rattle.naga_checks.specs.Stages.{meet}
+use Rattle.naga_statements.specs.Judged.{FunctionOutcome, context_with, function_judgement}
+use Rattle.naga_statements.specs.Parts.{no_traces}
+use Rattle.naga_statements.specs.Rules.{recorded_stages, callee_stages, leaf_stages, stages_of}
+use Rattle.naga_statements.specs.Stages.{meet}
 use Rattle.naga_context.specs.WhatIsChecked.{checks_blocks, checks_expressions}
 use Rattle.naga_context.specs.declared.trace.TraceState.{TraceState}
 use Rattle.naga_function.proofs.Accepted.{among_all, nodes_are}

@@ -4,10 +4,10 @@ use Rattle.std.specs.Option.{option_or}
 use Rattle.std.specs.Prelude.{IsErr}
 use Rattle.naga_below.proofs.Points.{first_turn, first_end, first_of_both}
 use Rattle.naga_below.specs.Points.{first_fault, points_from}
-use Rattle.naga_below.specs.declared.span.Refusal.{Refusal}
-use Rattle.naga_below.specs.declared.span.Refusal.TheVariants as refusal
-use Rattle.naga_rules.specs.declared.function.FunctionError.{FunctionError}
-use Rattle.naga_rules.specs.Answers.{AnswersPoints}
+use Rattle.naga_arena.specs.declared.span.Refusal.{Refusal}
+use Rattle.naga_arena.specs.declared.span.Refusal.TheVariants as refusal
+use Rattle.naga_errors.specs.declared.function.FunctionError.{FunctionError}
+use Rattle.naga_errors.specs.Answers.{AnswersPoints}
 use Rattle.naga_context.specs.Points.{Points}
 
 module _ {A : Type 0} (points : ℕ → A → Points) (xs : List A) (i : ℕ) where

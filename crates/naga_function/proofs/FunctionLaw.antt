@@ -3,27 +3,27 @@ use Rattle.std.proofs.Common.{◌≡◌, ◌↔◌, ℕ, zero, suc, Bool, true, 
 use Rattle.std.specs.List.{AllByRecursion}
 use Rattle.std.specs.Prelude.{if◌then◌else◌}
 use Rattle.naga_below.specs.Points.{first_fault, answer, and_then}
-use Rattle.naga_below.specs.declared.ir.functions.Function.{Function}
-use Rattle.naga_below.specs.declared.ir.module.Module.{Module}
+use Rattle.naga_ir.specs.declared.functions.Function.{Function}
+use Rattle.naga_ir.specs.declared.module.Module.{Module}
 use Rattle.naga_flags.specs.declared.valid.ShaderStages.{ShaderStages}
 use Rattle.naga_below.specs.declared.valid.info.FunctionInfo.{FunctionInfo}
 use Rattle.naga_below.specs.declared.valid.info.ModuleInfo.{ModuleInfo}
 use Rattle.naga_below.specs.declared.valid.settings.Settings.{Settings}
 use Rattle.naga_below.specs.declared.valid.types.TypeInfo.{TypeInfo}
-use Rattle.naga_rules.specs.Meaning.{Meaning}
-use Rattle.naga_rules.specs.declared.function.FunctionError.{FunctionError}
+use Rattle.naga_errors.specs.Meaning.{Meaning}
+use Rattle.naga_errors.specs.declared.function.FunctionError.{FunctionError}
 use Rattle.naga_runs.specs.Judgement.{viewed}
 use Rattle.naga_function.specs.Accepted.{nodes_of, AreAmong, AreOfStatement}
 use Rattle.naga_context.specs.Blocks.{body_of}
 use Rattle.naga_context.specs.Context.{Context}
-use Rattle.naga_checks.specs.Declarations.{declaration_points}
-use Rattle.naga_checks.specs.Expressions.{with_stages, mask_at, mask_and, stages_from, masks_from, expressions_step, expression_masks}
+use Rattle.naga_statements.specs.Declarations.{declaration_points}
+use Rattle.naga_statements.specs.Expressions.{with_stages, mask_at, mask_and, stages_from, masks_from, expressions_step, expression_masks}
 use Rattle.naga_context.specs.WhatIsChecked.{checks_blocks, checks_expressions}
 use Rattle.naga_function.specs.FunctionLaw.{AcceptedIsSound, AcceptedFillsOnce, AcceptedIsOfAllStages, AcceptedHasNoReturnInContinuing, AcceptedHasWholeSwitches, AcceptedKeepsInfo, AcceptedStagesAreMet}
-use Rattle.naga_checks.specs.Judged.{FunctionOutcome, context_with, judged_with, declarations_step, expressions_known, lower_step, function_judgement}
+use Rattle.naga_statements.specs.Judged.{FunctionOutcome, context_with, judged_with, declarations_step, expressions_known, lower_step, function_judgement}
 use Rattle.naga_function.specs.Shapes.{HasWholeSwitches}
-use Rattle.naga_checks.specs.Stages.{meet}
-use Rattle.naga_checks.specs.walk.State.{state_left}
+use Rattle.naga_statements.specs.Stages.{meet}
+use Rattle.naga_statements.specs.walk.State.{state_left}
 use Rattle.naga_context.specs.declared.trace.TraceState.{TraceState}
 use Rattle.naga_function.proofs.Accepted.{IsAccepted, accepted, accepted_fills_once, accepted_stages_of_all, accepted_stages_are_met, among_all, among_meet, meet_among_first, meet_among_second}
 use Rattle.naga_function.proofs.Guarded.{accepted_is_sure}

@@ -3,13 +3,13 @@
 use Rattle.std.proofs.Common.{◌≡◌, ℕ, zero, suc, ◌≤◌, ◌==◌, ◌&&◌, ◌||◌, nat_le, nat_lt, ◌-◌, true, false, List, [], ◌∷◌, ◌++◌, None, Some, Ok, subst, refl, sym, ap, ◌∙◌, arith}
 use Rattle.std.specs.Prelude.{IfSome, not, is_none, map, if◌then◌else◌}
 use Rattle.std.proofs.lemmas.Bool.Decides.{nat_tests}
-use Rattle.naga_below.specs.Tree.{Act, Use, Put, Stmt, Leaf, Block, Branch, Switch, Loop, Break, Continue, Return, Kill}
-use Rattle.naga_below.specs.View.{emitted}
-use Rattle.naga_below.specs.declared.ir.operations.RayPipelineFunction.TheVariants.{TraceRay}
-use Rattle.naga_below.specs.declared.ir.statements.Statement as ir
+use Rattle.naga_ir.specs.Tree.{Act, Use, Put, Stmt, Leaf, Block, Branch, Switch, Loop, Break, Continue, Return, Kill}
+use Rattle.naga_ir.specs.View.{emitted}
+use Rattle.naga_ir.specs.declared.operations.RayPipelineFunction.TheVariants.{TraceRay}
+use Rattle.naga_ir.specs.declared.statements.Statement as ir
 use Rattle.naga_below.specs.declared.valid.expression_error.ExpressionError.TheVariants.{NotInScope}
-use Rattle.naga_rules.specs.declared.function.FunctionError.{FunctionError}
-use Rattle.naga_rules.specs.declared.function.FunctionError.TheVariants.{EmitResult, Expression, ExpressionAlreadyInScope, InvalidIfType, InvalidSwitchType, BreakOutsideOfLoopOrSwitch, ContinueOutsideOfLoop, InvalidReturnSpot, InvalidReturnType}
+use Rattle.naga_errors.specs.declared.function.FunctionError.{FunctionError}
+use Rattle.naga_errors.specs.declared.function.FunctionError.TheVariants.{EmitResult, Expression, ExpressionAlreadyInScope, InvalidIfType, InvalidSwitchType, BreakOutsideOfLoopOrSwitch, ContinueOutsideOfLoop, InvalidReturnSpot, InvalidReturnType}
 use Rattle.naga_runs.proofs.Judgements.{accepted_block_is_sure}
 use Rattle.naga_below.proofs.Points.{first_holds, both_hold, not_holds}
 use Rattle.naga_runs.specs.Guards.{SurelyReadGuards, IsRead}
@@ -26,24 +26,24 @@ use Rattle.naga_context.specs.Context.{Context, pre_emitted}
 use Rattle.naga_checks.specs.walk.Switch.{cases_points}
 use Rattle.naga_checks.specs.checks.Control.{within_emit, emitted_points, emit_points_from, is_bool_scalar, declared_type, is_returned_as}
 use Rattle.naga_checks.specs.checks.Switch.{value_points, values_of}
-use Rattle.naga_checks.specs.Judged.{body_judgement}
+use Rattle.naga_statements.specs.Judged.{body_judgement}
 use Rattle.naga_context.specs.Points.{Points, use_point, put_point, may_use, is_in_scope}
-use Rattle.naga_checks.specs.Past.{Past}
+use Rattle.naga_statements.specs.Past.{Past}
 use Rattle.naga_context.specs.Results.{is_result, result_of}
-use Rattle.naga_checks.specs.Rules.{statement_points, points_at}
-use Rattle.naga_checks.specs.walk.State.{State, seen, kept_rules, begin_state, state_left}
+use Rattle.naga_statements.specs.Rules.{statement_points, points_at}
+use Rattle.naga_statements.specs.walk.State.{State, seen, kept_rules, begin_state, state_left}
 use Rattle.naga_context.specs.Types.{is_integer, expression_at, type_at, scalar_kind_at}
 use Rattle.naga_memory.proofs.Atomics.{atomic_named, atomic_fits}
 use Rattle.naga_checks.proofs.Calls.{call_holds, call_fits}
 use Rattle.naga_checks.proofs.Emits.{or_false, within_more}
-use Rattle.naga_checks.proofs.Fillings.{unfilled}
-use Rattle.naga_memory.proofs.ImageAtomics.{image_atomic_fits}
-use Rattle.naga_memory.proofs.Images.{image_store_fits}
+use Rattle.naga_statements.proofs.Fillings.{unfilled}
+use Rattle.naga_images.proofs.ImageAtomics.{image_atomic_fits}
+use Rattle.naga_images.proofs.Images.{image_store_fits}
 use Rattle.naga_function.proofs.Judged.{kept}
 use Rattle.naga_memory.proofs.CooperativeStores.{cooperative_fits}
 use Rattle.naga_memory.proofs.Loads.{load_fits}
-use Rattle.naga_memory.proofs.RayQueries.{ray_query_fits}
-use Rattle.naga_memory.proofs.RayTraces.{trace_ray_fits}
+use Rattle.naga_rays.proofs.RayQueries.{ray_query_fits}
+use Rattle.naga_rays.proofs.RayTraces.{trace_ray_fits}
 use Rattle.naga_memory.proofs.Stores.{store_fits}
 use Rattle.naga_checks.proofs.Subgroups.{ballot_fits, collective_fits, gather_fits}
 

@@ -2,25 +2,25 @@
 -- code keeps of them.
 use Rattle.std.proofs.Common.{◌≡◌, None, Result, Ok, Err, List, refl, sym, ap, ◌∙◌}
 use Rattle.std.specs.Prelude.{IsErr}
-use Rattle.naga_below.specs.declared.span.Refusal.{Refusal}
-use Rattle.naga_below.specs.declared.span.Refusal.TheVariants as refusal
-use Rattle.naga_rules.specs.Answers.{Answers, AnswersPoints, Refuses}
-use Rattle.naga_rules.specs.declared.function.FunctionError.{FunctionError}
+use Rattle.naga_arena.specs.declared.span.Refusal.{Refusal}
+use Rattle.naga_arena.specs.declared.span.Refusal.TheVariants as refusal
+use Rattle.naga_errors.specs.Answers.{Answers, AnswersPoints, Refuses}
+use Rattle.naga_errors.specs.declared.function.FunctionError.{FunctionError}
 use Rattle.naga_runs.proofs.Judgements.{by_tree, earlier_agrees}
 use Rattle.naga_below.specs.Points.{first_fault, answer}
 use Rattle.naga_runs.specs.Judgement.{Follows, judgement, viewed}
 use Rattle.naga_runs.specs.Visits.{Visit}
 use Rattle.naga_context.specs.Blocks.{body_of}
 use Rattle.naga_context.specs.Context.{Context, pre_emitted}
-use Rattle.naga_checks.specs.Judged.{body_judgement}
-use Rattle.naga_checks.specs.Past.{past_of}
+use Rattle.naga_statements.specs.Judged.{body_judgement}
+use Rattle.naga_statements.specs.Past.{past_of}
 use Rattle.naga_context.specs.Results.{filled_points}
-use Rattle.naga_checks.specs.Rules.{points_at, body_rules}
-use Rattle.naga_checks.specs.walk.State.{State, kept_rules, begin_state, state_left, body_outcome, body_left}
-use Rattle.naga_checks.specs.declared.state.BodyOutcome.{BodyOutcome}
+use Rattle.naga_statements.specs.Rules.{points_at, body_rules}
+use Rattle.naga_statements.specs.walk.State.{State, kept_rules, begin_state, state_left, body_outcome, body_left}
+use Rattle.naga_statements.specs.declared.state.BodyOutcome.{BodyOutcome}
 use Rattle.naga_context.specs.walk.Place.{Sets}
 use Rattle.naga_runs.specs.ByTree.{body_abilities}
-use Rattle.naga_checks.specs.walk.Walk.{body_answer}
+use Rattle.naga_statements.specs.walk.Walk.{body_answer}
 use Rattle.naga_function.proofs.StatesLeft.{seen_is, left_by_none, state_more}
 
 follows : (context : Context) → Follows (body_rules context) (kept_rules context) (state_left context)

@@ -1,12 +1,12 @@
 -- The body list of a Loop as the code goes through it, statement by statement.
 use Rattle.std.proofs.Common.{◌≡◌, ℕ, Bool, true, false, Option, Some, None, List, [], ◌∷◌, ◌++◌, append-nil, append_assoc, refl, subst, sym, ap, ◌∙◌}
 use Rattle.std.specs.Prelude.{if◌then◌else◌}
-use Rattle.naga_below.specs.Tree.{Stmt, Body, Done, Then}
+use Rattle.naga_ir.specs.Tree.{Stmt, Body, Done, Then}
 use Rattle.naga_runs.specs.Must.{holds_continue}
 use Rattle.naga_context.specs.declared.table.ScopeColumn.{ScopeColumn}
 use Rattle.naga_context.specs.declared.table.ScopeState.TheVariants.{Open}
 use Rattle.naga_context.specs.walk.Table.{shown, known, count, left, skipped, HasPut, HasLooped, Divides}
-use Rattle.naga_checks.specs.walk.Walk.{puts, body_puts, puts_to_continue}
+use Rattle.naga_statements.specs.walk.Walk.{puts, body_puts, puts_to_continue}
 use Rattle.naga_context.proofs.Columns.{both_put, put_nothing, same_known}
 use Rattle.naga_context.proofs.Divided.{Divided, divided_more, looped, looped_whole, may_skip}
 

@@ -2,7 +2,7 @@
 use Rattle.std.proofs.Common.{◌≡◌, ℕ, zero, suc, ◌+◌, ◌<◌, ◌≤◌, ◌==◌, Some, None, Bool, true, false, List, [], ◌∷◌, length, take, get_or, slice_get, refl, sym, ap, ◌∙◌, arith}
 use Rattle.std.specs.Prelude.{if◌then◌else◌}
 use Rattle.std.proofs.lemmas.Bool.Decides.{nat_tests}
-use Rattle.naga_below.specs.declared.ir.expressions.Expression.{Expression}
+use Rattle.naga_ir.specs.declared.expressions.Expression.{Expression}
 use Rattle.naga_runs.specs.Handles.{Handles, with_handle}
 use Rattle.naga_context.specs.Context.{if_pre_emitted}
 

@@ -9,14 +9,14 @@ use Rattle.std.specs.List.{AllByRecursion, list_any}
 use Rattle.std.specs.Prelude.{map, is_none}
 use Rattle.naga_below.proofs.Points.{first_holds, both_hold, not_holds}
 use Rattle.naga_below.specs.Points.{first_fault, answer, and_then}
-use Rattle.naga_below.specs.Tree.{Stmt, Body, Cases, Switch, Return}
-use Rattle.naga_below.specs.Unique.{AreDistinct}
-use Rattle.naga_below.specs.declared.ir.statements.SwitchValue.{SwitchValue}
-use Rattle.naga_below.specs.declared.ir.statements.SwitchValue.TheVariants.{I32, U32, Default}
-use Rattle.naga_below.specs.declared.ir.types.ScalarKind.{ScalarKind}
-use Rattle.naga_below.specs.declared.ir.types.ScalarKind.TheVariants as kind
-use Rattle.naga_rules.specs.declared.function.FunctionError.{FunctionError}
-use Rattle.naga_rules.specs.declared.function.FunctionError.TheVariants.{Expression, InvalidReturnSpot, InvalidReturnType, InvalidSwitchType, ConflictingCaseType, MissingDefaultCase, LastCaseFallTrough}
+use Rattle.naga_ir.specs.Tree.{Stmt, Body, Cases, Switch, Return}
+use Rattle.naga_types.specs.Unique.{AreDistinct}
+use Rattle.naga_ir.specs.declared.statements.SwitchValue.{SwitchValue}
+use Rattle.naga_ir.specs.declared.statements.SwitchValue.TheVariants.{I32, U32, Default}
+use Rattle.naga_types.specs.declared.types.ScalarKind.{ScalarKind}
+use Rattle.naga_types.specs.declared.types.ScalarKind.TheVariants as kind
+use Rattle.naga_errors.specs.declared.function.FunctionError.{FunctionError}
+use Rattle.naga_errors.specs.declared.function.FunctionError.TheVariants.{Expression, InvalidReturnSpot, InvalidReturnType, InvalidSwitchType, ConflictingCaseType, MissingDefaultCase, LastCaseFallTrough}
 use Rattle.naga_below.specs.declared.valid.expression_error.ExpressionError.TheVariants.{NotInScope}
 use Rattle.naga_runs.proofs.LastSteps.{abilities_by_last_step}
 use Rattle.naga_runs.specs.ByTree.{judge_visits}
@@ -29,12 +29,12 @@ use Rattle.naga_checks.specs.walk.Switch.{cases_points}
 use Rattle.naga_context.specs.Context.{Context, pre_emitted}
 use Rattle.naga_checks.specs.checks.Control.{declared_type, is_returned_as}
 use Rattle.naga_checks.specs.checks.Switch.{has_signedness_of, same_value, repeated_fault, is_default, value_points, values_of, last_falls_through}
-use Rattle.naga_checks.specs.Judged.{body_judgement}
-use Rattle.naga_checks.specs.Past.{Past}
+use Rattle.naga_statements.specs.Judged.{body_judgement}
+use Rattle.naga_statements.specs.Past.{Past}
 use Rattle.naga_context.specs.Points.{use_point, may_use}
-use Rattle.naga_checks.specs.Rules.{points_at}
+use Rattle.naga_statements.specs.Rules.{points_at}
 use Rattle.naga_function.specs.Shapes.{StandsAt, is_in_continuing, HasNoReturnInContinuing, IsOfKind, AreWhole, HasWholeSwitches}
-use Rattle.naga_checks.specs.walk.State.{State, seen, kept_rules, begin_state, state_left, state_behind}
+use Rattle.naga_statements.specs.walk.State.{State, seen, kept_rules, begin_state, state_left, state_behind}
 use Rattle.naga_context.specs.Types.{is_integer, scalar_kind_at}
 use Rattle.naga_function.proofs.Accepted.{all_visits, walked}
 

@@ -3,12 +3,12 @@ use Rattle.std.proofs.Common.{◌≡◌, List, [], ◌∷◌, ◌++◌, refl, sy
 use Rattle.naga_runs.specs.Positions.{Node, NoNode, StatementNode, BreakIfNode}
 use Rattle.naga_runs.specs.Visits.{Visit}
 use Rattle.naga_context.specs.Context.{Context}
-use Rattle.naga_checks.specs.Past.{past_of}
+use Rattle.naga_statements.specs.Past.{past_of}
 use Rattle.naga_context.specs.Results.{result_of, filled_before}
-use Rattle.naga_checks.specs.Rules.{stages_behind}
-use Rattle.naga_checks.specs.walk.State.{State, seen, with_result, state_behind, begin_state, state_left}
-use Rattle.naga_memory.specs.Traces.{payload_before, with_trace}
-use Rattle.naga_checks.proofs.Fillings.{filled_more, stages_more}
+use Rattle.naga_statements.specs.Rules.{stages_behind}
+use Rattle.naga_statements.specs.walk.State.{State, seen, with_result, state_behind, begin_state, state_left}
+use Rattle.naga_rays.specs.Traces.{payload_before, with_trace}
+use Rattle.naga_statements.proofs.Fillings.{filled_more, stages_more}
 use Rattle.naga_function.proofs.Traces.{no_trace, trace_more}
 
 -- the check lists are asked with the same

@@ -2,14 +2,14 @@
 use Rattle.std.proofs.Common.{◌≡◌, Bool, true, false, ◌||◌, List, [], ◌∷◌, ◌++◌, Option, None, Some, refl, sym, ap, ◌∙◌}
 use Rattle.std.proofs.lemmas.List.Folds.{list_any-append}
 use Rattle.std.specs.Option.{option_or}
-use Rattle.naga_below.specs.declared.span.Span.{Span}
+use Rattle.naga_arena.specs.declared.span.Span.{Span}
 use Rattle.naga_runs.specs.Visits.{Visit}
 use Rattle.naga_context.specs.Context.{Context}
-use Rattle.naga_memory.specs.Traces.{trace_payload, first_payload, lacks_vertex_return_at, last_without, is_trace, any_trace, vertex_return_by, trace_after, with_trace}
+use Rattle.naga_rays.specs.Traces.{trace_payload, first_payload, lacks_vertex_return_at, last_without, is_trace, any_trace, vertex_return_by, trace_after, with_trace}
 use Rattle.naga_context.specs.declared.trace.TraceRayVertexReturnState.{TraceRayVertexReturnState}
 use Rattle.naga_context.specs.declared.trace.TraceRayVertexReturnState.TheVariants.{NoTraceRays, VertexReturn, NoVertexReturn}
 use Rattle.naga_context.specs.declared.trace.TraceState.{TraceState}
-use Rattle.naga_checks.proofs.Fillings.{or_false}
+use Rattle.naga_statements.proofs.Fillings.{or_false}
 
 or_assoc : {A : Type 0} (a b c : Option A) → option_or (option_or a b) c ≡ option_or a (option_or b c)
 or_assoc None b c = refl

@@ -2,19 +2,19 @@
 use Rattle.std.proofs.Common.{◌≡◌, ℕ, ◌+◌, ◌<◌, ◌≤◌, ◌||◌, Bool, true, false, Option, Some, None, Result, Ok, Err, List, [], ◌∷◌, ◌++◌, drop, get_or, length, refl, subst, sym, ap, ◌∙◌, append-nil, append_assoc}
 use Rattle.std.specs.Prelude.{if◌then◌else◌}
 use Rattle.std.proofs.lemmas.List.{at_drop_more, at_drop_all}
-use Rattle.naga_below.specs.Tree.{Act, Use, Put, Stmt, Leaf, Block, Branch, Switch, Loop, Break, Continue, Return, Kill, Body, Done, Then, Cases, NoCase, OneCase}
-use Rattle.naga_checks.specs.walk.State.{State, seen, kept_rules, with_statement}
-use Rattle.naga_below.specs.View as view
-use Rattle.naga_below.specs.declared.ir.statements.Block.{Block as Block_of}
-use Rattle.naga_below.specs.declared.ir.statements.Statement as ir
-use Rattle.naga_below.specs.declared.ir.statements.Statement.{Statement, Switch'}
-use Rattle.naga_below.specs.declared.ir.statements.Statement.TheBlock.{shown-the_row-SwitchCase-0, backs-Statement}
-use Rattle.naga_below.specs.declared.span.Span.{Span}
-use Rattle.naga_below.specs.declared.span.Refusal.{Refusal}
-use Rattle.naga_below.specs.declared.span.Refusal.TheVariants as refusal
-use Rattle.naga_below.specs.declared.ir.statements.Located.{Located}
-use Rattle.naga_below.specs.declared.ir.statements.SwitchCase.{SwitchCase, out-SwitchCase}
-use Rattle.naga_below.specs.declared.ir.statements.SwitchValue.{SwitchValue}
+use Rattle.naga_ir.specs.Tree.{Act, Use, Put, Stmt, Leaf, Block, Branch, Switch, Loop, Break, Continue, Return, Kill, Body, Done, Then, Cases, NoCase, OneCase}
+use Rattle.naga_statements.specs.walk.State.{State, seen, kept_rules, with_statement}
+use Rattle.naga_ir.specs.View as view
+use Rattle.naga_ir.specs.declared.statements.Block.{Block as Block_of}
+use Rattle.naga_ir.specs.declared.statements.Statement as ir
+use Rattle.naga_ir.specs.declared.statements.Statement.{Statement, Switch'}
+use Rattle.naga_ir.specs.declared.statements.Statement.TheBlock.{shown-the_row-SwitchCase-0, backs-Statement}
+use Rattle.naga_arena.specs.declared.span.Span.{Span}
+use Rattle.naga_arena.specs.declared.span.Refusal.{Refusal}
+use Rattle.naga_arena.specs.declared.span.Refusal.TheVariants as refusal
+use Rattle.naga_ir.specs.declared.statements.Located.{Located}
+use Rattle.naga_ir.specs.declared.statements.SwitchCase.{SwitchCase, out-SwitchCase}
+use Rattle.naga_ir.specs.declared.statements.SwitchValue.{SwitchValue}
 use Rattle.naga_runs.specs.declared.Abilities.{Abilities}
 use Rattle.naga_runs.specs.Handles.{Handles, with_handle}
 use Rattle.naga_runs.specs.Must.{with_sure, holds_continue, body_holds_continue, cases_hold_continue}
@@ -22,18 +22,19 @@ use Rattle.naga_runs.specs.PutsAndUses.{with_acts, with_body, acts_of, puts_of}
 use Rattle.naga_below.specs.Points.{first_fault, answer, and_then}
 use Rattle.naga_runs.specs.ByTree.{past, in_continuing, at_break_if, judge_visits, judge_body, judge_stmt, judge_parts, judge_cases, judge_break_if, case_abilities, loop_abilities, continuing_abilities}
 use Rattle.naga_runs.proofs.Judgements.{judge_done, judge_more, judge_own, judge_block, judge_branch, judge_switch, judge_loop, judge_no_case, judge_one_case}
-use Rattle.naga_rules.specs.Answers.{IsFirstFault, Refuses}
+use Rattle.naga_errors.specs.Answers.{IsFirstFault, Refuses}
 use Rattle.naga_context.specs.walk.Answers.{AnswersLeaving}
 use Rattle.naga_context.specs.Blocks.{emitted_operands, tree_of, block_of, list_of, cases_of}
 use Rattle.naga_context.specs.Context.{Context}
 use Rattle.naga_checks.specs.checks.Control.{break_if_points}
-use Rattle.naga_checks.specs.Rules.{statement_points}
+use Rattle.naga_statements.specs.Rules.{statement_points}
 use Rattle.naga_context.specs.walk.Place.{Sets, place_at}
 use Rattle.naga_context.specs.walk.Table.{with_all, with_puts}
-use Rattle.naga_checks.specs.walk.Walk.{puts, body_puts, puts_to_continue, behind_loop_body, place, own_answer, parts_answer, stmt_answer, body_answer, cases_answer, break_if_answer}
+use Rattle.naga_statements.specs.walk.Walk.{puts, body_puts, puts_to_continue, behind_loop_body, own_answer, parts_answer, stmt_answer, body_answer, cases_answer, break_if_answer}
+use Rattle.naga_checks.specs.walk.Emitted.{place}
 use Rattle.naga_context.proofs.Columns.{all-append}
 use Rattle.naga_context.proofs.Refusals.{passes, stops_first, stops_next, answers_next}
-use Rattle.naga_rules.specs.declared.function.FunctionError.{FunctionError}
+use Rattle.naga_errors.specs.declared.function.FunctionError.{FunctionError}
 
 acts_put : (acts : List Act) (s : Handles) → with_acts s acts ≡ with_all s (puts_of acts)
 acts_put [] s = refl

@@ -1,18 +1,18 @@
 -- What else holds of a body that is accepted: each result is filled once, and the stages that are left are stages of all.
 use Rattle.std.specs.List.{AllByRecursion}
 use Rattle.std.specs.Prelude.{ℕ, ◌+◌, ◌≡◌, ⊤, Bool, List, [], ◌∷◌, ◌++◌, Some, map, slice_get, if◌then◌else◌}
-use Rattle.naga_below.specs.Tree.{Body, Leaf}
-use Rattle.naga_below.specs.declared.ir.expressions.Expression.TheVariants as e
-use Rattle.naga_below.specs.declared.ir.functions.Function.{Function}
-use Rattle.naga_below.specs.declared.ir.statements.Statement as ir
+use Rattle.naga_ir.specs.Tree.{Body, Leaf}
+use Rattle.naga_ir.specs.declared.expressions.Expression.TheVariants as e
+use Rattle.naga_ir.specs.declared.functions.Function.{Function}
+use Rattle.naga_ir.specs.declared.statements.Statement as ir
 use Rattle.naga_flags.specs.declared.valid.ShaderStages.{ShaderStages}
 use Rattle.naga_below.specs.declared.valid.info.ModuleInfo.{ModuleInfo}
 use Rattle.naga_runs.specs.Positions.{Node, StatementNode, node_at}
 use Rattle.naga_runs.specs.VisitOrder.{positions}
 use Rattle.naga_context.specs.Blocks.{body_of}
 use Rattle.naga_context.specs.Results.{is_this}
-use Rattle.naga_checks.specs.Rules.{callee_stages, stages_of}
-use Rattle.naga_checks.specs.Stages.{meet}
+use Rattle.naga_statements.specs.Rules.{callee_stages, stages_of}
+use Rattle.naga_statements.specs.Stages.{meet}
 
 -- what stands at the positions of a body, in visit order
 abbrev pub nodes_of : Body → List Node

@@ -3,21 +3,21 @@
 use Rattle.std.specs.List.{AllByRecursion}
 use Rattle.std.specs.Prelude.{ℕ, ◌≡◌, ◌<◌, ◌≤◌, Bool, true, false, List, [], Some, Ok, Contains, length, slice_get, take}
 use Rattle.naga_below.specs.Fits.{FitsFunction}
-use Rattle.naga_below.specs.Tree.{Body}
-use Rattle.naga_below.specs.declared.ir.functions.Function.{Function}
-use Rattle.naga_below.specs.declared.ir.module.Module.{Module}
+use Rattle.naga_ir.specs.Tree.{Body}
+use Rattle.naga_ir.specs.declared.functions.Function.{Function}
+use Rattle.naga_ir.specs.declared.module.Module.{Module}
 use Rattle.naga_flags.specs.declared.valid.ShaderStages.{ShaderStages}
 use Rattle.naga_below.specs.declared.valid.info.FunctionInfo.{FunctionInfo}
 use Rattle.naga_below.specs.declared.valid.info.ModuleInfo.{ModuleInfo}
 use Rattle.naga_below.specs.declared.valid.settings.Settings.{Settings}
 use Rattle.naga_below.specs.declared.valid.types.TypeInfo.{TypeInfo}
-use Rattle.naga_rules.specs.Meaning.{Meaning}
+use Rattle.naga_errors.specs.Meaning.{Meaning}
 use Rattle.naga_function.specs.Accepted.{nodes_of, AreAmong, AreOfStatement}
 use Rattle.naga_context.specs.Blocks.{body_of}
-use Rattle.naga_checks.specs.Expressions.{expression_masks}
+use Rattle.naga_statements.specs.Expressions.{expression_masks}
 use Rattle.naga_function.specs.InOrder.{called_by, with_info}
-use Rattle.naga_checks.specs.Judged.{FunctionOutcome, context_with, function_judgement}
-use Rattle.naga_checks.specs.Parts.{no_traces}
+use Rattle.naga_statements.specs.Judged.{FunctionOutcome, context_with, function_judgement}
+use Rattle.naga_statements.specs.Parts.{no_traces}
 use Rattle.naga_context.specs.WhatIsChecked.{checks_blocks}
 use Rattle.naga_context.specs.declared.trace.TraceState.{TraceState}
 

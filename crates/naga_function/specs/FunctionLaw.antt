@@ -1,21 +1,21 @@
 -- What is known of each function that the judgement accepts, where bodies are looked at.
 use Rattle.std.specs.List.{AllByRecursion}
 use Rattle.std.specs.Prelude.{◌≡◌, ◌↔◌, Bool, true, List, Ok}
-use Rattle.naga_below.specs.declared.ir.functions.Function.{Function}
-use Rattle.naga_below.specs.declared.ir.module.Module.{Module}
+use Rattle.naga_ir.specs.declared.functions.Function.{Function}
+use Rattle.naga_ir.specs.declared.module.Module.{Module}
 use Rattle.naga_flags.specs.declared.valid.ShaderStages.{ShaderStages}
 use Rattle.naga_below.specs.declared.valid.info.FunctionInfo.{FunctionInfo}
 use Rattle.naga_below.specs.declared.valid.info.ModuleInfo.{ModuleInfo}
 use Rattle.naga_below.specs.declared.valid.settings.Settings.{Settings}
 use Rattle.naga_below.specs.declared.valid.types.TypeInfo.{TypeInfo}
-use Rattle.naga_rules.specs.Meaning.{Meaning}
+use Rattle.naga_errors.specs.Meaning.{Meaning}
 use Rattle.naga_runs.specs.Soundness.{RunsAreSure}
 use Rattle.naga_function.specs.Accepted.{nodes_of, ResultsAreFilledOnce, StagesAreOfAll, AreAmong, AreOfStatement}
 use Rattle.naga_context.specs.Blocks.{body_of}
 use Rattle.naga_context.specs.Context.{pre_emitted_of}
-use Rattle.naga_checks.specs.Expressions.{with_stages, expression_masks}
+use Rattle.naga_statements.specs.Expressions.{with_stages, expression_masks}
 use Rattle.naga_context.specs.WhatIsChecked.{checks_blocks, checks_expressions}
-use Rattle.naga_checks.specs.Judged.{FunctionOutcome, context_with, lower_step, function_judgement}
+use Rattle.naga_statements.specs.Judged.{FunctionOutcome, context_with, lower_step, function_judgement}
 use Rattle.naga_function.specs.Shapes.{HasNoReturnInContinuing, HasWholeSwitches}
 use Rattle.naga_context.specs.declared.trace.TraceState.{TraceState}
 

@@ -1,7 +1,7 @@
 -- The infos of a module, function by function; and the functions that a body calls.
 use Rattle.std.specs.Prelude.{ℕ, List, [], ◌∷◌, ◌++◌}
-use Rattle.naga_below.specs.Tree.{Body, Leaf}
-use Rattle.naga_below.specs.declared.ir.statements.Statement as ir
+use Rattle.naga_ir.specs.Tree.{Body, Leaf}
+use Rattle.naga_ir.specs.declared.statements.Statement as ir
 use Rattle.naga_below.specs.declared.valid.info.FunctionInfo.{FunctionInfo}
 use Rattle.naga_below.specs.declared.valid.info.ModuleInfo.{ModuleInfo}
 use Rattle.naga_runs.specs.Positions.{Node, StatementNode}

@@ -1,14 +1,14 @@
 -- The shape of a body that is accepted: where its Returns stand, and which cases its Switches have.
 use Rattle.std.specs.List.{list_any, count_by}
 use Rattle.std.specs.Prelude.{ℕ, ◌≡◌, ⊤, Bool, false, Option, Some, All, Contains, slice_get, option_and_then}
-use Rattle.naga_below.specs.Tree.{Stmt, Body, Cases, Switch, Return}
-use Rattle.naga_below.specs.Types.{resolved, scalar_kind_of}
-use Rattle.naga_below.specs.Unique.{AreDistinct}
-use Rattle.naga_below.specs.declared.ir.module.Module.{Module}
-use Rattle.naga_below.specs.declared.ir.statements.SwitchValue.{SwitchValue}
-use Rattle.naga_below.specs.declared.ir.statements.SwitchValue.TheVariants.{I32, U32, Default}
-use Rattle.naga_below.specs.declared.ir.types.ScalarKind.{ScalarKind}
-use Rattle.naga_below.specs.declared.ir.types.ScalarKind.TheVariants.{Sint, Uint}
+use Rattle.naga_ir.specs.Tree.{Stmt, Body, Cases, Switch, Return}
+use Rattle.naga_types.specs.Types.{resolved, scalar_kind_of}
+use Rattle.naga_types.specs.Unique.{AreDistinct}
+use Rattle.naga_ir.specs.declared.module.Module.{Module}
+use Rattle.naga_ir.specs.declared.statements.SwitchValue.{SwitchValue}
+use Rattle.naga_ir.specs.declared.statements.SwitchValue.TheVariants.{I32, U32, Default}
+use Rattle.naga_types.specs.declared.types.ScalarKind.{ScalarKind}
+use Rattle.naga_types.specs.declared.types.ScalarKind.TheVariants.{Sint, Uint}
 use Rattle.naga_below.specs.declared.valid.info.FunctionInfo.{FunctionInfo}
 use Rattle.naga_runs.specs.Abilities.{is_continuing, part_of}
 use Rattle.naga_runs.specs.Positions.{Position, StatementNode, node_at}

@@ -3,22 +3,22 @@
 ghost use Rattle.std.specs.Prelude.{◌≡◌, ◌<◌, IfOk, IfSome, Some, List, ℕ, length};
 ghost use Rattle.std.specs.Result.{result_err};
 ghost use Rattle.naga_below.specs.Points.{first_fault};
-ghost use Rattle.naga_rules.specs.Answers.{AnswersPoints};
+ghost use Rattle.naga_errors.specs.Answers.{AnswersPoints};
 ghost use Rattle.naga_context.specs.Context.{ContextFits};
-ghost use Rattle.naga_checks.specs.Declarations.{name_or_empty, variable_points, variables_points, takes_arguments, pointer_points, argument_points, arguments_points, result_points, declaration_points};
+ghost use Rattle.naga_statements.specs.Declarations.{name_or_empty, variable_points, variables_points, takes_arguments, pointer_points, argument_points, arguments_points, result_points, declaration_points};
 ghost use Rattle.naga_context.specs.walk.Seen.{context_of};
 
-use naga_below::arena::handle::Handle;
-use naga_below::arena::tag;
-use naga_below::ir::functions::{FunctionArgument, FunctionResult, LocalVariable};
-use naga_below::ir::name::Name;
-use naga_below::ir::types::AddressSpace;
-use naga_below::span::{Refusal, WithSpan};
+use naga_arena::handle::Handle;
+use naga_arena::span::{Refusal, WithSpan};
+use naga_arena::tag;
 use naga_below::valid::types::TypeInfo;
 use naga_context::context::BlockContext;
+use naga_errors::function::FunctionError;
 use naga_flags::valid::TypeFlags;
-use naga_rules::function::FunctionError;
+use naga_ir::functions::{FunctionArgument, FunctionResult, LocalVariable};
 use naga_rules::local::check_local;
+use naga_types::name::Name;
+use naga_types::types::AddressSpace;
 use std::alloc::{AllocError, Global};
 
 /// The local variables, the arguments, and the result of a function.

@@ -4,17 +4,17 @@
 ghost use Rattle.std.specs.Prelude.{◌≡◌};
 ghost use Rattle.naga_layers.specs.Recorded.Facts.{no_facts, fault_of, info_of, analysis_of};
 
-use naga_below::arena::handle::Handle;
-use naga_below::arena::tag;
-use naga_below::ir::module::MeshStageInfo;
-use naga_below::proc::typifier::TypeResolution;
-use naga_below::sequence::Sequence;
-use naga_below::span::WithSpan;
+use naga_arena::handle::Handle;
+use naga_arena::sequence::Sequence;
+use naga_arena::span::WithSpan;
+use naga_arena::tag;
 use naga_below::valid::expression_error::ExpressionError;
+use naga_errors::analyzer::{UniformityDisruptor, UniformityRequirements};
+use naga_errors::function::FunctionError;
+use naga_errors::mesh::{MeshAnalysis, MeshFault};
 use naga_flags::valid::{GlobalUse, ShaderStages};
-use naga_rules::analyzer::{UniformityDisruptor, UniformityRequirements};
-use naga_rules::function::FunctionError;
-use naga_rules::mesh::{MeshAnalysis, MeshFault};
+use naga_ir::module::MeshStageInfo;
+use naga_types::typifier::TypeResolution;
 use std::alloc::Global;
 
 /// What a lower layer says of a module. No list must have a certain length: what a missing fact means is said at

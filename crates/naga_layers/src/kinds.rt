@@ -4,10 +4,11 @@ ghost use Rattle.std.specs.Prelude.{◌≡◌, [], IfOk};
 ghost use Rattle.naga_layers.specs.Kinds.{kind_at, later_of, latest_of, kind_of, kinds_from};
 ghost use Rattle.naga_below.specs.declared.proc.expression_kinds.ExpressionKind.TheVariants.{Const};
 
-use naga_below::arena::handle::Handle;
-use naga_below::arena::{Arena, tag};
-use naga_below::ir::expressions::Expression;
+use naga_arena::arena::Arena;
+use naga_arena::handle::Handle;
+use naga_arena::tag;
 use naga_below::proc::expression_kinds::{ExpressionKind, ExpressionKindTracker};
+use naga_ir::expressions::Expression;
 use std::alloc::{AllocError, Global};
 
 /// The kind of each expression.

@@ -1,7 +1,7 @@
 //! The plain lower layer: a small one, over which the program and the tests judge.
 
 ghost use Rattle.std.specs.Prelude.{◌≡◌, IfOk};
-ghost use Rattle.naga_rules.specs.Answers.{Answers};
+ghost use Rattle.naga_errors.specs.Answers.{Answers};
 ghost use Rattle.naga_layers.specs.Plain.Infos.{plain_info};
 ghost use Rattle.naga_layers.specs.Plain.Meaning.{plain_layer};
 
@@ -13,21 +13,22 @@ use crate::kinds::kinds_of;
 use crate::plain::sizes::size_of;
 use crate::plain::types::types_of;
 use crate::plain::uses::uses_of;
-use naga_below::arena::handle::Handle;
-use naga_below::arena::{Arena, tag};
-use naga_below::ir::expressions::Expression;
-use naga_below::ir::functions::Function;
-use naga_below::ir::module::{MeshOutputTopology, MeshStageInfo, Module};
+use naga_arena::arena::Arena;
+use naga_arena::handle::Handle;
+use naga_arena::span::Refusal;
+use naga_arena::tag;
 use naga_below::proc::expression_kinds::ExpressionKindTracker;
-use naga_below::span::Refusal;
 use naga_below::valid::expression_error::ExpressionError;
 use naga_below::valid::info::{FunctionInfo, ModuleInfo};
 use naga_below::valid::settings::Settings;
+use naga_errors::below::Below;
+use naga_errors::function::FunctionError;
+use naga_errors::mesh::MeshAnalysis;
 use naga_flags::capabilities::Capabilities;
 use naga_flags::valid::{ShaderStages, ValidationFlags};
-use naga_rules::below::Below;
-use naga_rules::function::FunctionError;
-use naga_rules::mesh::MeshAnalysis;
+use naga_ir::expressions::Expression;
+use naga_ir::functions::Function;
+use naga_ir::module::{MeshOutputTopology, MeshStageInfo, Module};
 use std::alloc::{AllocError, Global};
 
 /// A lower layer that types the plainest expressions, and refuses any other as `Lower(1)`. Every expression may run in

@@ -3,31 +3,32 @@
 ghost use Rattle.std.specs.Prelude.{◌≡◌, IfOk};
 ghost use Rattle.std.specs.List.{list_all};
 ghost use Rattle.std.specs.Option.{option_copied};
-ghost use Rattle.naga_rules.specs.Answers.{Answers};
+ghost use Rattle.naga_errors.specs.Answers.{Answers};
 ghost use Rattle.naga_layers.specs.Recorded.Facts.{info_of, fault_of, unknown_analysis, analysis_at};
 ghost use Rattle.naga_layers.specs.Recorded.Asked.{fact_asked};
 ghost use Rattle.naga_layers.specs.Recorded.Infos.{is_lawful_type, is_lawful_info, expression_said, USELESS, recorded_info, recorded_stages};
 
 use crate::facts::{ExpressionFact, Facts, FunctionFact, InfoFact, MeshAnalysisFact};
 use crate::kinds::kinds_of;
-use naga_below::arena::handle::Handle;
-use naga_below::arena::{Arena, tag};
-use naga_below::ir::expressions::Expression;
-use naga_below::ir::functions::Function;
-use naga_below::ir::module::{MeshOutputTopology, MeshStageInfo, Module};
-use naga_below::ir::types::TypeInner;
+use naga_arena::arena::Arena;
+use naga_arena::handle::Handle;
+use naga_arena::sequence::Sequence;
+use naga_arena::span::{Refusal, WithSpan};
+use naga_arena::tag;
 use naga_below::proc::expression_kinds::ExpressionKindTracker;
-use naga_below::proc::typifier::TypeResolution;
-use naga_below::sequence::Sequence;
-use naga_below::span::{Refusal, WithSpan};
 use naga_below::valid::expression_error::ExpressionError;
 use naga_below::valid::info::{FunctionInfo, ModuleInfo};
 use naga_below::valid::settings::Settings;
+use naga_errors::below::Below;
+use naga_errors::function::FunctionError;
+use naga_errors::mesh::{MeshAnalysis, MeshFault};
 use naga_flags::capabilities::Capabilities;
 use naga_flags::valid::{ShaderStages, ValidationFlags};
-use naga_rules::below::Below;
-use naga_rules::function::FunctionError;
-use naga_rules::mesh::{MeshAnalysis, MeshFault};
+use naga_ir::expressions::Expression;
+use naga_ir::functions::Function;
+use naga_ir::module::{MeshOutputTopology, MeshStageInfo, Module};
+use naga_types::types::TypeInner;
+use naga_types::typifier::TypeResolution;
 use std::alloc::{AllocError, Global};
 
 /// A lower layer that answers the facts that it is given, whatever they are and whatever module it is asked about. Where a

@@ -3,11 +3,11 @@ use Rattle.std.proofs.Common.{◌≡◌, ℕ, true, false, ◌∷◌, Option, No
 use Rattle.std.specs.Prelude.{IfSome, is_some}
 use Rattle.naga_below.proofs.Points.{both_hold, not_holds}
 use Rattle.naga_below.specs.Points.{first_fault}
-use Rattle.naga_below.specs.Tree.{Use}
-use Rattle.naga_below.specs.View.{atomic_acts, put_if}
-use Rattle.naga_below.specs.declared.ir.operations.AtomicFunction.{AtomicFunction}
-use Rattle.naga_below.specs.declared.ir.operations.AtomicFunction.TheVariants.{Exchange}
-use Rattle.naga_below.specs.declared.ir.types.Scalar.{Scalar}
+use Rattle.naga_ir.specs.Tree.{Use}
+use Rattle.naga_ir.specs.View.{atomic_acts, put_if}
+use Rattle.naga_ir.specs.declared.operations.AtomicFunction.{AtomicFunction}
+use Rattle.naga_ir.specs.declared.operations.AtomicFunction.TheVariants.{Exchange}
+use Rattle.naga_types.specs.declared.types.Scalar.{Scalar}
 use Rattle.naga_runs.specs.Handles.{Handles}
 use Rattle.naga_runs.specs.Soundness.{Fit}
 use Rattle.naga_runs.specs.Visits.{Place}

@@ -1,7 +1,7 @@
 -- The check list of CooperativeStore: what it says of uses.
 use Rattle.std.proofs.Common.{◌≡◌, ℕ, [], ◌∷◌, None}
 use Rattle.naga_below.specs.Points.{first_fault}
-use Rattle.naga_below.specs.Tree.{Use}
+use Rattle.naga_ir.specs.Tree.{Use}
 use Rattle.naga_runs.specs.Soundness.{Fit}
 use Rattle.naga_runs.specs.Visits.{Place}
 use Rattle.naga_context.specs.Context.{Context}

@@ -1,10 +1,6 @@
 pub mod Lists
-pub mod InRange
-pub mod RayQueries
-pub mod RayTraces
+pub mod ResultsInRange
 pub mod Atomics
 pub mod Stores
 pub mod Loads
 pub mod CooperativeStores
-pub mod Images
-pub mod ImageAtomics

@@ -3,9 +3,9 @@ use Rattle.std.proofs.Common.{◌≡◌, ℕ, zero, suc, ◌+◌, ◌-◌, ◌�
 use Rattle.std.specs.Option.{option_map}
 use Rattle.std.specs.Prelude.{unwrap_or}
 use Rattle.naga_below.specs.Fits.{NameEarlierExpressions}
-use Rattle.naga_below.specs.Tree.{Use}
-use Rattle.naga_below.specs.declared.ir.expressions.Expression.{Expression as IrExpression}
-use Rattle.naga_below.specs.declared.ir.expressions.Expression.TheVariants as e
+use Rattle.naga_ir.specs.Tree.{Use}
+use Rattle.naga_ir.specs.declared.expressions.Expression.{Expression as IrExpression}
+use Rattle.naga_ir.specs.declared.expressions.Expression.TheVariants as e
 use Rattle.naga_runs.specs.Visits.{Place}
 use Rattle.naga_below.specs.Points.{first_fault}
 use Rattle.naga_runs.specs.Soundness.{Fit}

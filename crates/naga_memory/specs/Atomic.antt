@@ -2,25 +2,25 @@
 use Rattle.std.specs.Prelude.{ℕ, Bool, true, false, not, ◌&&◌, ◌||◌, ◌==◌, List, [], ◌∷◌, ◌++◌, Option, None, Some, is_some, if◌then◌else◌, unwrap_or}
 use Rattle.naga_flags.specs.Bits as bit
 use Rattle.naga_flags.specs.Bits.{has_capability}
-use Rattle.naga_below.specs.Types.{bool_scalar, inner_at}
-use Rattle.naga_below.specs.declared.ir.expressions.Expression.{Expression}
-use Rattle.naga_below.specs.declared.ir.expressions.Expression.TheVariants as e
-use Rattle.naga_below.specs.declared.ir.operations.AtomicFunction.{AtomicFunction}
-use Rattle.naga_below.specs.declared.ir.operations.AtomicFunction.TheVariants.{Add, Subtract, Min, Max, Exchange}
-use Rattle.naga_below.specs.declared.ir.types.AddressSpace.{AddressSpace}
-use Rattle.naga_below.specs.declared.ir.types.AddressSpace.TheVariants as space
-use Rattle.naga_below.specs.declared.ir.types.Scalar.{Scalar}
-use Rattle.naga_below.specs.declared.ir.types.ScalarKind.{ScalarKind}
-use Rattle.naga_below.specs.declared.ir.types.ScalarKind.TheVariants as kind
-use Rattle.naga_below.specs.declared.ir.types.Type.{«Type» as IrType}
-use Rattle.naga_below.specs.declared.ir.types.TypeInner.{TypeInner}
-use Rattle.naga_below.specs.declared.ir.types.TypeInner.TheVariants as inner
+use Rattle.naga_types.specs.Types.{bool_scalar, inner_at}
+use Rattle.naga_ir.specs.declared.expressions.Expression.{Expression}
+use Rattle.naga_ir.specs.declared.expressions.Expression.TheVariants as e
+use Rattle.naga_ir.specs.declared.operations.AtomicFunction.{AtomicFunction}
+use Rattle.naga_ir.specs.declared.operations.AtomicFunction.TheVariants.{Add, Subtract, Min, Max, Exchange}
+use Rattle.naga_types.specs.declared.types.AddressSpace.{AddressSpace}
+use Rattle.naga_types.specs.declared.types.AddressSpace.TheVariants as space
+use Rattle.naga_types.specs.declared.types.Scalar.{Scalar}
+use Rattle.naga_types.specs.declared.types.ScalarKind.{ScalarKind}
+use Rattle.naga_types.specs.declared.types.ScalarKind.TheVariants as kind
+use Rattle.naga_types.specs.declared.types.Type.{«Type» as IrType}
+use Rattle.naga_types.specs.declared.types.TypeInner.{TypeInner}
+use Rattle.naga_types.specs.declared.types.TypeInner.TheVariants as inner
 use Rattle.naga_flags.specs.declared.capabilities.Capabilities.{Capabilities}
 use Rattle.naga_rules.specs.Spaces.{is_storage}
-use Rattle.naga_rules.specs.declared.function.AtomicError.{AtomicError}
-use Rattle.naga_rules.specs.declared.function.AtomicError.TheVariants as wrong
-use Rattle.naga_rules.specs.declared.function.FunctionError.{FunctionError}
-use Rattle.naga_rules.specs.declared.function.FunctionError.TheVariants.{InvalidAtomic}
+use Rattle.naga_errors.specs.declared.function.AtomicError.{AtomicError}
+use Rattle.naga_errors.specs.declared.function.AtomicError.TheVariants as wrong
+use Rattle.naga_errors.specs.declared.function.FunctionError.{FunctionError}
+use Rattle.naga_errors.specs.declared.function.FunctionError.TheVariants.{InvalidAtomic}
 use Rattle.naga_runs.specs.Handles.{Handles}
 use Rattle.naga_runs.specs.Visits.{Place}
 use Rattle.naga_below.specs.Points.{Point}
@@ -28,7 +28,7 @@ use Rattle.naga_context.specs.Context.{Context}
 use Rattle.naga_context.specs.Points.{Points, use_point, put_point}
 use Rattle.naga_context.specs.Results.{is_fresh}
 use Rattle.naga_context.specs.Pointers.{space_at}
-use Rattle.naga_below.specs.TypeTests.{is_scalar, both_are, is_equivalent, it_is, is_exchange_struct}
+use Rattle.naga_types.specs.TypeTests.{is_scalar, both_are, is_equivalent, it_is, is_exchange_struct}
 use Rattle.naga_context.specs.Types.{is_integer, expression_at, type_at}
 
 -- a point whose fault stands inside InvalidAtomic

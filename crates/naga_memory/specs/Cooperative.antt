@@ -1,11 +1,11 @@
 -- The check list of CooperativeStore.
 use Rattle.std.specs.Prelude.{ℕ, Bool, false, [], ◌∷◌, Option, None, Some, option_and_then, is_some}
-use Rattle.naga_below.specs.Types.{resolved, scalar_of}
-use Rattle.naga_below.specs.contracts.ir.types.ScalarPartialEq.TheImpl as scalar
-use Rattle.naga_below.specs.declared.ir.types.Scalar.{Scalar}
-use Rattle.naga_below.specs.declared.ir.types.TypeInner.{TypeInner}
-use Rattle.naga_below.specs.declared.ir.types.TypeInner.TheVariants as inner
-use Rattle.naga_rules.specs.declared.function.FunctionError.TheVariants.{InvalidCooperativeStoreTarget, InvalidCooperativeDataPointer, InvalidStorePointer}
+use Rattle.naga_types.specs.Types.{resolved, scalar_of}
+use Rattle.naga_types.specs.contracts.types.ScalarPartialEq.TheImpl as scalar
+use Rattle.naga_types.specs.declared.types.Scalar.{Scalar}
+use Rattle.naga_types.specs.declared.types.TypeInner.{TypeInner}
+use Rattle.naga_types.specs.declared.types.TypeInner.TheVariants as inner
+use Rattle.naga_errors.specs.declared.function.FunctionError.TheVariants.{InvalidCooperativeStoreTarget, InvalidCooperativeDataPointer, InvalidStorePointer}
 use Rattle.naga_runs.specs.Visits.{Place}
 use Rattle.naga_context.specs.Context.{Context}
 use Rattle.naga_context.specs.Points.{Points, use_point}

@@ -1,10 +1,5 @@
-pub mod Traces
 pub mod Atomic
 pub mod Store
 pub mod Load
 pub mod Cooperative
-pub mod RayQuery
-pub mod RayTrace
-pub mod Image
-pub mod ImageAtomic
 pub mod walk

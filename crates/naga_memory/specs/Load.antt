@@ -1,20 +1,20 @@
 -- The check list of WorkGroupUniformLoad.
 use Rattle.std.specs.Prelude.{ℕ, Bool, true, false, ◌||◌, [], ◌∷◌, Option, None, Some, is_some}
-use Rattle.naga_below.specs.Types.{inner_at}
-use Rattle.naga_below.specs.declared.ir.expressions.Expression.{Expression}
-use Rattle.naga_below.specs.declared.ir.expressions.Expression.TheVariants as e
-use Rattle.naga_below.specs.declared.ir.types.AddressSpace.{AddressSpace}
-use Rattle.naga_below.specs.declared.ir.types.AddressSpace.TheVariants as space
-use Rattle.naga_below.specs.declared.ir.types.Scalar.{Scalar}
-use Rattle.naga_below.specs.declared.ir.types.TypeInner.{TypeInner}
-use Rattle.naga_below.specs.declared.ir.types.TypeInner.TheVariants as inner
-use Rattle.naga_rules.specs.declared.function.FunctionError.TheVariants.{WorkgroupUniformLoadExpressionMismatch, WorkgroupUniformLoadInvalidPointer}
+use Rattle.naga_types.specs.Types.{inner_at}
+use Rattle.naga_ir.specs.declared.expressions.Expression.{Expression}
+use Rattle.naga_ir.specs.declared.expressions.Expression.TheVariants as e
+use Rattle.naga_types.specs.declared.types.AddressSpace.{AddressSpace}
+use Rattle.naga_types.specs.declared.types.AddressSpace.TheVariants as space
+use Rattle.naga_types.specs.declared.types.Scalar.{Scalar}
+use Rattle.naga_types.specs.declared.types.TypeInner.{TypeInner}
+use Rattle.naga_types.specs.declared.types.TypeInner.TheVariants as inner
+use Rattle.naga_errors.specs.declared.function.FunctionError.TheVariants.{WorkgroupUniformLoadExpressionMismatch, WorkgroupUniformLoadInvalidPointer}
 use Rattle.naga_runs.specs.Visits.{Place}
 use Rattle.naga_memory.specs.Atomic.{atomic_scalar_at}
 use Rattle.naga_context.specs.Context.{Context}
 use Rattle.naga_context.specs.Points.{Points, use_point, put_point}
 use Rattle.naga_context.specs.Pointers.{space_at}
-use Rattle.naga_below.specs.TypeTests.{is_scalar, both_are, is_equivalent}
+use Rattle.naga_types.specs.TypeTests.{is_scalar, both_are, is_equivalent}
 use Rattle.naga_context.specs.Types.{expression_at, type_at}
 
 abbrev pub is_work_group : Option AddressSpace → Bool

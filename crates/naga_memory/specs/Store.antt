@@ -1,21 +1,21 @@
 -- The check list of Store.
 use Rattle.std.specs.Prelude.{ℕ, zero, suc, Bool, true, false, not, List, [], ◌∷◌, Option, None, Some, slice_get, unwrap_or}
 use Rattle.std.specs.Option.{option_map}
-use Rattle.naga_below.specs.Types.{resolved}
-use Rattle.naga_below.specs.declared.ir.expressions.Expression.{Expression}
-use Rattle.naga_below.specs.declared.ir.expressions.Expression.TheVariants as e
-use Rattle.naga_below.specs.declared.ir.types.Type.{«Type» as IrType}
-use Rattle.naga_below.specs.declared.ir.types.TypeInner.{TypeInner}
-use Rattle.naga_below.specs.declared.ir.types.TypeInner.TheVariants as inner
-use Rattle.naga_below.specs.declared.proc.typifier.TypeResolution.{TypeResolution}
-use Rattle.naga_rules.specs.declared.function.FunctionError.{FunctionError}
-use Rattle.naga_rules.specs.declared.function.FunctionError.TheVariants.{InvalidStorePointer, InvalidStoreTexture, InvalidStoreTypes}
+use Rattle.naga_types.specs.Types.{resolved}
+use Rattle.naga_ir.specs.declared.expressions.Expression.{Expression}
+use Rattle.naga_ir.specs.declared.expressions.Expression.TheVariants as e
+use Rattle.naga_types.specs.declared.types.Type.{«Type» as IrType}
+use Rattle.naga_types.specs.declared.types.TypeInner.{TypeInner}
+use Rattle.naga_types.specs.declared.types.TypeInner.TheVariants as inner
+use Rattle.naga_types.specs.declared.typifier.TypeResolution.{TypeResolution}
+use Rattle.naga_errors.specs.declared.function.FunctionError.{FunctionError}
+use Rattle.naga_errors.specs.declared.function.FunctionError.TheVariants.{InvalidStorePointer, InvalidStoreTexture, InvalidStoreTypes}
 use Rattle.naga_runs.specs.Visits.{Place}
 use Rattle.naga_context.specs.Context.{Context}
 use Rattle.naga_context.specs.Pointers.{base_type_at, is_writable}
 use Rattle.naga_context.specs.Points.{Points, use_point}
 use Rattle.naga_below.specs.Points.{Point}
-use Rattle.naga_below.specs.TypeTests.{is_scalar, is_same_type}
+use Rattle.naga_types.specs.TypeTests.{is_scalar, is_same_type}
 use Rattle.naga_context.specs.Types.{expression_at, resolution_at, type_at, named_type}
 
 -- the expression of which an access takes a part

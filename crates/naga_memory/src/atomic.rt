@@ -2,10 +2,10 @@
 
 ghost use Rattle.std.specs.Prelude.{◌≡◌, ◌<◌, OnOk, IfSome, Some, is_some};
 ghost use Rattle.std.specs.Option.{option_copied};
-ghost use Rattle.naga_below.specs.View.{put_if};
+ghost use Rattle.naga_ir.specs.View.{put_if};
 ghost use Rattle.naga_runs.specs.PutsAndUses.{puts_of};
 ghost use Rattle.naga_context.specs.walk.Answers.{Finds};
-ghost use Rattle.naga_rules.specs.Answers.{AnswersPoints};
+ghost use Rattle.naga_errors.specs.Answers.{AnswersPoints};
 ghost use Rattle.naga_memory.specs.Atomic.{atomic_scalar_at, is_int64, is_float32, is_min_or_max, is_plain_exchange, is_done_on_floats, int64_capability, scalar_points, is_atomic_result, is_comparison, result_type_at, atomic_result_points, atomic_points};
 ghost use Rattle.naga_rules.specs.Spaces.{is_storage};
 ghost use Rattle.naga_memory.specs.walk.Atomic.{operated_points, compared_points, uncompared_points};
@@ -14,21 +14,20 @@ ghost use Rattle.naga_context.specs.walk.Place.{place_at};
 ghost use Rattle.naga_context.specs.walk.Seen.{context_of};
 ghost use Rattle.naga_context.specs.walk.Table.{HasPut, count, filled_in, known};
 
-use crate::image::inner_at;
-use naga_below::arena::handle::Handle;
-use naga_below::arena::tag;
-use naga_below::ir::expressions::Expression;
-use naga_below::ir::operations::AtomicFunction;
-use naga_below::ir::types::{AddressSpace, Scalar, ScalarKind, TypeInner};
-use naga_below::span::Span;
+use naga_arena::handle::Handle;
+use naga_arena::span::Span;
+use naga_arena::tag;
 use naga_context::context::BlockContext;
 use naga_context::refuse::{answer, check_put, check_use};
 use naga_context::refused::Refused;
 use naga_context::results::is_fresh;
 use naga_context::table::{FilledColumn, ScopeColumn};
-use naga_context::types::{is_equivalent, is_exchange_struct, is_integer, is_scalar};
+use naga_context::types::{inner_at, is_equivalent, is_exchange_struct, is_integer, is_scalar};
+use naga_errors::function::{AtomicError, FunctionError};
 use naga_flags::capabilities::Capabilities;
-use naga_rules::function::{AtomicError, FunctionError};
+use naga_ir::expressions::Expression;
+use naga_ir::operations::AtomicFunction;
+use naga_types::types::{AddressSpace, Scalar, ScalarKind, TypeInner};
 
 /// An atomic operation: where the atomic is, what is done to it, with which value, and the result that is named, if one is.
 #[derive(Clone, Copy)]

@@ -2,23 +2,23 @@
 
 ghost use Rattle.std.specs.Prelude.{◌≡◌};
 ghost use Rattle.naga_context.specs.walk.Answers.{Finds};
-ghost use Rattle.naga_rules.specs.Answers.{AnswersPoints};
+ghost use Rattle.naga_errors.specs.Answers.{AnswersPoints};
 ghost use Rattle.naga_context.specs.Context.{ContextFits};
 ghost use Rattle.naga_memory.specs.Cooperative.{matrix_scalar_at, base_scalar_at, cooperative_points};
 ghost use Rattle.naga_context.specs.walk.Place.{place_at};
 ghost use Rattle.naga_context.specs.walk.Seen.{context_of};
 ghost use Rattle.naga_context.specs.walk.Table.{known};
 
-use naga_below::arena::handle::Handle;
-use naga_below::arena::tag;
-use naga_below::ir::types::{Scalar, TypeInner};
-use naga_below::span::Span;
+use naga_arena::handle::Handle;
+use naga_arena::span::Span;
+use naga_arena::tag;
 use naga_context::context::BlockContext;
 use naga_context::pointers::{base_type, is_writable};
 use naga_context::refuse::{answer, check_use};
 use naga_context::refused::Refused;
 use naga_context::table::ScopeColumn;
-use naga_rules::function::FunctionError;
+use naga_errors::function::FunctionError;
+use naga_types::types::{Scalar, TypeInner};
 
 /// CooperativeStore: its target and its pointer.
 pub fn check_cooperative_store(

@@ -3,7 +3,7 @@
 ghost use Rattle.std.specs.Prelude.{◌≡◌, ◌<◌, ◌∷◌, [], OnOk, IfSome, length};
 ghost use Rattle.std.specs.Option.{option_copied};
 ghost use Rattle.naga_context.specs.walk.Answers.{Finds};
-ghost use Rattle.naga_rules.specs.Answers.{AnswersPoints};
+ghost use Rattle.naga_errors.specs.Answers.{AnswersPoints};
 ghost use Rattle.naga_context.specs.Context.{ContextFits};
 ghost use Rattle.naga_memory.specs.Load.{is_work_group, loaded_type_at, points_to, load_points};
 ghost use Rattle.naga_context.specs.walk.Place.{place_at};
@@ -11,18 +11,18 @@ ghost use Rattle.naga_context.specs.walk.Seen.{context_of};
 ghost use Rattle.naga_context.specs.walk.Table.{HasPut, count, known};
 
 use crate::atomic::atomic_scalar;
-use naga_below::arena::handle::Handle;
-use naga_below::arena::tag;
-use naga_below::ir::expressions::Expression;
-use naga_below::ir::types::{AddressSpace, TypeInner};
-use naga_below::span::Span;
+use naga_arena::handle::Handle;
+use naga_arena::span::Span;
+use naga_arena::tag;
 use naga_context::context::BlockContext;
 use naga_context::pointers::space;
 use naga_context::refuse::{answer, check_put, check_use};
 use naga_context::refused::Refused;
 use naga_context::table::ScopeColumn;
 use naga_context::types::{is_equivalent, is_scalar};
-use naga_rules::function::FunctionError;
+use naga_errors::function::FunctionError;
+use naga_ir::expressions::Expression;
+use naga_types::types::{AddressSpace, TypeInner};
 
 /// WorkGroupUniformLoad: its pointer and its result, which is in scope afterwards.
 pub fn validate_load(

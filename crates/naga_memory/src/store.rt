@@ -2,10 +2,10 @@
 
 ghost use Rattle.std.specs.Prelude.{◌≡◌, true, IfSome, length};
 ghost use Rattle.std.specs.Option.{option_copied};
-ghost use Rattle.naga_below.specs.Types.{ResolutionFits};
-ghost use Rattle.naga_rules.specs.declared.function.FunctionError.TheVariants.{InvalidStorePointer, InvalidStoreTexture, InvalidStoreTypes};
+ghost use Rattle.naga_types.specs.Types.{ResolutionFits};
+ghost use Rattle.naga_errors.specs.declared.function.FunctionError.TheVariants.{InvalidStorePointer, InvalidStoreTexture, InvalidStoreTypes};
 ghost use Rattle.naga_context.specs.walk.Answers.{IsRefusalFor};
-ghost use Rattle.naga_rules.specs.Answers.{AnswersPoints};
+ghost use Rattle.naga_errors.specs.Answers.{AnswersPoints};
 ghost use Rattle.naga_context.specs.Context.{ContextFits};
 ghost use Rattle.naga_context.specs.walk.Place.{place_at};
 ghost use Rattle.naga_context.specs.walk.Seen.{context_of};
@@ -13,20 +13,20 @@ ghost use Rattle.naga_memory.specs.Store.{access_base, root_at, is_variable, is_
 ghost use Rattle.naga_context.specs.Types.{named_type};
 ghost use Rattle.naga_context.specs.walk.Table.{known};
 
-use naga_below::arena::handle::Handle;
-use naga_below::arena::tag;
-use naga_below::ir::expressions::Expression;
-use naga_below::ir::types::TypeInner;
-use naga_below::proc::type_methods::compare_types;
-use naga_below::proc::typifier::TypeResolution;
-use naga_below::span::Span;
+use naga_arena::handle::Handle;
+use naga_arena::span::Span;
+use naga_arena::tag;
 use naga_context::context::BlockContext;
 use naga_context::pointers::{base_type, is_writable};
 use naga_context::refuse::not_in_scope;
 use naga_context::refused::Refused;
 use naga_context::table::ScopeColumn;
 use naga_context::types::is_scalar;
-use naga_rules::function::FunctionError;
+use naga_errors::function::FunctionError;
+use naga_ir::expressions::Expression;
+use naga_types::type_methods::compare_types;
+use naga_types::types::TypeInner;
+use naga_types::typifier::TypeResolution;
 use std::alloc::Global;
 
 /// Store: a pointer that leads back to a variable or an argument; a value, which is no texture; the type that is pointed to

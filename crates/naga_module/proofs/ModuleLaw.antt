@@ -3,23 +3,23 @@ use Rattle.std.proofs.Common.{◌≡◌, ◌+◌, ◌++◌, ◌∙◌, inl, inr,
 use Rattle.std.proofs.lemmas.List.{length-append}
 use Rattle.std.specs.Prelude.{drop, take}
 use Rattle.naga_below.specs.Fits.{FitsFunction, FitsEntry}
-use Rattle.naga_below.specs.declared.ir.functions.Function.{Function}
-use Rattle.naga_below.specs.declared.ir.module.EntryPoint.{EntryPoint}
-use Rattle.naga_below.specs.declared.ir.module.Module.{Module}
+use Rattle.naga_ir.specs.declared.functions.Function.{Function}
+use Rattle.naga_ir.specs.declared.module.EntryPoint.{EntryPoint}
+use Rattle.naga_ir.specs.declared.module.Module.{Module}
 use Rattle.naga_below.specs.declared.valid.info.FunctionInfo.{FunctionInfo}
 use Rattle.naga_below.specs.declared.valid.info.ModuleInfo.{ModuleInfo}
 use Rattle.naga_below.specs.declared.valid.settings.Settings.{Settings}
 use Rattle.naga_below.specs.declared.valid.types.TypeInfo.{TypeInfo}
-use Rattle.naga_rules.specs.Meaning.{Meaning}
+use Rattle.naga_errors.specs.Meaning.{Meaning}
 use Rattle.naga_function.proofs.Chains.{none_is_vetted, one_more_is_vetted, fits_calls_below}
 use Rattle.naga_valid.proofs.EntryChains.{entry_is_sound, entry_keeps_its_stage}
 use Rattle.naga_function.proofs.FunctionLaw.{is_sound}
 use Rattle.naga_function.specs.Chains.{AreVetted, ChainsKeepTo}
-use Rattle.naga_valid.specs.interface.Judged.{HasPayloadSizes, entry_judgement}
-use Rattle.naga_valid.specs.interface.Uses.{only}
+use Rattle.naga_interface.specs.Judged.{HasPayloadSizes, entry_judgement}
+use Rattle.naga_interface.specs.Uses.{only}
 use Rattle.naga_function.specs.InOrder.{with_info}
-use Rattle.naga_checks.specs.Judged.{FunctionOutcome, function_judgement}
-use Rattle.naga_checks.specs.Parts.{no_traces}
+use Rattle.naga_statements.specs.Judged.{FunctionOutcome, function_judgement}
+use Rattle.naga_statements.specs.Parts.{no_traces}
 use Rattle.naga_context.specs.WhatIsChecked.{checks_blocks}
 use Rattle.naga_context.specs.declared.trace.TraceState.{TraceState}
 use Rattle.naga_module.specs.ModuleJudgement.{Answer, Tested, Step, with_entry, first_infos, IsOfFunction, IsOfEntryPoint, EntriesAnswer, BehindFunctions, FunctionsAnswer, Fits, globals_step}

@@ -1,11 +1,11 @@
 -- The judgement of a module, step by step: what is answered behind each.
 use Rattle.std.proofs.Common.{◌≡◌, ◌⊎◌, inl, inr, List, [], Ok, Err, refl, sym, subst}
 use Rattle.std.specs.Prelude.{Result, OnOk, IfErr}
-use Rattle.naga_below.specs.declared.ir.module.Module.{Module}
+use Rattle.naga_ir.specs.declared.module.Module.{Module}
 use Rattle.naga_below.specs.declared.valid.info.ModuleInfo.{ModuleInfo}
 use Rattle.naga_below.specs.declared.valid.settings.Settings.{Settings}
 use Rattle.naga_below.specs.declared.valid.types.TypeInfo.{TypeInfo}
-use Rattle.naga_rules.specs.Meaning.{Meaning}
+use Rattle.naga_errors.specs.Meaning.{Meaning}
 use Rattle.naga_context.specs.declared.trace.TraceState.{TraceState}
 use Rattle.naga_module.specs.CodeModule.{Leads, Stops}
 use Rattle.naga_module.specs.ModuleJudgement.{Answer, Step, IsOfFunction, globals_step, BehindFunctions, BehindTests, FunctionsAnswer}

@@ -7,19 +7,19 @@ use Rattle.std.specs.Prelude.{None, Some, slice_get}
 use Rattle.naga_below.proofs.Points.{first_turn, first_end}
 use Rattle.naga_below.specs.Points.{Point, first_fault, points_from, points_of_each}
 use Rattle.naga_below.specs.Fits.{FitsFunction, FitsEntry}
-use Rattle.naga_below.specs.declared.ir.functions.Function.{Function}
-use Rattle.naga_below.specs.declared.ir.module.EntryPoint.{EntryPoint}
-use Rattle.naga_below.specs.declared.ir.module.Module.{Module}
+use Rattle.naga_ir.specs.declared.functions.Function.{Function}
+use Rattle.naga_ir.specs.declared.module.EntryPoint.{EntryPoint}
+use Rattle.naga_ir.specs.declared.module.Module.{Module}
 use Rattle.naga_below.specs.declared.valid.info.ModuleInfo.{ModuleInfo}
 use Rattle.naga_below.specs.declared.valid.settings.Settings.{Settings}
 use Rattle.naga_below.specs.declared.valid.types.TypeInfo.{TypeInfo}
-use Rattle.naga_rules.specs.Meaning.{Meaning}
-use Rattle.naga_rules.specs.declared.function.FunctionError.{FunctionError}
-use Rattle.naga_valid.specs.interface.Faults.{fault_of}
-use Rattle.naga_valid.specs.interface.Judged.{entry_judgement}
+use Rattle.naga_errors.specs.Meaning.{Meaning}
+use Rattle.naga_errors.specs.declared.function.FunctionError.{FunctionError}
+use Rattle.naga_interface.specs.Faults.{fault_of}
+use Rattle.naga_interface.specs.Judged.{entry_judgement}
 use Rattle.naga_function.specs.InOrder.{with_info}
-use Rattle.naga_checks.specs.Judged.{FunctionOutcome, function_judgement}
-use Rattle.naga_valid.specs.declared.interface.EntryPointError.{EntryPointError}
+use Rattle.naga_statements.specs.Judged.{FunctionOutcome, function_judgement}
+use Rattle.naga_interface.specs.declared.error.EntryPointError.{EntryPointError}
 use Rattle.naga_context.specs.declared.trace.TraceState.{TraceState}
 use Rattle.naga_module.specs.CodeModule.{Leads, Stops, EntriesLead, EntriesStop}
 use Rattle.naga_module.specs.ModuleJudgement.{Answer, Step, with_entry, IsOfFunction, IsOfEntryPoint, EntriesAnswer, FunctionsAnswer}

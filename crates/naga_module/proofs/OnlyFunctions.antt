@@ -5,20 +5,20 @@ use Rattle.std.proofs.lemmas.List.Elements.{All-nil}
 use Rattle.std.specs.Prelude.{All, IsSome, slice_get}
 use Rattle.naga_below.specs.Fits.{FitsFunction}
 use Rattle.naga_below.specs.Points.{answer, first_fault, points_of_each}
-use Rattle.naga_below.specs.declared.ir.functions.Function.{Function}
-use Rattle.naga_below.specs.declared.ir.module.EntryPoint.{EntryPoint}
-use Rattle.naga_below.specs.declared.ir.module.GlobalVariable.{GlobalVariable}
-use Rattle.naga_below.specs.declared.ir.module.Module.{Module}
-use Rattle.naga_below.specs.declared.ir.types.AddressSpace.TheVariants as space
+use Rattle.naga_ir.specs.declared.functions.Function.{Function}
+use Rattle.naga_ir.specs.declared.module.EntryPoint.{EntryPoint}
+use Rattle.naga_ir.specs.declared.module.GlobalVariable.{GlobalVariable}
+use Rattle.naga_ir.specs.declared.module.Module.{Module}
+use Rattle.naga_types.specs.declared.types.AddressSpace.TheVariants as space
 use Rattle.naga_below.specs.declared.valid.info.ModuleInfo.{ModuleInfo}
 use Rattle.naga_below.specs.declared.valid.settings.Settings.{Settings}
 use Rattle.naga_below.specs.declared.valid.types.TypeInfo.{TypeInfo}
-use Rattle.naga_rules.specs.Meaning.{Meaning}
-use Rattle.naga_rules.specs.declared.function.FunctionError.{FunctionError}
+use Rattle.naga_errors.specs.Meaning.{Meaning}
+use Rattle.naga_errors.specs.declared.function.FunctionError.{FunctionError}
 use Rattle.naga_function.specs.InOrder.{with_info}
-use Rattle.naga_checks.specs.Judged.{FunctionOutcome, function_judgement}
-use Rattle.naga_checks.specs.Parts.{no_traces}
-use Rattle.naga_valid.specs.interface.Judged.{HasPayloadSizes}
+use Rattle.naga_statements.specs.Judged.{FunctionOutcome, function_judgement}
+use Rattle.naga_statements.specs.Parts.{no_traces}
+use Rattle.naga_interface.specs.Judged.{HasPayloadSizes}
 use Rattle.naga_context.specs.declared.trace.TraceState.{TraceState}
 use Rattle.naga_module.specs.ModuleJudgement.{Answer, Step, IsOfFunction, first_infos, globals_step, points_of_global, EntriesAnswer, FunctionsAnswer}
 use Rattle.naga_module.specs.ModuleLaw.{IsToldOfFunctions, FunctionsAloneAreTold}

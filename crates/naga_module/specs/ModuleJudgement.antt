@@ -4,22 +4,22 @@
 use Rattle.std.specs.Prelude.{◌≡◌, ◌⊎◌, ℕ, false, List, [], ◌∷◌, ◌++◌, Result, Ok, Err, length}
 use Rattle.naga_below.specs.Fits.{FitsTypes, FitsGlobals, FitsFunction, FitsEntry}
 use Rattle.naga_below.specs.Points.{Point, first_fault, answer, within, points_of_each}
-use Rattle.naga_below.specs.declared.ir.functions.Function.{Function}
-use Rattle.naga_below.specs.declared.ir.module.EntryPoint.{EntryPoint}
-use Rattle.naga_below.specs.declared.ir.module.GlobalVariable.{GlobalVariable}
-use Rattle.naga_below.specs.declared.ir.module.Module.{Module}
-use Rattle.naga_below.specs.declared.proc.typifier.TypeResolution.{TypeResolution}
+use Rattle.naga_ir.specs.declared.functions.Function.{Function}
+use Rattle.naga_ir.specs.declared.module.EntryPoint.{EntryPoint}
+use Rattle.naga_ir.specs.declared.module.GlobalVariable.{GlobalVariable}
+use Rattle.naga_ir.specs.declared.module.Module.{Module}
+use Rattle.naga_types.specs.declared.typifier.TypeResolution.{TypeResolution}
 use Rattle.naga_below.specs.declared.valid.info.FunctionInfo.{FunctionInfo}
 use Rattle.naga_below.specs.declared.valid.info.ModuleInfo.{ModuleInfo}
 use Rattle.naga_below.specs.declared.valid.settings.Settings.{Settings}
 use Rattle.naga_below.specs.declared.valid.types.TypeInfo.{TypeInfo}
-use Rattle.naga_rules.specs.Meaning.{Meaning}
-use Rattle.naga_valid.specs.interface.Faults.{EntryFault, fault_of}
-use Rattle.naga_valid.specs.interface.Judged.{HasPayloadSizes, entry_judgement}
-use Rattle.naga_valid.specs.interface.GlobalPoints.{module_global_points}
+use Rattle.naga_errors.specs.Meaning.{Meaning}
+use Rattle.naga_interface.specs.Faults.{EntryFault, fault_of}
+use Rattle.naga_interface.specs.Judged.{HasPayloadSizes, entry_judgement}
+use Rattle.naga_interface.specs.GlobalPoints.{module_global_points}
 use Rattle.naga_function.specs.InOrder.{with_info}
-use Rattle.naga_checks.specs.Judged.{function_judgement}
-use Rattle.naga_checks.specs.Parts.{AreInfosOf, no_traces}
+use Rattle.naga_statements.specs.Judged.{function_judgement}
+use Rattle.naga_statements.specs.Parts.{AreInfosOf, no_traces}
 use Rattle.naga_context.specs.declared.trace.TraceState.{TraceState}
 use Rattle.naga_module.specs.declared.check.ModuleFault.{ModuleFault}
 use Rattle.naga_module.specs.declared.check.ModuleFault.TheVariants as fault

@@ -2,19 +2,19 @@
 use Rattle.std.specs.Prelude.{◌≡◌, ℕ, true, List, [], Some, Ok, Err, ⊤, slice_get, take}
 use Rattle.naga_below.specs.Each.{EachAt}
 use Rattle.naga_below.specs.Fits.{FitsFunction}
-use Rattle.naga_below.specs.declared.ir.functions.Function.{Function}
-use Rattle.naga_below.specs.declared.ir.module.EntryPoint.{EntryPoint}
-use Rattle.naga_below.specs.declared.ir.module.Module.{Module}
-use Rattle.naga_below.specs.declared.proc.typifier.TypeResolution.{TypeResolution}
+use Rattle.naga_ir.specs.declared.functions.Function.{Function}
+use Rattle.naga_ir.specs.declared.module.EntryPoint.{EntryPoint}
+use Rattle.naga_ir.specs.declared.module.Module.{Module}
+use Rattle.naga_types.specs.declared.typifier.TypeResolution.{TypeResolution}
 use Rattle.naga_below.specs.declared.valid.info.ModuleInfo.{ModuleInfo}
 use Rattle.naga_below.specs.declared.valid.settings.Settings.{Settings}
 use Rattle.naga_below.specs.declared.valid.types.TypeInfo.{TypeInfo}
-use Rattle.naga_rules.specs.Meaning.{Meaning}
+use Rattle.naga_errors.specs.Meaning.{Meaning}
 use Rattle.naga_runs.specs.Soundness.{RunsAreSure}
 use Rattle.naga_context.specs.Blocks.{body_of}
 use Rattle.naga_function.specs.Chains.{ChainsKeepTo}
 use Rattle.naga_context.specs.Context.{pre_emitted_of}
-use Rattle.naga_valid.specs.interface.Uses.{only}
+use Rattle.naga_interface.specs.Uses.{only}
 use Rattle.naga_context.specs.WhatIsChecked.{checks_blocks}
 use Rattle.naga_module.specs.ModuleJudgement.{Fits, IsJudgement, IsAnswered}
 use Rattle.naga_module.specs.declared.check.ModuleFault.{ModuleFault}

@@ -1,12 +1,12 @@
 -- A chain of two calls, worked by hand over the plain layer: its infos are vetted, and its last function reaches its first.
 use Rattle.std.specs.Prelude.{false, [], ◌∷◌, None}
 use Rattle.naga_flags.specs.Bits.{FRAGMENT}
-use Rattle.naga_below.specs.declared.ir.functions.Function.{Function}
-use Rattle.naga_below.specs.declared.ir.module.Module.{Module}
-use Rattle.naga_below.specs.declared.ir.statements.Block.{Block, roll-Block}
-use Rattle.naga_below.specs.declared.ir.statements.Located.{Located}
-use Rattle.naga_below.specs.declared.ir.statements.Statement.{Statement}
-use Rattle.naga_below.specs.declared.ir.statements.Statement as ir
+use Rattle.naga_ir.specs.declared.functions.Function.{Function}
+use Rattle.naga_ir.specs.declared.module.Module.{Module}
+use Rattle.naga_ir.specs.declared.statements.Block.{Block, roll-Block}
+use Rattle.naga_ir.specs.declared.statements.Located.{Located}
+use Rattle.naga_ir.specs.declared.statements.Statement.{Statement}
+use Rattle.naga_ir.specs.declared.statements.Statement as ir
 use Rattle.naga_below.specs.declared.valid.info.FunctionInfo.{FunctionInfo}
 use Rattle.naga_below.specs.declared.valid.info.ModuleInfo.{ModuleInfo}
 use Rattle.naga_below.specs.declared.valid.settings.Settings.{Settings}

@@ -2,7 +2,7 @@
 
 use crate::check::ModuleFault;
 use naga_below::{Handle, Refusal, Span, tag};
-use naga_rules::Explain;
+use naga_errors::Explain;
 use std::error::Error;
 use std::fmt;
 

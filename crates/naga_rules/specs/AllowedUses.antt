@@ -2,10 +2,10 @@
 use Rattle.std.specs.Prelude.{Bool, true, false, bit_or, Option, None, Some, if◌then◌else◌}
 use Rattle.naga_flags.specs.Bits.{LOAD, STORE, ATOMIC, READ, WRITE, QUERY, ATOMIC_USE, contains}
 use Rattle.naga_flags.specs.declared.ir.StorageAccess.{StorageAccess}
-use Rattle.naga_below.specs.declared.ir.module.ShaderStage.{ShaderStage}
-use Rattle.naga_below.specs.declared.ir.module.ShaderStage.TheVariants as stage
-use Rattle.naga_below.specs.declared.ir.types.AddressSpace.{AddressSpace}
-use Rattle.naga_below.specs.declared.ir.types.AddressSpace.TheVariants as space
+use Rattle.naga_ir.specs.declared.module.ShaderStage.{ShaderStage}
+use Rattle.naga_ir.specs.declared.module.ShaderStage.TheVariants as stage
+use Rattle.naga_types.specs.declared.types.AddressSpace.{AddressSpace}
+use Rattle.naga_types.specs.declared.types.AddressSpace.TheVariants as space
 use Rattle.naga_flags.specs.declared.valid.GlobalUse.{GlobalUse}
 
 -- what is in either set

@@ -2,17 +2,17 @@
 use Rattle.std.specs.Prelude.{ℕ, Bool, true, false, not, ◌||◌, ◌==◌, List, [], ◌∷◌, ◌++◌, Option, None, Some, Result, Ok, Err, is_none, is_some, slice_get, unwrap_or}
 use Rattle.naga_flags.specs.Bits.{contains, has_capability, STORE, COHERENT, VOLATILE, MEMORY_DECORATION_COHERENT, MEMORY_DECORATION_VOLATILE}
 use Rattle.naga_below.specs.Points.{Point}
-use Rattle.naga_below.specs.Types.{inner_at}
+use Rattle.naga_types.specs.Types.{inner_at}
 use Rattle.naga_flags.specs.declared.ir.MemoryDecorations.{MemoryDecorations}
-use Rattle.naga_below.specs.declared.ir.module.GlobalVariable.{GlobalVariable}
-use Rattle.naga_below.specs.declared.ir.module.ResourceBinding.{ResourceBinding}
-use Rattle.naga_below.specs.declared.ir.types.AddressSpace.{AddressSpace}
-use Rattle.naga_below.specs.declared.ir.types.AddressSpace.TheVariants as space
-use Rattle.naga_below.specs.declared.ir.types.Type.{«Type» as IrType}
-use Rattle.naga_below.specs.declared.ir.types.TypeInner.{TypeInner}
-use Rattle.naga_below.specs.declared.ir.types.TypeInner.TheVariants.{BindingArray}
+use Rattle.naga_ir.specs.declared.module.GlobalVariable.{GlobalVariable}
+use Rattle.naga_ir.specs.declared.module.ResourceBinding.{ResourceBinding}
+use Rattle.naga_types.specs.declared.types.AddressSpace.{AddressSpace}
+use Rattle.naga_types.specs.declared.types.AddressSpace.TheVariants as space
+use Rattle.naga_types.specs.declared.types.Type.{«Type» as IrType}
+use Rattle.naga_types.specs.declared.types.TypeInner.{TypeInner}
+use Rattle.naga_types.specs.declared.types.TypeInner.TheVariants.{BindingArray}
 use Rattle.naga_below.specs.declared.proc.expression_kinds.ExpressionKind.{ExpressionKind}
-use Rattle.naga_below.specs.declared.proc.typifier.TypeResolution.{TypeResolution}
+use Rattle.naga_types.specs.declared.typifier.TypeResolution.{TypeResolution}
 use Rattle.naga_flags.specs.declared.capabilities.Capabilities.{Capabilities}
 use Rattle.naga_flags.specs.declared.valid.TypeFlags.{TypeFlags}
 use Rattle.naga_flags.specs.declared.valid.ValidationFlags.{ValidationFlags}
@@ -21,10 +21,10 @@ use Rattle.naga_below.specs.declared.valid.types.ImmediateError.{ImmediateError}
 use Rattle.naga_below.specs.declared.valid.types.TypeInfo.{TypeInfo}
 use Rattle.naga_rules.specs.Locals.{is_const_or_override, is_declared_as}
 use Rattle.naga_rules.specs.Spaces.{Layout, StorageLayout, UniformLayout, row_of, all_of, takes_arrays, array_needs, is_resource, format_needs, takes_initializers, is_storage, is_task_payload}
-use Rattle.naga_rules.specs.TypeInfos.{info_has}
-use Rattle.naga_rules.specs.WhatIsChecked.{checks_layouts, checks_bindings}
-use Rattle.naga_rules.specs.declared.interface.GlobalVariableError.{GlobalVariableError}
-use Rattle.naga_rules.specs.declared.interface.GlobalVariableError.TheVariants.{InvalidUsage, InvalidType, MissingTypeFlags, UnsupportedCapability, InvalidBinding, Alignment, InitializerExprType, InitializerType, InitializerNotAllowed, StorageAddressSpaceWriteOnlyNotSupported, InvalidImmediateType, ZeroSizedTaskPayload, InvalidMemoryDecorationsAddressSpace, CoherentNotSupported, VolatileNotSupported}
+use Rattle.naga_errors.specs.TypeInfos.{info_has}
+use Rattle.naga_errors.specs.WhatIsChecked.{checks_layouts, checks_bindings}
+use Rattle.naga_errors.specs.declared.interface.GlobalVariableError.{GlobalVariableError}
+use Rattle.naga_errors.specs.declared.interface.GlobalVariableError.TheVariants.{InvalidUsage, InvalidType, MissingTypeFlags, UnsupportedCapability, InvalidBinding, Alignment, InitializerExprType, InitializerType, InitializerNotAllowed, StorageAddressSpaceWriteOnlyNotSupported, InvalidImmediateType, ZeroSizedTaskPayload, InvalidMemoryDecorationsAddressSpace, CoherentNotSupported, VolatileNotSupported}
 
 -- check points of a global variable
 abbrev pub GlobalPoints : Type 0

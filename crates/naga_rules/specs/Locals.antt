@@ -2,17 +2,17 @@
 use Rattle.std.specs.Prelude.{ℕ, Bool, true, false, List, [], ◌∷◌, Option, None, Some, slice_get}
 use Rattle.naga_flags.specs.Bits.{CONSTRUCTIBLE}
 use Rattle.naga_below.specs.Points.{Point}
-use Rattle.naga_below.specs.TypeTests.{is_same_type}
-use Rattle.naga_below.specs.declared.ir.functions.LocalVariable.{LocalVariable}
-use Rattle.naga_below.specs.declared.ir.types.Type.{«Type» as IrType}
+use Rattle.naga_types.specs.TypeTests.{is_same_type}
+use Rattle.naga_ir.specs.declared.functions.LocalVariable.{LocalVariable}
+use Rattle.naga_types.specs.declared.types.Type.{«Type» as IrType}
 use Rattle.naga_below.specs.declared.proc.expression_kinds.ExpressionKind.{ExpressionKind}
 use Rattle.naga_below.specs.declared.proc.expression_kinds.ExpressionKind.TheVariants.{Const, Override, Runtime}
-use Rattle.naga_below.specs.declared.proc.typifier.TypeResolution.{TypeResolution}
-use Rattle.naga_below.specs.declared.proc.typifier.TypeResolution.TheVariants.{Handle}
+use Rattle.naga_types.specs.declared.typifier.TypeResolution.{TypeResolution}
+use Rattle.naga_types.specs.declared.typifier.TypeResolution.TheVariants.{Handle}
 use Rattle.naga_below.specs.declared.valid.types.TypeInfo.{TypeInfo}
-use Rattle.naga_rules.specs.TypeInfos.{type_has}
-use Rattle.naga_rules.specs.declared.function.LocalVariableError.{LocalVariableError}
-use Rattle.naga_rules.specs.declared.function.LocalVariableError.TheVariants.{InvalidType, InitializerType, NonConstOrOverrideInitializer}
+use Rattle.naga_errors.specs.TypeInfos.{type_has}
+use Rattle.naga_errors.specs.declared.function.LocalVariableError.{LocalVariableError}
+use Rattle.naga_errors.specs.declared.function.LocalVariableError.TheVariants.{InvalidType, InitializerType, NonConstOrOverrideInitializer}
 
 -- the value is known before the pipeline runs
 abbrev pub is_const_or_override : Option ExpressionKind → Bool

@@ -2,14 +2,14 @@
 use Rattle.std.specs.Int.RustNames.{bit_or}
 use Rattle.std.specs.Prelude.{Bool, true, false, List, [], ◌∷◌, Option, None, Some, if◌then◌else◌}
 use Rattle.naga_flags.specs.Bits.{DATA, SIZED, COPY, HOST_SHAREABLE, CREATION_RESOLVED, CONSTRUCTIBLE, ACCELERATION_STRUCTURE_BINDING_ARRAY, BUFFER_BINDING_ARRAY, IMMEDIATES, MESH_SHADER, RAY_TRACING_PIPELINE, STORAGE_BUFFER_BINDING_ARRAY, STORAGE_TEXTURE_16BIT_NORM_FORMATS, STORAGE_TEXTURE_BINDING_ARRAY, TEXTURE_AND_SAMPLER_BINDING_ARRAY}
-use Rattle.naga_below.specs.declared.ir.types.AddressSpace.{AddressSpace}
-use Rattle.naga_below.specs.declared.ir.types.AddressSpace.TheVariants as space
-use Rattle.naga_below.specs.declared.ir.types.ImageClass.{ImageClass}
-use Rattle.naga_below.specs.declared.ir.types.ImageClass.TheVariants as class
-use Rattle.naga_below.specs.declared.ir.types.StorageFormat.{StorageFormat}
-use Rattle.naga_below.specs.declared.ir.types.StorageFormat.TheVariants as format
-use Rattle.naga_below.specs.declared.ir.types.TypeInner.{TypeInner}
-use Rattle.naga_below.specs.declared.ir.types.TypeInner.TheVariants as inner
+use Rattle.naga_types.specs.declared.types.AddressSpace.{AddressSpace}
+use Rattle.naga_types.specs.declared.types.AddressSpace.TheVariants as space
+use Rattle.naga_types.specs.declared.types.ImageClass.{ImageClass}
+use Rattle.naga_types.specs.declared.types.ImageClass.TheVariants as class
+use Rattle.naga_types.specs.declared.types.StorageFormat.{StorageFormat}
+use Rattle.naga_types.specs.declared.types.StorageFormat.TheVariants as format
+use Rattle.naga_types.specs.declared.types.TypeInner.{TypeInner}
+use Rattle.naga_types.specs.declared.types.TypeInner.TheVariants as inner
 use Rattle.naga_flags.specs.declared.capabilities.Capabilities.{Capabilities}
 use Rattle.naga_flags.specs.declared.valid.TypeFlags.{TypeFlags}
 

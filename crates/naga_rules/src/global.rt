@@ -3,24 +3,24 @@
 ghost use Rattle.std.specs.Prelude.{◌≡◌, ◌<◌, IfOk, IfSome, Some, All, length, slice_get};
 ghost use Rattle.std.specs.Result.{result_err};
 ghost use Rattle.naga_below.specs.Points.{first_fault};
-ghost use Rattle.naga_below.specs.Types.{NameEachOther, ResolutionFits, inner_at};
+ghost use Rattle.naga_types.specs.Types.{NameEachOther, ResolutionFits, inner_at};
 ghost use Rattle.naga_rules.specs.Globals.{global_points, array_points, element_of, asked_type, capability_points, good_layout_points, immediate_points, resource_points, place_points, space_points, type_points, decoration_points, variable_points, global_initializer_points};
 ghost use Rattle.naga_rules.specs.Spaces.{row_of, resource_array_needs, is_16bit_norm};
 
-use crate::interface::GlobalVariableError;
 use bitflags::Flags;
-use naga_below::arena::handle::Handle;
-use naga_below::arena::tag;
-use naga_below::arena::unique_arena::UniqueArena;
-use naga_below::ir::module::GlobalVariable;
-use naga_below::ir::types::{AddressSpace, ImageClass, StorageFormat, Type, TypeInner};
+use naga_arena::handle::Handle;
+use naga_arena::tag;
 use naga_below::proc::expression_kinds::ExpressionKindTracker;
-use naga_below::proc::type_methods::compare_types;
-use naga_below::proc::typifier::TypeResolution;
 use naga_below::valid::types::{Disalignment, ImmediateError, TypeInfo};
+use naga_errors::interface::GlobalVariableError;
 use naga_flags::capabilities::Capabilities;
 use naga_flags::ir::{MemoryDecorations, StorageAccess};
 use naga_flags::valid::{TypeFlags, ValidationFlags};
+use naga_ir::module::GlobalVariable;
+use naga_types::type_methods::compare_types;
+use naga_types::types::{AddressSpace, ImageClass, StorageFormat, Type, TypeInner};
+use naga_types::typifier::TypeResolution;
+use naga_types::unique_arena::UniqueArena;
 
 /// Checks a global variable, in this order, and answers the first fault: a binding array lies where one may, and the
 /// target can do it (`InvalidUsage`, `UnsupportedCapability`); the type, or what the array has, is one for the space, whose

@@ -3,21 +3,21 @@
 ghost use Rattle.std.specs.Prelude.{◌≡◌, ◌<◌, IfSome, Some, All, length};
 ghost use Rattle.std.specs.Result.{result_err};
 ghost use Rattle.naga_below.specs.Points.{first_fault};
-ghost use Rattle.naga_below.specs.Types.{NameEachOther, ResolutionFits};
+ghost use Rattle.naga_types.specs.Types.{NameEachOther, ResolutionFits};
 ghost use Rattle.naga_rules.specs.Locals.{local_points, initializer_points};
 
-use crate::function::LocalVariableError;
-use naga_below::arena::handle::Handle;
-use naga_below::arena::tag;
-use naga_below::arena::unique_arena::UniqueArena;
-use naga_below::ir::functions::LocalVariable;
-use naga_below::ir::types::Type;
+use naga_arena::handle::Handle;
+use naga_arena::tag;
 use naga_below::proc::expression_kinds::ExpressionKindTracker;
-use naga_below::proc::type_methods::compare_types;
-use naga_below::proc::typifier::TypeResolution;
 use naga_below::valid::info::FunctionInfo;
 use naga_below::valid::types::TypeInfo;
+use naga_errors::function::LocalVariableError;
 use naga_flags::valid::TypeFlags;
+use naga_ir::functions::LocalVariable;
+use naga_types::type_methods::compare_types;
+use naga_types::types::Type;
+use naga_types::typifier::TypeResolution;
+use naga_types::unique_arena::UniqueArena;
 
 /// Checks a local variable of a function: its type can be constructed (else `InvalidType`), its initializer has that
 /// type (else `InitializerType`) and is known before the pipeline runs (else `NonConstOrOverrideInitializer`). `infos`

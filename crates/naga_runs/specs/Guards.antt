@@ -1,9 +1,9 @@
 -- From a judgement to the law over runs.
 use Rattle.std.specs.List.{AllByRecursion}
 use Rattle.std.specs.Prelude.{⊤, ℕ, List, None, Ok, ◌≡◌}
-use Rattle.naga_below.specs.Tree.{Body, Leaf}
-use Rattle.naga_below.specs.declared.ir.statements.Block.{Block}
-use Rattle.naga_below.specs.View.{statement_acts, body_of}
+use Rattle.naga_ir.specs.Tree.{Body, Leaf}
+use Rattle.naga_ir.specs.declared.statements.Block.{Block}
+use Rattle.naga_ir.specs.View.{statement_acts, body_of}
 use Rattle.naga_runs.specs.Abilities.{node_jump}
 use Rattle.naga_runs.specs.Handles.{Handles}
 use Rattle.naga_below.specs.Points.{first_fault}

@@ -2,7 +2,7 @@
 -- fails, the state that the visits leave.
 use Rattle.std.specs.Prelude.{List, Result, Ok, Err, ◌≡◌, ◌∷◌, ◌++◌, []}
 use Rattle.naga_below.specs.Points.{Point, first_fault, answer}
-use Rattle.naga_below.specs.Tree.{Body}
+use Rattle.naga_ir.specs.Tree.{Body}
 use Rattle.naga_runs.specs.Handles.{Handles}
 use Rattle.naga_runs.specs.Visits.{Visit, visits_of}
 

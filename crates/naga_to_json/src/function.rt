@@ -2,8 +2,8 @@
 
 use crate::json::{ToJson, holding, one_field, pair, three_fields, triple, two_fields};
 use crate::types::write_name;
-use naga_rules::analyzer::{UniformityDisruptor, UniformityRequirements};
-use naga_rules::function::{
+use naga_errors::analyzer::{UniformityDisruptor, UniformityRequirements};
+use naga_errors::function::{
     AtomicError, CallError, FunctionError, LocalVariableError, SubgroupError,
 };
 use std::fmt;

@@ -2,8 +2,8 @@
 
 use crate::json::{ToJson, holding, one_field, pair, triple, two_fields};
 use crate::types::write_name;
-use naga_rules::interface::{GlobalVariableError, VaryingError};
-use naga_valid::interface::EntryPointError;
+use naga_errors::interface::{GlobalVariableError, VaryingError};
+use naga_interface::error::EntryPointError;
 use std::fmt;
 
 impl ToJson for GlobalVariableError {

@@ -3,25 +3,25 @@ use Rattle.std.proofs.Common.{◌≡◌, ℕ, Bool, true, false, List, Option, N
 use Rattle.std.specs.Prelude.{if◌then◌else◌}
 use Rattle.naga_flags.specs.Bits.{READ, WRITE}
 use Rattle.naga_below.specs.Points.{first_fault, answer, and_then, within}
-use Rattle.naga_below.specs.declared.ir.module.EntryPoint.{EntryPoint}
-use Rattle.naga_below.specs.declared.ir.module.MeshStageInfo.{MeshStageInfo}
-use Rattle.naga_below.specs.declared.ir.module.Module.{Module}
-use Rattle.naga_below.specs.declared.ir.module.ShaderStage.{ShaderStage}
-use Rattle.naga_below.specs.declared.ir.module.ShaderStage.TheVariants as stage
+use Rattle.naga_ir.specs.declared.module.EntryPoint.{EntryPoint}
+use Rattle.naga_ir.specs.declared.module.MeshStageInfo.{MeshStageInfo}
+use Rattle.naga_ir.specs.declared.module.Module.{Module}
+use Rattle.naga_ir.specs.declared.module.ShaderStage.{ShaderStage}
+use Rattle.naga_ir.specs.declared.module.ShaderStage.TheVariants as stage
 use Rattle.naga_flags.specs.declared.valid.GlobalUse.{GlobalUse}
 use Rattle.naga_below.specs.declared.valid.info.FunctionInfo.{FunctionInfo}
 use Rattle.naga_below.specs.declared.valid.info.ModuleInfo.{ModuleInfo}
 use Rattle.naga_below.specs.declared.valid.settings.Settings.{Settings}
 use Rattle.naga_below.specs.declared.valid.types.TypeInfo.{TypeInfo}
 use Rattle.naga_rules.specs.AllowedUses.{join}
-use Rattle.naga_rules.specs.Meaning.{Meaning}
-use Rattle.naga_rules.specs.declared.function.FunctionError.{FunctionError}
-use Rattle.naga_valid.specs.interface.Faults.{EntryFault, fault_of}
-use Rattle.naga_valid.specs.interface.Judged.{entry_judgement, of_function, interface_points, interface_step, entry_outcome}
-use Rattle.naga_valid.specs.interface.Start.{start_points}
-use Rattle.naga_valid.specs.interface.Uses.{with_use_of, output_variable_of, with_own_uses, with_uses_at}
-use Rattle.naga_valid.specs.interface.Varyings.{are_blend_sources}
-use Rattle.naga_checks.specs.Judged.{FunctionOutcome, function_judgement}
+use Rattle.naga_errors.specs.Meaning.{Meaning}
+use Rattle.naga_errors.specs.declared.function.FunctionError.{FunctionError}
+use Rattle.naga_interface.specs.Faults.{EntryFault, fault_of}
+use Rattle.naga_interface.specs.Judged.{entry_judgement, of_function, interface_points, interface_step, entry_outcome}
+use Rattle.naga_interface.specs.Start.{start_points}
+use Rattle.naga_interface.specs.Uses.{with_use_of, output_variable_of, with_own_uses, with_uses_at}
+use Rattle.naga_interface.specs.Varyings.{are_blend_sources}
+use Rattle.naga_statements.specs.Judged.{FunctionOutcome, function_judgement}
 use Rattle.naga_context.specs.declared.trace.TraceState.{TraceState}
 
 module _ (below : Meaning) (settings : Settings) (infos : List TypeInfo) (trace : TraceState) (program : Module) (earlier : ModuleInfo) (ep : EntryPoint) (outcome : FunctionOutcome) where

@@ -7,30 +7,30 @@ use Rattle.naga_below.proofs.Callers.{types_name_each_other}
 use Rattle.naga_below.proofs.Points.{both_hold, not_holds}
 use Rattle.naga_flags.specs.Bits.{IO_SHAREABLE}
 use Rattle.naga_below.specs.Points.{first_fault}
-use Rattle.naga_below.specs.Types.{inner_at, NameEachOther, NamesTypesBelow}
-use Rattle.naga_below.specs.contracts.ir.built_in.BuiltInEq.TheImpl.Laws.{laws-law as built_in_laws}
-use Rattle.naga_below.specs.declared.ir.built_in.BuiltIn.{BuiltIn}
-use Rattle.naga_below.specs.declared.ir.functions.FunctionArgument.{FunctionArgument}
-use Rattle.naga_below.specs.declared.ir.module.EntryPoint.{EntryPoint}
-use Rattle.naga_below.specs.declared.ir.types.Binding.{Binding}
-use Rattle.naga_below.specs.declared.ir.types.Binding.TheVariants as binding
-use Rattle.naga_below.specs.declared.ir.types.StructMember.{StructMember}
-use Rattle.naga_below.specs.declared.ir.types.Type.{«Type» as IrType}
-use Rattle.naga_below.specs.declared.ir.types.TypeInner.{TypeInner}
-use Rattle.naga_below.specs.declared.ir.types.TypeInner.TheVariants as inner
+use Rattle.naga_types.specs.Types.{inner_at, NameEachOther, NamesTypesBelow}
+use Rattle.naga_types.specs.contracts.built_in.BuiltInEq.TheImpl.Laws.{laws-law as built_in_laws}
+use Rattle.naga_types.specs.declared.built_in.BuiltIn.{BuiltIn}
+use Rattle.naga_ir.specs.declared.functions.FunctionArgument.{FunctionArgument}
+use Rattle.naga_ir.specs.declared.module.EntryPoint.{EntryPoint}
+use Rattle.naga_types.specs.declared.types.Binding.{Binding}
+use Rattle.naga_types.specs.declared.types.Binding.TheVariants as binding
+use Rattle.naga_types.specs.declared.types.StructMember.{StructMember}
+use Rattle.naga_types.specs.declared.types.Type.{«Type» as IrType}
+use Rattle.naga_types.specs.declared.types.TypeInner.{TypeInner}
+use Rattle.naga_types.specs.declared.types.TypeInner.TheVariants as inner
 use Rattle.naga_below.specs.declared.valid.settings.Settings.{Settings}
 use Rattle.naga_below.specs.declared.valid.types.TypeInfo.{TypeInfo}
-use Rattle.naga_rules.proofs.Seeing.{goes_own_way}
-use Rattle.naga_rules.proofs.TypesAt.{inner_is, named_at}
-use Rattle.naga_rules.specs.BuiltIns.{built_in_rule, canonical, is_same_built_in}
-use Rattle.naga_rules.specs.TypeInfos.{type_has}
-use Rattle.naga_rules.specs.VaryingFaults.{Itself}
-use Rattle.naga_rules.specs.Varyings.{Part, Placed, Bound, BlendSources, UnboundMember, Unbound, built_in_points, go_same_way, is_built_in, member_part, member_parts, part_points, parts_of, placed, placed_parts, placed_points, ruled_points, seen_at, unbound_parts, group_parts}
-use Rattle.naga_rules.specs.declared.varying.MeshOutputType.TheVariants.{Neither}
-use Rattle.naga_rules.specs.declared.varying.VaryingPlace.{VaryingPlace}
-use Rattle.naga_valid.specs.interface.Faults.{OfArgument}
-use Rattle.naga_valid.specs.interface.Facts.{IsBuiltIn, BuiltInsAreDistinct, AcceptedBuiltInsAreDistinct}
-use Rattle.naga_valid.specs.interface.Varyings.{argument_item, argument_points, place_of}
+use Rattle.naga_varyings.proofs.Seeing.{goes_own_way}
+use Rattle.naga_varyings.proofs.TypesAt.{inner_is, named_at}
+use Rattle.naga_varyings.specs.BuiltIns.{built_in_rule, canonical, is_same_built_in}
+use Rattle.naga_errors.specs.TypeInfos.{type_has}
+use Rattle.naga_varyings.specs.VaryingFaults.{Itself}
+use Rattle.naga_varyings.specs.Varyings.{Part, Placed, Bound, BlendSources, UnboundMember, Unbound, built_in_points, go_same_way, is_built_in, member_part, member_parts, part_points, parts_of, placed, placed_parts, placed_points, ruled_points, seen_at, unbound_parts, group_parts}
+use Rattle.naga_varyings.specs.declared.varying.MeshOutputType.TheVariants.{Neither}
+use Rattle.naga_varyings.specs.declared.varying.VaryingPlace.{VaryingPlace}
+use Rattle.naga_interface.specs.Faults.{OfArgument}
+use Rattle.naga_valid.specs.Facts.{IsBuiltIn, BuiltInsAreDistinct, AcceptedBuiltInsAreDistinct}
+use Rattle.naga_interface.specs.Varyings.{argument_item, argument_points, place_of}
 use Rattle.naga_valid.proofs.EntryAccepted.{accepted_entry}
 use Rattle.naga_valid.proofs.EntryGroups.{any_at, all_at, all_both, group_none, part_none}
 use Rattle.naga_valid.proofs.EntryFacts.{none_within, arguments_hold}

@@ -3,15 +3,15 @@ use Rattle.std.proofs.Common.{◌≡◌, ℕ, ◌==◌, false, List, [], None, S
 use Rattle.std.specs.Prelude.{IsErr, if◌then◌else◌}
 use Rattle.std.specs.Result.{result_err}
 use Rattle.naga_below.specs.Points.{first_fault}
-use Rattle.naga_below.specs.declared.ir.module.EntryPoint.{EntryPoint}
-use Rattle.naga_below.specs.declared.ir.module.GlobalVariable.{GlobalVariable}
-use Rattle.naga_below.specs.declared.ir.module.Module.{Module}
+use Rattle.naga_ir.specs.declared.module.EntryPoint.{EntryPoint}
+use Rattle.naga_ir.specs.declared.module.GlobalVariable.{GlobalVariable}
+use Rattle.naga_ir.specs.declared.module.Module.{Module}
 use Rattle.naga_flags.specs.declared.valid.GlobalUse.{GlobalUse}
 use Rattle.naga_flags.specs.declared.valid.ValidationFlags.{ValidationFlags}
-use Rattle.naga_rules.specs.Meaning.{Meaning}
+use Rattle.naga_errors.specs.Meaning.{Meaning}
 use Rattle.naga_context.specs.walk.Answers.{Finds}
-use Rattle.naga_valid.specs.interface.Globals.{binding_points, use_points, used_points, points_if_used, global_points}
-use Rattle.naga_valid.specs.declared.interface.EntryPointError.{EntryPointError}
+use Rattle.naga_interface.specs.Globals.{binding_points, use_points, used_points, points_if_used, global_points}
+use Rattle.naga_interface.specs.declared.error.EntryPointError.{EntryPointError}
 use Rattle.naga_context.proofs.Refusals.{fault_first, fault_second}
 
 module _ (below : Meaning) (flags : ValidationFlags) (program : Module) (ep : EntryPoint) (uses : List GlobalUse) (h : ℕ) (g : GlobalVariable) (given : GlobalUse) (is : slice_get uses h ≡ Some given) (some : (given.0 == 0) ≡ false) where

@@ -2,30 +2,30 @@
 use Rattle.std.proofs.Common.{◌≡◌, Bool, true, false, List, [], Option, None, Some, Result, Ok, Err, length, refl, sym, ap, ◌∙◌, subst}
 use Rattle.std.specs.Prelude.{if◌then◌else◌}
 use Rattle.naga_below.specs.Points.{first_fault, answer, and_then}
-use Rattle.naga_below.specs.declared.ir.functions.Function.{Function}
-use Rattle.naga_below.specs.declared.ir.module.Module.{Module}
+use Rattle.naga_ir.specs.declared.functions.Function.{Function}
+use Rattle.naga_ir.specs.declared.module.Module.{Module}
 use Rattle.naga_below.specs.declared.proc.expression_kinds.ExpressionKind.{ExpressionKind}
-use Rattle.naga_below.specs.declared.span.Refusal.{Refusal}
-use Rattle.naga_below.specs.declared.span.Refusal.TheVariants as refusal
+use Rattle.naga_arena.specs.declared.span.Refusal.{Refusal}
+use Rattle.naga_arena.specs.declared.span.Refusal.TheVariants as refusal
 use Rattle.naga_below.specs.declared.valid.info.FunctionInfo.{FunctionInfo}
 use Rattle.naga_below.specs.declared.valid.info.ModuleInfo.{ModuleInfo}
 use Rattle.naga_below.specs.declared.valid.settings.Settings.{Settings}
 use Rattle.naga_flags.specs.declared.valid.ShaderStages.{ShaderStages}
 use Rattle.naga_below.specs.declared.valid.types.TypeInfo.{TypeInfo}
-use Rattle.naga_rules.specs.Answers.{Answers, IsFirstFault, Refuses}
-use Rattle.naga_rules.specs.Meaning.{Meaning}
-use Rattle.naga_rules.specs.declared.function.FunctionError.{FunctionError}
+use Rattle.naga_errors.specs.Answers.{Answers, IsFirstFault, Refuses}
+use Rattle.naga_errors.specs.Meaning.{Meaning}
+use Rattle.naga_errors.specs.declared.function.FunctionError.{FunctionError}
 use Rattle.naga_runs.specs.Judgement.{viewed}
 use Rattle.naga_runs.specs.Visits.{Visit}
 use Rattle.naga_context.specs.Context.{Context, ContextFits}
-use Rattle.naga_checks.specs.Declarations.{declaration_points}
-use Rattle.naga_checks.specs.Expressions.{with_stages, stages_from, expressions_step}
+use Rattle.naga_statements.specs.Declarations.{declaration_points}
+use Rattle.naga_statements.specs.Expressions.{with_stages, stages_from, expressions_step}
 use Rattle.naga_context.specs.WhatIsChecked.{checks_blocks, checks_expressions}
-use Rattle.naga_checks.specs.Judged.{FunctionOutcome, body_judgement, outcome_left, judged_with, declarations_step, expressions_known, context_with, lower_step, function_judgement}
+use Rattle.naga_statements.specs.Judged.{FunctionOutcome, body_judgement, outcome_left, judged_with, declarations_step, expressions_known, context_with, lower_step, function_judgement}
 use Rattle.naga_context.specs.Results.{filled_before, filled_points}
-use Rattle.naga_checks.specs.walk.Asked.{asked_context, known_behind}
-use Rattle.naga_checks.specs.walk.State.{body_outcome, body_left}
-use Rattle.naga_checks.specs.declared.state.BodyOutcome.{BodyOutcome}
+use Rattle.naga_statements.specs.walk.Asked.{asked_context, known_behind}
+use Rattle.naga_statements.specs.walk.State.{body_outcome, body_left}
+use Rattle.naga_statements.specs.declared.state.BodyOutcome.{BodyOutcome}
 use Rattle.naga_context.specs.declared.trace.TraceState.{TraceState}
 use Rattle.naga_function.proofs.Accepted.{with_blocks}
 use Rattle.naga_function.proofs.Traces.{no_trace}

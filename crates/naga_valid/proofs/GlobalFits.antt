@@ -2,8 +2,8 @@
 use Rattle.std.proofs.lemmas.List.Elements.{All-contains}
 use Rattle.std.specs.Prelude.{Contains}
 use Rattle.naga_below.specs.Fits.{FitsGlobals, GlobalFits}
-use Rattle.naga_below.specs.declared.ir.module.GlobalVariable.{GlobalVariable}
-use Rattle.naga_below.specs.declared.ir.module.Module.{Module}
+use Rattle.naga_ir.specs.declared.module.GlobalVariable.{GlobalVariable}
+use Rattle.naga_ir.specs.declared.module.Module.{Module}
 use Rattle.naga_below.specs.declared.valid.info.ModuleInfo.{ModuleInfo}
 
 pub global_fits : (m : Module) (i : ModuleInfo) (g : GlobalVariable) → FitsGlobals m i → Contains m.global_variables g → GlobalFits m g

@@ -3,10 +3,10 @@
 use crate::judge::Verdict;
 use naga_below::{FunctionInfo, ModuleInfo, Span};
 use naga_document::Unreadable;
+use naga_errors::Explain;
+use naga_interface::error::EntryPointError;
 use naga_module::ModuleFault;
-use naga_rules::Explain;
 use naga_to_json::json::{ToJson, field, write_list, write_names};
-use naga_valid::interface::EntryPointError;
 use std::fmt;
 
 /// Writes the verdict on one line without an end: as JSON of its form, without white space.

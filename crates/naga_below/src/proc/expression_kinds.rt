@@ -3,8 +3,8 @@
 ghost use Rattle.std.specs.Prelude.{◌≡◌, ◌↔◌, ◌<◌, ◌++◌, ◌∷◌, [], ◌⊎◌, IsTrue, OnOk, OnErr, Some, length, slice_get};
 ghost use Rattle.naga_below.specs.declared.proc.expression_kinds.ExpressionKind.TheVariants as kind;
 
-use crate::arena::handle::Handle;
-use crate::arena::tag;
+use naga_arena::handle::Handle;
+use naga_arena::tag;
 use std::alloc::{AllocError, Global};
 use std::marker::Model;
 

@@ -1,9 +1,9 @@
 //! Errors of expressions.
 
-use crate::arena::handle::Handle;
-use crate::arena::tag;
-use crate::ir::types::{ImageClass, ImageDimension, StorageFormat};
+use naga_arena::handle::Handle;
+use naga_arena::tag;
 use naga_flags::ir::StorageAccess;
+use naga_types::types::{ImageClass, ImageDimension, StorageFormat};
 use std::fmt;
 
 /// What is wrong with an expression, or with an operand of a statement.

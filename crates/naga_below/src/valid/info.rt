@@ -2,12 +2,12 @@
 
 ghost use Rattle.std.specs.Prelude.{◌≡◌, ◌<◌, length};
 
-use crate::arena::handle::Handle;
-use crate::arena::tag;
-use crate::proc::typifier::TypeResolution;
-use crate::sequence::Sequence;
 use bitflags::Flags;
+use naga_arena::handle::Handle;
+use naga_arena::sequence::Sequence;
+use naga_arena::tag;
 use naga_flags::valid::{GlobalUse, ShaderStages};
+use naga_types::typifier::TypeResolution;
 use std::alloc::Global;
 
 /// What is known of a function: `expression_types` is indexed by the handles of its expressions, `global_uses` by those
@@ -46,7 +46,7 @@ pub struct ModuleInfo {
 }
 
 impl ModuleInfo {
-    ghost use Rattle.naga_below.specs.Empty.{empty_info};
+    ghost use Rattle.naga_below.specs.Infos.{empty_info};
 
     /// The infos where nothing is known of any function, entry point or global expression; they keep the allocator.
     pub fn new(alloc: Global) -> Self

@@ -1,7 +1,7 @@
 //! What a validator of types finds of each type. Another layer makes it; this one reads it.
 
-use crate::arena::handle::Handle;
-use crate::arena::tag;
+use naga_arena::handle::Handle;
+use naga_arena::tag;
 use naga_flags::valid::TypeFlags;
 
 /// Why a layout is bad: a number that is carried unread.

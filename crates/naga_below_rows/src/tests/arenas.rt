@@ -1,13 +1,13 @@
 //! Arenas: places, spans, values that are there already, and refused growth.
 
 use crate::tests::scalar_type;
-use naga_below::arena::Arena;
-use naga_below::arena::handle::Handle;
-use naga_below::arena::unique_arena::UniqueArena;
-use naga_below::ir::module::Constant;
-use naga_below::ir::types::{Scalar, TypeInner};
-use naga_below::sequence::Sequence;
-use naga_below::span::Span;
+use naga_arena::arena::Arena;
+use naga_arena::handle::Handle;
+use naga_arena::sequence::Sequence;
+use naga_arena::span::Span;
+use naga_ir::module::Constant;
+use naga_types::types::{Scalar, TypeInner};
+use naga_types::unique_arena::UniqueArena;
 use std::test::Fail;
 
 const FIRST: Span = Span { start: 1, end: 2 };

@@ -1,14 +1,14 @@
 //! What errors and handles print.
 
 use bitflags::Flags;
-use naga_below::arena::handle::Handle;
-use naga_below::arena::tag;
-use naga_below::ir::expressions::Operands;
-use naga_below::ir::name::Name;
-use naga_below::span::{Refusal, Span, WithSpan};
+use naga_arena::handle::Handle;
+use naga_arena::span::{Refusal, Span, WithSpan};
+use naga_arena::tag;
 use naga_below::valid::expression_error::ExpressionError;
 use naga_flags::capabilities::Capabilities;
 use naga_flags::valid::ShaderStages;
+use naga_ir::expressions::Operands;
+use naga_types::name::Name;
 use std::error::Error;
 use std::fmt::Debug;
 use std::process::Abort;

@@ -1,10 +1,9 @@
 //! Sets of named bits, infos, errors and their places.
 
 use bitflags::Flags;
-use naga_below::arena::handle::Handle;
-use naga_below::ir::types::{ImageClass, ImageDimension, StorageFormat};
-use naga_below::sequence::Sequence;
-use naga_below::span::{Refusal, Span, WithSpan};
+use naga_arena::handle::Handle;
+use naga_arena::sequence::Sequence;
+use naga_arena::span::{Refusal, Span, WithSpan};
 use naga_below::valid::expression_error::ExpressionError;
 use naga_below::valid::info::FunctionInfo;
 use naga_flags::capabilities::Capabilities;
@@ -12,6 +11,7 @@ use naga_flags::ir::{Barrier, MemoryDecorations, StorageAccess};
 use naga_flags::valid::{
     GlobalUse, ShaderStages, SubgroupOperationSet, TypeFlags, ValidationFlags,
 };
+use naga_types::types::{ImageClass, ImageDimension, StorageFormat};
 use std::alloc::AllocError;
 use std::test::Fail;
 

@@ -1,14 +1,14 @@
 //! What is made empty, and what is made of parts.
 
-use naga_below::arena::Arena;
-use naga_below::arena::handle::Handle;
-use naga_below::arena::range::Range;
-use naga_below::ir::functions::Function;
-use naga_below::ir::module::Module;
-use naga_below::ir::statements::{Block, Located, Statement};
+use naga_arena::arena::Arena;
+use naga_arena::handle::Handle;
+use naga_arena::range::Range;
+use naga_arena::span::Span;
 use naga_below::proc::expression_kinds::{ExpressionKind, ExpressionKindTracker};
-use naga_below::span::Span;
 use naga_below::valid::info::ModuleInfo;
+use naga_ir::functions::Function;
+use naga_ir::module::Module;
+use naga_ir::statements::{Block, Located, Statement};
 use std::test::Fail;
 
 #[test]

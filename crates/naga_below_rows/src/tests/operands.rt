@@ -1,10 +1,10 @@
 //! The operands of expressions, by a table.
 
-use naga_below::arena::handle::Handle;
-use naga_below::ir::expressions::{Expression, Literal, Operands};
-use naga_below::ir::types::Scalar;
-use naga_below::proc::operands::{operand, operand_count};
-use naga_below::sequence::Sequence;
+use naga_arena::handle::Handle;
+use naga_arena::sequence::Sequence;
+use naga_ir::expressions::{Expression, Literal, Operands};
+use naga_ir::operands::{operand, operand_count};
+use naga_types::types::Scalar;
 use std::alloc::{AllocError, Global};
 use std::process::Abort;
 use std::test::Fail;

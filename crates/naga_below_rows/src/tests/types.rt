@@ -2,24 +2,24 @@
 
 use crate::tests::scalar_type;
 use bitflags::Flags;
-use naga_below::arena::handle::Handle;
-use naga_below::arena::unique_arena::UniqueArena;
-use naga_below::ir::expressions::Expression;
-use naga_below::ir::module::Module;
-use naga_below::ir::name::Name;
-use naga_below::ir::operations::{GatherMode, SubgroupOperation};
-use naga_below::ir::types::{
-    AddressSpace, ImageDimension, Scalar, ScalarKind, StorageFormat, StructMember, Type, TypeInner,
-    VectorSize,
-};
+use naga_arena::handle::Handle;
+use naga_arena::sequence::Sequence;
+use naga_arena::span::Span;
 use naga_below::proc::expression_kinds::{ExpressionKind, ExpressionKindTracker};
-use naga_below::proc::type_methods::compare_types;
-use naga_below::proc::typifier::TypeResolution;
-use naga_below::sequence::Sequence;
-use naga_below::span::Span;
 use naga_fits::types::{fits_types, names_types_below};
 use naga_flags::ir::StorageAccess;
 use naga_flags::valid::SubgroupOperationSet;
+use naga_ir::expressions::Expression;
+use naga_ir::module::Module;
+use naga_ir::operations::{GatherMode, SubgroupOperation};
+use naga_types::name::Name;
+use naga_types::type_methods::compare_types;
+use naga_types::types::{
+    AddressSpace, ImageDimension, Scalar, ScalarKind, StorageFormat, StructMember, Type, TypeInner,
+    VectorSize,
+};
+use naga_types::typifier::TypeResolution;
+use naga_types::unique_arena::UniqueArena;
 use std::alloc::{AllocError, Global};
 use std::test::Fail;
 

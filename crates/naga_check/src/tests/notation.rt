@@ -1,5 +1,5 @@
 //! Which inputs are cases.
-use naga_case::notation::{ReadError, read_case};
+use naga_notation::case::{ReadError, read_case};
 use std::alloc::Global;
 use std::test::Fail;
 

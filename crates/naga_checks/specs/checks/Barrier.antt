@@ -6,7 +6,7 @@ use Rattle.naga_flags.specs.Bits.{contains, has_capability}
 use Rattle.naga_flags.specs.declared.ir.Barrier.{Barrier}
 use Rattle.naga_flags.specs.declared.capabilities.Capabilities.{Capabilities}
 use Rattle.naga_below.specs.declared.valid.settings.Settings.{Settings}
-use Rattle.naga_rules.specs.declared.function.FunctionError.TheVariants.{MissingCapability}
+use Rattle.naga_errors.specs.declared.function.FunctionError.TheVariants.{MissingCapability}
 use Rattle.naga_context.specs.Points.{Points}
 use Rattle.naga_checks.specs.checks.Subgroup.{operations_point}
 

@@ -1,22 +1,22 @@
 -- The check list of Call.
 use Rattle.std.specs.Prelude.{ℕ, suc, Bool, false, not, ◌&&◌, ◌==◌, List, [], ◌∷◌, ◌++◌, Option, None, Some, is_some, length, slice_get}
-use Rattle.naga_below.specs.declared.ir.expressions.Expression.{Expression}
-use Rattle.naga_below.specs.declared.ir.expressions.Expression.TheVariants as e
-use Rattle.naga_below.specs.declared.ir.functions.Function.{Function}
-use Rattle.naga_below.specs.declared.ir.functions.FunctionArgument.{FunctionArgument}
-use Rattle.naga_below.specs.declared.proc.typifier.TypeResolution.{TypeResolution}
-use Rattle.naga_below.specs.declared.proc.typifier.TypeResolution.TheVariants.{Handle}
+use Rattle.naga_ir.specs.declared.expressions.Expression.{Expression}
+use Rattle.naga_ir.specs.declared.expressions.Expression.TheVariants as e
+use Rattle.naga_ir.specs.declared.functions.Function.{Function}
+use Rattle.naga_ir.specs.declared.functions.FunctionArgument.{FunctionArgument}
+use Rattle.naga_types.specs.declared.typifier.TypeResolution.{TypeResolution}
+use Rattle.naga_types.specs.declared.typifier.TypeResolution.TheVariants.{Handle}
 use Rattle.naga_below.specs.declared.valid.expression_error.ExpressionError.TheVariants.{NotInScope}
-use Rattle.naga_rules.specs.declared.function.CallError.{CallError}
-use Rattle.naga_rules.specs.declared.function.CallError.TheVariants.{Argument, ArgumentCount, ArgumentType, ExpressionMismatch, ResultAlreadyInScope, ResultAlreadyPopulated}
-use Rattle.naga_rules.specs.declared.function.FunctionError.TheVariants.{InvalidCall}
+use Rattle.naga_errors.specs.declared.function.CallError.{CallError}
+use Rattle.naga_errors.specs.declared.function.CallError.TheVariants.{Argument, ArgumentCount, ArgumentType, ExpressionMismatch, ResultAlreadyInScope, ResultAlreadyPopulated}
+use Rattle.naga_errors.specs.declared.function.FunctionError.TheVariants.{InvalidCall}
 use Rattle.naga_runs.specs.Handles.{Handles}
 use Rattle.naga_runs.specs.Visits.{Place}
 use Rattle.naga_below.specs.Points.{Point, within}
 use Rattle.naga_context.specs.Context.{Context}
 use Rattle.naga_context.specs.Points.{Points, may_use, is_in_scope}
 use Rattle.naga_context.specs.Results.{is_fresh}
-use Rattle.naga_below.specs.TypeTests.{is_same_type}
+use Rattle.naga_types.specs.TypeTests.{is_same_type}
 use Rattle.naga_context.specs.Types.{expression_at, resolution_at}
 
 abbrev pub CallPoints : Type 0

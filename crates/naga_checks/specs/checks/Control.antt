@@ -1,20 +1,20 @@
 -- The check lists of Emit, If, Return, Break and Continue, and of a break condition.
 use Rattle.std.specs.Prelude.{ℕ, zero, suc, Bool, true, false, not, ◌&&◌, ◌||◌, nat_le, nat_lt, map, ◌-◌, List, [], ◌∷◌, ◌++◌, Option, None, Some, is_none}
 use Rattle.std.specs.Option.{option_map}
-use Rattle.naga_below.specs.declared.ir.types.ScalarKind.{ScalarKind}
-use Rattle.naga_below.specs.declared.ir.types.ScalarKind.TheVariants as kind
-use Rattle.naga_below.specs.declared.ir.types.Type.{«Type» as IrType}
-use Rattle.naga_below.specs.declared.ir.types.TypeInner.{TypeInner}
-use Rattle.naga_below.specs.declared.ir.types.TypeInner.TheVariants as inner
-use Rattle.naga_below.specs.declared.proc.typifier.TypeResolution.{TypeResolution}
-use Rattle.naga_below.specs.declared.proc.typifier.TypeResolution.TheVariants.{Handle}
-use Rattle.naga_rules.specs.declared.function.FunctionError.TheVariants.{EmitResult, BreakOutsideOfLoopOrSwitch, ContinueOutsideOfLoop, InvalidReturnSpot, InvalidReturnType, InvalidIfType}
+use Rattle.naga_types.specs.declared.types.ScalarKind.{ScalarKind}
+use Rattle.naga_types.specs.declared.types.ScalarKind.TheVariants as kind
+use Rattle.naga_types.specs.declared.types.Type.{«Type» as IrType}
+use Rattle.naga_types.specs.declared.types.TypeInner.{TypeInner}
+use Rattle.naga_types.specs.declared.types.TypeInner.TheVariants as inner
+use Rattle.naga_types.specs.declared.typifier.TypeResolution.{TypeResolution}
+use Rattle.naga_types.specs.declared.typifier.TypeResolution.TheVariants.{Handle}
+use Rattle.naga_errors.specs.declared.function.FunctionError.TheVariants.{EmitResult, BreakOutsideOfLoopOrSwitch, ContinueOutsideOfLoop, InvalidReturnSpot, InvalidReturnType, InvalidIfType}
 use Rattle.naga_runs.specs.Visits.{Place}
 use Rattle.naga_context.specs.Blocks.{emitted_operands}
 use Rattle.naga_context.specs.Context.{Context}
 use Rattle.naga_context.specs.Points.{Points, use_point, put_point}
 use Rattle.naga_context.specs.Results.{is_result}
-use Rattle.naga_below.specs.TypeTests.{is_same_type}
+use Rattle.naga_types.specs.TypeTests.{is_same_type}
 use Rattle.naga_context.specs.Types.{expression_at, resolution_at, type_at}
 
 -- a place within an Emit whose range begins at `start`: in front of the handle h the earlier handles of the range count too

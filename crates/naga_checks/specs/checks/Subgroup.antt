@@ -2,36 +2,36 @@
 use Rattle.std.specs.Prelude.{ℕ, Bool, true, false, not, ◌&&◌, ◌||◌, nat_le, List, [], ◌∷◌, ◌++◌, Option, None, Some, slice_get}
 use Rattle.naga_flags.specs.Bits as bit
 use Rattle.naga_flags.specs.Bits.{contains, has_capability}
-use Rattle.naga_below.specs.Subgroups.{operation_group, gather_group}
-use Rattle.naga_below.specs.Types.{inner_at, bool_scalar}
-use Rattle.naga_below.specs.declared.ir.expressions.Expression.{Expression}
-use Rattle.naga_below.specs.declared.ir.expressions.Expression.TheVariants as e
-use Rattle.naga_below.specs.declared.ir.operations.CollectiveOperation.{CollectiveOperation}
-use Rattle.naga_below.specs.declared.ir.operations.CollectiveOperation.TheVariants as over
-use Rattle.naga_below.specs.declared.ir.operations.GatherMode.{GatherMode}
-use Rattle.naga_below.specs.declared.ir.operations.GatherMode.TheVariants as gather
-use Rattle.naga_below.specs.declared.ir.operations.SubgroupOperation.{SubgroupOperation}
-use Rattle.naga_below.specs.declared.ir.operations.SubgroupOperation.TheVariants as op
-use Rattle.naga_below.specs.declared.ir.types.Scalar.{Scalar}
-use Rattle.naga_below.specs.declared.ir.types.ScalarKind.{ScalarKind}
-use Rattle.naga_below.specs.declared.ir.types.ScalarKind.TheVariants as kind
-use Rattle.naga_below.specs.declared.ir.types.Type.{«Type» as IrType}
-use Rattle.naga_below.specs.declared.ir.types.TypeInner.{TypeInner}
-use Rattle.naga_below.specs.declared.ir.types.TypeInner.TheVariants as inner
+use Rattle.naga_ir.specs.Subgroups.{operation_group, gather_group}
+use Rattle.naga_types.specs.Types.{inner_at, bool_scalar}
+use Rattle.naga_ir.specs.declared.expressions.Expression.{Expression}
+use Rattle.naga_ir.specs.declared.expressions.Expression.TheVariants as e
+use Rattle.naga_ir.specs.declared.operations.CollectiveOperation.{CollectiveOperation}
+use Rattle.naga_ir.specs.declared.operations.CollectiveOperation.TheVariants as over
+use Rattle.naga_ir.specs.declared.operations.GatherMode.{GatherMode}
+use Rattle.naga_ir.specs.declared.operations.GatherMode.TheVariants as gather
+use Rattle.naga_ir.specs.declared.operations.SubgroupOperation.{SubgroupOperation}
+use Rattle.naga_ir.specs.declared.operations.SubgroupOperation.TheVariants as op
+use Rattle.naga_types.specs.declared.types.Scalar.{Scalar}
+use Rattle.naga_types.specs.declared.types.ScalarKind.{ScalarKind}
+use Rattle.naga_types.specs.declared.types.ScalarKind.TheVariants as kind
+use Rattle.naga_types.specs.declared.types.Type.{«Type» as IrType}
+use Rattle.naga_types.specs.declared.types.TypeInner.{TypeInner}
+use Rattle.naga_types.specs.declared.types.TypeInner.TheVariants as inner
 use Rattle.naga_below.specs.declared.proc.expression_kinds.ExpressionKind.{ExpressionKind}
 use Rattle.naga_below.specs.declared.proc.expression_kinds.ExpressionKind.TheVariants as known
 use Rattle.naga_flags.specs.declared.valid.SubgroupOperationSet.{SubgroupOperationSet}
 use Rattle.naga_below.specs.declared.valid.settings.Settings.{Settings}
-use Rattle.naga_rules.specs.declared.function.FunctionError.{FunctionError}
-use Rattle.naga_rules.specs.declared.function.FunctionError.TheVariants.{InvalidSubgroup, MissingCapability}
-use Rattle.naga_rules.specs.declared.function.SubgroupError.{SubgroupError}
-use Rattle.naga_rules.specs.declared.function.SubgroupError.TheVariants as wrong
+use Rattle.naga_errors.specs.declared.function.FunctionError.{FunctionError}
+use Rattle.naga_errors.specs.declared.function.FunctionError.TheVariants.{InvalidSubgroup, MissingCapability}
+use Rattle.naga_errors.specs.declared.function.SubgroupError.{SubgroupError}
+use Rattle.naga_errors.specs.declared.function.SubgroupError.TheVariants as wrong
 use Rattle.naga_runs.specs.Visits.{Place}
 use Rattle.naga_below.specs.Points.{Point}
 use Rattle.naga_context.specs.Context.{Context}
 use Rattle.naga_checks.specs.checks.Control.{is_bool_kind}
 use Rattle.naga_context.specs.Points.{Points, use_point, put_point}
-use Rattle.naga_below.specs.TypeTests.{is_scalar, both_are, is_same_inner}
+use Rattle.naga_types.specs.TypeTests.{is_scalar, both_are, is_same_inner}
 use Rattle.naga_context.specs.Types.{is_integer, expression_at, type_at}
 
 -- a point whose fault stands inside InvalidSubgroup

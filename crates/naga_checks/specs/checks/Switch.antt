@@ -2,13 +2,13 @@
 use Rattle.std.specs.Prelude.{ℕ, Bool, true, false, not, ◌==◌, List, [], ◌∷◌, ◌++◌, Option, Some}
 use Rattle.std.specs.List.{list_any}
 use Rattle.std.specs.Ordering.{int_eq}
-use Rattle.naga_below.specs.Tree.{Cases, NoCase, OneCase}
-use Rattle.naga_below.specs.declared.ir.statements.SwitchValue.{SwitchValue}
-use Rattle.naga_below.specs.declared.ir.statements.SwitchValue.TheVariants.{I32, U32, Default}
-use Rattle.naga_below.specs.declared.ir.types.ScalarKind.{ScalarKind}
-use Rattle.naga_below.specs.declared.ir.types.ScalarKind.TheVariants as kind
-use Rattle.naga_rules.specs.declared.function.FunctionError.{FunctionError}
-use Rattle.naga_rules.specs.declared.function.FunctionError.TheVariants.{InvalidSwitchType, ConflictingSwitchCase, ConflictingCaseType, MissingDefaultCase, MultipleDefaultCases, LastCaseFallTrough}
+use Rattle.naga_ir.specs.Tree.{Cases, NoCase, OneCase}
+use Rattle.naga_ir.specs.declared.statements.SwitchValue.{SwitchValue}
+use Rattle.naga_ir.specs.declared.statements.SwitchValue.TheVariants.{I32, U32, Default}
+use Rattle.naga_types.specs.declared.types.ScalarKind.{ScalarKind}
+use Rattle.naga_types.specs.declared.types.ScalarKind.TheVariants as kind
+use Rattle.naga_errors.specs.declared.function.FunctionError.{FunctionError}
+use Rattle.naga_errors.specs.declared.function.FunctionError.TheVariants.{InvalidSwitchType, ConflictingSwitchCase, ConflictingCaseType, MissingDefaultCase, MultipleDefaultCases, LastCaseFallTrough}
 use Rattle.naga_runs.specs.Visits.{Place}
 use Rattle.naga_context.specs.Context.{Context}
 use Rattle.naga_context.specs.Points.{Points, use_point}

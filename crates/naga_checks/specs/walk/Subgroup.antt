@@ -1,8 +1,8 @@
 -- Parts of the check lists of subgroup statements, as the code checks them: work of lemmas, cited by functions that the
 -- validator alone calls.
 use Rattle.std.specs.Prelude.{ℕ, [], ◌∷◌, ◌++◌}
-use Rattle.naga_below.specs.declared.ir.operations.GatherMode.{GatherMode}
-use Rattle.naga_rules.specs.declared.function.SubgroupError.TheVariants as wrong
+use Rattle.naga_ir.specs.declared.operations.GatherMode.{GatherMode}
+use Rattle.naga_errors.specs.declared.function.SubgroupError.TheVariants as wrong
 use Rattle.naga_runs.specs.Visits.{Place}
 use Rattle.naga_context.specs.Context.{Context}
 use Rattle.naga_context.specs.Points.{Points, use_point, put_point}

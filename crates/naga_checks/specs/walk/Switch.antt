@@ -1,10 +1,10 @@
 -- Parts of the check list of Switch, as the code checks them: work of lemmas, cited by functions that the validator alone calls.
 use Rattle.std.specs.Prelude.{ℕ, ℤ, pos, int_le, true, not, Option, None, Some, [], ◌∷◌, if◌then◌else◌}
 use Rattle.std.specs.List.{list_any}
-use Rattle.naga_below.specs.Tree.{Cases}
-use Rattle.naga_below.specs.declared.ir.statements.SwitchValue.{SwitchValue}
-use Rattle.naga_below.specs.declared.ir.statements.SwitchValue.TheVariants.{I32, U32, Default}
-use Rattle.naga_rules.specs.declared.function.FunctionError.TheVariants.{InvalidSwitchType, MissingDefaultCase, LastCaseFallTrough}
+use Rattle.naga_ir.specs.Tree.{Cases}
+use Rattle.naga_ir.specs.declared.statements.SwitchValue.{SwitchValue}
+use Rattle.naga_ir.specs.declared.statements.SwitchValue.TheVariants.{I32, U32, Default}
+use Rattle.naga_errors.specs.declared.function.FunctionError.TheVariants.{InvalidSwitchType, MissingDefaultCase, LastCaseFallTrough}
 use Rattle.naga_runs.specs.Visits.{Place}
 use Rattle.naga_context.specs.Context.{Context}
 use Rattle.naga_checks.specs.checks.Switch.{is_default, values_of, last_falls_through}

@@ -2,19 +2,19 @@
 
 ghost use Rattle.std.specs.Prelude.{◌≡◌};
 ghost use Rattle.naga_context.specs.walk.Answers.{Finds};
-ghost use Rattle.naga_rules.specs.Answers.{AnswersPoints};
+ghost use Rattle.naga_errors.specs.Answers.{AnswersPoints};
 ghost use Rattle.naga_checks.specs.checks.Barrier.{barrier_capabilities, barrier_points};
 
 use crate::checks::subgroup::check_operations;
 use bitflags::Flags;
-use naga_below::span::Span;
+use naga_arena::span::Span;
 use naga_below::valid::settings::Settings;
 use naga_context::refuse::answer;
 use naga_context::refused::Refused;
+use naga_errors::function::FunctionError;
 use naga_flags::capabilities::Capabilities;
 use naga_flags::ir::Barrier;
 use naga_flags::valid::SubgroupOperationSet;
-use naga_rules::function::FunctionError;
 use std::alloc::Global;
 
 /// ControlBarrier and MemoryBarrier.

@@ -4,32 +4,32 @@ ghost use Rattle.std.specs.Prelude.{◌≡◌, ◌<◌, OnOk, IfSome, All, lengt
 ghost use Rattle.std.specs.Option.{option_copied};
 ghost use Rattle.naga_below.specs.FitsBody.{CalleeFits};
 ghost use Rattle.naga_below.specs.Points.{within};
-ghost use Rattle.naga_below.specs.View.{put_if};
+ghost use Rattle.naga_ir.specs.View.{put_if};
 ghost use Rattle.naga_below.specs.declared.valid.expression_error.ExpressionError.TheVariants.{NotInScope};
-ghost use Rattle.naga_rules.specs.declared.function.CallError.TheVariants.{Argument, ArgumentCount, ArgumentType, ExpressionMismatch, ResultAlreadyInScope, ResultAlreadyPopulated};
-ghost use Rattle.naga_rules.specs.declared.function.FunctionError.TheVariants.{InvalidCall};
+ghost use Rattle.naga_errors.specs.declared.function.CallError.TheVariants.{Argument, ArgumentCount, ArgumentType, ExpressionMismatch, ResultAlreadyInScope, ResultAlreadyPopulated};
+ghost use Rattle.naga_errors.specs.declared.function.FunctionError.TheVariants.{InvalidCall};
 ghost use Rattle.naga_runs.specs.PutsAndUses.{puts_of};
 ghost use Rattle.naga_context.specs.walk.Answers.{IsRefusalFor};
-ghost use Rattle.naga_rules.specs.Answers.{AnswersPoints};
+ghost use Rattle.naga_errors.specs.Answers.{AnswersPoints};
 ghost use Rattle.naga_checks.specs.checks.Call.{is_passed_as, passed_points, all_passed_points, is_call_result_of, call_result_points, call_points};
 ghost use Rattle.naga_context.specs.Context.{ContextFits};
 ghost use Rattle.naga_context.specs.walk.Place.{place_at};
 ghost use Rattle.naga_context.specs.walk.Seen.{context_of};
 ghost use Rattle.naga_context.specs.walk.Table.{HasPut, count, filled_in, known};
 
-use naga_below::arena::handle::Handle;
-use naga_below::arena::tag;
-use naga_below::ir::expressions::Expression;
-use naga_below::ir::functions::FunctionArgument;
-use naga_below::proc::type_methods::compare_types;
-use naga_below::proc::typifier::TypeResolution;
-use naga_below::span::Span;
+use naga_arena::handle::Handle;
+use naga_arena::span::Span;
+use naga_arena::tag;
 use naga_below::valid::expression_error::ExpressionError;
 use naga_context::context::BlockContext;
 use naga_context::refused::Refused;
 use naga_context::results::is_fresh;
 use naga_context::table::{FilledColumn, ScopeColumn};
-use naga_rules::function::{CallError, FunctionError};
+use naga_errors::function::{CallError, FunctionError};
+use naga_ir::expressions::Expression;
+use naga_ir::functions::FunctionArgument;
+use naga_types::type_methods::compare_types;
+use naga_types::typifier::TypeResolution;
 use std::alloc::Global;
 
 /// What a Call calls, the result that it names, if it names one, and its place.

@@ -3,27 +3,27 @@
 ghost use Rattle.std.specs.Prelude.{◌≡◌, ◌<◌, ◌∷◌, [], OnOk};
 ghost use Rattle.std.specs.Option.{option_copied};
 ghost use Rattle.naga_context.specs.walk.Answers.{Finds};
-ghost use Rattle.naga_rules.specs.Answers.{AnswersPoints};
+ghost use Rattle.naga_errors.specs.Answers.{AnswersPoints};
 ghost use Rattle.naga_context.specs.walk.Place.{place_at};
 ghost use Rattle.naga_checks.specs.walk.Subgroup.{combined_points};
 ghost use Rattle.naga_context.specs.walk.Seen.{context_of};
 ghost use Rattle.naga_checks.specs.checks.Subgroup.{operations_point, subgroups_point, predicate_points, ballot_points, is_number_kind, combined_type_at};
 ghost use Rattle.naga_context.specs.walk.Table.{HasPut, count, known};
 
-use naga_below::arena::handle::Handle;
-use naga_below::arena::tag;
-use naga_below::ir::expressions::Expression;
-use naga_below::ir::types::{Scalar, ScalarKind, TypeInner};
-use naga_below::span::Span;
+use naga_arena::handle::Handle;
+use naga_arena::span::Span;
+use naga_arena::tag;
 use naga_below::valid::settings::Settings;
 use naga_context::context::BlockContext;
 use naga_context::refuse::{answer, check_put, check_use};
 use naga_context::refused::Refused;
 use naga_context::table::ScopeColumn;
 use naga_context::types::{are_same_inners, is_scalar};
+use naga_errors::function::{FunctionError, SubgroupError};
 use naga_flags::capabilities::Capabilities;
 use naga_flags::valid::SubgroupOperationSet;
-use naga_rules::function::{FunctionError, SubgroupError};
+use naga_ir::expressions::Expression;
+use naga_types::types::{Scalar, ScalarKind, TypeInner};
 
 /// Groups of operations, which the target has.
 pub fn check_operations(

@@ -3,24 +3,24 @@
 ghost use Rattle.std.specs.Prelude.{◌≡◌, ◌<◌, ◌∷◌, [], OnOk};
 ghost use Rattle.std.specs.Option.{option_copied};
 ghost use Rattle.naga_context.specs.walk.Answers.{Finds};
-ghost use Rattle.naga_rules.specs.Answers.{AnswersPoints};
+ghost use Rattle.naga_errors.specs.Answers.{AnswersPoints};
 ghost use Rattle.naga_context.specs.walk.Place.{place_at};
 ghost use Rattle.naga_context.specs.walk.Seen.{context_of};
 ghost use Rattle.naga_checks.specs.checks.Subgroup.{is_wide_integer, is_combined_by, takes_vectors, is_operand_of, is_scanned, is_done_over, collective_points};
 ghost use Rattle.naga_context.specs.walk.Table.{HasPut, count, known};
 
 use crate::checks::subgroup::{check_combined, check_operations, check_subgroups, is_number_kind};
-use naga_below::arena::handle::Handle;
-use naga_below::arena::tag;
-use naga_below::ir::operations::{CollectiveOperation, SubgroupOperation};
-use naga_below::ir::types::{Scalar, ScalarKind, TypeInner};
-use naga_below::span::Span;
+use naga_arena::handle::Handle;
+use naga_arena::span::Span;
+use naga_arena::tag;
 use naga_context::context::BlockContext;
 use naga_context::refuse::{answer, check_use};
 use naga_context::refused::Refused;
 use naga_context::table::ScopeColumn;
 use naga_context::types::is_integer;
-use naga_rules::function::{FunctionError, SubgroupError};
+use naga_errors::function::{FunctionError, SubgroupError};
+use naga_ir::operations::{CollectiveOperation, SubgroupOperation};
+use naga_types::types::{Scalar, ScalarKind, TypeInner};
 
 /// A collective operation: over which invocations it is done, on which argument, and its result.
 #[derive(Clone, Copy)]

@@ -3,7 +3,7 @@
 ghost use Rattle.std.specs.Prelude.{◌≡◌, ◌<◌, ◌∷◌, [], OnOk, Some};
 ghost use Rattle.std.specs.Option.{option_copied};
 ghost use Rattle.naga_context.specs.walk.Answers.{Finds};
-ghost use Rattle.naga_rules.specs.Answers.{AnswersPoints};
+ghost use Rattle.naga_errors.specs.Answers.{AnswersPoints};
 ghost use Rattle.naga_context.specs.walk.Place.{place_at};
 ghost use Rattle.naga_checks.specs.walk.Subgroup.{indexed_points, gathered_points};
 ghost use Rattle.naga_context.specs.walk.Seen.{context_of};
@@ -11,17 +11,17 @@ ghost use Rattle.naga_checks.specs.checks.Subgroup.{index_of, is_broadcast, is_c
 ghost use Rattle.naga_context.specs.walk.Table.{HasPut, count, known};
 
 use crate::checks::subgroup::{check_combined, check_operations, check_subgroups, is_number_kind};
-use naga_below::arena::handle::Handle;
-use naga_below::arena::tag;
-use naga_below::ir::operations::GatherMode;
-use naga_below::ir::types::{Scalar, TypeInner};
-use naga_below::span::Span;
+use naga_arena::handle::Handle;
+use naga_arena::span::Span;
+use naga_arena::tag;
 use naga_context::context::BlockContext;
 use naga_context::refuse::{answer, check_use};
 use naga_context::refused::Refused;
 use naga_context::table::ScopeColumn;
 use naga_context::types::is_scalar;
-use naga_rules::function::{FunctionError, SubgroupError};
+use naga_errors::function::{FunctionError, SubgroupError};
+use naga_ir::operations::GatherMode;
+use naga_types::types::{Scalar, TypeInner};
 
 /// SubgroupGather: its index, its argument, and its result, which is in scope afterwards.
 pub fn validate_gather(

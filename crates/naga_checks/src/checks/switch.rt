@@ -3,27 +3,27 @@
 ghost use Rattle.std.specs.Prelude.{◌≡◌, [], None, IsTrue};
 ghost use Rattle.std.specs.List.{list_any};
 ghost use Rattle.naga_below.specs.Points.{first_fault};
-ghost use Rattle.naga_below.specs.declared.ir.statements.SwitchCase.{out-SwitchCase};
+ghost use Rattle.naga_ir.specs.declared.statements.SwitchCase.{out-SwitchCase};
 ghost use Rattle.naga_context.specs.Blocks.{case_list};
 ghost use Rattle.naga_checks.specs.checks.Switch.{has_signedness_of, is_default, repeated_fault, value_points, values_of, last_falls_through, switch_points};
 ghost use Rattle.naga_context.specs.walk.Answers.{Finds};
-ghost use Rattle.naga_rules.specs.Answers.{AnswersPoints};
+ghost use Rattle.naga_errors.specs.Answers.{AnswersPoints};
 ghost use Rattle.naga_context.specs.walk.Place.{place_at};
 ghost use Rattle.naga_context.specs.walk.Seen.{context_of};
 ghost use Rattle.naga_checks.specs.walk.Switch.{selector_points, cases_points, risen, risen_to};
 ghost use Rattle.naga_context.specs.walk.Table.{known};
 
-use naga_below::arena::handle::Handle;
-use naga_below::arena::tag;
-use naga_below::ir::statements::{SwitchCase, SwitchValue};
-use naga_below::ir::types::ScalarKind;
-use naga_below::span::Span;
+use naga_arena::handle::Handle;
+use naga_arena::span::Span;
+use naga_arena::tag;
 use naga_context::context::BlockContext;
 use naga_context::refuse::{answer, check_use};
 use naga_context::refused::Refused;
 use naga_context::table::ScopeColumn;
 use naga_context::types::is_integer;
-use naga_rules::function::FunctionError;
+use naga_errors::function::FunctionError;
+use naga_ir::statements::{SwitchCase, SwitchValue};
+use naga_types::types::ScalarKind;
 use std::alloc::Global;
 use std::collections::BTreeSet;
 

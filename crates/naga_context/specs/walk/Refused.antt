@@ -2,9 +2,9 @@
 -- alone calls.
 use Rattle.std.specs.Prelude.{Option, Some, None, Box}
 use Rattle.std.specs.declared.alloc.Global.{Global}
-use Rattle.naga_below.specs.declared.span.Refusal.{Refusal}
-use Rattle.naga_below.specs.declared.span.Refusal.TheVariants.{Fault, Memory}
-use Rattle.naga_rules.specs.declared.function.FunctionError.{FunctionError}
+use Rattle.naga_arena.specs.declared.span.Refusal.{Refusal}
+use Rattle.naga_arena.specs.declared.span.Refusal.TheVariants.{Fault, Memory}
+use Rattle.naga_errors.specs.declared.function.FunctionError.{FunctionError}
 
 abbrev pub refusal_in : Option (Box FunctionError Global) → Refusal FunctionError
 refusal_in (Some fault) = Fault fault.value

@@ -6,8 +6,8 @@ ghost use Rattle.naga_runs.specs.Handles.{no_handles, with_handle};
 ghost use Rattle.naga_context.specs.walk.Table.{filled_in, marked};
 
 use crate::table::FilledColumn;
-use naga_below::arena::handle::Handle;
-use naga_below::arena::tag;
+use naga_arena::handle::Handle;
+use naga_arena::tag;
 use std::alloc::{AllocError, Global};
 
 impl FilledColumn {

@@ -7,8 +7,8 @@ ghost use Rattle.naga_context.specs.declared.table.ScopeState.TheVariants.{Open}
 ghost use Rattle.naga_context.specs.walk.Table.{Divides, HasPut, closing_if, count, known, left, shown, skipped};
 
 use crate::table::{ScopeColumn, ScopeState};
-use naga_below::arena::handle::Handle;
-use naga_below::arena::tag;
+use naga_arena::handle::Handle;
+use naga_arena::tag;
 use std::alloc::{AllocError, Global};
 
 impl ScopeColumn {

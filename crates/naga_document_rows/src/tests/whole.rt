@@ -7,8 +7,8 @@ use naga_below::{
     TypeInfo, tag,
 };
 use naga_document::{Document, KnownFacts};
+use naga_errors::MeshFault;
 use naga_layers::{ExpressionFact, FunctionFact, InfoFact, LowerFunctionError, MeshAnalysisFact};
-use naga_rules::MeshFault;
 use std::test::Fail;
 
 /// The alignment of a layout, or the type that spoils it and why.

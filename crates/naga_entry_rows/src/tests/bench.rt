@@ -3,22 +3,22 @@
 use crate::tests::parts::{GOOD, HERE, NOWHERE, add, function_of, module_of, no_infos};
 use crate::tests::shape::{Part, built_in, position, smooth, unbound};
 use bitflags::Flags;
-use naga_below::arena::Arena;
-use naga_below::arena::handle::Handle;
-use naga_below::arena::unique_arena::UniqueArena;
-use naga_below::ir::built_in::BuiltIn;
-use naga_below::ir::functions::Function;
-use naga_below::ir::module::{GlobalVariable, Module, ResourceBinding, SpecialTypes};
-use naga_below::ir::statements::Statement;
-use naga_below::ir::types::{
-    AddressSpace, ArraySize, Scalar, StructMember, Type, TypeInner, VectorSize,
-};
-use naga_below::sequence::Sequence;
+use naga_arena::arena::Arena;
+use naga_arena::handle::Handle;
+use naga_arena::sequence::Sequence;
 use naga_below::valid::info::{FunctionInfo, ModuleInfo};
 use naga_below::valid::types::TypeInfo;
+use naga_errors::below::Below;
 use naga_flags::ir::MemoryDecorations;
 use naga_flags::valid::{ShaderStages, TypeFlags};
-use naga_rules::below::Below;
+use naga_ir::functions::Function;
+use naga_ir::module::{GlobalVariable, Module, ResourceBinding, SpecialTypes};
+use naga_ir::statements::Statement;
+use naga_types::built_in::BuiltIn;
+use naga_types::types::{
+    AddressSpace, ArraySize, Scalar, StructMember, Type, TypeInner, VectorSize,
+};
+use naga_types::unique_arena::UniqueArena;
 use std::alloc::{AllocError, Global};
 use std::num::NonZeroU32;
 use std::process::Abort;

@@ -1,21 +1,22 @@
 //! A lower layer that finds no memory at one of its calls.
 
-use naga_below::arena::handle::Handle;
-use naga_below::arena::{Arena, tag};
-use naga_below::ir::expressions::Expression;
-use naga_below::ir::functions::Function;
-use naga_below::ir::module::Module;
+use naga_arena::arena::Arena;
+use naga_arena::handle::Handle;
+use naga_arena::span::Refusal;
+use naga_arena::tag;
 use naga_below::proc::expression_kinds::ExpressionKindTracker;
-use naga_below::span::Refusal;
 use naga_below::valid::expression_error::ExpressionError;
 use naga_below::valid::info::{FunctionInfo, ModuleInfo};
 use naga_below::valid::settings::Settings;
+use naga_errors::below::Below;
+use naga_errors::function::FunctionError;
+use naga_errors::mesh::MeshAnalysis;
 use naga_flags::capabilities::Capabilities;
 use naga_flags::valid::{ShaderStages, ValidationFlags};
+use naga_ir::expressions::Expression;
+use naga_ir::functions::Function;
+use naga_ir::module::Module;
 use naga_layers::plain::Plain;
-use naga_rules::below::Below;
-use naga_rules::function::FunctionError;
-use naga_rules::mesh::MeshAnalysis;
 use std::alloc::{AllocError, Global};
 use std::cell::Cell;
 

@@ -8,11 +8,11 @@ use crate::tests::shape::{
     Case, Step, at, at_compute, at_fragment, at_mesh, at_task, smooth, unbound,
 };
 use bitflags::Flags;
-use naga_below::arena::handle::Handle;
-use naga_below::ir::module::ShaderStage;
+use naga_arena::handle::Handle;
 use naga_context::trace::{TraceRayVertexReturnState, TraceState};
 use naga_flags::valid::GlobalUse;
-use naga_valid::interface::EntryPointError;
+use naga_interface::error::EntryPointError;
+use naga_ir::module::ShaderStage;
 use std::process::Abort;
 use std::test::Fail;
 

@@ -1,17 +1,17 @@
 //! What the tests share: places, what is known of types, and a module and a function from their parts.
 
-use naga_below::arena::Arena;
-use naga_below::arena::unique_arena::UniqueArena;
-use naga_below::ir::expressions::Expression;
-use naga_below::ir::functions::{Function, LocalVariable};
-use naga_below::ir::module::{GlobalVariable, Module};
-use naga_below::ir::statements::{Block, Located, Statement};
-use naga_below::ir::types::Type;
-use naga_below::sequence::Sequence;
-use naga_below::span::Span;
+use naga_arena::arena::Arena;
+use naga_arena::sequence::Sequence;
+use naga_arena::span::Span;
 use naga_below::valid::info::ModuleInfo;
 use naga_below::valid::types::TypeInfo;
 use naga_flags::valid::{TypeFlags, ValidationFlags};
+use naga_ir::expressions::Expression;
+use naga_ir::functions::{Function, LocalVariable};
+use naga_ir::module::{GlobalVariable, Module};
+use naga_ir::statements::{Block, Located, Statement};
+use naga_types::types::Type;
+use naga_types::unique_arena::UniqueArena;
 use std::alloc::{AllocError, Global};
 
 /// Where nothing is.

@@ -2,11 +2,11 @@
 
 use crate::tests::bench::{COLOR, COUNTS, PAYLOAD};
 use crate::tests::parts::ALL_CHECKS;
-use naga_below::ir::built_in::BuiltIn;
-use naga_below::ir::module::ShaderStage;
-use naga_below::ir::types::{Binding, Interpolation};
 use naga_flags::capabilities::Capabilities;
 use naga_flags::valid::ValidationFlags;
+use naga_ir::module::ShaderStage;
+use naga_types::built_in::BuiltIn;
+use naga_types::types::{Binding, Interpolation};
 
 /// A type, and what it is bound to: an argument, a result, or a member of a struct.
 #[derive(Clone, Copy)]

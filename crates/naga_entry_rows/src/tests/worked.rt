@@ -10,14 +10,14 @@ use crate::tests::shape::{
     Case, Part, Step, at, at_compute, at_fragment, at_vertex, built_in, smooth,
 };
 use bitflags::Flags;
-use naga_below::arena::handle::Handle;
-use naga_below::ir::built_in::BuiltIn;
-use naga_below::ir::module::ShaderStage;
-use naga_below::ir::types::{Binding, Interpolation, Sampling};
+use naga_arena::handle::Handle;
+use naga_errors::function::FunctionError;
+use naga_errors::interface::VaryingError;
 use naga_flags::valid::ValidationFlags;
-use naga_rules::function::FunctionError;
-use naga_rules::interface::VaryingError;
-use naga_valid::interface::EntryPointError;
+use naga_interface::error::EntryPointError;
+use naga_ir::module::ShaderStage;
+use naga_types::built_in::BuiltIn;
+use naga_types::types::{Binding, Interpolation, Sampling};
 use std::process::Abort;
 use std::test::Fail;
 

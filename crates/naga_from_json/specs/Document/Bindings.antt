@@ -2,16 +2,16 @@
 use Rattle.std.specs.Prelude.{ℕ, List, [], ◌∷◌, codes, Option, Some, None, option_map, ⊤}
 use Rattle.serde_json.specs.Data.{Data}
 use Rattle.serde_json.specs.Find.{as_bool}
-use Rattle.naga_below.specs.declared.ir.built_in.BuiltIn.{BuiltIn}
-use Rattle.naga_below.specs.declared.ir.built_in.BuiltIn.TheVariants as built_in
+use Rattle.naga_types.specs.declared.built_in.BuiltIn.{BuiltIn}
+use Rattle.naga_types.specs.declared.built_in.BuiltIn.TheVariants as built_in
 use Rattle.naga_from_json.specs.declared.read.bindings.BuiltInName.{BuiltInName}
 use Rattle.naga_from_json.specs.declared.read.bindings.BuiltInName.TheVariants as built_in_name
-use Rattle.naga_below.specs.declared.ir.types.Interpolation.{Interpolation}
-use Rattle.naga_below.specs.declared.ir.types.Interpolation.TheVariants as interpolation
-use Rattle.naga_below.specs.declared.ir.types.Sampling.{Sampling}
-use Rattle.naga_below.specs.declared.ir.types.Sampling.TheVariants as sampling
-use Rattle.naga_below.specs.declared.ir.types.Binding.{Binding}
-use Rattle.naga_below.specs.declared.ir.types.Binding.TheVariants as binding
+use Rattle.naga_types.specs.declared.types.Interpolation.{Interpolation}
+use Rattle.naga_types.specs.declared.types.Interpolation.TheVariants as interpolation
+use Rattle.naga_types.specs.declared.types.Sampling.{Sampling}
+use Rattle.naga_types.specs.declared.types.Sampling.TheVariants as sampling
+use Rattle.naga_types.specs.declared.types.Binding.{Binding}
+use Rattle.naga_types.specs.declared.types.Binding.TheVariants as binding
 use Rattle.naga_from_json.specs.declared.read.bindings.BindingName.{BindingName}
 use Rattle.naga_from_json.specs.declared.read.bindings.BindingName.TheVariants as binding_name
 use Rattle.naga_from_json.specs.Form.{field_of, fielded, given, named, optional}

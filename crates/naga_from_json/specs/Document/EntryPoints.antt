@@ -1,17 +1,17 @@
 -- Global variables, and entry points.
 use Rattle.std.specs.Prelude.{ℕ, List, [], ◌∷◌, codes, Option, Some, option_map}
 use Rattle.serde_json.specs.Data.{Data}
-use Rattle.naga_below.specs.declared.ir.module.ShaderStage.{ShaderStage}
-use Rattle.naga_below.specs.declared.ir.module.ShaderStage.TheVariants as shader_stage
-use Rattle.naga_below.specs.declared.ir.module.MeshOutputTopology.{MeshOutputTopology}
-use Rattle.naga_below.specs.declared.ir.module.MeshOutputTopology.TheVariants as mesh_output_topology
-use Rattle.naga_below.specs.declared.ir.module.MeshStageInfo.{MeshStageInfo}
-use Rattle.naga_below.specs.declared.ir.module.Constant.{Constant}
-use Rattle.naga_below.specs.declared.ir.module.Override.{Override}
-use Rattle.naga_below.specs.declared.ir.module.SpecialTypes.{SpecialTypes}
-use Rattle.naga_below.specs.declared.ir.module.GlobalVariable.{GlobalVariable}
-use Rattle.naga_below.specs.declared.ir.module.EarlyDepthTest.{EarlyDepthTest}
-use Rattle.naga_below.specs.declared.ir.module.EntryPoint.{EntryPoint}
+use Rattle.naga_ir.specs.declared.module.ShaderStage.{ShaderStage}
+use Rattle.naga_ir.specs.declared.module.ShaderStage.TheVariants as shader_stage
+use Rattle.naga_ir.specs.declared.module.MeshOutputTopology.{MeshOutputTopology}
+use Rattle.naga_ir.specs.declared.module.MeshOutputTopology.TheVariants as mesh_output_topology
+use Rattle.naga_ir.specs.declared.module.MeshStageInfo.{MeshStageInfo}
+use Rattle.naga_ir.specs.declared.module.Constant.{Constant}
+use Rattle.naga_ir.specs.declared.module.Override.{Override}
+use Rattle.naga_ir.specs.declared.module.SpecialTypes.{SpecialTypes}
+use Rattle.naga_ir.specs.declared.module.GlobalVariable.{GlobalVariable}
+use Rattle.naga_ir.specs.declared.module.EarlyDepthTest.{EarlyDepthTest}
+use Rattle.naga_ir.specs.declared.module.EntryPoint.{EntryPoint}
 use Rattle.naga_from_json.specs.Form.{field_of, fielded, given, named, optional, three_of}
 use Rattle.naga_from_json.specs.Numbers.{u32_of}
 use Rattle.naga_from_json.specs.Sets.{memory_decorations_of}

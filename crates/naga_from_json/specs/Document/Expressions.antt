@@ -2,14 +2,14 @@
 use Rattle.std.specs.Prelude.{ℕ, List, [], ◌∷◌, codes, Option, Some, None, option_map}
 use Rattle.serde_json.specs.Data.{Data}
 use Rattle.serde_json.specs.Find.{as_bool}
-use Rattle.naga_below.specs.declared.ir.expressions.Literal.{Literal}
+use Rattle.naga_ir.specs.declared.expressions.Literal.{Literal}
 use Rattle.naga_from_json.specs.declared.read.expressions.Parts.{Parts}
 use Rattle.naga_from_json.specs.declared.read.expressions.BareName.{BareName}
 use Rattle.naga_from_json.specs.declared.read.expressions.BareName.TheVariants as bare
 use Rattle.naga_from_json.specs.declared.read.expressions.PartsName.{PartsName}
 use Rattle.naga_from_json.specs.declared.read.expressions.PartsName.TheVariants as parts_name
-use Rattle.naga_below.specs.declared.ir.expressions.Expression.{Expression}
-use Rattle.naga_below.specs.declared.ir.expressions.Expression.TheVariants as expression
+use Rattle.naga_ir.specs.declared.expressions.Expression.{Expression}
+use Rattle.naga_ir.specs.declared.expressions.Expression.TheVariants as expression
 use Rattle.naga_from_json.specs.declared.read.expressions.ExpressionName.{ExpressionName}
 use Rattle.naga_from_json.specs.declared.read.expressions.ExpressionName.TheVariants as expression_name
 use Rattle.naga_from_json.specs.Form.{field_of, fielded, given, list_of}

@@ -3,8 +3,8 @@ use Rattle.std.specs.Prelude.{ℕ, List, [], ◌∷◌, codes, Option, Some, Non
 use Rattle.std.specs.Prelude.{Result, Ok, Err}
 use Rattle.serde_json.specs.Data.{Data}
 use Rattle.serde_json.specs.Find.{as_bool, as_null}
-use Rattle.naga_rules.specs.declared.mesh.MeshFault.{MeshFault}
-use Rattle.naga_rules.specs.declared.mesh.MeshFault.TheVariants as mesh_fault
+use Rattle.naga_errors.specs.declared.mesh.MeshFault.{MeshFault}
+use Rattle.naga_errors.specs.declared.mesh.MeshFault.TheVariants as mesh_fault
 use Rattle.naga_from_json.specs.declared.read.facts.OutcomeName.{OutcomeName}
 use Rattle.naga_from_json.specs.declared.read.facts.OutcomeName.TheVariants as outcome_name
 use Rattle.naga_below.specs.declared.valid.types.Disalignment.{Disalignment}

@@ -2,10 +2,10 @@
 use Rattle.std.specs.Prelude.{[], ◌∷◌, codes, Option, Some}
 use Rattle.serde_json.specs.Data.{Data}
 use Rattle.serde_json.specs.Find.{as_str}
-use Rattle.naga_below.specs.declared.ir.functions.LocalVariable.{LocalVariable}
-use Rattle.naga_below.specs.declared.ir.functions.FunctionArgument.{FunctionArgument}
-use Rattle.naga_below.specs.declared.ir.functions.FunctionResult.{FunctionResult}
-use Rattle.naga_below.specs.declared.ir.functions.Function.{Function}
+use Rattle.naga_ir.specs.declared.functions.LocalVariable.{LocalVariable}
+use Rattle.naga_ir.specs.declared.functions.FunctionArgument.{FunctionArgument}
+use Rattle.naga_ir.specs.declared.functions.FunctionResult.{FunctionResult}
+use Rattle.naga_ir.specs.declared.functions.Function.{Function}
 use Rattle.naga_from_json.specs.Form.{field_of, fielded, given, list_of, optional}
 use Rattle.naga_from_json.specs.Numbers.{u32_of}
 use Rattle.naga_from_json.specs.Document.Bindings.{binding_of}

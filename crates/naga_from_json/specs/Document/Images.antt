@@ -2,12 +2,12 @@
 use Rattle.std.specs.Prelude.{ℕ, List, [], ◌∷◌, codes, Option, Some, None, option_map}
 use Rattle.serde_json.specs.Data.{Data}
 use Rattle.serde_json.specs.Find.{as_bool}
-use Rattle.naga_below.specs.declared.ir.types.ImageDimension.{ImageDimension}
-use Rattle.naga_below.specs.declared.ir.types.ImageDimension.TheVariants as image_dimension
-use Rattle.naga_below.specs.declared.ir.types.StorageFormat.{StorageFormat}
-use Rattle.naga_below.specs.declared.ir.types.StorageFormat.TheVariants as storage_format
-use Rattle.naga_below.specs.declared.ir.types.ImageClass.{ImageClass}
-use Rattle.naga_below.specs.declared.ir.types.ImageClass.TheVariants as image_class
+use Rattle.naga_types.specs.declared.types.ImageDimension.{ImageDimension}
+use Rattle.naga_types.specs.declared.types.ImageDimension.TheVariants as image_dimension
+use Rattle.naga_types.specs.declared.types.StorageFormat.{StorageFormat}
+use Rattle.naga_types.specs.declared.types.StorageFormat.TheVariants as storage_format
+use Rattle.naga_types.specs.declared.types.ImageClass.{ImageClass}
+use Rattle.naga_types.specs.declared.types.ImageClass.TheVariants as image_class
 use Rattle.naga_from_json.specs.declared.read.images.ClassName.{ClassName}
 use Rattle.naga_from_json.specs.declared.read.images.ClassName.TheVariants as class_name
 use Rattle.naga_from_json.specs.Form.{field_of, fielded, given, named}

@@ -1,10 +1,10 @@
 -- Statements that hold no others.
 use Rattle.std.specs.Prelude.{ℕ, List, [], ◌∷◌, codes, Option, Some, option_map}
 use Rattle.serde_json.specs.Data.{Data}
-use Rattle.naga_below.specs.declared.ir.statements.Statement.{Statement}
+use Rattle.naga_ir.specs.declared.statements.Statement.{Statement}
 use Rattle.naga_from_json.specs.declared.read.leaves.LeafName.{LeafName}
 use Rattle.naga_from_json.specs.declared.read.leaves.LeafName.TheVariants as leaf_name
-use Rattle.naga_below.specs.declared.ir.statements.Statement as statement
+use Rattle.naga_ir.specs.declared.statements.Statement as statement
 use Rattle.naga_from_json.specs.Form.{field_of, fielded, given, list_of, optional}
 use Rattle.naga_from_json.specs.Numbers.{u32_of}
 use Rattle.naga_from_json.specs.Sets.{barrier_of}

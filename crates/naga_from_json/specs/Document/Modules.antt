@@ -1,9 +1,9 @@
 -- Modules.
 use Rattle.std.specs.Prelude.{Bool, false, ◌||◌, ◌++◌, if◌then◌else◌, List, [], ◌∷◌, codes, Option, Some, None}
 use Rattle.serde_json.specs.Data.{Data}
-use Rattle.naga_below.specs.declared.ir.module.Module.{Module}
-use Rattle.naga_below.specs.declared.ir.types.Type.{«Type» as IrType}
-use Rattle.naga_below.specs.contracts.ir.types.TypePartialEq.TheImpl as ir_type
+use Rattle.naga_ir.specs.declared.module.Module.{Module}
+use Rattle.naga_types.specs.declared.types.Type.{«Type» as IrType}
+use Rattle.naga_types.specs.contracts.types.TypePartialEq.TheImpl as ir_type
 use Rattle.naga_from_json.specs.Form.{field_of, fielded, given, list_of}
 use Rattle.naga_from_json.specs.Document.EntryPoints.{constant_of, entry_point_of, global_variable_of, override_of, special_types_of}
 use Rattle.naga_from_json.specs.Document.Expressions.{expression_of}

@@ -1,28 +1,28 @@
 -- Operations of atomics, subgroups and rays, and what else statements name.
 use Rattle.std.specs.Prelude.{ℕ, List, [], ◌∷◌, codes, Option, Some, None, option_map, ⊤}
 use Rattle.serde_json.specs.Data.{Data}
-use Rattle.naga_below.specs.declared.ir.operations.AtomicFunction.{AtomicFunction}
-use Rattle.naga_below.specs.declared.ir.operations.AtomicFunction.TheVariants as atomic_function
-use Rattle.naga_below.specs.declared.ir.operations.SubgroupOperation.{SubgroupOperation}
-use Rattle.naga_below.specs.declared.ir.operations.SubgroupOperation.TheVariants as subgroup_operation
-use Rattle.naga_below.specs.declared.ir.operations.CollectiveOperation.{CollectiveOperation}
-use Rattle.naga_below.specs.declared.ir.operations.CollectiveOperation.TheVariants as collective_operation
-use Rattle.naga_below.specs.declared.ir.operations.GatherMode.{GatherMode}
-use Rattle.naga_below.specs.declared.ir.operations.GatherMode.TheVariants as gather_mode
+use Rattle.naga_ir.specs.declared.operations.AtomicFunction.{AtomicFunction}
+use Rattle.naga_ir.specs.declared.operations.AtomicFunction.TheVariants as atomic_function
+use Rattle.naga_ir.specs.declared.operations.SubgroupOperation.{SubgroupOperation}
+use Rattle.naga_ir.specs.declared.operations.SubgroupOperation.TheVariants as subgroup_operation
+use Rattle.naga_ir.specs.declared.operations.CollectiveOperation.{CollectiveOperation}
+use Rattle.naga_ir.specs.declared.operations.CollectiveOperation.TheVariants as collective_operation
+use Rattle.naga_ir.specs.declared.operations.GatherMode.{GatherMode}
+use Rattle.naga_ir.specs.declared.operations.GatherMode.TheVariants as gather_mode
 use Rattle.naga_from_json.specs.declared.read.operations.GatherName.{GatherName}
 use Rattle.naga_from_json.specs.declared.read.operations.GatherName.TheVariants as gather_name
-use Rattle.naga_below.specs.declared.ir.operations.RayQueryFunction.{RayQueryFunction}
-use Rattle.naga_below.specs.declared.ir.operations.RayQueryFunction.TheVariants as ray_query_function
+use Rattle.naga_ir.specs.declared.operations.RayQueryFunction.{RayQueryFunction}
+use Rattle.naga_ir.specs.declared.operations.RayQueryFunction.TheVariants as ray_query_function
 use Rattle.naga_from_json.specs.declared.read.operations.RayQueryName.{RayQueryName}
 use Rattle.naga_from_json.specs.declared.read.operations.RayQueryName.TheVariants as ray_query_name
-use Rattle.naga_below.specs.declared.ir.operations.RayPipelineFunction.{RayPipelineFunction}
-use Rattle.naga_below.specs.declared.ir.operations.RayPipelineFunction.TheVariants as ray_pipeline_function
-use Rattle.naga_below.specs.declared.ir.operations.CooperativeData.{CooperativeData}
-use Rattle.naga_below.specs.declared.ir.statements.SwitchValue.{SwitchValue}
-use Rattle.naga_below.specs.declared.ir.statements.SwitchValue.TheVariants as switch_value
+use Rattle.naga_ir.specs.declared.operations.RayPipelineFunction.{RayPipelineFunction}
+use Rattle.naga_ir.specs.declared.operations.RayPipelineFunction.TheVariants as ray_pipeline_function
+use Rattle.naga_ir.specs.declared.operations.CooperativeData.{CooperativeData}
+use Rattle.naga_ir.specs.declared.statements.SwitchValue.{SwitchValue}
+use Rattle.naga_ir.specs.declared.statements.SwitchValue.TheVariants as switch_value
 use Rattle.naga_from_json.specs.declared.read.operations.ValueName.{ValueName}
 use Rattle.naga_from_json.specs.declared.read.operations.ValueName.TheVariants as value_name
-use Rattle.naga_below.specs.declared.arena.range.Range.{Range}
+use Rattle.naga_arena.specs.declared.range.Range.{Range}
 use Rattle.naga_from_json.specs.Form.{field_of, fielded, given, named, optional}
 use Rattle.naga_from_json.specs.Numbers.{i32_of, u32_of}
 use Rattle.naga_from_json.specs.Variants.{Variant, plain, holding, variant_of}

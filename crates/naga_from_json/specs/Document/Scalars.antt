@@ -1,11 +1,11 @@
 -- Scalars, and sizes of vectors.
 use Rattle.std.specs.Prelude.{ℕ, List, [], ◌∷◌, codes, Option, Some}
 use Rattle.serde_json.specs.Data.{Data}
-use Rattle.naga_below.specs.declared.ir.types.ScalarKind.{ScalarKind}
-use Rattle.naga_below.specs.declared.ir.types.ScalarKind.TheVariants as scalar_kind
-use Rattle.naga_below.specs.declared.ir.types.Scalar.{Scalar}
-use Rattle.naga_below.specs.declared.ir.types.VectorSize.{VectorSize}
-use Rattle.naga_below.specs.declared.ir.types.VectorSize.TheVariants as vector_size
+use Rattle.naga_types.specs.declared.types.ScalarKind.{ScalarKind}
+use Rattle.naga_types.specs.declared.types.ScalarKind.TheVariants as scalar_kind
+use Rattle.naga_types.specs.declared.types.Scalar.{Scalar}
+use Rattle.naga_types.specs.declared.types.VectorSize.{VectorSize}
+use Rattle.naga_types.specs.declared.types.VectorSize.TheVariants as vector_size
 use Rattle.naga_from_json.specs.Form.{field_of, fielded, given, named}
 use Rattle.naga_from_json.specs.Numbers.{u8_of}
 

@@ -1,9 +1,9 @@
 -- Address spaces, and where resources are bound.
 use Rattle.std.specs.Prelude.{ℕ, List, [], ◌∷◌, codes, Option, Some, None, option_map, ⊤}
 use Rattle.serde_json.specs.Data.{Data}
-use Rattle.naga_below.specs.declared.ir.types.AddressSpace.{AddressSpace}
-use Rattle.naga_below.specs.declared.ir.types.AddressSpace.TheVariants as address_space
-use Rattle.naga_below.specs.declared.ir.module.ResourceBinding.{ResourceBinding}
+use Rattle.naga_types.specs.declared.types.AddressSpace.{AddressSpace}
+use Rattle.naga_types.specs.declared.types.AddressSpace.TheVariants as address_space
+use Rattle.naga_ir.specs.declared.module.ResourceBinding.{ResourceBinding}
 use Rattle.naga_from_json.specs.Form.{field_of, fielded, given}
 use Rattle.naga_from_json.specs.Numbers.{u32_of}
 use Rattle.naga_from_json.specs.Sets.{storage_access_of}

@@ -2,13 +2,13 @@
 use Rattle.std.specs.Prelude.{ℕ, zero, suc, List, [], ◌∷◌, codes, Option, Some, None, option_map, if◌then◌else◌}
 use Rattle.serde_json.specs.Data.{Data}
 use Rattle.serde_json.specs.Find.{as_bool}
-use Rattle.naga_below.specs.Blocks as blocks
-use Rattle.naga_below.specs.declared.ir.statements.Block.{Block}
-use Rattle.naga_below.specs.declared.ir.statements.Located.{Located}
-use Rattle.naga_below.specs.declared.ir.statements.Statement.{Statement}
-use Rattle.naga_below.specs.declared.ir.statements.Statement as statement
-use Rattle.naga_below.specs.declared.ir.statements.SwitchCase.{SwitchCase, SwitchCase'}
-use Rattle.naga_below.specs.declared.span.Span.{Span}
+use Rattle.naga_ir.specs.Blocks as blocks
+use Rattle.naga_ir.specs.declared.statements.Block.{Block}
+use Rattle.naga_ir.specs.declared.statements.Located.{Located}
+use Rattle.naga_ir.specs.declared.statements.Statement.{Statement}
+use Rattle.naga_ir.specs.declared.statements.Statement as statement
+use Rattle.naga_ir.specs.declared.statements.SwitchCase.{SwitchCase, SwitchCase'}
+use Rattle.naga_arena.specs.declared.span.Span.{Span}
 use Rattle.naga_from_json.specs.declared.read.leaves.LeafName.TheVariants as leaf
 use Rattle.naga_from_json.specs.declared.read.statements.BareName.{BareName}
 use Rattle.naga_from_json.specs.declared.read.statements.BareName.TheVariants as bare

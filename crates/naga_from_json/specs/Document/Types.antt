@@ -2,18 +2,18 @@
 use Rattle.std.specs.Prelude.{ℕ, List, [], ◌∷◌, codes, Option, Some, None, option_map, ⊤}
 use Rattle.serde_json.specs.Data.{Data}
 use Rattle.serde_json.specs.Find.{as_bool, as_str}
-use Rattle.naga_below.specs.declared.ir.types.ArraySize.{ArraySize}
-use Rattle.naga_below.specs.declared.ir.types.ArraySize.TheVariants as array_size
+use Rattle.naga_types.specs.declared.types.ArraySize.{ArraySize}
+use Rattle.naga_types.specs.declared.types.ArraySize.TheVariants as array_size
 use Rattle.naga_from_json.specs.declared.read.types.SizeName.{SizeName}
 use Rattle.naga_from_json.specs.declared.read.types.SizeName.TheVariants as size_name
-use Rattle.naga_below.specs.declared.ir.types.StructMember.{StructMember}
-use Rattle.naga_below.specs.declared.ir.types.TypeInner.{TypeInner}
-use Rattle.naga_below.specs.declared.ir.types.TypeInner.TheVariants as type_inner
+use Rattle.naga_types.specs.declared.types.StructMember.{StructMember}
+use Rattle.naga_types.specs.declared.types.TypeInner.{TypeInner}
+use Rattle.naga_types.specs.declared.types.TypeInner.TheVariants as type_inner
 use Rattle.naga_from_json.specs.declared.read.types.TypeName.{TypeName}
 use Rattle.naga_from_json.specs.declared.read.types.TypeName.TheVariants as type_name
-use Rattle.naga_below.specs.declared.ir.types.Type.{«Type» as IrType}
-use Rattle.naga_below.specs.declared.proc.typifier.TypeResolution.{TypeResolution}
-use Rattle.naga_below.specs.declared.proc.typifier.TypeResolution.TheVariants as type_resolution
+use Rattle.naga_types.specs.declared.types.Type.{«Type» as IrType}
+use Rattle.naga_types.specs.declared.typifier.TypeResolution.{TypeResolution}
+use Rattle.naga_types.specs.declared.typifier.TypeResolution.TheVariants as type_resolution
 use Rattle.naga_from_json.specs.declared.read.types.ResolutionName.{ResolutionName}
 use Rattle.naga_from_json.specs.declared.read.types.ResolutionName.TheVariants as resolution_name
 use Rattle.naga_from_json.specs.Form.{field_of, fielded, given, list_of, optional}

@@ -8,8 +8,8 @@ use crate::read::error::ReadError;
 use crate::read::from_json::FromJson;
 use crate::read::variant::{Held, NO_NAMES, Variant, read_variant};
 use naga_below::ExpressionError;
+use naga_errors::analyzer::{UniformityDisruptor, UniformityRequirements};
 use naga_layers::LowerFunctionError;
-use naga_rules::analyzer::{UniformityDisruptor, UniformityRequirements};
 use serde_json::Value;
 use std::alloc::Global;
 

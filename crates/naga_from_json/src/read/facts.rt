@@ -7,8 +7,8 @@ use crate::read::error::ReadError;
 use crate::read::from_json::{Fields, FromJson};
 use crate::read::variant::{NO_NAMES, Variant, read_name, read_variant};
 use naga_below::{Disalignment, Handle, ImmediateError, TypeInfo, tag};
+use naga_errors::mesh::MeshFault;
 use naga_layers::{ExpressionFact, FunctionFact, InfoFact, MeshAnalysisFact};
-use naga_rules::mesh::MeshFault;
 use serde_json::Value;
 use std::alloc::Global;
 

@@ -1,17 +1,17 @@
 //! The greatest handle in each place of each kind of expression, of a function and of a module. Of a module's expressions the
 //! operands are looked at alone.
 
-use crate::tests::handles::{FIRST, GREATEST};
+use crate::tests::handles::{FIRST, GREATEST, SECOND};
 use crate::tests::module::{
     expect_unfit, expressions_of, global_types_of, locals_of, made, module,
 };
-use naga_below::arena::handle::Handle;
-use naga_below::ir::expressions::{Expression, Operands};
-use naga_below::ir::functions::Function;
-use naga_below::sequence::Sequence;
+use naga_arena::handle::Handle;
+use naga_arena::sequence::Sequence;
 use naga_below::valid::info::ModuleInfo;
 use naga_fits::function::fits_function;
 use naga_fits::globals::fits_globals;
+use naga_ir::expressions::{Expression, Operands};
+use naga_ir::functions::Function;
 use std::alloc::{AllocError, Global};
 use std::process::Abort;
 use std::test::Fail;
@@ -183,8 +183,8 @@ fn what_is_named_besides_operands(rt: HostRuntime) -> Result<(), Fail> {
     Ok(())
 }
 
-/// An expression of two operands has one that isn't there, be it the first or the second.
-const OPERANDS: [[u32; 2]; 2] = [[GREATEST, 0], [0, GREATEST]];
+/// An expression of two operands has one that isn't there, or is the expression itself, be it the first or the second.
+const OPERANDS: [[u32; 2]; 4] = [[GREATEST, 0], [0, GREATEST], [SECOND, 0], [0, SECOND]];
 
 #[test]
 fn operands_that_are_fields(rt: HostRuntime) -> Result<(), Fail> {
@@ -194,11 +194,15 @@ fn operands_that_are_fields(rt: HostRuntime) -> Result<(), Fail> {
         DirectKind::Load,
     ] {
         expect_in_function(&rt, direct(kind, [0, 0]), true);
-        expect_in_function(&rt, direct(kind, [GREATEST, 0]), false);
-        expect_in_module(&rt, direct(kind, [GREATEST, 0]), false);
+        for handle in [SECOND, GREATEST] {
+            expect_in_function(&rt, direct(kind, [handle, 0]), false);
+            expect_in_module(&rt, direct(kind, [handle, 0]), false);
+        }
     }
-    expect_in_function(&rt, direct(DirectKind::Access, [0, GREATEST]), false);
-    expect_in_module(&rt, direct(DirectKind::Access, [0, GREATEST]), false);
+    for handle in [SECOND, GREATEST] {
+        expect_in_function(&rt, direct(DirectKind::Access, [0, handle]), false);
+        expect_in_module(&rt, direct(DirectKind::Access, [0, handle]), false);
+    }
     Ok(())
 }
 

@@ -42,6 +42,12 @@ pub struct Handles {
     pub output: u32,
 }
 
+/// The first handle that names nothing where one thing is there, and the expression's own where it is the second.
+pub const SECOND: u32 = 1;
+
+/// As many types as the module has.
+pub const TYPES: u32 = 5;
+
 /// The first handle in each place, where each names something.
 pub const FIRST: Handles = Handles {
     pointer: 0,
@@ -71,4 +77,27 @@ pub const FIRST: Handles = Handles {
     vertex: 0,
     primitive: 0,
     output: 0,
+};
+
+/// The last type that may stand in each place.
+pub const LAST: Handles = Handles {
+    array: 1,
+    binding_array: 2,
+    member: 3,
+    descriptor: TYPES - 1,
+    constant: TYPES - 1,
+    overridden: TYPES - 1,
+    storage: TYPES - 1,
+    uniform: TYPES - 1,
+    global: TYPES - 1,
+    initializer: 1,
+    resolved: TYPES - 1,
+    pointed: TYPES - 1,
+    argument: TYPES - 1,
+    declared: TYPES - 1,
+    local: TYPES - 1,
+    taken: TYPES - 1,
+    vertex: TYPES - 1,
+    primitive: TYPES - 1,
+    ..FIRST
 };

@@ -1,28 +1,28 @@
 //! One module with a handle in each place but inside a body, what is known of it, and what is answered of it over the plain
 //! layer.
 
-use crate::tests::handles::Handles;
+use crate::tests::handles::{Handles, TYPES};
 use bitflags::Flags;
-use naga_below::arena::Arena;
-use naga_below::arena::handle::Handle;
-use naga_below::arena::unique_arena::UniqueArena;
-use naga_below::ir::expressions::Expression;
-use naga_below::ir::functions::{Function, FunctionArgument, FunctionResult, LocalVariable};
-use naga_below::ir::module::{
-    Constant, EntryPoint, GlobalVariable, MeshOutputTopology, MeshStageInfo, Module, Override,
-    ShaderStage, SpecialTypes,
-};
-use naga_below::ir::types::{AddressSpace, ArraySize, Scalar, StructMember, Type, TypeInner};
-use naga_below::proc::typifier::TypeResolution;
-use naga_below::sequence::Sequence;
-use naga_below::span::Span;
+use naga_arena::arena::Arena;
+use naga_arena::handle::Handle;
+use naga_arena::sequence::Sequence;
+use naga_arena::span::Span;
 use naga_below::valid::settings::Settings;
 use naga_below::valid::types::{Disalignment, TypeInfo};
 use naga_flags::capabilities::Capabilities;
 use naga_flags::ir::MemoryDecorations;
 use naga_flags::valid::{ShaderStages, SubgroupOperationSet, TypeFlags, ValidationFlags};
+use naga_ir::expressions::Expression;
+use naga_ir::functions::{Function, FunctionArgument, FunctionResult, LocalVariable};
+use naga_ir::module::{
+    Constant, EntryPoint, GlobalVariable, MeshOutputTopology, MeshStageInfo, Module, Override,
+    ShaderStage, SpecialTypes,
+};
 use naga_layers::plain::Plain;
 use naga_module::check::{Given, ModuleFault, check_module};
+use naga_types::types::{AddressSpace, ArraySize, Scalar, StructMember, Type, TypeInner};
+use naga_types::typifier::TypeResolution;
+use naga_types::unique_arena::UniqueArena;
 use std::alloc::{AllocError, Global};
 use std::process::Abort;
 
@@ -57,7 +57,8 @@ fn flat_types(handles: &Handles) -> [TypeInner; 4] {
     ]
 }
 
-const TYPES: usize = 5;
+/// How many types there are.
+const COUNT: usize = TYPES as usize;
 
 /// A struct of one member.
 fn structure(alloc: Global, member: u32) -> Result<TypeInner, AllocError> {
@@ -77,7 +78,7 @@ fn add_type(
     types: &mut UniqueArena<Type>,
     inner: TypeInner,
 ) -> Result<(), AllocError> {
-    assert!(rt; types.len() < TYPES);
+    assert!(rt; types.len() < COUNT);
     types.insert(Type { name: None, inner }, NOWHERE)?;
     Ok(())
 }
@@ -261,7 +262,7 @@ const GOOD: TypeInfo = TypeInfo {
 
 /// What is known of the types: the layouts of the last are bad.
 pub fn infos_of_types(alloc: Global, handles: &Handles) -> Result<Vec<TypeInfo>, AllocError> {
-    let mut infos = vec![in alloc; GOOD; TYPES - 1]?;
+    let mut infos = vec![in alloc; GOOD; COUNT - 1]?;
     infos.push(TypeInfo {
         storage_layout: Err((Handle::new(handles.storage), Disalignment(0))),
         uniform_layout: Err((Handle::new(handles.uniform), Disalignment(0))),

@@ -1,10 +1,9 @@
-//! The greatest handle in each place of a module but inside a body: one test of conditions sees it, all others hold, and the
-//! module doesn't fit.
+//! The greatest handle, and the first that names nothing, in each place of a module but inside a body: one test of conditions sees
+//! it, all others hold, and the module doesn't fit.
 
-use crate::tests::handles::{FIRST, GREATEST, Handles};
+use crate::tests::handles::{FIRST, GREATEST, Handles, LAST, SECOND, TYPES};
 use crate::tests::module::{expect_unfit, global_types_of, infos_of_types, made, module};
-use naga_below::ir::module::Module;
-use naga_below::sequence::Sequence;
+use naga_arena::sequence::Sequence;
 use naga_below::valid::info::ModuleInfo;
 use naga_fits::entry::fits_entry;
 use naga_fits::function::fits_function;
@@ -12,6 +11,7 @@ use naga_fits::globals::fits_globals;
 use naga_fits::types::fits_types;
 use naga_flags::capabilities::Capabilities;
 use naga_flags::valid::ValidationFlags;
+use naga_ir::module::Module;
 use naga_layers::plain::Plain;
 use naga_valid::validator::Validator;
 use std::process::Abort;
@@ -22,7 +22,7 @@ use std::test::Fail;
 const INFOS: usize = 0;
 
 /// `fits_types`.
-const TYPES: usize = 1;
+const FITS_TYPES: usize = 1;
 
 /// `fits_globals`.
 const GLOBALS: usize = 2;
@@ -86,14 +86,14 @@ fn expect(rt: &(impl Abort + AllocGlobal), row: usize, handles: &Handles, seen_b
     expect_unfit(rt, handles, &module, seen_by.is_some());
 }
 
-/// Each module of these handles, in each of which one is the greatest, fails in this test alone.
+/// Each module of these handles, in each of which one names nothing or too late a type, fails in this test alone.
 fn expect_seen(rt: &(impl Abort + AllocGlobal), rows: &[Handles], test: usize) {
     for (row, handles) in rows.iter().enumerate() {
         expect(rt, row, handles, Some(test));
     }
 }
 
-/// Which override a size is of, and what a global expression names besides its operands, no test looks at.
+/// Which override a size is of, and what a global expression names besides its operands, no test looks at. Last handles fit too.
 #[test]
 fn a_module_of_first_handles_fits(rt: HostRuntime) -> Result<(), Fail> {
     let of_size = Handles {
@@ -104,7 +104,7 @@ fn a_module_of_first_handles_fits(rt: HostRuntime) -> Result<(), Fail> {
         zero: GREATEST,
         ..FIRST
     };
-    for (row, handles) in [FIRST, of_size, of_zero].into_iter().enumerate() {
+    for (row, handles) in [FIRST, LAST, of_size, of_zero].into_iter().enumerate() {
         expect(&rt, row, &handles, None);
     }
     Ok(())
@@ -112,7 +112,7 @@ fn a_module_of_first_handles_fits(rt: HostRuntime) -> Result<(), Fail> {
 
 #[test]
 fn handles_of_types(rt: HostRuntime) -> Result<(), Fail> {
-    let mut rows = [FIRST; 7];
+    let mut rows = [FIRST; 14];
     rows[0].pointer = GREATEST;
     rows[1].array = GREATEST;
     rows[2].binding_array = GREATEST;
@@ -120,56 +120,79 @@ fn handles_of_types(rt: HostRuntime) -> Result<(), Fail> {
     rows[4].descriptor = GREATEST;
     rows[5].constant = GREATEST;
     rows[6].overridden = GREATEST;
-    expect_seen(&rt, &rows, TYPES);
+    rows[7].pointer = 1;
+    rows[8].array = 2;
+    rows[9].binding_array = 3;
+    rows[10].member = 4;
+    rows[11].descriptor = TYPES;
+    rows[12].constant = TYPES;
+    rows[13].overridden = TYPES;
+    expect_seen(&rt, &rows, FITS_TYPES);
     Ok(())
 }
 
 #[test]
 fn handles_of_infos_of_types(rt: HostRuntime) -> Result<(), Fail> {
-    let mut rows = [FIRST; 2];
+    let mut rows = [FIRST; 4];
     rows[0].storage = GREATEST;
     rows[1].uniform = GREATEST;
+    rows[2].storage = TYPES;
+    rows[3].uniform = TYPES;
     expect_seen(&rt, &rows, INFOS);
     Ok(())
 }
 
 #[test]
 fn handles_of_globals(rt: HostRuntime) -> Result<(), Fail> {
-    let mut rows = [FIRST; 5];
+    let mut rows = [FIRST; 10];
     rows[0].global = GREATEST;
     rows[1].initializer = GREATEST;
     rows[2].operand = GREATEST;
     rows[3].resolved = GREATEST;
     rows[4].pointed = GREATEST;
+    rows[5].global = TYPES;
+    rows[6].initializer = 2;
+    rows[7].operand = SECOND;
+    rows[8].resolved = TYPES;
+    rows[9].pointed = TYPES;
     expect_seen(&rt, &rows, GLOBALS);
     Ok(())
 }
 
 #[test]
 fn handles_of_functions(rt: HostRuntime) -> Result<(), Fail> {
-    let mut rows = [FIRST; 4];
+    let mut rows = [FIRST; 8];
     rows[0].argument = GREATEST;
     rows[1].declared = GREATEST;
     rows[2].local = GREATEST;
     rows[3].beginning = GREATEST;
+    rows[4].argument = TYPES;
+    rows[5].declared = TYPES;
+    rows[6].local = TYPES;
+    rows[7].beginning = SECOND;
     expect_seen(&rt, &rows, FUNCTION);
-    let taken = Handles {
-        taken: GREATEST,
-        ..FIRST
-    };
-    expect_seen(&rt, &[taken], ENTRY_FUNCTION);
+    let mut taken = [FIRST; 2];
+    taken[0].taken = GREATEST;
+    taken[1].taken = TYPES;
+    expect_seen(&rt, &taken, ENTRY_FUNCTION);
     Ok(())
 }
 
 #[test]
 fn handles_of_entry_points(rt: HostRuntime) -> Result<(), Fail> {
-    let mut rows = [FIRST; 6];
+    let mut rows = [FIRST; 12];
     rows[0].payload = GREATEST;
     rows[1].vertices = GREATEST;
     rows[2].primitives = GREATEST;
     rows[3].vertex = GREATEST;
     rows[4].primitive = GREATEST;
     rows[5].output = GREATEST;
+    rows[6].payload = SECOND;
+    rows[7].vertices = 2;
+    rows[8].primitives = 2;
+    rows[9].vertex = TYPES;
+    rows[10].primitive = TYPES;
+    rows[11].output = SECOND;
     expect_seen(&rt, &rows, ENTRY);
     Ok(())
 }

@@ -1,18 +1,18 @@
-//! The greatest handle in each place of each kind of statement.
+//! The greatest handle, and the first that names nothing, in each place of each kind of statement.
 
-use crate::tests::handles::{FIRST, GREATEST};
+use crate::tests::handles::{FIRST, GREATEST, SECOND};
 use crate::tests::module::{NOWHERE, expect_unfit, expressions_of, made, module};
-use naga_below::arena::handle::Handle;
-use naga_below::arena::range::Range;
-use naga_below::arena::tag;
-use naga_below::ir::functions::Function;
-use naga_below::ir::operations::{
+use naga_arena::handle::Handle;
+use naga_arena::range::Range;
+use naga_arena::sequence::Sequence;
+use naga_arena::tag;
+use naga_fits::function::fits_function;
+use naga_ir::functions::Function;
+use naga_ir::operations::{
     AtomicFunction, CollectiveOperation, CooperativeData, GatherMode, RayPipelineFunction,
     RayQueryFunction, SubgroupOperation,
 };
-use naga_below::ir::statements::{Block, Located, Statement, SwitchCase, SwitchValue};
-use naga_below::sequence::Sequence;
-use naga_fits::function::fits_function;
+use naga_ir::statements::{Block, Located, Statement, SwitchCase, SwitchValue};
 use std::alloc::{AllocError, Global};
 use std::process::Abort;
 use std::test::Fail;
@@ -42,10 +42,9 @@ fn block_of(alloc: Global, statement: Statement) -> Result<Block, AllocError> {
     Ok(Block { list })
 }
 
-/// Kinds that hold handles alone.
+/// Kinds that hold handles of expressions alone, but for Emit.
 #[derive(Clone, Copy)]
 enum LeafKind {
-    Emit,
     Return,
     Store,
     ImageStore,
@@ -60,8 +59,7 @@ enum LeafKind {
 }
 
 /// How many handles each has.
-const LEAVES: [(LeafKind, usize); 12] = [
-    (LeafKind::Emit, 2),
+const LEAVES: [(LeafKind, usize); 11] = [
     (LeafKind::Return, 1),
     (LeafKind::Store, 2),
     (LeafKind::ImageStore, 4),
@@ -145,10 +143,6 @@ fn trace_ray(h: [u32; HANDLES]) -> Statement {
 fn leaf(kind: LeafKind, h: [u32; HANDLES]) -> Statement {
     let (first, second) = (at(h, 0), at(h, 1));
     match kind {
-        LeafKind::Emit => Statement::Emit(Range {
-            start: h[0],
-            end: h[1],
-        }),
         LeafKind::Return => Statement::Return { value: Some(first) },
         LeafKind::Store => Statement::Store {
             pointer: first,
@@ -184,12 +178,33 @@ fn gather(
     }
 }
 
-/// The first handles, but the greatest in one place.
-fn greatest_at(rt: &impl Abort, place: usize) -> [u32; HANDLES] {
+/// The first handles, but this one in one place.
+fn only_at(rt: &impl Abort, place: usize, handle: u32) -> [u32; HANDLES] {
     let mut handles = [0; HANDLES];
     assert!(rt; place < HANDLES);
-    handles[place] = GREATEST;
+    handles[place] = handle;
     handles
+}
+
+/// Handles that name no expression, and not an earlier function.
+const MISSING: [u32; 2] = [SECOND, GREATEST];
+
+/// The ends of an Emit's range lie in order within the one expression.
+#[test]
+fn ranges_of_emits(rt: HostRuntime) -> Result<(), Fail> {
+    for (start, end, fits) in [
+        (0, 0, true),
+        (0, 1, true),
+        (1, 1, true),
+        (1, 0, false),
+        (2, 1, false),
+        (0, 2, false),
+        (GREATEST, 0, false),
+        (0, GREATEST, false),
+    ] {
+        expect(&rt, Statement::Emit(Range { start, end }), fits);
+    }
+    Ok(())
 }
 
 /// A place that a kind hasn't makes no difference.
@@ -198,7 +213,9 @@ fn handles_of_leaves(rt: HostRuntime) -> Result<(), Fail> {
     for (kind, count) in LEAVES {
         expect(&rt, leaf(kind, [0; HANDLES]), true);
         for place in 0..HANDLES {
-            expect(&rt, leaf(kind, greatest_at(&rt, place)), place >= count);
+            for handle in MISSING {
+                expect(&rt, leaf(kind, only_at(&rt, place, handle)), place >= count);
+            }
         }
     }
     Ok(())
@@ -234,7 +251,7 @@ fn queries_with(handle: Handle<tag::Expression>) -> [RayQueryFunction; 4] {
 
 #[test]
 fn handles_of_gathers(rt: HostRuntime) -> Result<(), Fail> {
-    for (index, fits) in [(0, true), (GREATEST, false)] {
+    for (index, fits) in [(0, true), (SECOND, false), (GREATEST, false)] {
         for mode in modes_with(Handle::new(index)) {
             expect(&rt, gather(mode, Handle::new(0), Handle::new(0)), fits);
         }
@@ -253,7 +270,7 @@ fn query(query: u32, fun: RayQueryFunction) -> Statement {
 
 #[test]
 fn handles_of_ray_queries(rt: HostRuntime) -> Result<(), Fail> {
-    for (index, fits) in [(0, true), (GREATEST, false)] {
+    for (index, fits) in [(0, true), (SECOND, false), (GREATEST, false)] {
         for fun in queries_with(Handle::new(index)) {
             expect(&rt, query(0, fun), fits);
         }
@@ -282,8 +299,10 @@ fn call(alloc: Global, handles: [u32; HANDLES]) -> Result<Statement, AllocError>
 fn handles_of_calls(rt: HostRuntime) -> Result<(), Fail> {
     expect(&rt, made(&rt, call(rt.alloc(), [0; HANDLES])), true);
     for place in 0..HANDLES {
-        let handles = greatest_at(&rt, place);
-        expect(&rt, made(&rt, call(rt.alloc(), handles)), place >= 3);
+        for handle in MISSING {
+            let handles = only_at(&rt, place, handle);
+            expect(&rt, made(&rt, call(rt.alloc(), handles)), place >= 3);
+        }
     }
     Ok(())
 }
@@ -349,9 +368,11 @@ fn handles_of_statements_that_hold_others(rt: HostRuntime) -> Result<(), Fail> {
             true,
         );
         for place in 0..HANDLES {
-            let handles = greatest_at(&rt, place);
-            let statement = made(&rt, holding(rt.alloc(), kind, handles));
-            expect(&rt, statement, place >= count);
+            for handle in MISSING {
+                let handles = only_at(&rt, place, handle);
+                let statement = made(&rt, holding(rt.alloc(), kind, handles));
+                expect(&rt, statement, place >= count);
+            }
         }
     }
     Ok(())

@@ -2,14 +2,14 @@
 
 use crate::tests::handles::FIRST;
 use crate::tests::module::{NOWHERE, expressions_of, fault_of, made, module};
-use naga_below::arena::handle::Handle;
-use naga_below::ir::functions::Function;
-use naga_below::ir::statements::{Block, Located, Statement, SwitchCase, SwitchValue};
-use naga_below::sequence::Sequence;
-use naga_below::span::WithSpan;
+use naga_arena::handle::Handle;
+use naga_arena::sequence::Sequence;
+use naga_arena::span::WithSpan;
+use naga_errors::function::FunctionError;
+use naga_interface::error::EntryPointError;
+use naga_ir::functions::Function;
+use naga_ir::statements::{Block, Located, Statement, SwitchCase, SwitchValue};
 use naga_module::check::ModuleFault;
-use naga_rules::function::FunctionError;
-use naga_valid::interface::EntryPointError;
 use std::alloc::{AllocError, Global};
 use std::process::Abort;
 use std::test::Fail;

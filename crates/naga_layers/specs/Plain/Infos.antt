@@ -1,11 +1,11 @@
 -- What the plain layer knows of a function.
 use Rattle.std.specs.Prelude.{false, List, [], Result, Ok, Err}
 use Rattle.naga_flags.specs.Bits.{ALL_STAGES}
-use Rattle.naga_below.specs.declared.ir.functions.Function.{Function}
-use Rattle.naga_below.specs.declared.ir.module.Module.{Module}
-use Rattle.naga_below.specs.declared.proc.typifier.TypeResolution.{TypeResolution}
+use Rattle.naga_ir.specs.declared.functions.Function.{Function}
+use Rattle.naga_ir.specs.declared.module.Module.{Module}
+use Rattle.naga_types.specs.declared.typifier.TypeResolution.{TypeResolution}
 use Rattle.naga_below.specs.declared.valid.info.FunctionInfo.{FunctionInfo}
-use Rattle.naga_rules.specs.declared.function.FunctionError.{FunctionError}
+use Rattle.naga_errors.specs.declared.function.FunctionError.{FunctionError}
 use Rattle.naga_layers.specs.Plain.Types.{types_from}
 use Rattle.naga_layers.specs.Plain.Uses.{uses_of}
 

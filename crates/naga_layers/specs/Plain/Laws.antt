@@ -7,29 +7,29 @@ use Rattle.std.proofs.lemmas.List.Elements.{All-push, All-nil}
 use Rattle.std.proofs.lemmas.Option.{slice_get_within, get_or_from_slice_get, option_and_then_some, same_Some}
 use Rattle.std.proofs.lemmas.Result.{IfOk-at_ok}
 use Rattle.naga_flags.specs.Bits.{READ, NO_USE}
-use Rattle.naga_below.specs.Types.{ResolutionFits, pointer_base_of, resolved}
-use Rattle.naga_below.specs.declared.ir.expressions.Expression.{Expression}
-use Rattle.naga_below.specs.declared.ir.expressions.Expression.TheVariants as e
-use Rattle.naga_below.specs.declared.ir.functions.Function.{Function}
-use Rattle.naga_below.specs.declared.ir.functions.FunctionArgument.{FunctionArgument}
-use Rattle.naga_below.specs.declared.ir.functions.FunctionResult.{FunctionResult}
-use Rattle.naga_below.specs.declared.ir.functions.LocalVariable.{LocalVariable}
-use Rattle.naga_below.specs.declared.ir.module.Constant.{Constant}
-use Rattle.naga_below.specs.declared.ir.module.GlobalVariable.{GlobalVariable}
-use Rattle.naga_below.specs.declared.ir.module.Module.{Module}
-use Rattle.naga_below.specs.declared.ir.module.Override.{Override}
-use Rattle.naga_below.specs.declared.ir.types.AddressSpace.{AddressSpace}
-use Rattle.naga_below.specs.declared.ir.types.AddressSpace.TheVariants as space
-use Rattle.naga_below.specs.declared.ir.types.TypeInner.{TypeInner}
-use Rattle.naga_below.specs.declared.ir.types.TypeInner.TheVariants as inner
+use Rattle.naga_types.specs.Types.{ResolutionFits, pointer_base_of, resolved}
+use Rattle.naga_ir.specs.declared.expressions.Expression.{Expression}
+use Rattle.naga_ir.specs.declared.expressions.Expression.TheVariants as e
+use Rattle.naga_ir.specs.declared.functions.Function.{Function}
+use Rattle.naga_ir.specs.declared.functions.FunctionArgument.{FunctionArgument}
+use Rattle.naga_ir.specs.declared.functions.FunctionResult.{FunctionResult}
+use Rattle.naga_ir.specs.declared.functions.LocalVariable.{LocalVariable}
+use Rattle.naga_ir.specs.declared.module.Constant.{Constant}
+use Rattle.naga_ir.specs.declared.module.GlobalVariable.{GlobalVariable}
+use Rattle.naga_ir.specs.declared.module.Module.{Module}
+use Rattle.naga_ir.specs.declared.module.Override.{Override}
+use Rattle.naga_types.specs.declared.types.AddressSpace.{AddressSpace}
+use Rattle.naga_types.specs.declared.types.AddressSpace.TheVariants as space
+use Rattle.naga_types.specs.declared.types.TypeInner.{TypeInner}
+use Rattle.naga_types.specs.declared.types.TypeInner.TheVariants as inner
 use Rattle.naga_below.specs.declared.proc.expression_kinds.ExpressionKind.{ExpressionKind}
-use Rattle.naga_below.specs.declared.proc.typifier.TypeResolution.{TypeResolution}
-use Rattle.naga_below.specs.declared.proc.typifier.TypeResolution.TheVariants.{Handle, Value}
+use Rattle.naga_types.specs.declared.typifier.TypeResolution.{TypeResolution}
+use Rattle.naga_types.specs.declared.typifier.TypeResolution.TheVariants.{Handle, Value}
 use Rattle.naga_flags.specs.declared.valid.GlobalUse.{GlobalUse}
 use Rattle.naga_below.specs.declared.valid.info.FunctionInfo.{FunctionInfo}
-use Rattle.naga_rules.specs.Lawful.{IsNoStruct}
-use Rattle.naga_rules.specs.declared.function.FunctionError.{FunctionError}
-use Rattle.naga_rules.specs.declared.function.FunctionError.TheVariants.{Expression as InExpression}
+use Rattle.naga_errors.specs.Lawful.{IsNoStruct}
+use Rattle.naga_errors.specs.declared.function.FunctionError.{FunctionError}
+use Rattle.naga_errors.specs.declared.function.FunctionError.TheVariants.{Expression as InExpression}
 use Rattle.naga_below.specs.declared.valid.expression_error.ExpressionError.TheVariants.{Lower}
 use Rattle.naga_layers.specs.Plain.Infos.{plain_info, info_of, with_types}
 use Rattle.naga_layers.specs.Kinds.{kinds_from, kind_of}

@@ -1,8 +1,8 @@
 -- What the plain layer means.
 use Rattle.std.specs.Prelude.{[], ◌∷◌, None, Ok}
 use Rattle.naga_flags.specs.Bits.{ALL_STAGES}
-use Rattle.naga_below.specs.declared.ir.module.MeshOutputTopology.TheVariants.{Points}
-use Rattle.naga_rules.specs.Meaning.{Meaning}
+use Rattle.naga_ir.specs.declared.module.MeshOutputTopology.TheVariants.{Points}
+use Rattle.naga_errors.specs.Meaning.{Meaning}
 use Rattle.naga_layers.specs.Plain.Infos.{plain_info}
 use Rattle.naga_layers.specs.Kinds.{kinds_from}
 use Rattle.naga_layers.specs.Plain.Sizes.{size_at}

@@ -1,23 +1,23 @@
 //! Types of expressions.
 
 ghost use Rattle.std.specs.Prelude.{◌≡◌, [], IfOk, option_and_then, slice_get};
-ghost use Rattle.naga_below.specs.declared.span.Refusal.TheVariants.{Fault};
+ghost use Rattle.naga_arena.specs.declared.span.Refusal.TheVariants.{Fault};
 ghost use Rattle.naga_below.specs.declared.valid.expression_error.ExpressionError.TheVariants.{Lower};
-ghost use Rattle.naga_rules.specs.Answers.{Answers};
-ghost use Rattle.naga_rules.specs.declared.function.FunctionError.TheVariants.{Expression as InExpression};
+ghost use Rattle.naga_errors.specs.Answers.{Answers};
+ghost use Rattle.naga_errors.specs.declared.function.FunctionError.TheVariants.{Expression as InExpression};
 ghost use Rattle.naga_layers.specs.Plain.Types.{type_at, pointer_to, global_type, loaded_type, first_of, own_type, type_of, types_from};
 
-use naga_below::arena::handle::Handle;
-use naga_below::arena::tag;
-use naga_below::ir::expressions::Expression;
-use naga_below::ir::functions::Function;
-use naga_below::ir::module::{GlobalVariable, Module};
-use naga_below::ir::types::{AddressSpace, Scalar, TypeInner, VectorSize};
-use naga_below::proc::typifier::TypeResolution;
-use naga_below::sequence::Sequence;
-use naga_below::span::{Refusal, WithSpan};
+use naga_arena::handle::Handle;
+use naga_arena::sequence::Sequence;
+use naga_arena::span::{Refusal, WithSpan};
+use naga_arena::tag;
 use naga_below::valid::expression_error::ExpressionError;
-use naga_rules::function::FunctionError;
+use naga_errors::function::FunctionError;
+use naga_ir::expressions::Expression;
+use naga_ir::functions::Function;
+use naga_ir::module::{GlobalVariable, Module};
+use naga_types::types::{AddressSpace, Scalar, TypeInner, VectorSize};
+use naga_types::typifier::TypeResolution;
 use std::alloc::{AllocError, Global};
 
 /// The type of each expression of a function, or the first expression that has none here.

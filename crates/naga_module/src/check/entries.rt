@@ -5,16 +5,16 @@ ghost use Rattle.naga_below.specs.Fits.{FitsTypes, FitsFunction, FitsEntry};
 ghost use Rattle.naga_module.specs.CodeModule.{EntriesLead, EntriesStop};
 ghost use Rattle.naga_module.specs.ModuleJudgement.{EntriesAnswer, BehindFunctions};
 ghost use Rattle.naga_module.specs.declared.check.ModuleFault.TheVariants as fault;
-ghost use Rattle.naga_checks.specs.Parts.{AreInfosOf};
-ghost use Rattle.naga_valid.specs.interface.Judged.{HasPayloadSizes};
+ghost use Rattle.naga_statements.specs.Parts.{AreInfosOf};
+ghost use Rattle.naga_interface.specs.Judged.{HasPayloadSizes};
 
 use crate::check::ModuleFault;
-use naga_below::ir::module::{EntryPoint, Module};
-use naga_below::span::Refusal;
+use naga_arena::span::Refusal;
 use naga_below::valid::info::ModuleInfo;
+use naga_errors::below::Below;
 use naga_fits::entry::fits_entry;
 use naga_fits::function::fits_function;
-use naga_rules::below::Below;
+use naga_ir::module::{EntryPoint, Module};
 use naga_valid::validator::Validator;
 use std::alloc::Global;
 

@@ -3,16 +3,16 @@
 ghost use Rattle.std.specs.Prelude.{◌≡◌, ◌<◌, ◌+◌, [], OnOk, IfErr, length, drop};
 ghost use Rattle.naga_below.specs.Fits.{FitsTypes};
 ghost use Rattle.naga_module.specs.CodeModule.{Leads, Stops};
-ghost use Rattle.naga_checks.specs.Parts.{AreInfosOf};
+ghost use Rattle.naga_statements.specs.Parts.{AreInfosOf};
 
 use crate::check::ModuleFault;
-use naga_below::arena::handle::Handle;
-use naga_below::arena::tag;
-use naga_below::ir::module::Module;
-use naga_below::span::Refusal;
+use naga_arena::handle::Handle;
+use naga_arena::span::Refusal;
+use naga_arena::tag;
 use naga_below::valid::info::ModuleInfo;
+use naga_errors::below::Below;
 use naga_fits::function::fits_function;
-use naga_rules::below::Below;
+use naga_ir::module::Module;
 use naga_valid::validator::Validator;
 use std::alloc::Global;
 

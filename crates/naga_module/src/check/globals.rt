@@ -6,15 +6,15 @@ ghost use Rattle.naga_below.specs.Fits.{FitsTypes, FitsGlobals};
 ghost use Rattle.naga_below.specs.Points.{first_fault, points_of_each};
 ghost use Rattle.naga_module.specs.ModuleJudgement.{points_of_global, globals_step};
 ghost use Rattle.naga_module.specs.declared.check.ModuleFault.TheVariants as fault;
-ghost use Rattle.naga_checks.specs.Parts.{AreInfosOf};
+ghost use Rattle.naga_statements.specs.Parts.{AreInfosOf};
 
 use crate::check::ModuleFault;
-use naga_below::arena::handle::Handle;
-use naga_below::arena::tag;
-use naga_below::ir::module::{GlobalVariable, Module};
+use naga_arena::handle::Handle;
+use naga_arena::tag;
 use naga_below::proc::expression_kinds::ExpressionKindTracker;
 use naga_below::valid::info::ModuleInfo;
-use naga_rules::below::Below;
+use naga_errors::below::Below;
+use naga_ir::module::{GlobalVariable, Module};
 use naga_valid::validator::Validator;
 use std::alloc::Global;
 

@@ -1,24 +1,23 @@
 //! What the tests of statements share: a module and a function from their parts, and what the validator answers to them
-//! over a lower layer, mostly the plain one.
+//! over the plain layer.
 
-use naga_below::arena::Arena;
-use naga_below::arena::unique_arena::UniqueArena;
-use naga_below::ir::expressions::Expression;
-use naga_below::ir::functions::{Function, LocalVariable};
-use naga_below::ir::module::{GlobalVariable, Module};
-use naga_below::ir::statements::{Block, Located, Statement};
-use naga_below::ir::types::{Type, TypeInner};
-use naga_below::sequence::Sequence;
-use naga_below::span::{Refusal, Span};
+use naga_arena::arena::Arena;
+use naga_arena::sequence::Sequence;
+use naga_arena::span::{Refusal, Span};
 use naga_below::valid::info::{FunctionInfo, ModuleInfo};
 use naga_below::valid::types::TypeInfo;
+use naga_errors::function::FunctionError;
 use naga_fits::function::fits_function;
 use naga_fits::types::fits_types;
 use naga_flags::capabilities::Capabilities;
 use naga_flags::valid::{ShaderStages, SubgroupOperationSet, TypeFlags, ValidationFlags};
+use naga_ir::expressions::Expression;
+use naga_ir::functions::{Function, LocalVariable};
+use naga_ir::module::{GlobalVariable, Module};
+use naga_ir::statements::{Block, Located, Statement};
 use naga_layers::plain::Plain;
-use naga_rules::below::Below;
-use naga_rules::function::FunctionError;
+use naga_types::types::{Type, TypeInner};
+use naga_types::unique_arena::UniqueArena;
 use naga_valid::validator::Validator;
 use std::alloc::{AllocError, Global};
 use std::process::Abort;
@@ -115,19 +114,10 @@ pub fn validator_for(
     target: Target,
     module: &Module,
 ) -> Validator<Plain> {
-    validator_over(rt, Plain::without_mesh_shaders(), target, module)
-}
-
-/// The same over a lower layer.
-pub fn validator_over<B: Below + Drop>(
-    rt: &(impl Abort + AllocGlobal),
-    below: B,
-    target: Target,
-    module: &Module,
-) -> Validator<B> {
     let Ok(infos) = vec![in rt.alloc(); GOOD; module.types.len()] else {
         panic!(rt; "no memory");
     };
+    let below = Plain::without_mesh_shaders();
     let mut validator = Validator::new(below, ALL_CHECKS, target.capabilities).with_types(infos);
     validator.subgroup_stages(target.stages);
     validator.subgroup_operations(target.operations);
@@ -138,9 +128,9 @@ pub fn validator_over<B: Below + Drop>(
 pub type Answer = Result<ShaderStages, FunctionError>;
 
 /// One call of the validator.
-fn ask<B: Below>(
+fn ask(
     rt: &(impl Abort + AllocGlobal),
-    validator: &mut Validator<B>,
+    validator: &mut Validator<Plain>,
     fun: &Function,
     module: &Module,
     infos: &ModuleInfo,
@@ -153,9 +143,9 @@ fn ask<B: Below>(
 
 /// The stages that a validator leaves a function, or its fault, which must be at this place, or at none. Where memory is refused
 /// the validator stays as it was, and answers when it is asked again.
-pub fn judge<B: Below>(
+pub fn judge(
     rt: &(impl Abort + AllocGlobal),
-    validator: &mut Validator<B>,
+    validator: &mut Validator<Plain>,
     fun: &Function,
     module: &Module,
     infos: &ModuleInfo,

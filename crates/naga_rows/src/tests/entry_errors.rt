@@ -1,9 +1,9 @@
 //! What the errors of entry points print: the name of the variant, but for one; and the sentences that tell them.
 
 use naga_below::{Capabilities, GlobalUse, Handle, Refusal, ShaderStage, Span, WithSpan};
+use naga_errors::{Explain, FunctionError, VaryingError};
+use naga_interface::EntryPointError;
 use naga_module::report::{Subject, write_refusal};
-use naga_rules::{Explain, FunctionError, VaryingError};
-use naga_valid::EntryPointError;
 use std::process::Abort;
 use std::test::Fail;
 

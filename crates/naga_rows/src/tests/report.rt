@@ -8,11 +8,11 @@ use naga_below::{
     Literal, Module, Name, Refusal, Scalar, Sequence, Span, Statement, TypeInner, UniqueArena,
     WithSpan,
 };
+use naga_errors::{CallError, FunctionError, GlobalVariableError, LocalVariableError};
 use naga_fits::{fits_function, fits_types};
+use naga_interface::EntryPointError;
 use naga_module::check::ModuleFault;
 use naga_module::report::{Subject, write_fault, write_module_fault, write_refusal};
-use naga_rules::{CallError, FunctionError, GlobalVariableError, LocalVariableError};
-use naga_valid::EntryPointError;
 use std::alloc::{AllocError, Global};
 use std::process::Abort;
 use std::test::Fail;

@@ -5,18 +5,18 @@ use crate::tests::bodies::{
     validator_for,
 };
 use bitflags::Flags;
-use naga_below::arena::Arena;
-use naga_below::arena::unique_arena::UniqueArena;
-use naga_below::ir::functions::Function;
-use naga_below::ir::module::Module;
-use naga_below::ir::statements::Statement;
-use naga_below::sequence::Sequence;
+use naga_arena::arena::Arena;
+use naga_arena::sequence::Sequence;
 use naga_below::valid::types::TypeInfo;
 use naga_context::trace::{TraceRayVertexReturnState, TraceState};
+use naga_errors::function::{FunctionError, SubgroupError};
 use naga_flags::ir::Barrier;
 use naga_flags::valid::{ShaderStages, SubgroupOperationSet, TypeFlags};
+use naga_ir::functions::Function;
+use naga_ir::module::Module;
+use naga_ir::statements::Statement;
 use naga_layers::plain::Plain;
-use naga_rules::function::{FunctionError, SubgroupError};
+use naga_types::unique_arena::UniqueArena;
 use naga_valid::validator::Validator;
 use std::alloc::{AllocError, Global};
 use std::test::Fail;

@@ -3,23 +3,23 @@
 ghost use Rattle.std.specs.Prelude.{◌≡◌, length};
 ghost use Rattle.naga_below.specs.Fits.{FitsTypes, FitsFunction, FitsEntry};
 ghost use Rattle.naga_below.specs.FitsBody.{SignatureFits};
-ghost use Rattle.naga_valid.specs.interface.Faults.{AnswersFault, Judges};
-ghost use Rattle.naga_valid.specs.interface.Judged.{HasPayloadSizes, entry_judgement, interface_step, used_points, AnswersOutcome};
-ghost use Rattle.naga_valid.specs.interface.Start.{start_points};
-ghost use Rattle.naga_checks.specs.Parts.{AreInfosOf};
+ghost use Rattle.naga_interface.specs.Faults.{AnswersFault, Judges};
+ghost use Rattle.naga_interface.specs.Judged.{HasPayloadSizes, entry_judgement, interface_step, used_points, AnswersOutcome};
+ghost use Rattle.naga_interface.specs.Start.{start_points};
+ghost use Rattle.naga_statements.specs.Parts.{AreInfosOf};
 
-use crate::interface::EntryPointError;
-use crate::interface::answers::{answer, answer_of_function, judged, refusal};
-use crate::interface::start::check_start;
-use crate::interface::uses::{check_payload, check_stage, insert_own_uses};
-use crate::interface::varyings::set_blending;
-use crate::outcome::FunctionOutcome;
 use crate::validator::Validator;
-use naga_below::ir::module::{EntryPoint, Module};
-use naga_below::span::Refusal;
+use naga_arena::span::Refusal;
 use naga_below::valid::info::{FunctionInfo, ModuleInfo};
 use naga_context::table::Table;
-use naga_rules::below::Below;
+use naga_errors::below::Below;
+use naga_interface::answers::{answer, answer_of_function, judged, refusal};
+use naga_interface::error::EntryPointError;
+use naga_interface::outcome::FunctionOutcome;
+use naga_interface::start::check_start;
+use naga_interface::uses::{check_payload, check_stage, insert_own_uses};
+use naga_interface::varyings::set_blending;
+use naga_ir::module::{EntryPoint, Module};
 use std::alloc::Global;
 
 impl<B: Below> Validator<B> {

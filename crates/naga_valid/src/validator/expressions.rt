@@ -3,24 +3,24 @@
 ghost use Rattle.std.specs.Prelude.{◌≡◌, OnOk, Result};
 ghost use Rattle.naga_below.specs.declared.valid.expression_error.ExpressionError.{ExpressionError as Source};
 ghost use Rattle.naga_flags.specs.declared.valid.ShaderStages.{ShaderStages as Mask};
-ghost use Rattle.naga_rules.specs.Answers.{Refuses};
+ghost use Rattle.naga_errors.specs.Answers.{Refuses};
 ghost use Rattle.naga_context.specs.walk.Answers.{AnswersLeaving};
-ghost use Rattle.naga_checks.specs.Expressions.{with_stages, of_expression};
-ghost use Rattle.naga_checks.specs.walk.Asked.{asked_by, stages_of_all};
+ghost use Rattle.naga_statements.specs.Expressions.{with_stages, of_expression};
+ghost use Rattle.naga_statements.specs.walk.Asked.{asked_by, stages_of_all};
 
 use crate::validator::Validator;
 use bitflags::Flags;
-use naga_below::arena::handle::Handle;
-use naga_below::arena::tag;
-use naga_below::ir::functions::Function;
-use naga_below::ir::module::Module;
+use naga_arena::handle::Handle;
+use naga_arena::span::Refusal;
+use naga_arena::tag;
 use naga_below::proc::expression_kinds::ExpressionKindTracker;
-use naga_below::span::Refusal;
 use naga_below::valid::expression_error::ExpressionError;
 use naga_below::valid::info::{FunctionInfo, ModuleInfo};
+use naga_errors::below::Below;
+use naga_errors::function::FunctionError;
 use naga_flags::valid::ShaderStages;
-use naga_rules::below::Below;
-use naga_rules::function::FunctionError;
+use naga_ir::functions::Function;
+use naga_ir::module::Module;
 use std::alloc::Global;
 
 /// The refusal of an expression by the lower layer, as one of its function. It keeps the places.

@@ -4,17 +4,17 @@ ghost use Rattle.std.specs.Prelude.{◌≡◌, Contains, length};
 ghost use Rattle.std.specs.Result.{result_err};
 ghost use Rattle.naga_below.specs.Fits.{FitsTypes, FitsGlobals};
 ghost use Rattle.naga_below.specs.Points.{first_fault};
-ghost use Rattle.naga_valid.specs.interface.GlobalPoints.{module_global_points};
-ghost use Rattle.naga_checks.specs.Parts.{AreInfosOf};
+ghost use Rattle.naga_interface.specs.GlobalPoints.{module_global_points};
+ghost use Rattle.naga_statements.specs.Parts.{AreInfosOf};
 
 use crate::validator::Validator;
-use naga_below::ir::module::{GlobalVariable, Module};
 use naga_below::proc::expression_kinds::ExpressionKindTracker;
 use naga_below::valid::info::ModuleInfo;
 use naga_below::valid::settings::Settings;
-use naga_rules::below::Below;
+use naga_errors::below::Below;
+use naga_errors::interface::GlobalVariableError;
+use naga_ir::module::{GlobalVariable, Module};
 use naga_rules::global::check_global;
-use naga_rules::interface::GlobalVariableError;
 
 impl<B: Below> Validator<B> {
     /// Judges a global variable of a module: naga 30.0.1's `validate_global_var`. `kinds` are those of the module's global

@@ -2,27 +2,27 @@
 
 ghost use Rattle.std.specs.Prelude.{◌≡◌, ◌↔◌, ◌<◌, IsTrue, IsSome, Some, [], slice_get, length};
 ghost use Rattle.naga_below.specs.Points.{points_of_each};
-ghost use Rattle.naga_below.specs.declared.ir.types.AddressSpace.TheVariants as space;
+ghost use Rattle.naga_types.specs.declared.types.AddressSpace.TheVariants as space;
 ghost use Rattle.naga_context.specs.walk.Answers.{Finds};
-ghost use Rattle.naga_valid.specs.walk.Bindings.{AreTaken};
-ghost use Rattle.naga_valid.specs.interface.Globals.{used_payload_points, use_points, points_if_used, global_points, globals_points};
-ghost use Rattle.naga_valid.specs.interface.Judged.{HasPayloadSizes};
-ghost use Rattle.naga_valid.specs.interface.Points.{Meets};
+ghost use Rattle.naga_interface.specs.Bindings.{AreTaken};
+ghost use Rattle.naga_interface.specs.Globals.{used_payload_points, use_points, points_if_used, global_points, globals_points};
+ghost use Rattle.naga_interface.specs.Judged.{HasPayloadSizes};
+ghost use Rattle.naga_interface.specs.Points.{Meets};
 
-use crate::interface::EntryPointError;
-use crate::interface::answers::answer;
-use crate::interface::bindings::{check_binding, take_binding};
-use crate::interface::globals::{check_allowed, check_immediates, is_task_payload, uses_of};
 use crate::validator::Validator;
 use bitflags::Flags;
-use naga_below::arena::handle::Handle;
-use naga_below::arena::tag;
-use naga_below::ir::module::{EntryPoint, GlobalVariable, Module, ResourceBinding};
-use naga_below::ir::types::AddressSpace;
-use naga_below::span::Refusal;
+use naga_arena::handle::Handle;
+use naga_arena::span::Refusal;
+use naga_arena::tag;
 use naga_below::valid::info::FunctionInfo;
+use naga_errors::below::Below;
 use naga_flags::valid::GlobalUse;
-use naga_rules::below::Below;
+use naga_interface::answers::answer;
+use naga_interface::bindings::{check_binding, take_binding};
+use naga_interface::error::EntryPointError;
+use naga_interface::globals::{check_allowed, check_immediates, is_task_payload, uses_of};
+use naga_ir::module::{EntryPoint, GlobalVariable, Module, ResourceBinding};
+use naga_types::types::AddressSpace;
 use std::alloc::Global;
 use std::collections::BTreeSet;
 

@@ -3,26 +3,26 @@
 ghost use Rattle.std.specs.Prelude.{length};
 ghost use Rattle.naga_below.specs.Fits.{FitsTypes, FitsFunction};
 ghost use Rattle.naga_below.specs.Points.{and_then};
-ghost use Rattle.naga_rules.specs.Answers.{Answers};
+ghost use Rattle.naga_errors.specs.Answers.{Answers};
 ghost use Rattle.naga_context.specs.Context.{ContextFits};
-ghost use Rattle.naga_checks.specs.Judged.{judged_with};
-ghost use Rattle.naga_checks.specs.Parts.{AreInfosOf};
-ghost use Rattle.naga_checks.specs.walk.Asked.{asked_by, known_by, judgement_by};
+ghost use Rattle.naga_statements.specs.Judged.{judged_with};
+ghost use Rattle.naga_statements.specs.Parts.{AreInfosOf};
+ghost use Rattle.naga_statements.specs.walk.Asked.{asked_by, known_by, judgement_by};
 
-use crate::outcome::FunctionOutcome;
 use crate::validator::Validator;
-use naga_below::ir::functions::Function;
-use naga_below::ir::module::Module;
+use naga_arena::span::Refusal;
 use naga_below::proc::expression_kinds::ExpressionKindTracker;
-use naga_below::span::Refusal;
 use naga_below::valid::info::{FunctionInfo, ModuleInfo};
 use naga_context::context::BlockContext;
 use naga_context::table::Table;
+use naga_errors::below::Below;
+use naga_errors::function::FunctionError;
 use naga_flags::valid::ValidationFlags;
 use naga_function::declarations::check_declarations;
 use naga_function::function::validate_function_body;
-use naga_rules::below::Below;
-use naga_rules::function::FunctionError;
+use naga_interface::outcome::FunctionOutcome;
+use naga_ir::functions::Function;
+use naga_ir::module::Module;
 use std::alloc::Global;
 
 impl<B: Below> Validator<B> {

@@ -2,18 +2,18 @@
 
 ghost use Rattle.std.specs.Prelude.{◌≡◌};
 ghost use Rattle.naga_below.specs.Points.{within};
-ghost use Rattle.naga_valid.specs.interface.Faults.{Judges};
-ghost use Rattle.naga_valid.specs.interface.Mesh.{said_points};
-ghost use Rattle.naga_valid.specs.interface.Points.{Meets};
+ghost use Rattle.naga_interface.specs.Faults.{Judges};
+ghost use Rattle.naga_interface.specs.Mesh.{said_points};
+ghost use Rattle.naga_interface.specs.Points.{Meets};
 
-use crate::interface::EntryPointError;
-use crate::interface::answers::answer;
-use crate::interface::mesh::{check_stated, mesh_error};
 use crate::validator::Validator;
-use naga_below::ir::module::{MeshStageInfo, Module};
-use naga_below::span::Refusal;
-use naga_rules::below::Below;
-use naga_rules::mesh::MeshAnalysis;
+use naga_arena::span::Refusal;
+use naga_errors::below::Below;
+use naga_errors::mesh::MeshAnalysis;
+use naga_interface::answers::answer;
+use naga_interface::error::EntryPointError;
+use naga_interface::mesh::{check_stated, mesh_error};
+use naga_ir::module::{MeshStageInfo, Module};
 use std::alloc::Global;
 
 impl<B: Below> Validator<B> {

@@ -4,35 +4,35 @@ ghost use Rattle.std.specs.Prelude.{◌≡◌, ◌<◌, ◌∷◌, ◌++◌, [],
 ghost use Rattle.naga_below.specs.Fits.{FitsTypes, FitsEntry};
 ghost use Rattle.naga_below.specs.FitsBody.{SignatureFits};
 ghost use Rattle.naga_below.specs.Points.{within};
-ghost use Rattle.naga_below.specs.TypeTests.{it_is};
-ghost use Rattle.naga_below.specs.Types.{inner_at};
-ghost use Rattle.naga_below.specs.declared.ir.built_in.BuiltIn.TheVariants.{Position};
-ghost use Rattle.naga_rules.specs.Varyings.{nothing_seen, parts_of, placed_parts, points_from, seen_at, seen_in, seen_with};
-ghost use Rattle.naga_rules.specs.declared.varying.MeshOutputType.TheVariants as which;
-ghost use Rattle.naga_valid.specs.interface.Faults.{Judges, OfArgument, OfResult, Other};
-ghost use Rattle.naga_valid.specs.interface.Mesh.{mesh_points};
-ghost use Rattle.naga_valid.specs.interface.Varyings.{argument_points, declared_points, has_built_in, is_struct, output_item, output_points, outputs_points, place_of, primitive_points, result_parts, result_points, vertex_points};
-ghost use Rattle.naga_checks.specs.Parts.{AreInfosOf};
-ghost use Rattle.naga_valid.specs.declared.interface.EntryPointError.TheVariants as fault;
+ghost use Rattle.naga_types.specs.TypeTests.{it_is};
+ghost use Rattle.naga_types.specs.Types.{inner_at};
+ghost use Rattle.naga_types.specs.declared.built_in.BuiltIn.TheVariants.{Position};
+ghost use Rattle.naga_varyings.specs.Varyings.{nothing_seen, parts_of, placed_parts, points_from, seen_at, seen_in, seen_with};
+ghost use Rattle.naga_varyings.specs.declared.varying.MeshOutputType.TheVariants as which;
+ghost use Rattle.naga_interface.specs.Faults.{Judges, OfArgument, OfResult, Other};
+ghost use Rattle.naga_interface.specs.Mesh.{mesh_points};
+ghost use Rattle.naga_interface.specs.Varyings.{argument_points, declared_points, has_built_in, is_struct, output_item, output_points, outputs_points, place_of, primitive_points, result_parts, result_points, vertex_points};
+ghost use Rattle.naga_statements.specs.Parts.{AreInfosOf};
+ghost use Rattle.naga_interface.specs.declared.error.EntryPointError.TheVariants as fault;
 
-use crate::interface::EntryPointError;
-use crate::interface::answers::{answer, judged, refusal};
-use crate::interface::globals::inner_at;
-use crate::interface::mesh::check_variable;
-use crate::interface::varyings::{
+use crate::validator::Validator;
+use naga_arena::handle::Handle;
+use naga_arena::span::Refusal;
+use naga_arena::tag;
+use naga_errors::below::Below;
+use naga_interface::answers::{answer, judged, refusal};
+use naga_interface::error::EntryPointError;
+use naga_interface::globals::inner_at;
+use naga_interface::mesh::check_variable;
+use naga_interface::varyings::{
     argument_refused, check_returned, has_one_of_indices, is_struct, result_refused,
 };
-use crate::validator::Validator;
-use naga_below::arena::handle::Handle;
-use naga_below::arena::tag;
-use naga_below::ir::built_in::BuiltIn;
-use naga_below::ir::functions::FunctionArgument;
-use naga_below::ir::module::{EntryPoint, MeshStageInfo, Module};
-use naga_below::ir::types::Binding;
-use naga_below::span::Refusal;
-use naga_rules::below::Below;
-use naga_rules::varying::item::check_varying_item;
-use naga_rules::varying::{MeshOutputType, VaryingPlace, VaryingState};
+use naga_ir::functions::FunctionArgument;
+use naga_ir::module::{EntryPoint, MeshStageInfo, Module};
+use naga_types::built_in::BuiltIn;
+use naga_types::types::Binding;
+use naga_varyings::item::check_varying_item;
+use naga_varyings::varying::{MeshOutputType, VaryingPlace, VaryingState};
 use std::alloc::Global;
 
 impl<B: Below> Validator<B> {

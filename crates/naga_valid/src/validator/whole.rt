@@ -3,24 +3,24 @@
 ghost use Rattle.std.specs.Prelude.{◌≡◌, true, OnOk, OnErr, IfOk, length};
 ghost use Rattle.naga_below.specs.Fits.{FitsTypes, FitsFunction};
 ghost use Rattle.naga_runs.specs.Soundness.{RunsAreSure};
-ghost use Rattle.naga_rules.specs.Answers.{Answers};
+ghost use Rattle.naga_errors.specs.Answers.{Answers};
 ghost use Rattle.naga_function.specs.Accepted.{ResultsAreFilledOnce, StagesAreOfAll};
 ghost use Rattle.naga_context.specs.Blocks.{body_of};
 ghost use Rattle.naga_context.specs.Context.{pre_emitted_of};
 ghost use Rattle.naga_context.specs.WhatIsChecked.{checks_blocks, checks_expressions};
-ghost use Rattle.naga_checks.specs.Judged.{function_judgement, AnswersTracing};
-ghost use Rattle.naga_checks.specs.Parts.{AreInfosOf};
+ghost use Rattle.naga_statements.specs.Judged.{function_judgement, AnswersTracing};
+ghost use Rattle.naga_statements.specs.Parts.{AreInfosOf};
 ghost use Rattle.naga_function.specs.Shapes.{HasNoReturnInContinuing, HasWholeSwitches};
-ghost use Rattle.naga_checks.specs.walk.Asked.{judgement_by};
+ghost use Rattle.naga_statements.specs.walk.Asked.{judgement_by};
 
-use crate::outcome::FunctionOutcome;
 use crate::validator::Validator;
-use naga_below::ir::functions::Function;
-use naga_below::ir::module::Module;
-use naga_below::span::Refusal;
+use naga_arena::span::Refusal;
 use naga_below::valid::info::{FunctionInfo, ModuleInfo};
-use naga_rules::below::Below;
-use naga_rules::function::FunctionError;
+use naga_errors::below::Below;
+use naga_errors::function::FunctionError;
+use naga_interface::outcome::FunctionOutcome;
+use naga_ir::functions::Function;
+use naga_ir::module::Module;
 use std::alloc::Global;
 
 impl<B: Below> Validator<B> {

@@ -1,5 +1,5 @@
 use Rattle.naga_case.specs.Judged.{settings_of}
-use Rattle.naga_case.specs.Notation.Case.{case_of}
+use Rattle.naga_notation.specs.Case.{case_of}
 use Rattle.naga_case.proofs.Benches.{told_of_bench}
 use Rattle.naga_case.proofs.Cases.{judged_as}
 use Rattle.naga_case.proofs.judge.judge.Goals as goal

@@ -1,6 +1,6 @@
 use Rattle.std.proofs.Common.{◌≡◌, Err, ap}
-use Rattle.naga_case.specs.Notation.Case.{case_of}
-use Rattle.naga_case.specs.declared.notation.ReadError.TheVariants.{Unreadable}
+use Rattle.naga_notation.specs.Case.{case_of}
+use Rattle.naga_notation.specs.declared.case.ReadError.TheVariants.{Unreadable}
 use Rattle.naga_case.proofs.Cases.{replies_none, replies_accepted, replies_fault}
 use Rattle.naga_case.proofs.judge.reply_to.Goals as goal
 

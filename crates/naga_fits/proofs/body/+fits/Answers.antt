@@ -1,6 +1,6 @@
 use Rattle.std.proofs.Common.{rules, ap, ◌∙◌}
-use Rattle.naga_below.specs.View.{no_operands, tree_of}
-use Rattle.naga_below.proofs.Rows.{body_of-list, tree_of-switch}
+use Rattle.naga_ir.specs.View.{no_operands, tree_of}
+use Rattle.naga_ir.proofs.Rows.{body_of-list, tree_of-switch}
 use Rattle.naga_fits.proofs.body.+fits.Goals as goal
 
 pub fits_block-returns : goal.fits_block-returns

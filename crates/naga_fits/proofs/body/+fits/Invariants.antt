@@ -1,5 +1,5 @@
 use Rattle.std.proofs.Common.{◌↔◌, drop}
-use Rattle.naga_below.specs.View.{no_operands, list_body, list_cases}
+use Rattle.naga_ir.specs.View.{no_operands, list_body, list_cases}
 use Rattle.naga_below.specs.FitsBody.{BodyFits, CasesFit}
 use Rattle.naga_fits.proofs.body.+fits.Given as goal
 

@@ -1,5 +1,5 @@
 use Rattle.std.proofs.Common.{◌<◌, All}
-use Rattle.naga_below.specs.Operands.{operands_of}
+use Rattle.naga_ir.specs.Operands.{operands_of}
 use Rattle.naga_below.proofs.Each.{each_from}
 use Rattle.naga_fits.proofs.expressions.name_earlier_expressions.Goals as goal
 

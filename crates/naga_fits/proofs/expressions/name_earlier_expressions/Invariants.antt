@@ -1,5 +1,5 @@
 use Rattle.std.proofs.Common.{◌↔◌, ◌<◌, All, drop}
-use Rattle.naga_below.specs.Operands.{operands_of}
+use Rattle.naga_ir.specs.Operands.{operands_of}
 use Rattle.naga_below.specs.Fits.{NameEarlierExpressions}
 use Rattle.naga_below.proofs.Each.{EachFrom}
 use Rattle.naga_fits.proofs.expressions.name_earlier_expressions.Given as goal

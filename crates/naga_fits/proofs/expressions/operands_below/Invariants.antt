@@ -1,5 +1,5 @@
 use Rattle.std.proofs.Common.{◌<◌, ◌↔◌, All, drop}
-use Rattle.naga_below.specs.Operands.{operands_of}
+use Rattle.naga_ir.specs.Operands.{operands_of}
 use Rattle.naga_fits.proofs.expressions.operands_below.Given as goal
 
 -- what is left decides

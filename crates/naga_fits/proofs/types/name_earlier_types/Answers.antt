@@ -1,4 +1,4 @@
-use Rattle.naga_below.specs.Types.{NamesTypesBelow}
+use Rattle.naga_types.specs.Types.{NamesTypesBelow}
 use Rattle.naga_below.proofs.Each.{each_from}
 use Rattle.naga_fits.proofs.types.name_earlier_types.Goals as goal
 

@@ -1,6 +1,6 @@
 use Rattle.std.proofs.Common.{◌↔◌, drop}
 use Rattle.naga_below.specs.Each.{EachAt}
-use Rattle.naga_below.specs.Types.{NamesTypesBelow}
+use Rattle.naga_types.specs.Types.{NamesTypesBelow}
 use Rattle.naga_below.proofs.Each.{EachFrom}
 use Rattle.naga_fits.proofs.types.name_earlier_types.Given as goal
 

@@ -1,5 +1,5 @@
 use Rattle.std.proofs.Common.{rules}
-use Rattle.naga_checks.specs.Declarations.{argument_points}
+use Rattle.naga_statements.specs.Declarations.{argument_points}
 use Rattle.naga_context.specs.walk.Seen.{context_of}
 use Rattle.naga_function.proofs.Each.{each_stops, each_passes}
 use Rattle.naga_function.proofs.declarations.check_arguments.Goals as goal

@@ -1,6 +1,6 @@
 use Rattle.std.proofs.Common.{◌≡◌, drop}
 use Rattle.naga_below.specs.Points.{first_fault, points_from}
-use Rattle.naga_checks.specs.Declarations.{argument_points}
+use Rattle.naga_statements.specs.Declarations.{argument_points}
 use Rattle.naga_context.specs.walk.Seen.{context_of}
 use Rattle.naga_function.proofs.declarations.check_arguments.Given as goal
 

@@ -1,7 +1,7 @@
 use Rattle.std.proofs.Common.{rules, None, Some, sym, ap, ◌∙◌}
 use Rattle.std.specs.Result.{result_err}
 use Rattle.naga_below.specs.Points.{points_of_each}
-use Rattle.naga_checks.specs.Declarations.{variable_points, argument_points, result_points}
+use Rattle.naga_statements.specs.Declarations.{variable_points, argument_points, result_points}
 use Rattle.naga_context.specs.walk.Seen.{context_of}
 use Rattle.naga_function.proofs.Each.{third_decides}
 use Rattle.naga_context.proofs.Refusals.{refuses_first, refuses_second}

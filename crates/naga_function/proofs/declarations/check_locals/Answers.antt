@@ -2,8 +2,8 @@ use Rattle.std.proofs.Common.{rules, ◌≡◌, Some, None, sym, subst}
 use Rattle.std.proofs.lemmas.Option.{get_or_from_slice_get}
 use Rattle.std.specs.Prelude.{slice_get}
 use Rattle.naga_below.specs.Points.{first_fault}
-use Rattle.naga_rules.specs.Answers.{AnswersPoints}
-use Rattle.naga_checks.specs.Declarations.{variable_points}
+use Rattle.naga_errors.specs.Answers.{AnswersPoints}
+use Rattle.naga_statements.specs.Declarations.{variable_points}
 use Rattle.naga_context.specs.walk.Seen.{context_of}
 use Rattle.naga_function.proofs.Each.{each_stops, each_passes}
 use Rattle.naga_function.proofs.declarations.check_locals.Goals as goal

@@ -1,21 +1,22 @@
 use Rattle.std.proofs.Common.{rules, ◌≡◌, Err, None, Some, ◌||◌, IfSome, ◌<◌, subst, append-nil, ◌++◌, ◌+◌, [], refl, sym, ap, ◌∙◌, drop, append_assoc}
-use Rattle.naga_below.specs.declared.ir.statements.Block.{the_lemmas}
-use Rattle.naga_below.proofs.Rows.{body_of-list, tree_of-switch}
-use Rattle.naga_below.specs.View as view
+use Rattle.naga_ir.specs.declared.statements.Block.{the_lemmas}
+use Rattle.naga_ir.proofs.Rows.{body_of-list, tree_of-switch}
+use Rattle.naga_ir.specs.View as view
 use Rattle.naga_runs.specs.Positions.{StatementNode}
 use Rattle.naga_context.specs.Results.{result_of}
 use Rattle.naga_context.specs.Blocks.{emitted_operands, tree_of, list_of, cases_of, block_of}
-use Rattle.naga_rules.specs.Answers.{Refuses}
-use Rattle.naga_checks.specs.Ready.{IsStatementReady, IsBodyReady}
+use Rattle.naga_errors.specs.Answers.{Refuses}
+use Rattle.naga_statements.specs.Ready.{IsStatementReady, IsBodyReady}
 use Rattle.naga_context.specs.walk.Seen.{context_of}
-use Rattle.naga_checks.specs.walk.State.{kept, with_statement}
+use Rattle.naga_statements.specs.walk.State.{kept, with_statement}
 use Rattle.naga_context.specs.walk.Table.{HasPut, known, marked, shown}
-use Rattle.naga_checks.specs.walk.Walk.{place, puts, body_puts, body_answer, cases_answer}
+use Rattle.naga_statements.specs.walk.Walk.{puts, body_puts, body_answer, cases_answer}
+use Rattle.naga_checks.specs.walk.Emitted.{place}
 use Rattle.naga_context.proofs.Columns.{both_put, put_nothing, same_known, stays_put, shows_before, may_leave}
 use Rattle.naga_context.proofs.Divided.{loop_left, may_leave_loop}
 use Rattle.naga_runs.specs.Must.{body_holds_continue, cases_hold_continue}
 use Rattle.naga_function.proofs.LoopBody.{PutsOfLoop, at_first, one_more, undivided, divided, may_part}
-use Rattle.naga_checks.proofs.Parts.{in_block, in_branch, in_switch, in_lists, in_list, in_cases, in_result}
+use Rattle.naga_statements.proofs.Parts.{in_block, in_branch, in_switch, in_lists, in_list, in_cases, in_result}
 use Rattle.naga_context.proofs.Refusals.{next_is, passes, stops_first, stops_next, answers_next}
 use Rattle.naga_function.proofs.Walk.{holds_turn, holds_end, rest_turn, rest_end, cases_hold_turn, cases_hold_end, leaving_err, no_continue, or_assoc, parts_continue, no_parts, own_passes, own_refuses, parts_later, parts_branch, parts_switch, stmt_more, body_turn, puts_turn, body_end, puts_end, cases_turn, cases_end}
 use Rattle.naga_function.proofs.function.+walk.Goals as goal

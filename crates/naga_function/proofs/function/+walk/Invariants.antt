@@ -1,10 +1,10 @@
 use Rattle.std.proofs.Common.{◌≡◌, ◌||◌, drop}
 use Rattle.naga_context.specs.Blocks.{block_of, list_of, cases_of}
-use Rattle.naga_checks.specs.Ready.{IsBodyReady, AreCasesReady}
+use Rattle.naga_statements.specs.Ready.{IsBodyReady, AreCasesReady}
 use Rattle.naga_context.specs.walk.Seen.{context_of}
-use Rattle.naga_checks.specs.walk.State.{kept}
+use Rattle.naga_statements.specs.walk.State.{kept}
 use Rattle.naga_context.specs.walk.Table.{IsTableOf, known, shown}
-use Rattle.naga_checks.specs.walk.Walk.{body_puts, body_answer, cases_answer}
+use Rattle.naga_statements.specs.walk.Walk.{body_puts, body_answer, cases_answer}
 use Rattle.naga_runs.specs.Must.{body_holds_continue, cases_hold_continue}
 use Rattle.naga_context.proofs.Columns.{PutsBefore}
 use Rattle.naga_function.proofs.LoopBody.{PutsOfLoop}

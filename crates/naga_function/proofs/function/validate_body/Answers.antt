@@ -1,9 +1,9 @@
 use Rattle.std.proofs.Common.{rules}
-use Rattle.naga_checks.specs.Judged.{body_judgement}
+use Rattle.naga_statements.specs.Judged.{body_judgement}
 use Rattle.naga_context.specs.Results.{filled_points}
 use Rattle.naga_context.specs.walk.Table.{filled_in}
 use Rattle.naga_context.specs.walk.Seen.{context_of}
-use Rattle.naga_checks.specs.walk.State.{kept}
+use Rattle.naga_statements.specs.walk.State.{kept}
 use Rattle.naga_function.proofs.Judged.{unfilled_refuses, all_filled}
 use Rattle.naga_function.proofs.function.validate_body.Goals as goal
 

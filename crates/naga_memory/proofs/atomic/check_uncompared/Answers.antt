@@ -1,8 +1,9 @@
 use Rattle.std.proofs.Common.{length, sym, subst}
 use Rattle.std.specs.Prelude.{IfSome}
-use Rattle.naga_below.specs.Types.{NamesTypesBelow}
+use Rattle.naga_types.specs.Types.{NamesTypesBelow}
 use Rattle.naga_context.specs.walk.Seen.{context_of}
-use Rattle.naga_memory.proofs.InRange.{type_fits, result_type_fits}
+use Rattle.naga_context.proofs.InRange.{type_fits}
+use Rattle.naga_memory.proofs.ResultsInRange.{result_type_fits}
 use Rattle.naga_memory.proofs.atomic.check_uncompared.Goals as goal
 
 pub is_equivalent-requires-clause-first : goal.is_equivalent-requires-clause-first

@@ -1,7 +1,7 @@
 use Rattle.std.proofs.Common.{sym, ap, ◌∙◌}
 use Rattle.std.specs.Option.{option_copied}
 use Rattle.naga_context.specs.walk.Seen.{context_of}
-use Rattle.naga_memory.proofs.InRange.{types_fit, resolution_fits}
+use Rattle.naga_context.proofs.InRange.{types_fit, resolution_fits}
 use Rattle.naga_memory.proofs.store.is_stored_as.Goals as goal
 
 pub compare_types-requires-clause-types : goal.compare_types-requires-clause-types

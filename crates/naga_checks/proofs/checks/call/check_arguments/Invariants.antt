@@ -1,6 +1,6 @@
 use Rattle.std.proofs.Common.{◌≡◌, drop}
 use Rattle.naga_below.specs.Points.{first_fault, within}
-use Rattle.naga_rules.specs.declared.function.FunctionError.TheVariants.{InvalidCall}
+use Rattle.naga_errors.specs.declared.function.FunctionError.TheVariants.{InvalidCall}
 use Rattle.naga_checks.specs.checks.Call.{passed_points_from}
 use Rattle.naga_context.specs.walk.Place.{place_at}
 use Rattle.naga_context.specs.walk.Seen.{context_of}

@@ -1,6 +1,6 @@
 use Rattle.std.proofs.Common.{◌<◌, ◌∙◌, subst, sym}
 use Rattle.std.specs.Prelude.{map}
-use Rattle.naga_below.specs.Operands.{operands_of}
+use Rattle.naga_ir.specs.Operands.{operands_of}
 use Rattle.naga_context.specs.Points.{use_point}
 use Rattle.naga_context.specs.walk.Place.{place_at}
 use Rattle.naga_context.specs.walk.Table.{known}

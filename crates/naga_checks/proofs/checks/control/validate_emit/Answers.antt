@@ -1,7 +1,7 @@
 use Rattle.std.proofs.Common.{rules, ◌≡◌, None, arith, subst, sym, ◌∙◌}
 use Rattle.naga_below.specs.Points.{first_fault}
 use Rattle.naga_checks.specs.checks.Control.{emit_points}
-use Rattle.naga_rules.specs.Answers.{IsFirstFault}
+use Rattle.naga_errors.specs.Answers.{IsFirstFault}
 use Rattle.naga_context.specs.walk.Place.{place_at}
 use Rattle.naga_context.specs.walk.Seen.{context_of}
 use Rattle.naga_context.specs.walk.Table.{HasPut, known}

@@ -2,7 +2,7 @@ use Rattle.std.proofs.Common.{◌≡◌, ◌≤◌, ◌-◌}
 use Rattle.naga_below.specs.Points.{first_fault}
 use Rattle.naga_context.specs.walk.Place.{place_at}
 use Rattle.naga_checks.specs.checks.Control.{emit_points, emit_points_from}
-use Rattle.naga_checks.specs.walk.Walk.{handles_between}
+use Rattle.naga_checks.specs.walk.Emitted.{handles_between}
 use Rattle.naga_context.specs.walk.Seen.{context_of}
 use Rattle.naga_context.specs.walk.Table.{HasPut, known}
 use Rattle.naga_checks.proofs.checks.control.validate_emit.Given as goal

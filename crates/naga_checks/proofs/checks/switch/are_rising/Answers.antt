@@ -1,6 +1,6 @@
 use Rattle.std.proofs.Common.{◌≡◌, Some, true, false, take, refl, sym, ◌∙◌}
 use Rattle.std.specs.List.{list_any}
-use Rattle.naga_below.specs.declared.ir.statements.SwitchCase.{out-SwitchCase}
+use Rattle.naga_ir.specs.declared.statements.SwitchCase.{out-SwitchCase}
 use Rattle.naga_context.specs.Blocks.{case_list}
 use Rattle.naga_checks.specs.checks.Switch.{has_signedness_of, same_value, values_of}
 use Rattle.naga_checks.specs.walk.Switch.{risen}

@@ -1,8 +1,8 @@
 use Rattle.std.proofs.Common.{rules, ◌≡◌, ◌++◌, None, Option, sym, subst}
-use Rattle.naga_rules.specs.declared.mesh.MeshAnalysis.{MeshAnalysis}
-use Rattle.naga_rules.specs.declared.mesh.MeshFault.{MeshFault}
-use Rattle.naga_valid.specs.interface.Mesh.{analysis_points, stated_points, said_points}
-use Rattle.naga_valid.specs.interface.Points.{EntryPoints, Meets}
+use Rattle.naga_errors.specs.declared.mesh.MeshAnalysis.{MeshAnalysis}
+use Rattle.naga_errors.specs.declared.mesh.MeshFault.{MeshFault}
+use Rattle.naga_interface.specs.Mesh.{analysis_points, stated_points, said_points}
+use Rattle.naga_interface.specs.Points.{EntryPoints, Meets}
 use Rattle.naga_valid.proofs.validator.Validator.check_said.Goals as goal
 
 pub returns : goal.returns

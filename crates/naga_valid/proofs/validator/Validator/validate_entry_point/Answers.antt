@@ -2,7 +2,7 @@ use Rattle.std.proofs.Common.{sym, ap, ◌∙◌, subst}
 use Rattle.naga_flags.specs.declared.valid.ShaderStages.{ShaderStages}
 use Rattle.naga_function.specs.Accepted.{StagesAreOfAll}
 use Rattle.naga_context.specs.Blocks.{body_of}
-use Rattle.naga_checks.specs.Judged.{FunctionOutcome}
+use Rattle.naga_statements.specs.Judged.{FunctionOutcome}
 use Rattle.naga_function.proofs.Chains.{fits_calls_below}
 use Rattle.naga_valid.proofs.EntryAccepted.{accepted_entry, stages_are}
 use Rattle.naga_valid.proofs.EntryBuiltIns.{accepted_built_ins}

@@ -1,0 +1,17 @@
+//! Handles and the arenas that they are of, spans, and lists that are values, as in naga 30.0.1's `arena` and `span`.
+#![tactic(auto)]
+
+pub mod arena;
+pub mod duplicate;
+pub mod handle;
+pub mod range;
+pub mod sequence;
+pub mod span;
+pub mod tag;
+
+pub use crate::arena::Arena;
+pub use crate::duplicate::Duplicate;
+pub use crate::handle::{Handle, Tagged};
+pub use crate::range::Range;
+pub use crate::sequence::Sequence;
+pub use crate::span::{Refusal, Span, WithSpan};

@@ -1,0 +1,19 @@
+//! The errors of the validator, with naga 30.0.1's names and fields: of functions, globals, and what a stage takes in and puts out;
+//! what they say; and the lower layer that a validator asks.
+#![tactic(auto)]
+
+pub mod analyzer;
+pub mod below;
+pub mod function;
+pub mod interface;
+pub mod mesh;
+pub mod sentences;
+
+pub use crate::analyzer::{UniformityDisruptor, UniformityRequirements};
+pub use crate::below::Below;
+pub use crate::function::{
+    AtomicError, CallError, FunctionError, LocalVariableError, SubgroupError,
+};
+pub use crate::interface::{GlobalVariableError, VaryingError};
+pub use crate::mesh::{MeshAnalysis, MeshFault};
+pub use crate::sentences::Explain;

@@ -1,0 +1,188 @@
+//! What code over any lower layer knows by the laws alone, run once over a small layer.
+
+ghost use Rattle.std.specs.Prelude.{◌≡◌, ◌<◌, length};
+
+use crate::tests::bools::Bools;
+use bitflags::Flags;
+use naga_arena::arena::Arena;
+use naga_arena::handle::Handle;
+use naga_arena::span::{Refusal, Span};
+use naga_arena::tag;
+use naga_below::valid::expression_error::ExpressionError;
+use naga_below::valid::info::{FunctionInfo, ModuleInfo};
+use naga_below::valid::settings::Settings;
+use naga_errors::below::Below;
+use naga_errors::function::FunctionError;
+use naga_flags::capabilities::Capabilities;
+use naga_flags::ir::MemoryDecorations;
+use naga_flags::valid::{GlobalUse, ShaderStages, SubgroupOperationSet, ValidationFlags};
+use naga_ir::expressions::{Expression, Literal};
+use naga_ir::functions::Function;
+use naga_ir::module::{GlobalVariable, Module};
+use naga_types::types::{AddressSpace, Scalar, Type, TypeInner};
+use naga_types::typifier::TypeResolution;
+use naga_types::unique_arena::UniqueArena;
+use std::alloc::{AllocError, Global};
+use std::process::Abort;
+use std::test::Fail;
+
+/// No check, and a target that can do nothing.
+fn settings() -> Settings {
+    Settings {
+        flags: ValidationFlags::empty(),
+        capabilities: Capabilities::empty(),
+        subgroup_stages: ShaderStages::empty(),
+        subgroup_operations: SubgroupOperationSet::empty(),
+    }
+}
+
+/// The info of a function, with one more use of a global, and whether the expression is a struct: by the laws
+/// the expression has a type, the type is there, it is no struct as a value, and the global has a use.
+fn with_query<B: Below>(
+    below: &B,
+    alloc: Global,
+    fun: &Function,
+    module: &Module,
+    mod_info: &ModuleInfo,
+    handle: Handle<tag::Expression>,
+    global: Handle<tag::GlobalVariable>,
+) -> Result<(FunctionInfo, bool), Refusal<FunctionError>>
+    requires expression { handle < length fun.now.expressions }
+    requires global { global < length «module».now.global_variables }
+{
+    let Settings {
+        flags,
+        capabilities,
+        ..
+    } = settings();
+    let mut info = below.process_function(alloc, fun, module, mod_info, flags, capabilities)?;
+    info.insert_global_use(GlobalUse::QUERY, global);
+    let resolution = &info.expression_types[handle.index()];
+    if let TypeResolution::Value(inner) = resolution {
+        prove!(!matches!(inner, TypeInner::Struct { .. }));
+    }
+    let is_struct = matches!(
+        resolution.inner_with(&module.types),
+        TypeInner::Struct { .. }
+    );
+    Ok((info, is_struct))
+}
+
+/// Whether the expression is a constant: by the last law it has a kind.
+fn is_constant<B: Below>(
+    below: &B,
+    alloc: Global,
+    fun: &Function,
+    handle: Handle<tag::Expression>,
+) -> Result<bool, AllocError>
+    requires { handle < length fun.now.expressions }
+{
+    let kinds = below.kinds(alloc, &fun.expressions)?;
+    Ok(kinds.is_const(handle))
+}
+
+/// The stages of an expression.
+fn stages<B: Below>(
+    below: &B,
+    alloc: Global,
+    fun: &Function,
+    module: &Module,
+    info: &FunctionInfo,
+    mod_info: &ModuleInfo,
+    handle: Handle<tag::Expression>,
+) -> Result<ShaderStages, Refusal<ExpressionError>> {
+    let kinds = below.kinds(alloc, &fun.expressions)?;
+    below.validate_expression(
+        alloc,
+        settings(),
+        handle,
+        fun,
+        module,
+        info,
+        mod_info,
+        &kinds,
+    )
+}
+
+/// What a layer says of a global as the output of a mesh shader, and the size of its type.
+fn output_size<B: Below>(
+    below: &B,
+    alloc: Global,
+    module: &Module,
+    global: Handle<tag::GlobalVariable>,
+) -> Result<Option<u32>, AllocError> {
+    let analysis = below.analyze_mesh_shader_info(alloc, module, global)?;
+    Ok(below.type_size(module, analysis.implied.vertex_output_type))
+}
+
+/// A module of a bool and a global of it.
+fn module_of_bool(alloc: Global) -> Result<Module, AllocError> {
+    let mut types = UniqueArena::new(alloc);
+    let inner = TypeInner::Scalar(Scalar::BOOL);
+    let ty = types.insert(Type { name: None, inner }, Span::UNDEFINED)?;
+    let mut global_variables = Arena::new(alloc);
+    let global = GlobalVariable {
+        space: AddressSpace::Private,
+        binding: None,
+        ty,
+        init: None,
+        memory_decorations: MemoryDecorations::empty(),
+    };
+    global_variables.append(global, Span::UNDEFINED)?;
+    let mut module = Module::new(alloc);
+    module.types = types;
+    module.global_variables = global_variables;
+    Ok(module)
+}
+
+/// A function of a literal.
+fn function_of_bool(alloc: Global) -> Result<Function, AllocError> {
+    let mut expressions = Arena::new(alloc);
+    let literal = Literal {
+        scalar: Scalar::BOOL,
+        bits: 1,
+    };
+    expressions.append(Expression::Literal(literal), Span::UNDEFINED)?;
+    let mut fun = Function::new(alloc);
+    fun.expressions = expressions;
+    Ok(fun)
+}
+
+/// Asks the small layer of the first expression and the first global.
+fn assert_answers(
+    rt: &(impl Abort + AllocGlobal),
+    fun: &Function,
+    module: &Module,
+    mod_info: &ModuleInfo,
+) -> Result<(), Fail> {
+    let alloc = rt.alloc();
+    let handle = Handle::new(0);
+    let global = Handle::new(0);
+    assert_eq!(rt; fun.expressions.len(), 1);
+    assert_eq!(rt; module.global_variables.len(), 1);
+    let (info, is_struct) = with_query(&Bools, alloc, fun, module, mod_info, handle, global)?;
+    assert!(rt; !is_struct);
+    assert_eq!(rt;
+        info.global_uses.as_slice(),
+        [GlobalUse::READ.union(GlobalUse::QUERY)].as_slice()
+    );
+    assert!(rt; is_constant(&Bools, alloc, fun, handle)?);
+    let answer = stages(&Bools, alloc, fun, module, &info, mod_info, handle);
+    let fault = match &answer {
+        Err(Refusal::Fault(fault)) => fault,
+        Err(Refusal::Memory) => panic!(rt; "no memory"),
+        Ok(_) => panic!(rt; "no fault"),
+    };
+    assert_eq!(rt; *fault.as_inner(), ExpressionError::NotInScope);
+    assert_eq!(rt; output_size(&Bools, alloc, module, global)?, Some(1));
+    Ok(())
+}
+
+#[test]
+fn a_lawful_layer_answers(rt: HostRuntime) -> Result<(), Fail> {
+    let alloc = rt.alloc();
+    let module = module_of_bool(alloc)?;
+    let fun = function_of_bool(alloc)?;
+    let mod_info = ModuleInfo::new(alloc);
+    assert_answers(&rt, &fun, &module, &mod_info)
+}

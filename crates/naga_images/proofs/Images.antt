@@ -1,0 +1,32 @@
+-- The uses of a texel, and what the check list of ImageStore says of uses.
+use Rattle.std.proofs.Common.{◌≡◌, ℕ, Bool, List, [], ◌∷◌, ◌++◌, Option, None, Some}
+use Rattle.naga_below.proofs.Points.{both_hold}
+use Rattle.naga_below.specs.Points.{first_fault}
+use Rattle.naga_ir.specs.Tree.{Act, Use}
+use Rattle.naga_ir.specs.View.{used_if}
+use Rattle.naga_below.specs.declared.valid.expression_error.ExpressionError.{ExpressionError}
+use Rattle.naga_errors.specs.declared.function.FunctionError.{FunctionError}
+use Rattle.naga_errors.specs.declared.function.FunctionError.TheVariants.{InvalidImageStore}
+use Rattle.naga_runs.specs.Soundness.{Fit}
+use Rattle.naga_runs.specs.Visits.{Place}
+use Rattle.naga_images.specs.walk.Image.{texel_value_points}
+use Rattle.naga_context.specs.Context.{Context}
+use Rattle.naga_images.specs.Image.{array_index_points, stored_format, stored_shape, image_store_points}
+use Rattle.naga_context.specs.Points.{may_use, is_in_scope}
+use Rattle.naga_context.proofs.Flat.{holds_at, holds_behind}
+
+module _ (context : Context) (place : Place) where
+  -- the use of an array index is allowed
+  pub index_fits : (inside : ExpressionError → FunctionError) (arrayed : Bool) (index : Option ℕ) (acts : List Act) → first_fault (array_index_points inside context place arrayed index) ≡ None → Fit (may_use place) (is_in_scope place) acts → Fit (may_use place) (is_in_scope place) (used_if index ++ acts)
+  index_fits inside arrayed None acts e rest = rest
+  index_fits inside arrayed (Some k) acts e rest =
+      (holds_at 1 (array_index_points inside context place arrayed (Some k)) e, rest)
+
+  -- the uses of an image store are allowed
+  pub image_store_fits : (image coordinate : ℕ) (index : Option ℕ) (value : ℕ) → first_fault (image_store_points context place image coordinate index value) ≡ None → Fit (may_use place) (is_in_scope place) (Use coordinate ∷ (used_if index ++ Use value ∷ []))
+  image_store_fits image coordinate index value e =
+      let points = image_store_points context place image coordinate index value in
+      let shape = stored_shape context image in
+      let values = texel_value_points context place (stored_format shape.class) value in
+      let both = both_hold (array_index_points InvalidImageStore context place shape.arrayed index) values (holds_behind 6 points e) in
+      (holds_at 4 points e, index_fits InvalidImageStore shape.arrayed index (Use value ∷ []) both.0 (holds_at 0 values both.1, tt))

@@ -1,0 +1,30 @@
+//! The lower layers by themselves: the plain one, and recorded facts.
+
+mod plain;
+mod recorded;
+
+use naga_arena::arena::Arena;
+use naga_arena::span::Span;
+use naga_ir::expressions::Expression;
+use naga_ir::functions::Function;
+use naga_ir::module::Module;
+use naga_types::types::Type;
+use naga_types::unique_arena::UniqueArena;
+use std::alloc::Global;
+
+/// Where things are.
+const HERE: Span = Span { start: 3, end: 7 };
+
+/// A module of these types alone.
+fn module_of_types(alloc: Global, types: UniqueArena<Type>) -> Module {
+    let mut module = Module::new(alloc);
+    module.types = types;
+    module
+}
+
+/// A function of these expressions alone.
+fn function_of(alloc: Global, expressions: Arena<Expression>) -> Function {
+    let mut fun = Function::new(alloc);
+    fun.expressions = expressions;
+    fun
+}

@@ -1,0 +1,95 @@
+//! What is recorded of the outputs of mesh shaders and of the sizes of types.
+
+use crate::tests::recorded::{made, module_alone};
+use naga_arena::handle::Handle;
+use naga_errors::below::Below;
+use naga_errors::mesh::MeshFault;
+use naga_ir::module::{MeshOutputTopology, MeshStageInfo, Module};
+use naga_layers::facts::{Facts, MeshAnalysisFact};
+use naga_layers::recorded::Recorded;
+use std::alloc::{AllocError, Global};
+use std::process::Abort;
+
+/// What is known of a mesh shader's output variable, with this fault.
+fn analysis(fault: Option<MeshFault>) -> MeshAnalysisFact {
+    MeshAnalysisFact {
+        implied: MeshStageInfo {
+            topology: MeshOutputTopology::Lines,
+            max_vertices: 4,
+            max_vertices_override: None,
+            max_primitives: 2,
+            max_primitives_override: None,
+            vertex_output_type: Handle::new(0),
+            primitive_output_type: Handle::new(0),
+            output_variable: Handle::new(0),
+        },
+        overrides: [None, Some(Handle::new(6))],
+        fault,
+    }
+}
+
+/// The third global's output has a member of a wrong type; nothing is known of the second.
+fn facts_of_meshes(alloc: Global) -> Result<Facts, AllocError> {
+    let mut facts = Facts::new(alloc);
+    facts.mesh_analyses.push(Some(analysis(None)))?;
+    facts.mesh_analyses.push(None)?;
+    let fault = Some(MeshFault::OutputField);
+    facts.mesh_analyses.push(Some(analysis(fault)))?;
+    Ok(facts)
+}
+
+/// The fault of what is answered of the global with this handle, and its second override.
+fn fault_of_mesh(
+    rt: &(impl Abort + AllocGlobal),
+    module: &Module,
+    handle: u32,
+) -> (Option<MeshFault>, Option<u32>) {
+    let facts = made(rt, facts_of_meshes(rt.alloc()));
+    let output = Handle::new(handle);
+    let recorded = Recorded { facts };
+    let found = made(
+        rt,
+        recorded.analyze_mesh_shader_info(rt.alloc(), module, output),
+    );
+    let fault = match &found.fault {
+        Some(fault) => Some(*fault.as_inner()),
+        None => None,
+    };
+    let primitives = match found.overrides[1] {
+        Some(handle) => Some(handle.index() as u32),
+        None => None,
+    };
+    (fault, primitives)
+}
+
+#[test]
+fn mesh_analyses(rt: HostRuntime) {
+    let module = module_alone(&rt);
+    for (handle, expected) in [
+        (0, (None, Some(6))),
+        (1, (Some(MeshFault::OutputType), None)),
+        (2, (Some(MeshFault::OutputField), Some(6))),
+        (3, (Some(MeshFault::OutputType), None)),
+    ] {
+        assert!(rt; fault_of_mesh(&rt, &module, handle) == expected);
+    }
+}
+
+/// The second type's size is known.
+fn facts_of_sizes(alloc: Global) -> Result<Facts, AllocError> {
+    let mut facts = Facts::new(alloc);
+    facts.sizes.push(None)?;
+    facts.sizes.push(Some(12))?;
+    Ok(facts)
+}
+
+#[test]
+fn sizes(rt: HostRuntime) {
+    let facts = made(&rt, facts_of_sizes(rt.alloc()));
+    let recorded = Recorded { facts };
+    let module = module_alone(&rt);
+    for (handle, expected) in [(0, None), (1, Some(12)), (2, None)] {
+        let size = recorded.type_size(&module, Handle::new(handle));
+        assert!(rt; size == expected);
+    }
+}

@@ -1,0 +1,59 @@
+-- How the reader looks up a word. No public contract cites this.
+use Rattle.std.specs.Prelude.{ℕ, ◌==◌, ◌&&◌, ◌||◌, nat_le, length, Bool, true, false, List, [], ◌∷◌, codes, Option, Some, None, if◌then◌else◌, option_and_then}
+use Rattle.std.specs.Str.{bytes_eq}
+use Rattle.naga_notation.specs.Bench.{has_callee}
+use Rattle.naga_notation.specs.declared.bench.Bench.{Bench}
+use Rattle.naga_notation.specs.declared.token.Token.{Token}
+use Rattle.naga_notation.specs.declared.token.Token.TheVariants as token
+
+-- what stands beside a text in a table, the first time
+abbrev pub lookup : {X : Type 0} → List (List ℕ × X) → List ℕ → Option X
+lookup [] w = None
+lookup ((text, x) ∷ rest) w = if bytes_eq w text then Some x else lookup rest w
+
+-- the tokens that have one text each, and the text of each, in a case of any bench
+abbrev pub keywords : List (List ℕ × Token)
+keywords =
+    (codes "emit", token.Emit) ∷ (codes "..", token.To) ∷ (codes "block", token.Block) ∷ (codes "if", token.If)
+    ∷ (codes "switch", token.Switch) ∷ (codes "fall", token.Fall) ∷ (codes "loop", token.Loop)
+    ∷ (codes "break_if", token.BreakIf) ∷ (codes "break", token.Break) ∷ (codes "continue", token.Continue)
+    ∷ (codes "return", token.Return) ∷ (codes "kill", token.Kill) ∷ (codes "store", token.Store)
+    ∷ (codes "barrier", token.Barrier)
+    ∷ (codes "{", token.Open) ∷ (codes "}", token.Close)
+    ∷ []
+
+-- those in a case of a bench that has a function to call
+abbrev pub call_keywords : List (List ℕ × Token)
+call_keywords = (codes "call", token.Call) ∷ (codes "f", token.Callee) ∷ (codes "->", token.Arrow) ∷ keywords
+
+abbrev pub keywords_if : Bool → List (List ℕ × Token)
+keywords_if false = keywords
+keywords_if true = call_keywords
+
+unfoldable pub keyword_of : Bench → List ℕ → Option Token
+keyword_of bench w = lookup (keywords_if (has_callee bench)) w
+
+-- A text begins as that of a number does: with a digit, which is no zero unless it stands alone.
+abbrev pub begins_number : List ℕ → Bool
+begins_number [] = false
+begins_number (d ∷ ds) = (d == 48 && length ds == 0) || (nat_le 49 d && nat_le d 57)
+
+-- the same where a `-` may stand before a number that is not 0
+abbrev pub begins_signed : List ℕ → Bool
+begins_signed [] = false
+begins_signed (d ∷ []) = begins_number (d ∷ [])
+begins_signed (d ∷ e ∷ ds) = (d == 45 && (nat_le 49 e && nat_le e 57)) || begins_number (d ∷ e ∷ ds)
+
+-- which flags are on behind an option, where these are on before it
+unfoldable pub take_option : (expressions blocks : Bool) → List ℕ → Option (Bool × Bool)
+take_option expressions blocks w =
+    if bytes_eq w (codes "-expressions") then (if expressions then Some (false, blocks) else None)
+    else if bytes_eq w (codes "-blocks") then (if blocks then Some (expressions, false) else None)
+    else None
+
+-- The flags that the words up to `:` leave on, where these are on before them, and the words behind it.
+unfoldable pub options_of : (expressions blocks : Bool) → List (List ℕ) → Option (Bool × Bool × List (List ℕ))
+options_of expressions blocks [] = None
+options_of expressions blocks (w ∷ ws) =
+    if bytes_eq w (codes ":") then Some (expressions, blocks, ws)
+    else option_and_then (λ o. options_of o.0 o.1 ws) (take_option expressions blocks w)

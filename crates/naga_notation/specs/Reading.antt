@@ -1,0 +1,162 @@
+-- How the statements are read, a token at a time: what the private functions of the reader do. No public contract cites
+-- this; it is proved to read what the grammar spells, and nothing else.
+use Rattle.std.specs.Prelude.{ℕ, true, false, List, [], ◌∷◌, ◌++◌, length, Option, Some, None, nat_lt, nat_le, if◌then◌else◌, option_and_then}
+use Rattle.naga_ir.specs.declared.statements.Block.{Block}
+use Rattle.naga_ir.specs.declared.statements.Located.{Located}
+use Rattle.naga_ir.specs.declared.statements.Statement as ir
+use Rattle.naga_ir.specs.declared.statements.SwitchCase.{SwitchCase, SwitchCase'}
+use Rattle.naga_notation.specs.declared.token.Token.{Token}
+use Rattle.naga_notation.specs.declared.token.Token.TheVariants as token
+use Rattle.naga_notation.specs.declared.reader.parts.Tail.{Tail}
+use Rattle.naga_notation.specs.declared.reader.parts.Tail.TheVariants as tail
+use Rattle.naga_notation.specs.declared.reader.parts.Naming.{Naming}
+use Rattle.naga_notation.specs.declared.reader.parts.Naming.TheVariants as naming
+use Rattle.naga_notation.specs.declared.reader.parts.Brace.{Brace}
+use Rattle.naga_notation.specs.declared.reader.parts.Brace.TheVariants as brace
+use Rattle.naga_notation.specs.declared.reader.parts.Frame.{Frame}
+use Rattle.naga_notation.specs.declared.reader.parts.Frame.TheVariants as frame
+use Rattle.naga_notation.specs.declared.reader.parts.Wants.{Wants}
+use Rattle.naga_notation.specs.declared.reader.parts.Wants.TheVariants as wants
+use Rattle.naga_notation.specs.Feeding.{feeds}
+use Rattle.naga_notation.specs.Blocks.{block_from, placed}
+use Rattle.naga_notation.specs.Grammar.{emitting, call_of, store_of, control_barrier}
+
+-- what has been read so far: the open parts, the newest first, and the list at hand
+pub record State : Type 0 where
+  pub opened : List Frame
+  pub list : List Located
+  pub wants : Wants
+
+abbrev pub wanting : List Frame → List Located → Wants → Option State
+wanting opened list wants = Some (record { opened = opened; list = list; wants = wants })
+
+-- a statement may begin
+abbrev pub ready : List Frame → List Located → Option State
+ready opened list = wanting opened list (wants.Statement tail.Nothing)
+
+abbrev pub begun : State
+begun = record { opened = []; list = []; wants = wants.Statement tail.Nothing }
+
+-- one brace more is open
+abbrev pub enter : List Frame → Frame → Wants → Option State
+enter opened part next = if nat_lt (length opened) 256 then wanting (part ∷ opened) [] next else None
+
+-- a case of the Switch at hand is whole
+unfoldable pub add_case : List Frame → SwitchCase → Option State
+add_case (frame.Cases selector cases outer ∷ opened) c =
+    wanting (frame.Cases selector (cases ++ c ∷ []) outer ∷ opened) [] wants.CaseValue
+add_case opened c = None
+
+-- the list at hand is closed
+unfoldable pub close : List Frame → List Located → Option State
+close (frame.Block outer ∷ opened) list = ready opened (outer ++ placed (ir.Block (block_from list)) ∷ [])
+close (frame.Accept c outer ∷ opened) list =
+    wanting (frame.Reject c (block_from list) outer ∷ opened) [] (wants.Open brace.Reject)
+close (frame.Reject c accept outer ∷ opened) list =
+    ready opened (outer ++ placed (ir.If c accept (block_from list)) ∷ [])
+close (frame.Case value falls ∷ opened) list = add_case opened (SwitchCase' value (block_from list) falls)
+close (frame.Turn outer ∷ opened) list =
+    wanting (frame.Continuing (block_from list) outer ∷ opened) [] (wants.Open brace.Continuing)
+close (frame.Continuing turn outer ∷ opened) list =
+    wanting (frame.Looped turn (block_from list) outer ∷ opened) [] (wants.Statement tail.Loop)
+close opened list = None
+
+-- the Switch at hand is closed
+unfoldable pub close_switch : List Frame → Option State
+close_switch (frame.Cases selector cases outer ∷ opened) =
+    ready opened (outer ++ placed (ir.Switch selector cases) ∷ [])
+close_switch opened = None
+
+-- the Loop at hand ends
+unfoldable pub end_loop : List Frame → Option ℕ → Option State
+end_loop (frame.Looped turn continuing outer ∷ opened) condition =
+    ready opened (outer ++ placed (ir.Loop turn continuing condition) ∷ [])
+end_loop opened condition = None
+
+-- a token where a statement may begin
+unfoldable pub begin : List Frame → List Located → Token → Option State
+begin opened list token.Emit = wanting opened list (wants.Name naming.First)
+begin opened list token.Block = wanting opened list (wants.Open brace.Block)
+begin opened list token.If = wanting opened list (wants.Name naming.Condition)
+begin opened list token.Switch = wanting opened list (wants.Name naming.Selector)
+begin opened list token.Loop = wanting opened list (wants.Open brace.Turn)
+begin opened list token.Break = ready opened (list ++ placed ir.Break ∷ [])
+begin opened list token.Continue = ready opened (list ++ placed ir.Continue ∷ [])
+begin opened list token.Return = wanting opened list (wants.Statement tail.Return)
+begin opened list token.Kill = ready opened (list ++ placed ir.Kill ∷ [])
+begin opened list token.Store = wanting opened list (wants.Name naming.Pointer)
+begin opened list token.Barrier = ready opened (list ++ placed control_barrier ∷ [])
+begin opened list token.Call = wanting opened list wants.Callee
+begin opened list token.Close = close opened list
+begin opened list t = None
+
+-- the statement at hand gets no tail
+unfoldable pub settle : List Frame → List Located → Tail → Option State
+settle opened list tail.Nothing = ready opened list
+settle opened list (tail.Emit first) = ready opened (list ++ placed (emitting first first) ∷ [])
+settle opened list tail.Return = ready opened (list ++ placed (ir.Return None) ∷ [])
+settle opened list tail.Loop = end_loop opened None
+settle opened list tail.Call = ready opened (list ++ placed (call_of None) ∷ [])
+
+abbrev pub begin_at : Token → State → Option State
+begin_at t s = begin s.opened s.list t
+
+-- a tail of the statement at hand, or a token where a statement may begin
+unfoldable pub go_on : List Frame → List Located → Tail → Token → Option State
+go_on opened list (tail.Emit first) token.To = wanting opened list (wants.Name (naming.Last first))
+go_on opened list tail.Return (token.Name value) = ready opened (list ++ placed (ir.Return (Some value)) ∷ [])
+go_on opened list tail.Loop token.BreakIf = wanting opened list (wants.Name naming.BreakIf)
+go_on opened list tail.Call token.Arrow = wanting opened list (wants.Name naming.Result)
+go_on opened list t w = option_and_then (begin_at w) (settle opened list t)
+
+-- a name
+unfoldable pub take_name : List Frame → List Located → Naming → ℕ → Option State
+take_name opened list naming.First h = wanting opened list (wants.Statement (tail.Emit h))
+take_name opened list (naming.Last first) h =
+    if nat_le first h then ready opened (list ++ placed (emitting first h) ∷ []) else None
+take_name opened list naming.Condition h = wanting opened list (wants.Open (brace.Accept h))
+take_name opened list naming.Selector h = wanting opened list (wants.Open (brace.Cases h))
+take_name opened list naming.BreakIf h = end_loop opened (Some h)
+take_name opened list naming.Pointer h = wanting opened list (wants.Name (naming.Stored h))
+take_name opened list (naming.Stored pointer) h = ready opened (list ++ placed (store_of pointer h) ∷ [])
+take_name opened list naming.Result h = ready opened (list ++ placed (call_of (Some h)) ∷ [])
+
+-- an open brace
+unfoldable pub open_brace : List Frame → List Located → Brace → Option State
+open_brace opened list brace.Block = enter opened (frame.Block list) (wants.Statement tail.Nothing)
+open_brace opened list (brace.Accept c) = enter opened (frame.Accept c list) (wants.Statement tail.Nothing)
+open_brace opened list brace.Reject = ready opened list
+open_brace opened list (brace.Cases h) = enter opened (frame.Cases h [] list) wants.CaseValue
+open_brace opened list (brace.Case value falls) = enter opened (frame.Case value falls) (wants.Statement tail.Nothing)
+open_brace opened list brace.Turn = enter opened (frame.Turn list) (wants.Statement tail.Nothing)
+open_brace opened list brace.Continuing = ready opened list
+
+unfoldable pub next : List Frame → List Located → Wants → Token → Option State
+next opened list (wants.Statement t) w = go_on opened list t w
+next opened list (wants.Name n) (token.Name h) = take_name opened list n h
+next opened list (wants.Open b) token.Open = open_brace opened list b
+next opened list wants.Callee token.Callee = wanting opened list (wants.Statement tail.Call)
+next opened list wants.CaseValue (token.Value v) = wanting opened list (wants.CaseRest v)
+next opened list wants.CaseValue token.Close = close_switch opened
+next opened list (wants.CaseRest v) token.Fall = wanting opened list (wants.Open (brace.Case v true))
+next opened list (wants.CaseRest v) token.Open = open_brace opened list (brace.Case v false)
+next opened list w t = None
+
+abbrev pub step : State → Token → Option State
+step s t = next s.opened s.list s.wants t
+
+-- the block, where no part is open
+abbrev pub whole : List Frame → List Located → Option Block
+whole [] list = Some (block_from list)
+whole (p ∷ ps) list = None
+
+unfoldable pub end_at : List Frame → List Located → Wants → Option Block
+end_at opened list (wants.Statement t) = option_and_then (λ s. whole s.opened s.list) (settle opened list t)
+end_at opened list w = None
+
+-- what the tokens say
+abbrev pub finish : State → Option Block
+finish s = end_at s.opened s.list s.wants
+
+abbrev pub reading_of : List Token → Option Block
+reading_of ts = option_and_then finish (feeds step (Some begun) ts)

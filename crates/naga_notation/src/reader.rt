@@ -1,0 +1,278 @@
+//! Reads the statements of a body, a token at a time, with a stack of the parts that are open.
+
+ghost use Rattle.std.specs.Prelude.{◌≡◌, ◌≤◌, option_and_then, IfOk, IsErrOf};
+ghost use Rattle.naga_ir.specs.Tree.{Body};
+ghost use Rattle.naga_ir.specs.View.{body_of, no_operands};
+ghost use Rattle.naga_notation.specs.Blocks.{block_of};
+ghost use Rattle.naga_notation.specs.Grammar.{Spells, depth};
+ghost use Rattle.naga_notation.specs.Feeding.{Ends};
+ghost use Rattle.naga_notation.specs.Reading.{reading_of};
+
+mod closing;
+pub mod parts;
+mod stack;
+
+use crate::build::{block_of, calling, emission, expression, storing, waiting};
+use crate::case::ReadError;
+use crate::reader::parts::{Brace, Frame, Naming, Tail, Wants};
+use crate::token::Token;
+use naga_arena::sequence::Sequence;
+use naga_ir::statements::{Block, Located, Statement};
+use std::alloc::Global;
+
+/// How many braces may be open at once.
+pub const MOST_OPEN: usize = 256;
+
+/// What has been read so far. After an `Err` it isn't used again, and may hold anything.
+#[derive(Drop)]
+pub struct Reader {
+    pub alloc: Global,
+    /// The open parts, the newest last.
+    pub opened: Vec<Frame>,
+    /// The statements of the newest open part.
+    pub list: Sequence<Located>,
+    pub wants: Wants,
+}
+
+impl Reader {
+    ghost use Rattle.naga_notation.specs.Feeding.{Steps};
+    ghost use Rattle.naga_notation.specs.Reading.{State, begun, step, go_on, settle, begin, begin_at, take_name, open_brace, finish};
+    ghost use Rattle.naga_notation.specs.Views.{Moves, state_of};
+
+    /// A reader that has read nothing.
+    #[tactic(auto, using(crate::proofs::Reading::Stack::stacks))]
+    pub fn new(alloc: Global) -> Self
+        ensures { state_of result ≡ begun }
+    {
+        Reader {
+            alloc,
+            opened: Vec::new(alloc),
+            list: Sequence::new(alloc),
+            wants: Wants::Statement(Tail::Nothing),
+        }
+    }
+
+    /// Takes the next token.
+    #[tactic(auto, using(crate::proofs::Reading::Stack::stacks), unfolding(crate::specs::Reading::next))]
+    pub fn step(&mut self, token: Token) -> Result<(), ReadError>
+        ensures { Steps (step (state_of self.old) token) result (state_of self.new) }
+    {
+        match self.wants {
+            Wants::Statement(tail) => self.go_on(tail, token),
+            Wants::Name(naming) => match token {
+                Token::Name(name) => self.take_name(naming, name),
+                _ => Err(ReadError::Unreadable),
+            },
+            Wants::Callee => match token {
+                Token::Callee => self.want(Wants::Statement(Tail::Call)),
+                _ => Err(ReadError::Unreadable),
+            },
+            Wants::Open(brace) => match token {
+                Token::Open => self.open(brace),
+                _ => Err(ReadError::Unreadable),
+            },
+            Wants::CaseValue => match token {
+                Token::Value(value) => self.want(Wants::CaseRest(value)),
+                Token::Close => self.close_switch(),
+                _ => Err(ReadError::Unreadable),
+            },
+            Wants::CaseRest(value) => match token {
+                Token::Fall => self.want(Wants::Open(Brace::Case {
+                    value,
+                    fall_through: true,
+                })),
+                Token::Open => self.open(Brace::Case {
+                    value,
+                    fall_through: false,
+                }),
+                _ => Err(ReadError::Unreadable),
+            },
+        }
+    }
+
+    /// A tail of the newest statement, or a token where a statement may begin.
+    #[tactic(auto, using(crate::proofs::Reading::Stack::stacks), unfolding(crate::specs::Reading::go_on))]
+    fn go_on(&mut self, tail: Tail, token: Token) -> Result<(), ReadError>
+        ensures { Moves (λ opened list. go_on opened list tail token) self.old result self.new }
+    {
+        match tail {
+            Tail::Nothing => self.begin_behind(tail, token),
+            Tail::Emit(first) => match token {
+                Token::To => self.want(Wants::Name(Naming::Last(first))),
+                _ => self.begin_behind(tail, token),
+            },
+            Tail::Return => match token {
+                Token::Name(name) => self.put(Statement::Return {
+                    value: Some(expression(name)),
+                }),
+                _ => self.begin_behind(tail, token),
+            },
+            Tail::Loop => match token {
+                Token::BreakIf => self.want(Wants::Name(Naming::BreakIf)),
+                _ => self.begin_behind(tail, token),
+            },
+            Tail::Call => match token {
+                Token::Arrow => self.want(Wants::Name(Naming::Result)),
+                _ => self.begin_behind(tail, token),
+            },
+        }
+    }
+
+    /// A token where a statement may begin, the newest one having no tail.
+    fn begin_behind(&mut self, tail: Tail, token: Token) -> Result<(), ReadError>
+        ensures { Moves (λ opened list. option_and_then (begin_at token) (settle opened list tail)) self.old result self.new }
+    {
+        self.settle(tail)?;
+        self.begin(token)
+    }
+
+    /// Ends the newest statement with no tail.
+    #[tactic(auto, using(crate::proofs::Reading::Stack::stacks), unfolding(crate::specs::Reading::settle))]
+    fn settle(&mut self, tail: Tail) -> Result<(), ReadError>
+        ensures { Moves (λ opened list. settle opened list tail) self.old result self.new }
+    {
+        match tail {
+            Tail::Nothing => self.want(Wants::Statement(Tail::Nothing)),
+            Tail::Emit(first) => self.put(emission(first, first)),
+            Tail::Return => self.put(Statement::Return { value: None }),
+            Tail::Loop => self.end_loop(None),
+            Tail::Call => {
+                let statement = calling(self.alloc, None);
+                self.put(statement)
+            }
+        }
+    }
+
+    /// A token where a statement may begin.
+    #[tactic(auto, using(crate::proofs::Reading::Stack::stacks), unfolding(crate::specs::Reading::begin))]
+    fn begin(&mut self, token: Token) -> Result<(), ReadError>
+        ensures { Moves (λ opened list. begin opened list token) self.old result self.new }
+    {
+        match token {
+            Token::Emit => self.want(Wants::Name(Naming::First)),
+            Token::Block => self.want(Wants::Open(Brace::Block)),
+            Token::If => self.want(Wants::Name(Naming::Condition)),
+            Token::Switch => self.want(Wants::Name(Naming::Selector)),
+            Token::Loop => self.want(Wants::Open(Brace::Turn)),
+            Token::Break => self.put(Statement::Break),
+            Token::Continue => self.put(Statement::Continue),
+            Token::Return => self.want(Wants::Statement(Tail::Return)),
+            Token::Kill => self.put(Statement::Kill),
+            Token::Store => self.want(Wants::Name(Naming::Pointer)),
+            Token::Barrier => self.put(waiting()),
+            Token::Call => self.want(Wants::Callee),
+            Token::Close => self.close(),
+            _ => Err(ReadError::Unreadable),
+        }
+    }
+
+    /// A name.
+    #[tactic(auto, using(crate::proofs::Reading::Stack::stacks), unfolding(crate::specs::Reading::take_name))]
+    fn take_name(&mut self, naming: Naming, name: u8) -> Result<(), ReadError>
+        ensures { Moves (λ opened list. take_name opened list naming name) self.old result self.new }
+    {
+        match naming {
+            Naming::First => self.want(Wants::Statement(Tail::Emit(name))),
+            Naming::Last(first) => {
+                if name < first {
+                    return Err(ReadError::Unreadable);
+                }
+                self.put(emission(first, name))
+            }
+            Naming::Condition => self.want(Wants::Open(Brace::Accept(name))),
+            Naming::Selector => self.want(Wants::Open(Brace::Cases(name))),
+            Naming::BreakIf => self.end_loop(Some(name)),
+            Naming::Pointer => self.want(Wants::Name(Naming::Stored(name))),
+            Naming::Stored(pointer) => self.put(storing(pointer, name)),
+            Naming::Result => {
+                let statement = calling(self.alloc, Some(name));
+                self.put(statement)
+            }
+        }
+    }
+
+    /// An open brace.
+    #[tactic(auto, using(crate::proofs::Reading::Stack::stacks), unfolding(crate::specs::Reading::open_brace))]
+    fn open(&mut self, brace: Brace) -> Result<(), ReadError>
+        ensures { Moves (λ opened list. open_brace opened list brace) self.old result self.new }
+    {
+        let statement = Wants::Statement(Tail::Nothing);
+        match brace {
+            Brace::Reject | Brace::Continuing => self.want(statement),
+            Brace::Block => {
+                let outer = self.take_list();
+                self.enter(Frame::Block { outer }, statement)
+            }
+            Brace::Accept(condition) => {
+                let outer = self.take_list();
+                self.enter(Frame::Accept { condition, outer }, statement)
+            }
+            Brace::Cases(selector) => {
+                let outer = self.take_list();
+                let cases = Sequence::new(self.alloc);
+                let frame = Frame::Cases {
+                    selector,
+                    cases,
+                    outer,
+                };
+                self.enter(frame, Wants::CaseValue)
+            }
+            Brace::Case {
+                value,
+                fall_through,
+            } => {
+                let frame = Frame::Case {
+                    value,
+                    fall_through,
+                };
+                self.enter(frame, statement)
+            }
+            Brace::Turn => {
+                let outer = self.take_list();
+                self.enter(Frame::Turn { outer }, statement)
+            }
+        }
+    }
+
+    /// The body, where it is whole.
+    #[tactic(auto, using(crate::proofs::Reading::Stack::stacks), unfolding(crate::specs::Reading::end_at))]
+    pub fn finish(mut self) -> Result<Block, ReadError>
+        ensures { Ends (finish (state_of self)) result }
+    {
+        let Wants::Statement(tail) = self.wants else {
+            return Err(ReadError::Unreadable);
+        };
+        self.settle(tail)?;
+        if !self.opened.is_empty() {
+            return Err(ReadError::Unreadable);
+        }
+        let Reader {
+            alloc: _,
+            opened: _,
+            list,
+            wants: _,
+        } = self;
+        Ok(block_of(list))
+    }
+}
+
+/// The body that the tokens say.
+fn body_of_tokens(alloc: Global, tokens: &[Token]) -> Result<Block, ReadError>
+    ensures { Ends (reading_of tokens.now) result }
+{
+    let mut reader = Reader::new(alloc);
+    for token in tokens {
+        reader.step(*token)?;
+    }
+    reader.finish()
+}
+
+/// The body that the tokens spell.
+#[tactic(auto, using(crate::proofs::Reading::Made::readings))]
+pub fn read_body(alloc: Global, tokens: &[Token]) -> Result<Block, ReadError>
+    ensures found { IfOk result (λ b. Spells (body_of no_operands b) tokens.now × (depth (body_of no_operands b) ≤ 256)) }
+    ensures made { IfOk result (λ b. b ≡ block_of (body_of no_operands b)) }
+    ensures none { IsErrOf result ReadError.Unreadable → (b : Body) → Spells b tokens.now → depth b ≤ 256 → ⊥ }
+{
+    body_of_tokens(alloc, tokens)
+}

@@ -1,0 +1,76 @@
+//! The stack of open parts, and the list of the newest one.
+
+use crate::build::push;
+use crate::case::ReadError;
+use crate::reader::parts::{Frame, Tail, Wants};
+use crate::reader::{MOST_OPEN, Reader};
+use naga_arena::sequence::Sequence;
+use naga_ir::statements::{Located, Statement};
+use std::mem;
+
+impl Reader {
+    ghost use Rattle.std.specs.Prelude.{◌≡◌, ◌++◌, ◌∷◌, []};
+    ghost use Rattle.naga_notation.specs.Blocks.{placed};
+    ghost use Rattle.naga_notation.specs.Feeding.{Steps};
+    ghost use Rattle.naga_notation.specs.Reading.{State, enter, ready, wanting};
+    ghost use Rattle.naga_notation.specs.Views.{Moves, state_of};
+
+    /// Says what is wanted next.
+    pub fn want(&mut self, wants: Wants) -> Result<(), ReadError>
+        ensures { Moves (λ opened list. wanting opened list wants) self.old result self.new }
+    {
+        self.wants = wants;
+        Ok(())
+    }
+
+    /// Takes the list at hand, and leaves an empty one.
+    pub fn take_list(&mut self) -> Sequence<Located>
+        ensures list { result ≡ (state_of self.old).list }
+        ensures rest { state_of self.new ≡ record (state_of self.old) { list = [] } }
+    {
+        mem::replace(&mut self.list, Sequence::new(self.alloc))
+    }
+
+    /// Opens one part more, with an empty list.
+    #[tactic(auto, using(crate::proofs::Reading::Stack::stacks))]
+    pub fn enter(&mut self, frame: Frame, wants: Wants) -> Result<(), ReadError>
+        ensures { Moves (λ opened _. enter opened frame wants) self.old result self.new }
+    {
+        if self.opened.len() >= MOST_OPEN {
+            return Err(ReadError::Unreadable);
+        }
+        self.list = Sequence::new(self.alloc);
+        self.opened.push(frame)?;
+        self.want(wants)
+    }
+
+    /// Puts a whole statement behind the others.
+    pub fn put(&mut self, statement: Statement) -> Result<(), ReadError>
+        ensures { Moves (λ opened list. ready opened (list ++ placed statement ∷ [])) self.old result self.new }
+    {
+        push(&mut self.list, statement)?;
+        self.want(Wants::Statement(Tail::Nothing))
+    }
+
+    /// Puts a whole statement behind those that stood before it.
+    pub fn put_behind(
+        &mut self,
+        outer: Sequence<Located>,
+        statement: Statement,
+    ) -> Result<(), ReadError>
+        ensures { Moves (λ opened _. ready opened (outer ++ placed statement ∷ [])) self.old result self.new }
+    {
+        self.list = outer;
+        self.put(statement)
+    }
+
+    /// Opens a frame in place of one that was closed, with an empty list.
+    #[tactic(auto, using(crate::proofs::Reading::Stack::stacks))]
+    pub fn go_over(&mut self, frame: Frame, wants: Wants) -> Result<(), ReadError>
+        ensures { Moves (λ opened _. wanting (frame ∷ opened) [] wants) self.old result self.new }
+    {
+        self.list = Sequence::new(self.alloc);
+        self.opened.push(frame)?;
+        self.want(wants)
+    }
+}

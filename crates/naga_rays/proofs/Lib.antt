@@ -1,0 +1,2 @@
+pub mod RayQueries
+pub mod RayTraces

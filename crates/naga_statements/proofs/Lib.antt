@@ -1,0 +1,3 @@
+pub mod Fillings
+pub mod Own
+pub mod Parts

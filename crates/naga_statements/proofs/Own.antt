@@ -1,0 +1,27 @@
+-- A statement that is neither a jump nor asks a condition has the check list of a leaf, which is empty where it holds
+-- others.
+use Rattle.std.proofs.Common.{◌≡◌, ℕ, Option, List, refl, sym}
+use Rattle.naga_ir.specs.View as view
+use Rattle.naga_ir.specs.declared.statements.Block.{Block}
+use Rattle.naga_ir.specs.declared.statements.Statement as ir
+use Rattle.naga_ir.specs.declared.statements.Statement.{Statement, Switch'}
+use Rattle.naga_ir.specs.declared.statements.Statement.TheBlock.{shown-the_row-SwitchCase-0, backs-Statement}
+use Rattle.naga_ir.specs.declared.statements.SwitchCase.{SwitchCase}
+use Rattle.naga_arena.specs.declared.span.Span.{Span}
+use Rattle.naga_runs.specs.Visits.{Place}
+use Rattle.naga_context.specs.Blocks.{emitted_operands}
+use Rattle.naga_context.specs.Context.{Context}
+use Rattle.naga_statements.specs.Past.{Past}
+use Rattle.naga_statements.specs.Rules.{leaf_points, statement_points}
+
+module _ (context : Context) (past : Past) (place : Place) (span : Span) where
+  pub points_of_leaf : (st : Statement) →
+      ((h : ℕ) (p q : Block) → st ≡ ir.If h p q → ⊥) → ((h : ℕ) (cases : List SwitchCase) → st ≡ ir.Switch h cases → ⊥) → (st ≡ ir.Break → ⊥) → (st ≡ ir.Continue → ⊥) → ((v : Option ℕ) → st ≡ ir.Return v → ⊥) →
+      leaf_points context past place st ≡ statement_points context past place (view.tree_of (emitted_operands context.fun) st span)
+  points_of_leaf (ir.If h p q) ni ns nb nc nr = absurd (ni h p q refl)
+  points_of_leaf (Switch' h shape row) ni ns nb nc nr =
+      absurd (ns h (shown-the_row-SwitchCase-0 shape row) (sym (backs-Statement (Switch' h shape row))))
+  points_of_leaf ir.Break ni ns nb nc nr = absurd (nb refl)
+  points_of_leaf ir.Continue ni ns nb nc nr = absurd (nc refl)
+  points_of_leaf (ir.Return v) ni ns nb nc nr = absurd (nr v refl)
+  points_of_leaf _ ni ns nb nc nr = refl

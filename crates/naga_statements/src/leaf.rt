@@ -1,0 +1,172 @@
+//! The check lists of the statements that are neither jumps nor hold others.
+
+ghost use Rattle.std.specs.Prelude.{◌≡◌, OnOk};
+ghost use Rattle.naga_errors.specs.Answers.{AnswersPoints};
+ghost use Rattle.naga_context.specs.Blocks.{tree_of};
+ghost use Rattle.naga_context.specs.Context.{ContextFits};
+ghost use Rattle.naga_statements.specs.Ready.{IsStatementReady};
+ghost use Rattle.naga_statements.specs.Rules.{leaf_points};
+ghost use Rattle.naga_context.specs.walk.Place.{place_at};
+ghost use Rattle.naga_context.specs.walk.Seen.{context_of};
+ghost use Rattle.naga_statements.specs.walk.State.{kept, seen};
+ghost use Rattle.naga_statements.specs.walk.Walk.{puts};
+ghost use Rattle.naga_context.specs.walk.Table.{HasPut, IsTableOf, known};
+
+use crate::state::BodyOutcome;
+use naga_checks::checks::barrier::check_barrier;
+use naga_checks::checks::call::{CallSite, validate_call};
+use naga_checks::checks::control;
+use naga_checks::checks::subgroup::validate_ballot;
+use naga_checks::checks::subgroup_collective::{Collective, validate_collective};
+use naga_checks::checks::subgroup_gather::validate_gather;
+use naga_context::context::BlockContext;
+use naga_context::refused::Refused;
+use naga_context::table::Table;
+use naga_images::image::Texel;
+use naga_images::image_atomic::{TexelOperation, check_image_atomic};
+use naga_images::image_store::check_image_store;
+use naga_ir::operations::RayPipelineFunction;
+use naga_ir::statements::{Located, Statement};
+use naga_memory::atomic::{AtomicOperation, validate_atomic};
+use naga_memory::cooperative::check_cooperative_store;
+use naga_memory::load::validate_load;
+use naga_memory::store::check_store;
+use naga_rays::ray_query::validate_ray_query;
+use naga_rays::ray_trace::{Ray, check_trace_ray};
+
+/// The check list of a statement that is neither a jump nor holds others; of the others it is empty. What the statement
+/// puts is in scope afterwards.
+pub fn validate_leaf(
+    table: &mut Table,
+    state: &BodyOutcome,
+    context: &BlockContext,
+    located: &Located,
+) -> Result<(), Refused>
+    requires context { ContextFits (context_of context.now) }
+    requires statement { IsStatementReady (context_of context.now) (tree_of (context_of context.now) located.now) }
+    requires table { IsTableOf (context_of context.now) table.old }
+    ensures fault { AnswersPoints
+        (leaf_points (context_of context.now) (seen (kept table.old.filled state.now)) (place_at (known table.old.scope))
+        located.now.statement)
+        result }
+    ensures scope { OnOk result (HasPut table.old.scope table.new.scope (puts (tree_of (context_of context.now) located.now))) }
+    ensures filled { table.new.filled ≡ table.old.filled }
+{
+    let span = located.span;
+    let scope = &mut table.scope;
+    let filled = &table.filled;
+    match &located.statement {
+        Statement::Emit(range) => control::validate_emit(scope, context, *range, span),
+        Statement::Store { pointer, value } => check_store(scope, context, *pointer, *value, span),
+        Statement::ImageStore {
+            image,
+            coordinate,
+            array_index,
+            value,
+        } => {
+            let texel = Texel {
+                coordinate: *coordinate,
+                array_index: *array_index,
+            };
+            check_image_store(scope, context, *image, texel, *value, span)
+        }
+        Statement::Atomic {
+            pointer,
+            fun,
+            value,
+            result,
+        } => {
+            let operation = AtomicOperation {
+                pointer: *pointer,
+                fun: *fun,
+                value: *value,
+                named: *result,
+            };
+            validate_atomic(scope, filled, context, &operation, span)
+        }
+        Statement::ImageAtomic {
+            image,
+            coordinate,
+            array_index,
+            fun,
+            value,
+        } => {
+            let texel = Texel {
+                coordinate: *coordinate,
+                array_index: *array_index,
+            };
+            let operation = TexelOperation {
+                texel,
+                fun: *fun,
+                value: *value,
+            };
+            check_image_atomic(scope, context, *image, operation, span)
+        }
+        Statement::WorkGroupUniformLoad { pointer, result } => {
+            validate_load(scope, context, *pointer, *result, span)
+        }
+        Statement::Call {
+            function,
+            arguments,
+            result,
+        } => {
+            let site = CallSite {
+                function: *function,
+                named: *result,
+                span,
+            };
+            validate_call(scope, filled, context, &site, arguments.as_slice())
+        }
+        Statement::CooperativeStore { target, source } => {
+            check_cooperative_store(scope, context, *target, source.pointer, span)
+        }
+        Statement::ControlBarrier(barrier) | Statement::MemoryBarrier(barrier) => {
+            check_barrier(scope.allocator(), &context.settings, *barrier, span)
+        }
+        Statement::RayQuery { query, fun } => validate_ray_query(scope, context, *query, fun, span),
+        Statement::RayPipelineFunction(
+            RayPipelineFunction::TraceRay {
+                acceleration_structure: structure,
+                descriptor,
+                payload,
+            },
+        ) => {
+            let ray = Ray {
+                structure: *structure,
+                descriptor: *descriptor,
+                payload: *payload,
+            };
+            check_trace_ray(scope, context, &state.trace.payload, ray, span)
+        }
+        Statement::SubgroupBallot { result, predicate } => {
+            validate_ballot(scope, context, *result, predicate, span)
+        }
+        Statement::SubgroupGather {
+            mode,
+            argument,
+            result,
+        } => validate_gather(scope, context, mode, *argument, *result, span),
+        Statement::SubgroupCollectiveOperation {
+            op,
+            collective_op,
+            argument,
+            result,
+        } => {
+            let collective = Collective {
+                operation: *op,
+                part: *collective_op,
+                argument: *argument,
+                combined: *result,
+            };
+            validate_collective(scope, context, &collective, span)
+        }
+        Statement::Block(_)
+        | Statement::If { .. }
+        | Statement::Switch { .. }
+        | Statement::Loop { .. }
+        | Statement::Break
+        | Statement::Continue
+        | Statement::Return { .. }
+        | Statement::Kill => Ok(()),
+    }
+}

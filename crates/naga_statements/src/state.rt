@@ -1,0 +1,63 @@
+//! What goes along the statements of a body, beside the table.
+
+ghost use Rattle.std.specs.Prelude.{◌≡◌, ◌<◌, ℕ, List, IfSome};
+ghost use Rattle.naga_runs.specs.Positions.{StatementNode};
+ghost use Rattle.naga_ir.specs.View.{tree_of};
+ghost use Rattle.naga_context.specs.Blocks as in_context;
+ghost use Rattle.naga_context.specs.Results.{result_of};
+ghost use Rattle.naga_context.specs.walk.Seen.{context_of};
+ghost use Rattle.naga_statements.specs.walk.State.{kept, with_statement};
+ghost use Rattle.naga_context.specs.walk.Table.{marked};
+
+use crate::stages::stages_of;
+use bitflags::Flags;
+use naga_arena::handle::Handle;
+use naga_arena::tag;
+use naga_context::context::BlockContext;
+use naga_context::table::FilledColumn;
+use naga_context::trace::TraceState;
+use naga_flags::valid::ShaderStages;
+use naga_ir::statements::{Located, Statement};
+use naga_rays::ray_trace::advance_trace;
+
+/// What the statements so far leave, and behind the last one what an accepted body leaves.
+#[derive(Clone, Copy)]
+pub struct BodyOutcome {
+    /// The stages that all of them may run in.
+    pub stages: ShaderStages,
+    /// What ray traces leave, those of earlier functions too.
+    pub trace: TraceState,
+}
+
+/// The result that a Call or an Atomic names.
+fn result_of(located: &Located) -> Option<Handle<tag::Expression>>
+    ensures { (operands : ℕ → List ℕ) →
+        result ≡ result_of (StatementNode (tree_of operands located.now.statement located.now.span)) }
+{
+    match &located.statement {
+        Statement::Call { result, .. } | Statement::Atomic { result, .. } => *result,
+        _ => None,
+    }
+}
+
+/// What a statement leaves where none of its checks fails.
+pub fn advance(
+    filled: &mut FilledColumn,
+    state: &mut BodyOutcome,
+    context: &BlockContext,
+    located: &Located,
+)
+    requires { IfSome
+        (result_of (StatementNode (in_context.tree_of (context_of context.now) located.now)))
+        (λ r. r < marked filled.old) }
+    ensures state { kept filled.new state.new
+        ≡ with_statement (context_of context.now) (kept filled.old state.old)
+        (in_context.tree_of (context_of context.now) located.now) }
+    ensures count { marked filled.new ≡ marked filled.old }
+{
+    if let Some(handle) = result_of(located) {
+        filled.fill(handle);
+    }
+    state.stages = state.stages.intersection(stages_of(context, located));
+    advance_trace(&mut state.trace, context, located);
+}

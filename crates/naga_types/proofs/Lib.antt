@@ -1,0 +1,2 @@
+pub mod TypeTests
+pub mod Unique

@@ -1,0 +1,16 @@
+//! The checks of what a stage takes in and puts out, its arguments, its result and the outputs of a mesh: naga 30.0.1's
+//! `VaryingContext`.
+#![tactic(auto)]
+
+mod built_in;
+mod context;
+pub mod item;
+pub mod laws;
+mod location;
+pub mod rule;
+pub mod varying;
+
+pub use crate::item::check_varying_item;
+pub use crate::laws::varyings_law;
+pub use crate::rule::{BuiltInRule, BuiltInType, builtin_rule};
+pub use crate::varying::{MeshOutputType, VaryingPlace, VaryingState};
