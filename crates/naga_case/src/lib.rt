@@ -6,3 +6,5 @@ pub mod faults;
 pub mod judge;
 pub mod line;
 pub mod run;
+
+pub use naga_module::check_module;

@@ -1,5 +1,5 @@
 -- The check list of Call: its turns, and that it guards what a Call uses and puts.
-use Rattle.std.proofs.Common.{◌≡◌, ℕ, suc, ◌==◌, Bool, true, false, not, ◌&&◌, List, [], ◌∷◌, ◌++◌, Option, None, Some, Result, length, slice_get, refl, sym, ap, ◌∙◌, subst, arith}
+use Rattle.std.proofs.Common.{◌≡◌, ℕ, suc, ◌==◌, Bool, true, false, not, ◌&&◌, List, [], ◌∷◌, ◌++◌, Option, None, Some, Result, Ok, Err, length, slice_get, refl, sym, ap, ◌∙◌, subst, arith}
 use Rattle.std.proofs.lemmas.Bool.Decides.{nat_tests}
 use Rattle.std.specs.Option.{option_map}
 use Rattle.std.specs.Prelude.{IfSome, IsErr, is_some, map}
@@ -23,6 +23,7 @@ use Rattle.naga_context.specs.Context.{Context}
 use Rattle.naga_runs.specs.PutsAndUses.{puts_of}
 use Rattle.naga_context.specs.Points.{Points, may_use, is_in_scope}
 use Rattle.naga_errors.specs.Answers.{AnswersPoints}
+use Rattle.naga_context.specs.walk.Answers.{RefusesFaultsAlone}
 use Rattle.naga_context.specs.Results.{is_fresh}
 use Rattle.naga_context.specs.Types.{expression_at}
 use Rattle.naga_checks.proofs.Lists.{within-append}
@@ -111,6 +112,18 @@ module _ (context : Context) (filled : Handles) (place : Place) (f : ℕ) (gs : 
 
   pub call_next : {T : Type 0} (r : Result T (Refusal FunctionError)) → first_fault arguments ≡ None → AnswersPoints results r → AnswersPoints (call_points context filled place f gs named) r
   call_next r none a = subst (λ ps. AnswersPoints ps r) (sym split) (refuses_second r arguments results none a)
+
+  both_alone : first_fault (call_points context filled place f gs named) ≡ None → (first_fault arguments ≡ None) × (first_fault results ≡ None)
+  both_alone none = both_hold arguments results (ap first_fault (sym split) ∙ none)
+
+  -- a refusal of the arguments, or of the result, is one of the call
+  pub call_stops_alone : {T E : Type 0} (r : Result T E) → RefusesFaultsAlone arguments r → RefusesFaultsAlone (call_points context filled place f gs named) r
+  call_stops_alone (Ok t) h = tt
+  call_stops_alone (Err e) h = λ none. h (both_alone none).0
+
+  pub call_next_alone : {T E : Type 0} (r : Result T E) → RefusesFaultsAlone results r → RefusesFaultsAlone (call_points context filled place f gs named) r
+  call_next_alone (Ok t) h = tt
+  call_next_alone (Err e) h = λ none. h (both_alone none).1
 
 -- the uses of a Call put nothing
 pub call_puts : (xs : List ℕ) (acts : List Act) → puts_of (map Use xs ++ acts) ≡ puts_of acts

@@ -3,7 +3,7 @@
 ghost use Rattle.std.specs.Prelude.{[], ◌∷◌};
 ghost use Rattle.naga_below.specs.declared.valid.expression_error.ExpressionError.TheVariants.{NotInScope};
 ghost use Rattle.naga_errors.specs.declared.function.FunctionError.TheVariants.{Expression, ExpressionAlreadyInScope};
-ghost use Rattle.naga_context.specs.walk.Answers.{Finds, IsRefusalFor};
+ghost use Rattle.naga_context.specs.walk.Answers.{Finds, IsRefusalFor, RefusesFaultsAlone};
 ghost use Rattle.naga_errors.specs.Answers.{AnswersPoints};
 ghost use Rattle.naga_context.specs.Points.{Points, use_point, put_point};
 ghost use Rattle.naga_context.specs.walk.Place.{place_at};
@@ -68,7 +68,8 @@ pub fn already_in_scope(alloc: Global, handle: Handle<tag::Expression>, span: Sp
 /// The answer of a check of the statement at a place.
 #[tactic(auto, using(crate::proofs::Refusals::refuses_fault))]
 pub fn answer(alloc: Global, checked: Result<(), FunctionError>, span: Span) -> Result<(), Refused>
-    ensures { (points : Points) → Finds points checked → AnswersPoints points result }
+    ensures fault { (points : Points) → Finds points checked → AnswersPoints points result }
+    ensures refused { (points : Points) → Finds points checked → RefusesFaultsAlone points result }
 {
     match checked {
         Ok(()) => Ok(()),
@@ -79,7 +80,8 @@ pub fn answer(alloc: Global, checked: Result<(), FunctionError>, span: Span) -> 
 /// The answer of a check of the function as a whole.
 #[tactic(auto, using(crate::proofs::Refusals::refuses_fault))]
 pub fn answer_of_function(alloc: Global, checked: Result<(), FunctionError>) -> Result<(), Refused>
-    ensures { (points : Points) → Finds points checked → AnswersPoints points result }
+    ensures fault { (points : Points) → Finds points checked → AnswersPoints points result }
+    ensures refused { (points : Points) → Finds points checked → RefusesFaultsAlone points result }
 {
     match checked {
         Ok(()) => Ok(()),

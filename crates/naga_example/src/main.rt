@@ -4,7 +4,7 @@
 
 ghost use Rattle.std.specs.Prelude.{ℕ, ◌≡◌, OnOk, Some, slice_get};
 ghost use Rattle.naga_ir.specs.declared.module.EntryPoint.{EntryPoint};
-ghost use Rattle.naga_valid.specs.{RunsAreSure, body_of, pre_emitted_of};
+ghost use Rattle.naga_module.specs.{RunsAreSure, body_of, pre_emitted_of};
 
 use bitflags::Flags;
 use naga_below::{

@@ -4,7 +4,7 @@ ghost use Rattle.std.specs.Prelude.{◌≡◌, true, IfSome, length};
 ghost use Rattle.std.specs.Option.{option_copied};
 ghost use Rattle.naga_types.specs.Types.{ResolutionFits};
 ghost use Rattle.naga_errors.specs.declared.function.FunctionError.TheVariants.{InvalidStorePointer, InvalidStoreTexture, InvalidStoreTypes};
-ghost use Rattle.naga_context.specs.walk.Answers.{IsRefusalFor};
+ghost use Rattle.naga_context.specs.walk.Answers.{IsRefusalFor, RefusesFaultsAlone};
 ghost use Rattle.naga_errors.specs.Answers.{AnswersPoints};
 ghost use Rattle.naga_context.specs.Context.{ContextFits};
 ghost use Rattle.naga_context.specs.walk.Place.{place_at};
@@ -39,7 +39,8 @@ pub fn check_store(
     span: Span,
 ) -> Result<(), Refused>
     requires { ContextFits (context_of context.now) }
-    ensures { AnswersPoints (store_points (context_of context.now) (place_at (known scope.now)) pointer value) result }
+    ensures fault { AnswersPoints (store_points (context_of context.now) (place_at (known scope.now)) pointer value) result }
+    ensures refused { RefusesFaultsAlone (store_points (context_of context.now) (place_at (known scope.now)) pointer value) result }
 {
     let alloc = scope.allocator();
     let root = root_of(context, pointer);

@@ -1,6 +1,7 @@
 //! The check list of a statement, and of a break condition.
 
 ghost use Rattle.std.specs.Prelude.{◌≡◌, OnOk};
+ghost use Rattle.naga_context.specs.walk.Answers.{RefusesFaultsAlone};
 ghost use Rattle.naga_errors.specs.Answers.{AnswersPoints};
 ghost use Rattle.naga_context.specs.Blocks.{tree_of};
 ghost use Rattle.naga_context.specs.Context.{ContextFits};
@@ -70,7 +71,8 @@ pub fn check_break_if(
     break_if: Option<Handle<tag::Expression>>,
     span: Span,
 ) -> Result<(), Refused>
-    ensures { AnswersPoints (break_if_points (context_of context.now) (place_at (known scope.now)) break_if) result }
+    ensures fault { AnswersPoints (break_if_points (context_of context.now) (place_at (known scope.now)) break_if) result }
+    ensures refused { RefusesFaultsAlone (break_if_points (context_of context.now) (place_at (known scope.now)) break_if) result }
 {
     match break_if {
         Some(condition) => control::check_condition(scope, context, condition, span),

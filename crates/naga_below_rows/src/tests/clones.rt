@@ -40,7 +40,10 @@ fn switch_of_one(alloc: Global) -> Result<Block, AllocError> {
 /// A block of a loop over such a block.
 fn loop_over(alloc: Global) -> Result<Block, AllocError> {
     let body = switch_of_one(alloc)?;
-    let continuing = block_of(alloc, Statement::Emit(Range { start: 1, end: 3 }))?;
+    let continuing = block_of(
+        alloc,
+        Statement::Emit(Range::new(Handle::new(1), Handle::new(2))),
+    )?;
     let statement = Statement::Loop {
         body,
         continuing,

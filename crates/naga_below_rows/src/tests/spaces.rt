@@ -3,7 +3,6 @@
 use crate::tests::{arena_of, unnamed};
 use bitflags::Flags;
 use naga_arena::handle::Handle;
-use naga_arena::sequence::Sequence;
 use naga_arena::span::Span;
 use naga_arena::tag;
 use naga_below::valid::info::ModuleInfo;
@@ -21,15 +20,13 @@ use std::test::Fail;
 
 /// The infos of no function, and of a global expression where one is typed, by type 0.
 fn infos_of(alloc: Global, is_typed: bool) -> Result<ModuleInfo, AllocError> {
-    let mut global_types = Sequence::new(alloc);
+    let mut infos = ModuleInfo::new(alloc);
     if is_typed {
-        global_types.push(TypeResolution::Handle(Handle::new(0)))?;
+        infos
+            .global_types
+            .push(TypeResolution::Handle(Handle::new(0)))?;
     }
-    Ok(ModuleInfo {
-        functions: Sequence::new(alloc),
-        entry_points: Sequence::new(alloc),
-        global_types,
-    })
+    Ok(infos)
 }
 
 fn global_in(space: AddressSpace, ty: u32) -> GlobalVariable {

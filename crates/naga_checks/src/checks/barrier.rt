@@ -1,7 +1,7 @@
 //! The check list of ControlBarrier and of MemoryBarrier.
 
 ghost use Rattle.std.specs.Prelude.{◌≡◌};
-ghost use Rattle.naga_context.specs.walk.Answers.{Finds};
+ghost use Rattle.naga_context.specs.walk.Answers.{Finds, RefusesFaultsAlone};
 ghost use Rattle.naga_errors.specs.Answers.{AnswersPoints};
 ghost use Rattle.naga_checks.specs.checks.Barrier.{barrier_capabilities, barrier_points};
 
@@ -24,7 +24,8 @@ pub fn check_barrier(
     barrier: Barrier,
     span: Span,
 ) -> Result<(), Refused>
-    ensures { AnswersPoints (barrier_points settings.now barrier) result }
+    ensures fault { AnswersPoints (barrier_points settings.now barrier) result }
+    ensures refused { RefusesFaultsAlone (barrier_points settings.now barrier) result }
 {
     answer(alloc, check_barrier_points(settings, barrier), span)
 }

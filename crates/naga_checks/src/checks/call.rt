@@ -9,7 +9,7 @@ ghost use Rattle.naga_below.specs.declared.valid.expression_error.ExpressionErro
 ghost use Rattle.naga_errors.specs.declared.function.CallError.TheVariants.{Argument, ArgumentCount, ArgumentType, ExpressionMismatch, ResultAlreadyInScope, ResultAlreadyPopulated};
 ghost use Rattle.naga_errors.specs.declared.function.FunctionError.TheVariants.{InvalidCall};
 ghost use Rattle.naga_runs.specs.PutsAndUses.{puts_of};
-ghost use Rattle.naga_context.specs.walk.Answers.{IsRefusalFor};
+ghost use Rattle.naga_context.specs.walk.Answers.{IsRefusalFor, RefusesFaultsAlone};
 ghost use Rattle.naga_errors.specs.Answers.{AnswersPoints};
 ghost use Rattle.naga_checks.specs.checks.Call.{is_passed_as, passed_points, all_passed_points, is_call_result_of, call_result_points, call_points};
 ghost use Rattle.naga_context.specs.Context.{ContextFits};
@@ -54,6 +54,9 @@ pub fn validate_call(
     ensures fault { AnswersPoints
         (call_points (context_of context.now) (filled_in filled.now) (place_at (known scope.old)) site.now.function arguments.now site.now.named)
         result }
+    ensures refused { RefusesFaultsAlone
+        (call_points (context_of context.now) (filled_in filled.now) (place_at (known scope.old)) site.now.function arguments.now site.now.named)
+        result }
     ensures scope { OnOk result (HasPut scope.old scope.new (puts_of (put_if site.now.named))) }
 {
     check_call(scope, filled, context, site, arguments)?;
@@ -73,7 +76,10 @@ fn check_call(
 ) -> Result<(), Refused>
     requires context { ContextFits (context_of context.now) }
     requires callee { CalleeFits (context_of context.now).program site.now.function }
-    ensures { AnswersPoints
+    ensures fault { AnswersPoints
+        (call_points (context_of context.now) (filled_in filled.now) (place_at (known scope.now)) site.now.function arguments.now site.now.named)
+        result }
+    ensures refused { RefusesFaultsAlone
         (call_points (context_of context.now) (filled_in filled.now) (place_at (known scope.now)) site.now.function arguments.now site.now.named)
         result }
 {
@@ -93,7 +99,10 @@ fn check_arguments(
 ) -> Result<(), Refused>
     requires context { ContextFits (context_of context.now) }
     requires types { All (λ argument. argument.ty < length (context_of context.now).program.types) declared.now }
-    ensures { AnswersPoints
+    ensures fault { AnswersPoints
+        (within (InvalidCall site.now.function) (all_passed_points (context_of context.now) (place_at (known scope.now)) declared.now given.now))
+        result }
+    ensures refused { RefusesFaultsAlone
         (within (InvalidCall site.now.function) (all_passed_points (context_of context.now) (place_at (known scope.now)) declared.now given.now))
         result }
 {
@@ -124,7 +133,10 @@ fn check_argument(
 ) -> Result<(), Refused>
     requires context { ContextFits (context_of context.now) }
     requires declared { declared < length (context_of context.now).program.types }
-    ensures { AnswersPoints
+    ensures fault { AnswersPoints
+        (within (InvalidCall site.now.function) (passed_points (context_of context.now) (place_at (known scope.now)) index declared given))
+        result }
+    ensures refused { RefusesFaultsAlone
         (within (InvalidCall site.now.function) (passed_points (context_of context.now) (place_at (known scope.now)) index declared given))
         result }
 {
@@ -166,7 +178,10 @@ fn check_call_result(
     site: &CallSite,
     returns: bool,
 ) -> Result<(), Refused>
-    ensures { AnswersPoints
+    ensures fault { AnswersPoints
+        (within (InvalidCall site.now.function) (call_result_points (context_of context.now) (filled_in filled.now) (place_at (known scope.now)) site.now.function returns site.now.named))
+        result }
+    ensures refused { RefusesFaultsAlone
         (within (InvalidCall site.now.function) (call_result_points (context_of context.now) (filled_in filled.now) (place_at (known scope.now)) site.now.function returns site.now.named))
         result }
 {

@@ -7,7 +7,7 @@ ghost use Rattle.naga_context.specs.Results.{is_result};
 ghost use Rattle.naga_context.specs.walk.Place.{no_sets, place_at};
 ghost use Rattle.naga_checks.specs.walk.Emitted.{handles_between, place};
 ghost use Rattle.naga_errors.specs.declared.function.FunctionError.TheVariants.{EmitResult, InvalidIfType, InvalidReturnSpot, InvalidReturnType};
-ghost use Rattle.naga_context.specs.walk.Answers.{IsRefusalFor};
+ghost use Rattle.naga_context.specs.walk.Answers.{IsRefusalFor, RefusesFaultsAlone};
 ghost use Rattle.naga_errors.specs.Answers.{AnswersPoints};
 ghost use Rattle.naga_context.specs.Context.{ContextFits};
 ghost use Rattle.naga_context.specs.walk.Seen.{context_of};
@@ -129,7 +129,8 @@ pub fn check_condition(
     condition: Handle<tag::Expression>,
     span: Span,
 ) -> Result<(), Refused>
-    ensures { AnswersPoints (condition_points (context_of context.now) (place_at (known scope.now)) condition) result }
+    ensures fault { AnswersPoints (condition_points (context_of context.now) (place_at (known scope.now)) condition) result }
+    ensures refused { RefusesFaultsAlone (condition_points (context_of context.now) (place_at (known scope.now)) condition) result }
 {
     if !scope.may_use(condition) {
         return Err(not_in_scope(scope.allocator(), condition, span));
@@ -161,7 +162,8 @@ pub fn check_return(
     span: Span,
 ) -> Result<(), Refused>
     requires { ContextFits (context_of context.now) }
-    ensures { AnswersPoints (return_points (context_of context.now) (place abilities (known scope.now)) value) result }
+    ensures fault { AnswersPoints (return_points (context_of context.now) (place abilities (known scope.now)) value) result }
+    ensures refused { RefusesFaultsAlone (return_points (context_of context.now) (place abilities (known scope.now)) value) result }
 {
     let alloc = scope.allocator();
     if !abilities.can_return {
@@ -221,7 +223,8 @@ fn is_returned_as(
 
 /// Break: allowed here.
 pub fn check_break(alloc: Global, abilities: Abilities, span: Span) -> Result<(), Refused>
-    ensures { AnswersPoints (break_points (place abilities no_sets)) result }
+    ensures fault { AnswersPoints (break_points (place abilities no_sets)) result }
+    ensures refused { RefusesFaultsAlone (break_points (place abilities no_sets)) result }
 {
     if !abilities.can_break {
         let fault = FunctionError::BreakOutsideOfLoopOrSwitch;
@@ -232,7 +235,8 @@ pub fn check_break(alloc: Global, abilities: Abilities, span: Span) -> Result<()
 
 /// Continue: allowed here.
 pub fn check_continue(alloc: Global, abilities: Abilities, span: Span) -> Result<(), Refused>
-    ensures { AnswersPoints (continue_points (place abilities no_sets)) result }
+    ensures fault { AnswersPoints (continue_points (place abilities no_sets)) result }
+    ensures refused { RefusesFaultsAlone (continue_points (place abilities no_sets)) result }
 {
     if !abilities.can_continue {
         let fault = FunctionError::ContinueOutsideOfLoop;

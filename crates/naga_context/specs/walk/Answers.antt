@@ -1,6 +1,6 @@
 -- What an answer of the code says of check points and of a judgement: work of lemmas, cited by functions that the validator
 -- alone calls.
-use Rattle.std.specs.Prelude.{◌≡◌, List, Result, Ok, Err, ⊤}
+use Rattle.std.specs.Prelude.{◌≡◌, ◌≢◌, List, None, OnErr, Result, Ok, Err, ⊤}
 use Rattle.std.specs.Result.{result_err}
 use Rattle.naga_arena.specs.declared.span.Refusal.{Refusal}
 use Rattle.naga_arena.specs.declared.span.Refusal.TheVariants as refusal
@@ -29,3 +29,7 @@ Finds points r = result_err r ≡ first_fault points
 abbrev pub IsRefusalFor : FunctionError → Refusal FunctionError → Type 0
 IsRefusalFor fault (refusal.Fault given) = given ≡ fault
 IsRefusalFor fault refusal.Memory = ⊤
+
+-- what is refused is at fault: no answer is wanting memory where all of these points hold
+abbrev pub RefusesFaultsAlone : {T E Fault : Type 0} → List (Point Fault) → Result T E → Type 0
+RefusesFaultsAlone points r = OnErr r (first_fault points ≢ None)

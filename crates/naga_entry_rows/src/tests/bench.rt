@@ -1,6 +1,6 @@
 //! One module for all rows of entry points, and what is answered of an entry point of it over the plain layer.
 
-use crate::tests::parts::{GOOD, HERE, NOWHERE, add, function_of, module_of, no_infos};
+use crate::tests::parts::{GOOD, HERE, NOWHERE};
 use crate::tests::shape::{Part, built_in, position, smooth, unbound};
 use bitflags::Flags;
 use naga_arena::arena::Arena;
@@ -13,7 +13,7 @@ use naga_flags::ir::MemoryDecorations;
 use naga_flags::valid::{ShaderStages, TypeFlags};
 use naga_ir::functions::Function;
 use naga_ir::module::{GlobalVariable, Module, ResourceBinding, SpecialTypes};
-use naga_ir::statements::Statement;
+use naga_ir::statements::{Block, Statement};
 use naga_types::built_in::BuiltIn;
 use naga_types::types::{
     AddressSpace, ArraySize, Scalar, StructMember, Type, TypeInner, VectorSize,
@@ -219,11 +219,13 @@ fn globals_of(rt: &(impl Abort + AllocGlobal)) -> Result<Arena<GlobalVariable>, 
 
 /// A function of this one statement, if there is one.
 fn callee(alloc: Global, statement: Option<Statement>) -> Result<Function, AllocError> {
-    let mut list = Sequence::new(alloc);
+    let mut body = Block::new(alloc);
     if let Some(statement) = statement {
-        add(&mut list, statement, HERE)?;
+        body.push(statement, HERE)?;
     }
-    Ok(function_of(alloc, Arena::new(alloc), Arena::new(alloc), list))
+    let mut fun = Function::new(alloc);
+    fun.body = body;
+    Ok(fun)
 }
 
 /// The functions of the module.
@@ -239,7 +241,7 @@ fn functions_of(rt: &(impl Abort + AllocGlobal)) -> Result<Arena<Function>, Allo
 
 /// The info of each function, which may run at these stages.
 pub fn infos_of(alloc: Global, stages: [ShaderStages; 2]) -> Result<ModuleInfo, AllocError> {
-    let mut infos = no_infos(alloc);
+    let mut infos = ModuleInfo::new(alloc);
     for available_stages in stages {
         infos.functions.push(FunctionInfo {
             expression_types: Sequence::new(alloc),
@@ -253,10 +255,10 @@ pub fn infos_of(alloc: Global, stages: [ShaderStages; 2]) -> Result<ModuleInfo, 
 
 /// The module.
 fn module(rt: &(impl Abort + AllocGlobal)) -> Module {
-    let types = made(rt, types_of(rt));
-    let globals = made(rt, globals_of(rt));
-    let functions = made(rt, functions_of(rt));
-    let mut module = module_of(rt.alloc(), types, globals, functions);
+    let mut module = Module::new(rt.alloc());
+    module.types = made(rt, types_of(rt));
+    module.global_variables = made(rt, globals_of(rt));
+    module.functions = made(rt, functions_of(rt));
     module.special_types = SpecialTypes {
         ray_desc: Some(Handle::new(COLOR)),
     };

@@ -1,7 +1,7 @@
 //! An entry point from what it is like, and what is answered of it over the plain layer.
 
 use crate::tests::bench::{Bench, COLOR, FACE, OUTPUT, VERTEX, made};
-use crate::tests::parts::{HERE, NOWHERE, add, function_of};
+use crate::tests::parts::{HERE, NOWHERE};
 use crate::tests::shape::{Case, Part, Step};
 use naga_arena::arena::Arena;
 use naga_arena::handle::Handle;
@@ -18,7 +18,7 @@ use naga_ir::expressions::Expression;
 use naga_ir::functions::{Function, FunctionArgument, FunctionResult};
 use naga_ir::module::{EntryPoint, MeshOutputTopology, MeshStageInfo};
 use naga_ir::operations::RayPipelineFunction;
-use naga_ir::statements::{Located, Statement};
+use naga_ir::statements::{Block, Statement};
 use naga_layers::plain::Plain;
 use naga_valid::validator::Validator;
 use std::alloc::{AllocError, Global};
@@ -69,14 +69,14 @@ fn ray(descriptor: u32) -> Statement {
     })
 }
 
-fn body_of(alloc: Global, steps: [Option<Step>; 2]) -> Result<Sequence<Located>, AllocError> {
-    let mut list = Sequence::new(alloc);
+fn body_of(alloc: Global, steps: [Option<Step>; 2]) -> Result<Block, AllocError> {
+    let mut body = Block::new(alloc);
     for step in steps {
         if let Some(step) = step {
-            add(&mut list, statement(alloc, step), HERE)?;
+            body.push(statement(alloc, step), HERE)?;
         }
     }
-    Ok(list)
+    Ok(body)
 }
 
 fn arguments_of(
@@ -108,11 +108,10 @@ fn result_of(declared: Option<Part>) -> Option<FunctionResult> {
 
 /// The function of an entry point, with statements at `HERE`.
 pub fn function(rt: &(impl Abort + AllocGlobal), case: &Case) -> Function {
-    let expressions = made(rt, expressions_of(rt, case.globals));
-    let list = made(rt, body_of(rt.alloc(), case.body));
-    let arguments = made(rt, arguments_of(rt.alloc(), case.arguments));
-    let mut fun = function_of(rt.alloc(), Arena::new(rt.alloc()), expressions, list);
-    fun.arguments = arguments;
+    let mut fun = Function::new(rt.alloc());
+    fun.expressions = made(rt, expressions_of(rt, case.globals));
+    fun.body = made(rt, body_of(rt.alloc(), case.body));
+    fun.arguments = made(rt, arguments_of(rt.alloc(), case.arguments));
     fun.result = result_of(case.declared);
     fun
 }

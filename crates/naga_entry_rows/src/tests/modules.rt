@@ -2,7 +2,7 @@
 
 use crate::tests::bench::{COLOR, KILLS, infos_of, infos_of_types, made, make_bench, types_of};
 use crate::tests::judged::{accepts, entry_point, function};
-use crate::tests::parts::{ALL_CHECKS, HERE, NOWHERE, module_of};
+use crate::tests::parts::{ALL_CHECKS, HERE, NOWHERE};
 use crate::tests::shape::{Case, Step, at_compute, at_fragment};
 use naga_arena::arena::Arena;
 use naga_arena::handle::Handle;
@@ -67,9 +67,9 @@ fn entries_of(
 }
 
 fn module(rt: &(impl Abort + AllocGlobal), parts: &Parts) -> Module {
-    let types = made(rt, types_of(rt));
-    let functions = made(rt, functions_of(rt, parts));
-    let mut module = module_of(rt.alloc(), types, Arena::new(rt.alloc()), functions);
+    let mut module = Module::new(rt.alloc());
+    module.types = made(rt, types_of(rt));
+    module.functions = made(rt, functions_of(rt, parts));
     module.special_types = SpecialTypes {
         ray_desc: Some(Handle::new(COLOR)),
     };

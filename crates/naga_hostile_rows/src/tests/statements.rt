@@ -12,7 +12,7 @@ use naga_ir::operations::{
     AtomicFunction, CollectiveOperation, CooperativeData, GatherMode, RayPipelineFunction,
     RayQueryFunction, SubgroupOperation,
 };
-use naga_ir::statements::{Block, Located, Statement, SwitchCase, SwitchValue};
+use naga_ir::statements::{Block, Statement, SwitchCase, SwitchValue};
 use std::alloc::{AllocError, Global};
 use std::process::Abort;
 use std::test::Fail;
@@ -34,12 +34,9 @@ fn expect(rt: &(impl Abort + AllocGlobal), statement: Statement, fits: bool) {
 }
 
 fn block_of(alloc: Global, statement: Statement) -> Result<Block, AllocError> {
-    let mut list = Sequence::new(alloc);
-    list.push(Located {
-        statement,
-        span: NOWHERE,
-    })?;
-    Ok(Block { list })
+    let mut body = Block::new(alloc);
+    body.push(statement, NOWHERE)?;
+    Ok(body)
 }
 
 /// Kinds that hold handles of expressions alone, but for Emit.

@@ -8,7 +8,7 @@ use naga_arena::span::WithSpan;
 use naga_errors::function::FunctionError;
 use naga_interface::error::EntryPointError;
 use naga_ir::functions::Function;
-use naga_ir::statements::{Block, Located, Statement, SwitchCase, SwitchValue};
+use naga_ir::statements::{Block, Statement, SwitchCase, SwitchValue};
 use naga_module::check::ModuleFault;
 use std::alloc::{AllocError, Global};
 use std::process::Abort;
@@ -43,15 +43,13 @@ fn cases_of(alloc: Global, last: SwitchValue) -> Result<Sequence<SwitchCase>, Al
 
 /// A body that goes by expression 0.
 fn body_of(alloc: Global, cases: Sequence<SwitchCase>) -> Result<Block, AllocError> {
-    let mut list = Sequence::new(alloc);
-    list.push(Located {
-        statement: Statement::Switch {
-            selector: Handle::new(0),
-            cases,
-        },
-        span: NOWHERE,
-    })?;
-    Ok(Block { list })
+    let mut body = Block::new(alloc);
+    let switch = Statement::Switch {
+        selector: Handle::new(0),
+        cases,
+    };
+    body.push(switch, NOWHERE)?;
+    Ok(body)
 }
 
 /// What is answered of the module with a function of such a Switch behind its own.

@@ -1,8 +1,5 @@
-//! What the tests of statements share: a module and a function from their parts, and what the validator answers to them
-//! over the plain layer.
+//! What the tests of statements share: places, targets, and what the validator answers over the plain layer.
 
-use naga_arena::arena::Arena;
-use naga_arena::sequence::Sequence;
 use naga_arena::span::{Refusal, Span};
 use naga_below::valid::info::{FunctionInfo, ModuleInfo};
 use naga_below::valid::types::TypeInfo;
@@ -11,15 +8,13 @@ use naga_fits::function::fits_function;
 use naga_fits::types::fits_types;
 use naga_flags::capabilities::Capabilities;
 use naga_flags::valid::{ShaderStages, SubgroupOperationSet, TypeFlags, ValidationFlags};
-use naga_ir::expressions::Expression;
-use naga_ir::functions::{Function, LocalVariable};
-use naga_ir::module::{GlobalVariable, Module};
-use naga_ir::statements::{Block, Located, Statement};
+use naga_ir::functions::Function;
+use naga_ir::module::Module;
 use naga_layers::plain::Plain;
 use naga_types::types::{Type, TypeInner};
 use naga_types::unique_arena::UniqueArena;
 use naga_valid::validator::Validator;
-use std::alloc::{AllocError, Global};
+use std::alloc::AllocError;
 use std::process::Abort;
 
 /// Where nothing is.
@@ -63,49 +58,6 @@ pub fn add_type(
     assert!(rt; types.len() < 16);
     types.insert(Type { name: None, inner }, NOWHERE)?;
     Ok(())
-}
-
-/// A module of these types, globals and functions, and whose ray descriptors are of no type.
-pub fn module_of(
-    alloc: Global,
-    types: UniqueArena<Type>,
-    global_variables: Arena<GlobalVariable>,
-    functions: Arena<Function>,
-) -> Module {
-    let mut module = Module::new(alloc);
-    module.types = types;
-    module.global_variables = global_variables;
-    module.functions = functions;
-    module
-}
-
-/// A function of these locals and expressions with this body, without arguments or result.
-pub fn function_of(
-    alloc: Global,
-    local_variables: Arena<LocalVariable>,
-    expressions: Arena<Expression>,
-    list: Sequence<Located>,
-) -> Function {
-    let mut fun = Function::new(alloc);
-    fun.local_variables = local_variables;
-    fun.expressions = expressions;
-    fun.body = Block { list };
-    fun
-}
-
-/// Puts a statement last.
-pub fn add(
-    list: &mut Sequence<Located>,
-    statement: Statement,
-    span: Span,
-) -> Result<(), AllocError> {
-    list.push(Located { statement, span })?;
-    Ok(())
-}
-
-/// No function and no global of a module is known.
-pub fn no_infos(alloc: Global) -> ModuleInfo {
-    ModuleInfo::new(alloc)
 }
 
 /// A validator with all flags for this target, and with a good info for each type of a module.

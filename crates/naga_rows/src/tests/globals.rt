@@ -1,6 +1,6 @@
 //! Global variables, judged over the plain layer.
 
-use crate::tests::bodies::{ALL_CHECKS, GOOD, NOWHERE, add_type, module_of, no_infos};
+use crate::tests::bodies::{ALL_CHECKS, GOOD, NOWHERE, add_type};
 use bitflags::Flags;
 use naga_arena::arena::Arena;
 use naga_arena::handle::Handle;
@@ -148,14 +148,16 @@ fn module(rt: &(impl Abort + AllocGlobal), rows: &[Row]) -> Result<Module, Alloc
     expressions.append(literal(Scalar::U32), NOWHERE)?;
     expressions.append(literal(Scalar::I32), NOWHERE)?;
     expressions.append(Expression::RayQueryProceedResult, NOWHERE)?;
-    let mut module = module_of(alloc, types, globals, Arena::new(alloc));
+    let mut module = Module::new(alloc);
+    module.types = types;
+    module.global_variables = globals;
     module.global_expressions = expressions;
     Ok(module)
 }
 
 /// No function is known, and the types of the global expressions above.
 fn infos(rt: &impl AllocGlobal) -> Result<ModuleInfo, AllocError> {
-    let mut infos = no_infos(rt.alloc());
+    let mut infos = ModuleInfo::new(rt.alloc());
     for ty in [U32, I32, I32] {
         infos
             .global_types

@@ -1,14 +1,11 @@
 //! What ray traces leave, judged over the plain layer.
 
-use crate::tests::bodies::{
-    Answer, EVERYTHING, NOWHERE, add, add_type, expect, function_of, judge, module_of, no_infos,
-    validator_for,
-};
+use crate::tests::bodies::{Answer, EVERYTHING, NOWHERE, add_type, expect, judge, validator_for};
 use bitflags::Flags;
 use naga_arena::arena::Arena;
 use naga_arena::handle::Handle;
-use naga_arena::sequence::Sequence;
 use naga_arena::span::Span;
+use naga_below::valid::info::ModuleInfo;
 use naga_context::trace::{TraceRayVertexReturnState, TraceState};
 use naga_errors::function::FunctionError;
 use naga_flags::ir::MemoryDecorations;
@@ -17,7 +14,7 @@ use naga_ir::expressions::Expression;
 use naga_ir::functions::Function;
 use naga_ir::module::{GlobalVariable, Module, SpecialTypes};
 use naga_ir::operations::RayPipelineFunction;
-use naga_ir::statements::Statement;
+use naga_ir::statements::{Block, Statement};
 use naga_types::types::{AddressSpace, Scalar, Type, TypeInner, VectorSize};
 use naga_types::unique_arena::UniqueArena;
 use std::alloc::{AllocError, Global};
@@ -77,9 +74,9 @@ fn globals_of(rt: &(impl Abort + AllocGlobal)) -> Result<Arena<GlobalVariable>, 
 
 /// A module of these types and globals.
 fn module(rt: &(impl Abort + AllocGlobal)) -> Result<Module, AllocError> {
-    let globals = globals_of(rt)?;
-    let types = types_of(rt)?;
-    let mut module = module_of(rt.alloc(), types, globals, Arena::new(rt.alloc()));
+    let mut module = Module::new(rt.alloc());
+    module.types = types_of(rt)?;
+    module.global_variables = globals_of(rt)?;
     module.special_types = SpecialTypes {
         ray_desc: Some(Handle::new(4)),
     };
@@ -106,7 +103,7 @@ fn expect_of(
     expected: Answer,
 ) -> Result<TraceState, AllocError> {
     let module = module(rt)?;
-    let infos = no_infos(rt.alloc());
+    let infos = ModuleInfo::new(rt.alloc());
     let mut validator = validator_for(rt, EVERYTHING, &module);
     let answer = judge(rt, &mut validator, fun, &module, &infos, Some(place));
     expect(rt, answer, expected);
@@ -128,7 +125,7 @@ struct Ray {
 
 /// A function that traces these rays, whose places are counted from 0.
 fn traces(rt: &(impl Abort + AllocGlobal), rays: &[Ray]) -> Result<Function, AllocError> {
-    let mut list = Sequence::new(rt.alloc());
+    let mut body = Block::new(rt.alloc());
     for (place, ray) in rays.iter().enumerate() {
         assert!(rt; place < 16);
         let trace = RayPipelineFunction::TraceRay {
@@ -137,10 +134,12 @@ fn traces(rt: &(impl Abort + AllocGlobal), rays: &[Ray]) -> Result<Function, All
             payload: Handle::new(ray.payload),
         };
         let statement = Statement::RayPipelineFunction(trace);
-        add(&mut list, statement, at(place as u32))?;
+        body.push(statement, at(place as u32))?;
     }
-    let expressions = expressions_of(rt.alloc())?;
-    Ok(function_of(rt.alloc(), Arena::new(rt.alloc()), expressions, list))
+    let mut fun = Function::new(rt.alloc());
+    fun.expressions = expressions_of(rt.alloc())?;
+    fun.body = body;
+    Ok(fun)
 }
 
 /// A good ray whose payload is of u32.
@@ -170,7 +169,7 @@ fn after_a_refusal(
     fun: &Function,
 ) -> Result<TraceState, AllocError> {
     let module = module(rt)?;
-    let infos = no_infos(rt.alloc());
+    let infos = ModuleInfo::new(rt.alloc());
     let mut validator = validator_for(rt, EVERYTHING, &module);
     let first = judge(rt, &mut validator, refused, &module, &infos, Some(at(0)));
     let descriptor = FunctionError::InvalidRayDescriptor(Handle::new(5));

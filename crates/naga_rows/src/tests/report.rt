@@ -1,11 +1,9 @@
 //! What is told of refusals, and that they pass into `anyhow`.
 
-use crate::tests::bodies::{
-    EVERYTHING, HERE, add, function_of, module_of, no_infos, validator_for,
-};
+use crate::tests::bodies::{EVERYTHING, HERE, validator_for};
 use naga_below::{
-    AddressSpace, Arena, Capabilities, Expression, ExpressionError, Function, FunctionInfo, Handle,
-    Literal, Module, Name, Refusal, Scalar, Sequence, Span, Statement, TypeInner, UniqueArena,
+    AddressSpace, Arena, Block, Capabilities, Expression, ExpressionError, Function, FunctionInfo,
+    Handle, Literal, Module, ModuleInfo, Name, Refusal, Scalar, Span, Statement, TypeInner,
     WithSpan,
 };
 use naga_errors::{CallError, FunctionError, GlobalVariableError, LocalVariableError};
@@ -152,12 +150,15 @@ fn function(alloc: Global) -> Result<Function, AllocError> {
         bits: 7,
     };
     expressions.append(Expression::Literal(literal), Span::UNDEFINED)?;
-    let mut list = Sequence::new(alloc);
+    let mut body = Block::new(alloc);
     let ends = Statement::Return {
         value: Some(Handle::new(0)),
     };
-    add(&mut list, ends, HERE)?;
-    Ok(function_of(alloc, Arena::new(alloc), expressions, list))
+    body.push(ends, HERE)?;
+    let mut fun = Function::new(alloc);
+    fun.expressions = expressions;
+    fun.body = body;
+    Ok(fun)
 }
 
 /// Judges a function, as a program does that only passes errors on.
@@ -166,7 +167,7 @@ fn judged(
     fun: &Function,
     module: &Module,
 ) -> anyhow::Result<FunctionInfo> {
-    let infos = no_infos(rt.alloc());
+    let infos = ModuleInfo::new(rt.alloc());
     let mut validator = validator_for(rt, EVERYTHING, module);
     assert!(rt; validator.has_types_of(module) && fits_types(module));
     assert!(rt; fits_function(fun, module, infos.functions.len()));
@@ -191,12 +192,7 @@ fn passed_text(
 fn refusals_pass_into_anyhow(rt: HostRuntime) -> Result<(), Fail> {
     let alloc = rt.alloc();
     let fun = function(alloc)?;
-    let module = module_of(
-        alloc,
-        UniqueArena::new(alloc),
-        Arena::new(alloc),
-        Arena::new(alloc),
-    );
+    let module = Module::new(alloc);
     let mut text = passed_text(&rt, &fun, &module)?;
     if text.as_str() == "Memory" {
         text = passed_text(&rt, &fun, &module)?;

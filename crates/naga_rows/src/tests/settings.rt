@@ -1,12 +1,8 @@
 //! What a validator is set to, and the type infos that it is given.
 
-use crate::tests::bodies::{
-    ALL_CHECKS, EVERYTHING, HERE, add, expect, function_of, judge, module_of, no_infos,
-    validator_for,
-};
+use crate::tests::bodies::{ALL_CHECKS, EVERYTHING, HERE, expect, judge, validator_for};
 use bitflags::Flags;
-use naga_arena::arena::Arena;
-use naga_arena::sequence::Sequence;
+use naga_below::valid::info::ModuleInfo;
 use naga_below::valid::types::TypeInfo;
 use naga_context::trace::{TraceRayVertexReturnState, TraceState};
 use naga_errors::function::{FunctionError, SubgroupError};
@@ -14,35 +10,26 @@ use naga_flags::ir::Barrier;
 use naga_flags::valid::{ShaderStages, SubgroupOperationSet, TypeFlags};
 use naga_ir::functions::Function;
 use naga_ir::module::Module;
-use naga_ir::statements::Statement;
+use naga_ir::statements::{Block, Statement};
 use naga_layers::plain::Plain;
-use naga_types::unique_arena::UniqueArena;
 use naga_valid::validator::Validator;
 use std::alloc::{AllocError, Global};
 use std::test::Fail;
 
-/// A module without anything.
-fn empty_module(alloc: Global) -> Module {
-    let types = UniqueArena::new(alloc);
-    module_of(alloc, types, Arena::new(alloc), Arena::new(alloc))
-}
-
 /// A function of a subgroup barrier.
 fn function(alloc: Global) -> Result<Function, AllocError> {
-    let mut list = Sequence::new(alloc);
-    add(
-        &mut list,
-        Statement::ControlBarrier(Barrier::SUB_GROUP),
-        HERE,
-    )?;
-    Ok(function_of(alloc, Arena::new(alloc), Arena::new(alloc), list))
+    let mut body = Block::new(alloc);
+    body.push(Statement::ControlBarrier(Barrier::SUB_GROUP), HERE)?;
+    let mut fun = Function::new(alloc);
+    fun.body = body;
+    Ok(fun)
 }
 
 #[test]
 fn settings_let_subgroups_be_used(rt: HostRuntime) -> Result<(), Fail> {
     let fun = function(rt.alloc())?;
-    let module = empty_module(rt.alloc());
-    let infos = no_infos(rt.alloc());
+    let module = Module::new(rt.alloc());
+    let infos = ModuleInfo::new(rt.alloc());
     let flags = ALL_CHECKS;
     let mut validator = Validator::new(
         Plain::without_mesh_shaders(),
@@ -67,7 +54,7 @@ fn settings_let_subgroups_be_used(rt: HostRuntime) -> Result<(), Fail> {
 
 #[test]
 fn there_is_one_info_for_each_type(rt: HostRuntime) -> Result<(), Fail> {
-    let module = empty_module(rt.alloc());
+    let module = Module::new(rt.alloc());
     let validator = validator_for(&rt, EVERYTHING, &module);
     assert!(rt; validator.has_types_of(&module));
     let info = TypeInfo {

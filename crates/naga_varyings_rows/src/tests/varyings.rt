@@ -4,7 +4,6 @@ mod built_ins;
 mod groups;
 mod locations;
 
-use naga_arena::arena::Arena;
 use naga_arena::handle::Handle;
 use naga_arena::sequence::Sequence;
 use naga_arena::span::{Refusal, Span};
@@ -12,7 +11,7 @@ use naga_below::valid::types::TypeInfo;
 use naga_errors::interface::VaryingError;
 use naga_fits::types::fits_types;
 use naga_flags::valid::TypeFlags;
-use naga_ir::module::{Module, SpecialTypes};
+use naga_ir::module::Module;
 use naga_types::built_in::BuiltIn;
 use naga_types::types::{
     ArraySize, Binding, Interpolation, Sampling, Scalar, ScalarKind, StructMember, Type, TypeInner,
@@ -21,7 +20,7 @@ use naga_types::types::{
 use naga_types::unique_arena::UniqueArena;
 use naga_varyings::item::check_varying_item;
 use naga_varyings::varying::{VaryingPlace, VaryingState};
-use std::alloc::{AllocError, Global};
+use std::alloc::AllocError;
 use std::num::NonZeroU32;
 use std::process::Abort;
 
@@ -155,20 +154,6 @@ fn structure(members: Vec<StructMember>, span: u32) -> TypeInner {
     }
 }
 
-/// A module of these types.
-fn module_of(alloc: Global, types: UniqueArena<Type>) -> Module {
-    Module {
-        types,
-        special_types: SpecialTypes { ray_desc: None },
-        constants: Arena::new(alloc),
-        overrides: Arena::new(alloc),
-        global_variables: Arena::new(alloc),
-        global_expressions: Arena::new(alloc),
-        functions: Arena::new(alloc),
-        entry_points: Sequence::new(alloc),
-    }
-}
-
 /// Types, as a module, and what is known of them.
 #[derive(Drop)]
 struct Bench {
@@ -185,7 +170,8 @@ fn make_bench(rt: &(impl Abort + AllocGlobal)) -> Result<Bench, AllocError> {
     assert!(rt; infos.len() == 22);
     infos[COLLIDING as usize] = UNSHARED;
     infos[UNBOUND as usize] = UNSHARED;
-    let module = module_of(alloc, types);
+    let mut module = Module::new(alloc);
+    module.types = types;
     Ok(Bench { module, infos })
 }
 

@@ -6,4 +6,4 @@ use Rattle.naga_images.proofs.image_atomic.check_image_atomic.Goals as goal
 
 pub returns : goal.returns
 returns c =
-    c.answer.ensures (image_atomic_points (context_of c.args.context.now) (place_at (known c.args.scope.now)) c.args.image c.args.operation.texel.coordinate c.args.operation.texel.array_index c.args.operation.fun c.args.operation.value) c.check_image_atomic_points-checked.ensures
+    c.answer.ensures.fault (image_atomic_points (context_of c.args.context.now) (place_at (known c.args.scope.now)) c.args.image c.args.operation.texel.coordinate c.args.operation.texel.array_index c.args.operation.fun c.args.operation.value) c.check_image_atomic_points-checked.ensures

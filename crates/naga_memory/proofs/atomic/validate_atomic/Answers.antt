@@ -9,7 +9,7 @@ use Rattle.naga_memory.proofs.atomic.validate_atomic.Goals as goal
 pub returns-in_err-answer-clause-fault : goal.returns-in_err-answer-clause-fault
 returns-in_err-answer-clause-fault c =
     let points = atomic_points (context_of c.args.context.now) (filled_in c.args.filled.now) (place_at (known c.args.scope.now)) c.args.operation.now.pointer c.args.operation.now.fun c.args.operation.now.value c.args.operation.now.named in
-    let first = c.in_err-answer.ensures points c.check_atomic-checked.ensures in
+    let first = c.in_err-answer.ensures.fault points c.check_atomic-checked.ensures in
     search (rules, first)
 
 pub put-requires-clause-new : goal.put-requires-clause-new
@@ -18,5 +18,10 @@ put-requires-clause-new c =
     let filled = filled_in c.args.filled.now in
     let s = place_at (known c.args.scope.now) in
     let points = atomic_points context filled s c.args.operation.now.pointer c.args.operation.now.fun c.args.operation.now.value c.args.operation.now.named in
-    let holds = c.in_ok-answer.ensures points c.check_atomic-checked.ensures in
+    let holds = c.in_ok-answer.ensures.fault points c.check_atomic-checked.ensures in
     rw c.in-Some.is at (atomic_is_new context filled s c.args.operation.now.named (atomic_named context filled s c.args.operation.now.pointer c.args.operation.now.fun c.args.operation.now.value c.args.operation.now.named holds))
+
+pub returns-clause-fault : goal.returns-clause-fault
+returns-clause-fault c =
+    let points = atomic_points (context_of c.args.context.now) (filled_in c.args.filled.now) (place_at (known c.args.scope.now)) c.args.operation.now.pointer c.args.operation.now.fun c.args.operation.now.value c.args.operation.now.named in
+    c.in_ok-answer.ensures.fault points c.check_atomic-checked.ensures

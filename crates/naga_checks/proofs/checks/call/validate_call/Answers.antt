@@ -10,5 +10,5 @@ put-requires-clause-new c =
     let filled = filled_in c.args.filled.now in
     let s = place_at (known c.args.scope.now) in
     let f = c.args.site.now.function in
-    let holds = callee_holds context filled s f c.args.arguments.now c.args.site.now.named c.in_ok-check_call.ensures in
+    let holds = callee_holds context filled s f c.args.arguments.now c.args.site.now.named c.in_ok-check_call.ensures.fault in
     rw c.in-Some.is at (result_is_new context filled s f c.args.arguments.now c.args.site.now.named holds)

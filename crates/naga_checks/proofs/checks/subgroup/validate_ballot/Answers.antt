@@ -9,7 +9,7 @@ use Rattle.naga_checks.proofs.checks.subgroup.validate_ballot.Goals as goal
 pub returns-in_err-answer-clause-fault : goal.returns-in_err-answer-clause-fault
 returns-in_err-answer-clause-fault c =
     let points = ballot_points (context_of c.args.context.now) (place_at (known c.args.scope.now)) c.args.ballot c.args.predicate.now in
-    let first = c.in_err-answer.ensures points c.check_ballot-checked.ensures in
+    let first = c.in_err-answer.ensures.fault points c.check_ballot-checked.ensures in
     search (rules, first)
 
 pub put-requires-clause-new : goal.put-requires-clause-new
@@ -17,5 +17,10 @@ put-requires-clause-new c =
     let context = context_of c.args.context.now in
     let s = place_at (known c.args.scope.now) in
     let points = ballot_points context s c.args.ballot c.args.predicate.now in
-    let holds = c.in_ok-answer.ensures points c.check_ballot-checked.ensures in
+    let holds = c.in_ok-answer.ensures.fault points c.check_ballot-checked.ensures in
     ballot_is_new context s c.args.ballot c.args.predicate.now holds
+
+pub returns-clause-fault : goal.returns-clause-fault
+returns-clause-fault c =
+    let points = ballot_points (context_of c.args.context.now) (place_at (known c.args.scope.now)) c.args.ballot c.args.predicate.now in
+    c.in_ok-answer.ensures.fault points c.check_ballot-checked.ensures

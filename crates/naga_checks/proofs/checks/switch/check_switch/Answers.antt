@@ -14,7 +14,7 @@ returns-in_err-answer c =
     let r = c.from_residual.result in
     let selector = selector_points (context_of c.args.context.now) (place_at (known c.args.scope.now)) c.args.selector in
     let values = value_points (scalar_kind_at (context_of c.args.context.now) c.args.selector) [] (values_of (case_list c.args.cases.now)) in
-    let first = c.in_err-answer.ensures selector c.check_selector.ensures in
+    let first = c.in_err-answer.ensures.fault selector c.check_selector.ensures in
     refuses_first r selector (values ++ cases_points (case_list c.args.cases.now)) (search rules) (search (rules, first))
 
 pub returns-in_err-check_values : goal.returns-in_err-check_values
@@ -23,7 +23,7 @@ returns-in_err-check_values c =
     let selector = selector_points (context_of c.args.context.now) (place_at (known c.args.scope.now)) c.args.selector in
     let values = value_points (scalar_kind_at (context_of c.args.context.now) c.args.selector) [] (values_of (case_list c.args.cases.now)) in
     let whole = cases_points (case_list c.args.cases.now) in
-    refuses_second r selector (values ++ whole) (c.in_ok-answer.ensures selector c.check_selector.ensures) (refuses_first r values whole (search rules) (search rules))
+    refuses_second r selector (values ++ whole) (c.in_ok-answer.ensures.fault selector c.check_selector.ensures) (refuses_first r values whole (search rules) (search rules))
 
 pub returns : goal.returns
 returns c =
@@ -31,4 +31,4 @@ returns c =
     let selector = selector_points (context_of c.args.context.now) (place_at (known c.args.scope.now)) c.args.selector in
     let values = value_points (scalar_kind_at (context_of c.args.context.now) c.args.selector) [] (values_of (case_list c.args.cases.now)) in
     let whole = cases_points (case_list c.args.cases.now) in
-    refuses_second r selector (values ++ whole) (c.in_ok-answer.ensures selector c.check_selector.ensures) (refuses_second r values whole (search rules) (c.answer-2.ensures whole c.check_cases.ensures))
+    refuses_second r selector (values ++ whole) (c.in_ok-answer.ensures.fault selector c.check_selector.ensures) (refuses_second r values whole (search rules) (c.answer-2.ensures.fault whole c.check_cases.ensures))
