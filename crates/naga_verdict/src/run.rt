@@ -70,6 +70,11 @@ impl Bytes {
         }
     }
 
+    /// Whether the verdict is known, whatever comes behind these bytes.
+    fn is_settled(&self) -> bool {
+        self.is_lost || self.kept.len() > MOST_BYTES
+    }
+
     /// The verdict of the document.
     fn judge(&self, alloc: Global) -> Verdict {
         if self.is_lost {
@@ -80,7 +85,8 @@ impl Bytes {
     }
 }
 
-/// Reads one document until the input ends, writes its verdict, and answers the exit status.
+/// Reads one document until the input ends, or until so much was read that its verdict is known, writes the verdict, and answers
+/// the exit status.
 pub fn run_document<R: Read, W: Write>(
     alloc: Global,
     reader: &mut R,
@@ -97,6 +103,9 @@ pub fn run_document<R: Read, W: Write>(
         for byte in &chunk[..count] {
             bytes.push(*byte);
         }
+        if bytes.is_settled() {
+            break;
+        }
     }
     let status = reply(alloc, writer, &bytes.judge(alloc), form)?;
     writer.flush()?;
@@ -104,7 +113,8 @@ pub fn run_document<R: Read, W: Write>(
 }
 
 /// Reads one document a line until the input ends, writes each verdict on a line as JSON, and answers the greatest of their
-/// exit statuses, 0 where there is no document. A last line needs no end; an empty line is a document that can't be read.
+/// exit statuses, 0 where there is no document. A last line needs no end; an empty line is a document that can't be read. One
+/// that is too long is read to its end, since another may come behind it.
 pub fn run_lines<R: Read, W: Write>(
     alloc: Global,
     reader: &mut R,
