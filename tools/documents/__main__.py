@@ -13,6 +13,7 @@ import sys
 
 import capabilities
 import entries
+import forms
 import functions
 import modules
 import needs
@@ -36,12 +37,18 @@ TABLES = [
     entries.faults, entries.order, entries.meshes, entries.stages, entries.worked, entries.kept,
     modules.modules, modules.recorded, modules.fault_table,
     rules.built_ins, rules.interpolations, rules.items, rules.globals_, capabilities.needing,
-    unshown.unshown,
+    unshown.unshown, forms.forms,
 ]
 
 
-def line_of(value):
-    return json.dumps(value, separators=(",", ":"))
+def line_of(document):
+    """The line of a document, where it isn't given as a text."""
+    return document if isinstance(document, str) else json.dumps(document, separators=(",", ":"))
+
+
+def line_of_verdict(verdict):
+    """The line of a verdict: of its texts only what JSON asks for has an escape."""
+    return json.dumps(verdict, separators=(",", ":"), ensure_ascii=False)
 
 
 def files():
@@ -49,12 +56,12 @@ def files():
     rows = [row for table in TABLES for row in table()]
     first = sum(FIRST.values())
     names = [f"{title} {number}" for title, count in FIRST.items() for number in range(1, count + 1)]
-    standing = [(JUDGE / name).read_text().splitlines()[:first] for name in ("stdin", "stdout")]
+    standing = [(JUDGE / name).read_text(encoding="utf-8").splitlines()[:first] for name in ("stdin", "stdout")]
     accepted = [(name, json.loads(line)) for name, line, verdict in zip(names, *standing) if verdict.startswith('{"ok"')]
     accepted += [(row.name, row.document) for row in rows if row.accepted_with_all]
     written = {
         JUDGE / "stdin": standing[0] + [line_of(row.document) for row in rows],
-        JUDGE / "stdout": standing[1] + [line_of(row.verdict) for row in rows],
+        JUDGE / "stdout": standing[1] + [line_of_verdict(row.verdict) for row in rows],
         HERE / "rows": [f"{number} {name}" for number, name in enumerate(names + [row.name for row in rows], 1)],
         HERE.parent / "settings.expected": table.table_of([(name, needs.changes_of(made)) for name, made in accepted]),
     }
@@ -62,13 +69,13 @@ def files():
 
 
 def main():
-    stale = [path for path, text in files().items() if not path.exists() or path.read_text() != text]
+    stale = [path for path, text in files().items() if not path.exists() or path.read_text(encoding="utf-8") != text]
     if "--check" in sys.argv[1:]:
         for path in stale:
             print(f"{path}: not what the rows say")
         return 1 if stale else 0
     for path, text in files().items():
-        path.write_text(text)
+        path.write_text(text, encoding="utf-8")
     return 0
 
 
