@@ -37,7 +37,7 @@ TABLES = [
     entries.faults, entries.order, entries.meshes, entries.stages, entries.worked, entries.kept,
     modules.modules, modules.recorded, modules.fault_table,
     rules.built_ins, rules.interpolations, rules.items, rules.globals_, capabilities.needing,
-    unshown.unshown, forms.forms,
+    unshown.unshown, forms.forms, program.flags,
 ]
 
 
