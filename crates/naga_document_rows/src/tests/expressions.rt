@@ -29,6 +29,15 @@ fn expressions(rt: HostRuntime) -> Result<(), Fail> {
     )?;
     check::<Expression>(
         &rt,
+        r#"{"Swizzle":{"operands":[0],"detail":7}}"#,
+        [
+            r#"{"Swizzle":{"operands":0,"detail":7}}"#,
+            r#"{"Swizzle":{"operands":[0],"detail":null}}"#,
+            r#"{"Swizzle":[[0],7]}"#,
+        ],
+    )?;
+    check::<Expression>(
+        &rt,
         r#""SubgroupBallotResult""#,
         [
             r#""subgroupBallotResult""#,

@@ -5,17 +5,25 @@ use std::alloc::Global;
 use std::process::Abort;
 use std::test::Fail;
 
-/// What a text is read as. Where memory is refused, it is read again.
-fn read(alloc: Global, text: &str) -> Result<Document, ReadError> {
-    match read_document(alloc, text.as_bytes()) {
-        Err(ReadError::Memory) => read_document(alloc, text.as_bytes()),
+/// What is said of a text that is no JSON.
+const NO_JSON: &str = ": JSON in UTF-8, whose brackets nest at most 127 deep";
+
+/// What these bytes are read as. Where memory is refused, they are read again.
+fn read(alloc: Global, bytes: &[u8]) -> Result<Document, ReadError> {
+    match read_document(alloc, bytes) {
+        Err(ReadError::Memory) => read_document(alloc, bytes),
         answer => answer,
     }
 }
 
 /// Where reading stopped and what was expected there, or that the text was read.
 fn told(alloc: Global, text: &str) -> Result<String, Fail> {
-    match read(alloc, text) {
+    told_of_bytes(alloc, text.as_bytes())
+}
+
+/// The same of bytes.
+fn told_of_bytes(alloc: Global, bytes: &[u8]) -> Result<String, Fail> {
+    match read(alloc, bytes) {
         Ok(_) => Ok(format!(in alloc; "a document")?),
         Err(ReadError::Unreadable(unreadable)) => {
             let expected = unreadable.expected;
@@ -71,10 +79,7 @@ fn brackets_nest_127_deep(rt: HostRuntime) -> Result<(), Fail> {
     assert_eq!(rt; line.as_str(), "a document");
     let deeper = nested(rt.alloc(), 62)?;
     let line = told(rt.alloc(), deeper.as_str())?;
-    assert_eq!(rt;
-        line.as_str(),
-        ": JSON in UTF-8, whose brackets nest at most 127 deep"
-    );
+    assert_eq!(rt; line.as_str(), NO_JSON);
     Ok(())
 }
 
@@ -129,10 +134,7 @@ fn a_field_twice_and_a_text_behind(rt: HostRuntime) -> Result<(), Fail> {
     let mut text = document(rt.alloc(), "[]")?;
     text.push_str("{}")?;
     let line = told(rt.alloc(), text.as_str())?;
-    assert_eq!(rt;
-        line.as_str(),
-        ": JSON in UTF-8, whose brackets nest at most 127 deep"
-    );
+    assert_eq!(rt; line.as_str(), NO_JSON);
     Ok(())
 }
 
@@ -159,5 +161,35 @@ fn a_second_equal_type_is_unreadable(rt: HostRuntime) -> Result<(), Fail> {
     let text = format!(in alloc; "{start}[{ty}]{end}")?;
     let line = told(alloc, text.as_str())?;
     assert_eq!(rt; line.as_str(), "a document");
+    Ok(())
+}
+
+/// A surrogate that stands alone and a number too great for a float are refused while the text is parsed; a pair of
+/// surrogates and a number that fits are not, and then something else is expected in their place.
+#[test]
+fn what_no_value_holds(rt: HostRuntime) -> Result<(), Fail> {
+    for body in [r#"["\ud800"]"#, r#"["\udc00\ud800"]"#, "1e400", "[-1e400]"] {
+        let text = document(rt.alloc(), body)?;
+        let line = told(rt.alloc(), text.as_str())?;
+        assert_eq!(rt; line.as_str(), NO_JSON);
+    }
+    stops_at(&rt, r#"["\ud83d\ude00"]"#, "/0")?;
+    stops_at(&rt, "1e30", "")
+}
+
+/// Bytes that aren't UTF-8: one that no character has, one that begins a character that isn't there, and one of those that
+/// begin none. In front of them the same text with a letter.
+#[test]
+fn bytes_that_are_no_text(rt: HostRuntime) -> Result<(), Fail> {
+    let line = told_of_bytes(rt.alloc(), b"\"a\"".as_slice())?;
+    assert_eq!(rt;
+        line.as_str(),
+        ": an object with exactly the fields of its form"
+    );
+    for byte in [0xffu8, 0xc3, 0x80] {
+        let bytes = [b'"', byte, b'"'];
+        let line = told_of_bytes(rt.alloc(), bytes.as_slice())?;
+        assert_eq!(rt; line.as_str(), NO_JSON);
+    }
     Ok(())
 }
