@@ -1,15 +1,6 @@
-//! All sixteen sets of flags.
+//! The options, which take flags away.
 
-use crate::tests::{Outcome, ROOM, again, run};
-use naga_below::valid::info::ModuleInfo;
-use naga_below::valid::settings::Settings;
-use naga_case::bench_module::bench_module;
-use naga_case::judge::{given, settings_of, stages_of_last};
-use naga_case::line::Reply;
-use naga_flags::valid::ValidationFlags;
-use naga_layers::plain::Plain;
-use naga_module::check::{ModuleFault, check_module};
-use naga_notation::case::{Case, ReadError, read_case};
+use crate::tests::{Outcome, again, run};
 use std::alloc::Global;
 use std::io::Read;
 use std::process::Abort;
@@ -55,8 +46,8 @@ const NO_RESULT: &str = "fault InvalidCall/ExpressionMismatch";
 const STORED: &str = "fault InvalidStoreTypes 4";
 
 /// Bodies, and the line of each under four sets of flags: both EXPRESSIONS and BLOCKS; BLOCKS without EXPRESSIONS;
-/// EXPRESSIONS without BLOCKS; neither. The other two flags, STRUCT_LAYOUTS and BINDINGS, are about globals and entry
-/// points, which no bench has.
+/// EXPRESSIONS without BLOCKS; neither. Under all sixteen sets the same bodies are documents of `naga_judge`'s stored run
+/// (docs/MODULES.md): the notation takes no other flag away.
 ///
 /// By hand, from what each flag has looked at. Without BLOCKS no statement is, so nothing is refused, and no statement takes
 /// a stage away. Without EXPRESSIONS a result counts as filled from the start, which refuses each good call that names one,
@@ -132,11 +123,10 @@ const LINES: [(&str, [&str; 4]); 28] = [
     ("P : return u", [VALUE, VALUE, ALL, ALL]),
 ];
 
-/// The line for these flags.
-fn line_under(lines: [&'static str; 4], flags: ValidationFlags) -> &'static str {
+/// The line where these flags are left.
+fn line_under(lines: [&'static str; 4], has_expressions: bool, has_blocks: bool) -> &'static str {
     let [both, no_expressions, no_blocks, neither] = lines;
-    let has_expressions = flags.contains(ValidationFlags::EXPRESSIONS);
-    if flags.contains(ValidationFlags::BLOCKS) {
+    if has_blocks {
         if has_expressions {
             both
         } else {
@@ -149,89 +139,13 @@ fn line_under(lines: [&'static str; 4], flags: ValidationFlags) -> &'static str 
     }
 }
 
-/// The judgement of a case's module under these flags, whatever its options are; its other settings are those of any case.
-fn judged_under(
-    alloc: Global,
-    case: Case,
-    flags: ValidationFlags,
-) -> Result<ModuleInfo, ModuleFault> {
-    let settings = Settings {
-        flags,
-        ..settings_of(&case)
-    };
-    let given = given(alloc)?;
-    let module = bench_module(alloc, case.bench, case.body)?;
-    let below = Plain::without_mesh_shaders();
-    check_module(alloc, below, settings, given, &module)
-}
-
-/// The reply to an input under these flags. `Unreadable`, which no line of the table is, also stands for the faults that no
-/// bench has.
-fn reply_under(alloc: Global, input: &str, flags: ValidationFlags) -> Reply {
-    let case = match read_case(alloc, input.as_bytes()) {
-        Ok(case) => case,
-        Err(ReadError::Unreadable) => return Reply::Unreadable,
-        Err(ReadError::Memory) => return Reply::Memory,
-    };
-    let answer = judged_under(alloc, case, flags);
-    match answer {
-        Ok(infos) => Reply::Accepted(stages_of_last(infos.functions.as_slice())),
-        Err(ModuleFault::Function(_, fault)) => Reply::Fault(fault.into_inner()),
-        Err(ModuleFault::Memory) => Reply::Memory,
-        Err(_) => Reply::Unreadable,
-    }
-}
-
-/// What is said of an input under these flags.
-fn said_under(alloc: Global, input: &str, flags: ValidationFlags) -> Outcome {
-    let reply = reply_under(alloc, input, flags);
-    let mut room = [0u8; ROOM];
-    let mut writer = room.as_mut_slice();
-    let is_written = reply.write(&mut writer).is_ok();
-    let left = writer.len();
-    let status = if is_written {
-        Some(reply.status())
-    } else {
-        None
-    };
-    Outcome::new(status, room, left)
-}
-
-/// The notation takes EXPRESSIONS and BLOCKS away, and no other flag. So the sixteen sets are given to the judgement of
-/// modules itself, over the module that the program judges.
-#[test]
-fn sets_of_flags(rt: HostRuntime) {
-    for (input, lines) in LINES {
-        for bits in 0..16u8 {
-            let flags = ValidationFlags(bits);
-            let outcome = again(|| said_under(rt.alloc(), input, flags));
-            assert!(rt;
-                outcome.is(line_under(lines, flags)),
-                "at {input:?} under {bits}"
-            );
-        }
-    }
-}
-
-const WITHOUT_EXPRESSIONS: ValidationFlags = ValidationFlags(
-    ValidationFlags::ALL.0 & !ValidationFlags::EXPRESSIONS.0,
-);
-
-const WITHOUT_BLOCKS: ValidationFlags = ValidationFlags(
-    ValidationFlags::ALL.0 & !ValidationFlags::BLOCKS.0,
-);
-
-const WITHOUT_BOTH: ValidationFlags = ValidationFlags(
-    WITHOUT_EXPRESSIONS.0 & !ValidationFlags::BLOCKS.0,
-);
-
-/// Options, and the flags that they leave.
-const OPTIONS: [(&str, ValidationFlags); 5] = [
-    ("", ValidationFlags::ALL),
-    (" -expressions", WITHOUT_EXPRESSIONS),
-    (" -blocks", WITHOUT_BLOCKS),
-    (" -expressions -blocks", WITHOUT_BOTH),
-    (" -blocks -expressions", WITHOUT_BOTH),
+/// Options, and whether they leave EXPRESSIONS, and BLOCKS.
+const OPTIONS: [(&str, bool, bool); 5] = [
+    ("", true, true),
+    (" -expressions", false, true),
+    (" -blocks", true, false),
+    (" -expressions -blocks", false, false),
+    (" -blocks -expressions", false, false),
 ];
 
 /// What the program makes of an input with options behind its first byte, which is the bench.
@@ -243,11 +157,16 @@ fn run_with(alloc: Global, input: &str, options: &str) -> Outcome {
 }
 
 /// All rows with these options, through the program.
-fn expect_with(rt: &(impl Abort + AllocGlobal), options: &str, flags: ValidationFlags) {
+fn expect_with(
+    rt: &(impl Abort + AllocGlobal),
+    options: &str,
+    has_expressions: bool,
+    has_blocks: bool,
+) {
     for (input, lines) in LINES {
         let outcome = again(|| run_with(rt.alloc(), input, options));
         assert!(rt;
-            outcome.is(line_under(lines, flags)),
+            outcome.is(line_under(lines, has_expressions, has_blocks)),
             "at {input:?} with {options:?}"
         );
     }
@@ -256,7 +175,7 @@ fn expect_with(rt: &(impl Abort + AllocGlobal), options: &str, flags: Validation
 /// The four sets that options name.
 #[test]
 fn sets_by_options(rt: HostRuntime) {
-    for (options, flags) in OPTIONS {
-        expect_with(&rt, options, flags);
+    for (options, has_expressions, has_blocks) in OPTIONS {
+        expect_with(&rt, options, has_expressions, has_blocks);
     }
 }
