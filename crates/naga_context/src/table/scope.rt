@@ -90,6 +90,7 @@ impl ScopeColumn {
         ensures known { OnOk result (known self.new ≡ known self.old) }
         ensures home { IfOk result (λ next. Divides self.old self.new home held next) }
         ensures count { count self.new ≡ count self.old }
+        ensures err { OnErr result (shown self.new ≡ shown self.old) }
     {
         match home {
             Some(number) => Ok(Some(number)),
