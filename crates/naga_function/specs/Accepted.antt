@@ -7,7 +7,7 @@ use Rattle.naga_ir.specs.declared.functions.Function.{Function}
 use Rattle.naga_ir.specs.declared.statements.Statement as ir
 use Rattle.naga_flags.specs.declared.valid.ShaderStages.{ShaderStages}
 use Rattle.naga_below.specs.declared.valid.info.ModuleInfo.{ModuleInfo}
-use Rattle.naga_runs.specs.Positions.{Node, StatementNode, node_at}
+use Rattle.naga_runs.specs.Positions.{Node, NoNode, StatementNode, BreakIfNode, node_at}
 use Rattle.naga_runs.specs.VisitOrder.{positions}
 use Rattle.naga_context.specs.Blocks.{body_of}
 use Rattle.naga_context.specs.Results.{is_this}
@@ -57,7 +57,8 @@ AreAmong some all = meet some all ≡ some
 -- the stages are among those of a statement
 abbrev pub AreOfStatement : ShaderStages → ModuleInfo → ShaderStages → Node → Type 0
 AreOfStatement subgroups earlier stages (StatementNode x) = AreAmong stages (stages_of subgroups earlier x)
-AreOfStatement subgroups earlier stages _ = ⊤
+AreOfStatement subgroups earlier stages NoNode = ⊤
+AreOfStatement subgroups earlier stages (BreakIfNode condition) = ⊤
 
 -- the stages are among those that the info of a called function records
 abbrev pub AreOfCallee : ModuleInfo → ShaderStages → Node → Type 0

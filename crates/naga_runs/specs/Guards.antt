@@ -1,14 +1,14 @@
 -- From a judgement to the law over runs.
 use Rattle.std.specs.List.{AllByRecursion}
 use Rattle.std.specs.Prelude.{⊤, ℕ, List, None, Ok, ◌≡◌}
-use Rattle.naga_ir.specs.Tree.{Body, Leaf}
+use Rattle.naga_ir.specs.Tree.{Body, Leaf, Block as Nested, Branch, Switch, Loop, Break, Continue, Return, Kill}
 use Rattle.naga_ir.specs.declared.statements.Block.{Block}
 use Rattle.naga_ir.specs.View.{statement_acts, body_of}
 use Rattle.naga_runs.specs.Abilities.{node_jump}
 use Rattle.naga_runs.specs.Handles.{Handles}
 use Rattle.naga_below.specs.Points.{first_fault}
 use Rattle.naga_runs.specs.Judgement.{Rules, judgement}
-use Rattle.naga_runs.specs.Positions.{Node, node_at, StatementNode}
+use Rattle.naga_runs.specs.Positions.{Node, NoNode, StatementNode, BreakIfNode, node_at}
 use Rattle.naga_runs.specs.PutsAndUses.{node_acts}
 use Rattle.naga_runs.specs.Soundness.{Fit, Allowed, IsSurelyFit, RunsAreSure}
 use Rattle.naga_runs.specs.VisitOrder.{positions}
@@ -36,7 +36,16 @@ AcceptedIsSure {State} {Fault} R =
 -- what stands there has the acts that are read off its statement, where these are the operands of each expression
 abbrev pub IsRead : (ℕ → List ℕ) → Node → Type 0
 IsRead operands (StatementNode (Leaf acts x span)) = acts ≡ statement_acts operands x
-IsRead operands _ = ⊤
+IsRead operands (StatementNode (Nested b)) = ⊤
+IsRead operands (StatementNode (Branch h a e)) = ⊤
+IsRead operands (StatementNode (Switch h cs)) = ⊤
+IsRead operands (StatementNode (Loop b d q)) = ⊤
+IsRead operands (StatementNode Break) = ⊤
+IsRead operands (StatementNode Continue) = ⊤
+IsRead operands (StatementNode (Return v)) = ⊤
+IsRead operands (StatementNode Kill) = ⊤
+IsRead operands NoNode = ⊤
+IsRead operands (BreakIfNode h) = ⊤
 
 -- A block of the IR has a tree in which everything is.
 abbrev pub BlocksAreRead : Type 0

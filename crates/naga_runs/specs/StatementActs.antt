@@ -27,7 +27,7 @@ does x = acts_of (tree_of sample_operands x nowhere)
 
 pub record ActsOfStatements : Type 0 where
   -- each handle of the range in order, after its operands
-  pub emit : does (s.Emit (record { start = 5; end = 8 })) ≡ Use 4 ∷ Put 5 ∷ Use 5 ∷ Use 0 ∷ Put 6 ∷ Put 7 ∷ []
+  pub emit_three : does (s.Emit (record { start = 5; end = 8 })) ≡ Use 4 ∷ Put 5 ∷ Use 5 ∷ Use 0 ∷ Put 6 ∷ Put 7 ∷ []
   pub emit_nothing : does (s.Emit (record { start = 5; end = 5 })) ≡ []
   -- statements that hold others, and jumps
   pub block : (b : Block) → does (s.Block b) ≡ []

@@ -93,7 +93,13 @@ is_combined_by op.Xor s = is_wide_integer s
 abbrev pub takes_vectors : SubgroupOperation → Bool
 takes_vectors op.All = false
 takes_vectors op.Any = false
-takes_vectors _ = true
+takes_vectors op.Add = true
+takes_vectors op.Mul = true
+takes_vectors op.Min = true
+takes_vectors op.Max = true
+takes_vectors op.And = true
+takes_vectors op.Or = true
+takes_vectors op.Xor = true
 
 -- a scalar that the operation combines, or a vector of one where it takes vectors
 abbrev pub is_operand_of : SubgroupOperation → Option TypeInner → Bool
