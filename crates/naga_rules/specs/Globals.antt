@@ -113,10 +113,14 @@ abbrev pub is_not_zero : Option ℕ → Bool
 is_not_zero None = true
 is_not_zero (Some size) = not (size == 0)
 
+-- no decoration is among these
+abbrev pub is_undecorated : MemoryDecorations → Bool
+is_undecorated decorations = decorations.0 == 0
+
 -- only storage is decorated, and only as the target can do
 abbrev pub decoration_points : Capabilities → AddressSpace → MemoryDecorations → GlobalPoints
 decoration_points capabilities space decorations =
-    (is_storage space || decorations.0 == 0, InvalidMemoryDecorationsAddressSpace)
+    (is_storage space || is_undecorated decorations, InvalidMemoryDecorationsAddressSpace)
     ∷ (not (contains decorations.0 COHERENT.0) || has_capability capabilities MEMORY_DECORATION_COHERENT, CoherentNotSupported)
     ∷ (not (contains decorations.0 VOLATILE.0) || has_capability capabilities MEMORY_DECORATION_VOLATILE, VolatileNotSupported)
     ∷ []
