@@ -31,7 +31,7 @@ use Rattle.naga_errors.specs.Lawful.{IsNoStruct}
 use Rattle.naga_errors.specs.declared.function.FunctionError.{FunctionError}
 use Rattle.naga_errors.specs.declared.function.FunctionError.TheVariants.{Expression as InExpression}
 use Rattle.naga_below.specs.declared.valid.expression_error.ExpressionError.TheVariants.{Lower}
-use Rattle.naga_layers.specs.Plain.Infos.{plain_info, info_of, with_types}
+use Rattle.naga_layers.specs.Plain.Infos.{plain_info, info_of_types, with_types}
 use Rattle.naga_layers.specs.Kinds.{kinds_from, kind_of}
 use Rattle.naga_layers.specs.Plain.Types.{type_at, pointer_to, global_type, known_type, loaded_type, own_type, type_of, or_refuse, types_from}
 use Rattle.naga_layers.specs.Plain.Uses.{with_all_named}
@@ -130,7 +130,7 @@ types_from-lawful m f earlier (x ∷ rest) types all h =
 
 -- an info is of types that were found
 by_types : (f : Function) (m : Module) (info : FunctionInfo) (P : FunctionInfo → Type 0)
-    → ((types : List TypeResolution) → All (IsLawful m) types → length types ≡ length f.expressions → P (info_of m f types))
+    → ((types : List TypeResolution) → All (IsLawful m) types → length types ≡ length f.expressions → P (info_of_types m f types))
     → (found : Result (List TypeResolution) FunctionError) → types_from m f [] f.expressions ≡ found
     → with_types m f found ≡ Ok info → P info
 by_types f m info P p (Err fault) e h = absurd cc
