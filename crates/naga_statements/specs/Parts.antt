@@ -1,5 +1,6 @@
 -- What contracts see of a validator: four parts and nothing else.
 use Rattle.std.specs.Prelude.{ℕ, ◌≡◌, ◌<◌, List, All, IfErr, Option, None, Some, length, []}
+use Rattle.naga_flags.specs.Bits.{NO_STAGE}
 use Rattle.naga_ir.specs.declared.module.Module.{Module}
 use Rattle.naga_flags.specs.declared.capabilities.Capabilities.{Capabilities}
 use Rattle.naga_flags.specs.declared.valid.ValidationFlags.{ValidationFlags}
@@ -26,7 +27,7 @@ first_settings flags capabilities =
     record {
       flags = flags;
       capabilities = capabilities;
-      subgroup_stages = record { 0 = 0 };
+      subgroup_stages = NO_STAGE;
       subgroup_operations = record { 0 = 0 };
     }
 
