@@ -1,5 +1,5 @@
-//! The cases, by name. The letters are those of the bench that the names are shared with: a straight bodies, b nesting, c
-//! blocks and switches, d whole functions, entry points and modules.
+//! What a case is, and the cases of bodies, by name. The letters are those of the bench that the names are shared with: a straight
+//! bodies, b nesting, c blocks and switches; d stands in `wholes`.
 
 use crate::bodies::{Holder, Shape};
 
@@ -30,7 +30,8 @@ pub struct Case {
     pub subject: Subject,
 }
 
-pub static CASES: [Case; 58] = [
+/// The cases of bodies.
+pub static BODIES: [Case; 50] = [
     Case {
         name: "a emit 1000",
         statements: 1000,
@@ -378,57 +379,5 @@ pub static CASES: [Case; 58] = [
         name: "c scattered switch 1000000",
         statements: 1000002,
         subject: Subject::Body(Shape::Scattered(1000000)),
-    },
-    Case {
-        name: "d whole function",
-        statements: 1001,
-        subject: Subject::Body(Shape::Whole(1000)),
-    },
-    Case {
-        name: "d small after large",
-        statements: 1000,
-        subject: Subject::AfterLarge(Shape::Mix(1000)),
-    },
-    Case {
-        name: "d first after large",
-        statements: 1000,
-        subject: Subject::FirstAfterLarge(Shape::Mix(1000)),
-    },
-    Case {
-        name: "d small alone",
-        statements: 1000,
-        subject: Subject::Body(Shape::Mix(1000)),
-    },
-    Case {
-        name: "d module of 10000 functions",
-        statements: 80000,
-        subject: Subject::Functions(Shape::Mix(8), 10000),
-    },
-    Case {
-        name: "d entry 32 varyings 100 globals",
-        statements: 1,
-        subject: Subject::Entry {
-            location: 0,
-            varyings: 32,
-            globals: 100,
-        },
-    },
-    Case {
-        name: "d entry location 0",
-        statements: 1,
-        subject: Subject::Entry {
-            location: 0,
-            varyings: 1,
-            globals: 0,
-        },
-    },
-    Case {
-        name: "d entry location 4294967295",
-        statements: 1,
-        subject: Subject::Entry {
-            location: 4294967295,
-            varyings: 1,
-            globals: 0,
-        },
     },
 ];

@@ -10,11 +10,13 @@ mod cases;
 mod modules;
 mod nesting;
 mod timing;
+mod wholes;
 
 use crate::bodies::Shape;
-use crate::cases::{CASES, Case, Subject};
+use crate::cases::{BODIES, Case, Subject};
 use crate::modules::{module, with_globals};
 use crate::timing::{Times, validator};
+use crate::wholes::WHOLES;
 use naga_below::{EntryPoint, Module, ModuleInfo};
 use naga_fits::{fits_function, fits_types};
 use naga_module::Plain;
@@ -232,7 +234,7 @@ fn is_chosen(case: Case, word: &str) -> bool {
 
 /// Times the cases that a word asks for.
 fn time(rt: &HostRuntime, word: &str) -> io::Result<()> {
-    for case in &CASES {
+    for case in BODIES.iter().chain(&WHOLES) {
         if is_chosen(*case, word) {
             run(rt, *case)?;
         }
@@ -262,7 +264,7 @@ fn main(rt: HostRuntime) -> io::Result<()> {
         }
         [word, ..] => time(&rt, word.as_str()),
         [] => {
-            for case in &CASES {
+            for case in BODIES.iter().chain(&WHOLES) {
                 println!(rt; "{}", case.name)?;
             }
             Ok(())
