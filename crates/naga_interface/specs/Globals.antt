@@ -1,6 +1,6 @@
 -- The steps of the globals that an entry point uses, where these are its uses of each global, its own joined in.
 use Rattle.std.specs.Prelude.{ℕ, zero, suc, ◌+◌, Bool, false, not, ◌&&◌, ◌||◌, ◌==◌, nat_le, List, [], ◌∷◌, ◌++◌, Option, None, Some, slice_get, length, option_and_then, unwrap_or, if◌then◌else◌}
-use Rattle.naga_flags.specs.Bits.{contains}
+use Rattle.naga_flags.specs.Bits.{contains, NO_USE}
 use Rattle.naga_below.specs.Points.{points_of_each}
 use Rattle.naga_types.specs.TypeTests.{is_handle}
 use Rattle.naga_types.specs.Types.{inner_at}
@@ -28,7 +28,7 @@ use Rattle.naga_interface.specs.declared.error.EntryPointError.TheVariants as fa
 -- some use is made of a global
 abbrev pub is_some_use : Option GlobalUse → Bool
 is_some_use None = false
-is_some_use (Some uses) = not (uses.0 == 0)
+is_some_use (Some uses) = not (uses.0 == NO_USE.0)
 
 -- the global with this handle is used
 abbrev pub is_used : List GlobalUse → ℕ → Bool
@@ -132,13 +132,13 @@ module _ (below : Meaning) (flags : ValidationFlags) (program : Module) (ep : En
       ++ allowed_points program.types ep.stage h g given)
 
   -- a global that is used so: how, and its binding
-  abbrev pub used_points : ℕ → GlobalVariable → GlobalUse → EntryPoints
-  used_points h g given = use_points h g given ++ binding_points flags uses program.global_variables h g.binding
+  abbrev pub used_global_points : ℕ → GlobalVariable → GlobalUse → EntryPoints
+  used_global_points h g given = use_points h g given ++ binding_points flags uses program.global_variables h g.binding
 
   -- a global, where it is used
   abbrev pub points_if_used : ℕ → GlobalVariable → Option GlobalUse → EntryPoints
   points_if_used h g None = []
-  points_if_used h g (Some given) = if given.0 == 0 then [] else used_points h g given
+  points_if_used h g (Some given) = if given.0 == NO_USE.0 then [] else used_global_points h g given
 
   abbrev pub global_points : ℕ → GlobalVariable → EntryPoints
   global_points h g = points_if_used h g (slice_get uses h)

@@ -10,15 +10,15 @@ use Rattle.naga_flags.specs.declared.valid.GlobalUse.{GlobalUse}
 use Rattle.naga_flags.specs.declared.valid.ValidationFlags.{ValidationFlags}
 use Rattle.naga_errors.specs.Meaning.{Meaning}
 use Rattle.naga_context.specs.walk.Answers.{Finds}
-use Rattle.naga_interface.specs.Globals.{binding_points, use_points, used_points, points_if_used, global_points}
+use Rattle.naga_interface.specs.Globals.{binding_points, use_points, used_global_points, points_if_used, global_points}
 use Rattle.naga_interface.specs.declared.error.EntryPointError.{EntryPointError}
 use Rattle.naga_context.proofs.Refusals.{fault_first, fault_second}
 
 module _ (below : Meaning) (flags : ValidationFlags) (program : Module) (ep : EntryPoint) (uses : List GlobalUse) (h : ℕ) (g : GlobalVariable) (given : GlobalUse) (is : slice_get uses h ≡ Some given) (some : (given.0 == 0) ≡ false) where
-  pub points_are : global_points below flags program ep uses h g ≡ used_points below flags program ep uses h g given
+  pub points_are : global_points below flags program ep uses h g ≡ used_global_points below flags program ep uses h g given
   points_are =
       ap (points_if_used below flags program ep uses h g) is
-      ∙ ap (λ b. if b then [] else used_points below flags program ep uses h g given) some
+      ∙ ap (λ b. if b then [] else used_global_points below flags program ep uses h g given) some
 
   -- a fault of how it is used
   pub use_refused : {T : Type 0} (r : Result T EntryPointError) → IsErr r → Finds (use_points below flags program ep [] h g given) r → Finds (global_points below flags program ep uses h g) r
