@@ -66,8 +66,8 @@ lower_errors =
     (codes "ConflictingTaskPayloadVariables", lower_error_name.ConflictingTaskPayloadVariables) ∷
     (codes "InvalidMeshShaderOutputType", lower_error_name.InvalidMeshShaderOutputType) ∷ []
 
-abbrev pub expression_of : Data → Option LowerFunctionError
-expression_of = fielded (codes "handle" ∷ codes "source" ∷ []) (λ d.
+abbrev pub error_in_expression_of : Data → Option LowerFunctionError
+error_in_expression_of = fielded (codes "handle" ∷ codes "source" ∷ []) (λ d.
     given (field_of u32_of (codes "handle") d) (λ handle.
     given (field_of expression_error_of (codes "source") d) (λ source.
     Some (lower_function_error.Expression handle source))))
@@ -87,7 +87,7 @@ payloads_of d = option_map (λ p. lower_function_error.ConflictingTaskPayloadVar
 -- what a variant stands for
 abbrev pub lower_function_error_from : Variant ⊤ LowerErrorName → Option LowerFunctionError
 lower_function_error_from (plain x) = None
-lower_function_error_from (holding lower_error_name.Expression d) = expression_of d
+lower_function_error_from (holding lower_error_name.Expression d) = error_in_expression_of d
 lower_function_error_from (holding lower_error_name.MissingRayQueryVertexReturn d) = option_map lower_function_error.MissingRayQueryVertexReturn (u32_of d)
 lower_function_error_from (holding lower_error_name.NonUniformControlFlow d) = control_flow_of d
 lower_function_error_from (holding lower_error_name.NonUniformWorkgroupUniformLoad d) = uniform_load_of d

@@ -59,8 +59,8 @@ call_of = fielded (codes "function" ∷ codes "arguments" ∷ codes "result" ∷
     given (field_of (optional u32_of) (codes "result") d) (λ result.
     Some (statement.Call function arguments result)))))
 
-abbrev pub ray_query_of : Data → Option Statement
-ray_query_of = fielded (codes "query" ∷ codes "fun" ∷ []) (λ d.
+abbrev pub ray_query_statement_of : Data → Option Statement
+ray_query_statement_of = fielded (codes "query" ∷ codes "fun" ∷ []) (λ d.
     given (field_of u32_of (codes "query") d) (λ query.
     given (field_of ray_query_function_of (codes "fun") d) (λ fun.
     Some (statement.RayQuery query fun))))
@@ -104,7 +104,7 @@ leaf_from leaf_name.Atomic d = atomic_of d
 leaf_from leaf_name.ImageAtomic d = image_atomic_of d
 leaf_from leaf_name.WorkGroupUniformLoad d = work_group_uniform_load_of d
 leaf_from leaf_name.Call d = call_of d
-leaf_from leaf_name.RayQuery d = ray_query_of d
+leaf_from leaf_name.RayQuery d = ray_query_statement_of d
 leaf_from leaf_name.SubgroupBallot d = subgroup_ballot_of d
 leaf_from leaf_name.SubgroupCollectiveOperation d = subgroup_collective_operation_of d
 leaf_from leaf_name.SubgroupGather d = subgroup_gather_of d

@@ -2,7 +2,7 @@
 
 ghost use Rattle.serde_json.specs.View.{view};
 ghost use Rattle.naga_from_json.specs.Reads.{Reads};
-ghost use Rattle.naga_from_json.specs.Document.Errors.{control_flow_of, coordinate_of, expression_error_of, expression_of, lower_function_error_of, output_types_of, payloads_of, uniform_load_of};
+ghost use Rattle.naga_from_json.specs.Document.Errors.{control_flow_of, coordinate_of, error_in_expression_of, expression_error_of, lower_function_error_of, output_types_of, payloads_of, uniform_load_of};
 
 use crate::read::error::ReadError;
 use crate::read::from_json::FromJson;
@@ -153,7 +153,7 @@ const LOWER_ERRORS: [(&str, LowerErrorName); 8] = [
 ];
 
 fn read_expression(held: Held) -> Result<LowerFunctionError, ReadError>
-    ensures { Reads (expression_of (view held.entry.value.now)) result }
+    ensures { Reads (error_in_expression_of (view held.entry.value.now)) result }
 {
     let fields = held.fields(&["handle", "source"])?;
     Ok(LowerFunctionError::Expression {

@@ -2,7 +2,7 @@
 
 ghost use Rattle.serde_json.specs.View.{view};
 ghost use Rattle.naga_from_json.specs.Reads.{Reads};
-ghost use Rattle.naga_from_json.specs.Document.Leaves.{atomic_of, call_of, cooperative_store_of, image_atomic_of, image_store_of, leaf_from, ray_query_of, return_of, store_of, subgroup_ballot_of, subgroup_collective_operation_of, subgroup_gather_of, work_group_uniform_load_of};
+ghost use Rattle.naga_from_json.specs.Document.Leaves.{atomic_of, call_of, cooperative_store_of, image_atomic_of, image_store_of, leaf_from, ray_query_statement_of, return_of, store_of, subgroup_ballot_of, subgroup_collective_operation_of, subgroup_gather_of, work_group_uniform_load_of};
 
 use crate::read::error::ReadError;
 use crate::read::variant::Held;
@@ -107,7 +107,7 @@ fn read_call(held: Held) -> Result<Statement, ReadError>
 }
 
 fn read_ray_query(held: Held) -> Result<Statement, ReadError>
-    ensures { Reads (ray_query_of (view held.entry.value.now)) result }
+    ensures { Reads (ray_query_statement_of (view held.entry.value.now)) result }
 {
     let fields = held.fields(&["query", "fun"])?;
     Ok(Statement::RayQuery {
