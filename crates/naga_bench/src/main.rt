@@ -234,10 +234,26 @@ fn is_chosen(case: Case, word: &str) -> bool {
 
 /// Times the cases that a word asks for.
 fn time(rt: &HostRuntime, word: &str) -> io::Result<()> {
-    for case in BODIES.iter().chain(&WHOLES) {
+    for case in &BODIES {
         if is_chosen(*case, word) {
             run(rt, *case)?;
         }
+    }
+    for case in &WHOLES {
+        if is_chosen(*case, word) {
+            run(rt, *case)?;
+        }
+    }
+    Ok(())
+}
+
+/// Prints the names of all cases.
+fn name_all(rt: &HostRuntime) -> io::Result<()> {
+    for case in &BODIES {
+        println!(rt; "{}", case.name)?;
+    }
+    for case in &WHOLES {
+        println!(rt; "{}", case.name)?;
     }
     Ok(())
 }
@@ -263,11 +279,6 @@ fn main(rt: HostRuntime) -> io::Result<()> {
             nest(&rt, holder.as_str(), depth.as_str(), false)
         }
         [word, ..] => time(&rt, word.as_str()),
-        [] => {
-            for case in BODIES.iter().chain(&WHOLES) {
-                println!(rt; "{}", case.name)?;
-            }
-            Ok(())
-        }
+        [] => name_all(&rt),
     }
 }
