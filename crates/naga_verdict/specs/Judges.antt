@@ -41,3 +41,10 @@ Judges text (verdict.Ok infos) = (d : Document) × IsDocument text d × IsJudged
 Judges text (verdict.Refused e) = (d : Document) × IsDocument text d × IsJudged d (Err e) × IsFault e
 Judges text (verdict.Unreadable unreadable) = (d : Document) → IsDocument text d → ⊥
 Judges text verdict.Memory = Unit {0}
+
+-- the exit status that says a verdict
+abbrev pub status_of : judge.Verdict → ℕ
+status_of (verdict.Ok infos) = 0
+status_of (verdict.Refused e) = 1
+status_of (verdict.Unreadable unreadable) = 2
+status_of verdict.Memory = 3

@@ -1,6 +1,7 @@
 //! From a text to its verdict.
 
-ghost use Rattle.naga_verdict.specs.Judges.{Judges, IsJudged};
+ghost use Rattle.std.specs.Prelude.{◌≡◌};
+ghost use Rattle.naga_verdict.specs.Judges.{Judges, IsJudged, status_of};
 
 use naga_below::ModuleInfo;
 use naga_document::{Document, KnownFacts, ReadError, Unreadable, read_document};
@@ -22,7 +23,9 @@ pub enum Verdict {
 
 impl Verdict {
     /// The exit status: 0 accepted, 1 refused, 2 unreadable, 3 memory.
-    pub fn status(&self) -> u8 {
+    pub fn status(&self) -> u8
+        ensures { result ≡ status_of self.now }
+    {
         match self {
             Verdict::Ok(_) => 0,
             Verdict::Refused(_) => 1,
