@@ -13,6 +13,7 @@ import sys
 
 import capabilities
 import entries
+import fits
 import forms
 import functions
 import modules
@@ -37,7 +38,7 @@ TABLES = [
     entries.faults, entries.order, entries.meshes, entries.stages, entries.worked, entries.kept,
     modules.modules, modules.recorded, modules.fault_table,
     rules.built_ins, rules.interpolations, rules.items, rules.globals_, capabilities.needing,
-    unshown.unshown, forms.forms, program.flags,
+    unshown.unshown, forms.forms, program.flags, fits.unfit, fits.switches,
 ]
 
 

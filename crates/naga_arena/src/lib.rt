@@ -9,7 +9,7 @@ pub mod sequence;
 pub mod span;
 pub mod tag;
 
-pub use crate::arena::Arena;
+pub use crate::arena::{Arena, MAX_LEN};
 pub use crate::duplicate::Duplicate;
 pub use crate::handle::{Handle, Tagged};
 pub use crate::range::Range;

@@ -10,7 +10,7 @@ pub use crate::valid::expression_error::ExpressionError;
 pub use crate::valid::info::{FunctionInfo, ModuleInfo};
 pub use crate::valid::settings::Settings;
 pub use crate::valid::types::{Disalignment, ImmediateError, TypeInfo};
-pub use naga_arena::arena::Arena;
+pub use naga_arena::arena::{Arena, MAX_LEN};
 pub use naga_arena::duplicate::Duplicate;
 pub use naga_arena::handle::{Handle, Tagged};
 pub use naga_arena::range::Range;
@@ -28,7 +28,7 @@ pub use naga_ir::module::{
     Constant, EarlyDepthTest, EntryPoint, GlobalVariable, MeshOutputTopology, MeshStageInfo,
     Module, Override, ResourceBinding, ShaderStage, SpecialTypes,
 };
-pub use naga_ir::operands::{operand, operand_count};
+pub use naga_ir::operands::{listed_operands, operand, operand_count};
 pub use naga_ir::operations::{
     AtomicFunction, CollectiveOperation, CooperativeData, GatherMode, RayPipelineFunction,
     RayQueryFunction, SubgroupOperation,

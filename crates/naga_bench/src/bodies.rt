@@ -153,11 +153,10 @@ fn push(block: &mut Block, statement: Statement) -> Result<(), AllocError> {
     block.push(statement, Span::UNDEFINED)
 }
 
-fn emit(start: u32, count: u32) -> Statement {
-    Statement::Emit(Range {
-        start,
-        end: start.wrapping_add(count),
-    })
+/// An Emit of so many expressions, at least one.
+fn emit(first: u32, count: u32) -> Statement {
+    let last = first.saturating_add(count).saturating_sub(1);
+    Statement::Emit(Range::new(Handle::new(first), Handle::new(last)))
 }
 
 fn store(value: Handle<tag::Expression>) -> Statement {

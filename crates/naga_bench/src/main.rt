@@ -15,7 +15,7 @@ mod wholes;
 use crate::bodies::Shape;
 use crate::cases::{BODIES, Case, Subject};
 use crate::modules::{module, with_globals};
-use crate::timing::{Times, validator};
+use crate::timing::{Timed, Times, validator};
 use crate::wholes::WHOLES;
 use naga_below::{EntryPoint, Module, ModuleInfo};
 use naga_fits::{fits_function, fits_types};
@@ -60,17 +60,19 @@ fn infos_of_first(
     }
 }
 
-/// One judgement of each function of a module behind the first; the times together.
-fn once<C: Clock>(
+/// Each function of a module behind the first, so many times; the times together.
+fn each<C: Clock>(
     clock: &C,
     alloc: Global,
     validator: &mut Validator<Plain>,
     module: &Module,
     infos: &ModuleInfo,
+    count: u64,
 ) -> io::Result<Option<Times>> {
     let mut times = Times::ZERO;
     for fun in module.functions.as_slice().iter().skip(1) {
-        match timing::function(clock, alloc, validator, fun, module, infos)? {
+        let timed = Timed { fun, module, infos };
+        match timing::function(clock, alloc, validator, timed, count)? {
             Some(next) => times = times.plus(next),
             None => return Ok(None),
         }
@@ -78,7 +80,8 @@ fn once<C: Clock>(
     Ok(Some(times))
 }
 
-/// The fastest of many.
+/// The functions of a module behind the first, and how often each is timed: one so many times in a row, several one behind the
+/// other, so many times.
 fn functions<C: Clock>(
     clock: &C,
     alloc: Global,
@@ -89,9 +92,12 @@ fn functions<C: Clock>(
     let Some(infos) = infos_of_first(alloc, validator, module)? else {
         return Ok(None);
     };
+    if module.functions.len() <= 2 {
+        return each(clock, alloc, validator, module, &infos, count);
+    }
     let mut times = Times::NONE;
     for _ in 0..count {
-        match once(clock, alloc, validator, module, &infos)? {
+        match each(clock, alloc, validator, module, &infos, 1)? {
             Some(next) => times = times.fastest(next),
             None => return Ok(None),
         }
@@ -144,10 +150,10 @@ fn first_after_large<C: Clock>(
     let large = module(alloc, Shape::Emits(1_000_000), 1)?;
     let mut times = Times::NONE;
     for _ in 0..10u64 {
-        if once(clock, alloc, validator, &large, &infos)?.is_none() {
+        if each(clock, alloc, validator, &large, &infos, 1)?.is_none() {
             return Ok(None);
         }
-        match once(clock, alloc, validator, &small, &infos)? {
+        match each(clock, alloc, validator, &small, &infos, 1)? {
             Some(next) => times = times.fastest(next),
             None => return Ok(None),
         }

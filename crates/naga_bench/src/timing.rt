@@ -104,36 +104,88 @@ fn lower<C: Clock>(
     Ok(if is_good { nanos(time?) } else { u64::MAX })
 }
 
-/// One judgement of a function, `None` where it is refused. What it answers is dropped behind the clock.
+/// A function that is timed, its module, and the infos of the functions before it.
+#[derive(Clone, Copy)]
+pub struct Timed<'a> {
+    pub fun: &'a Function,
+    pub module: &'a Module,
+    pub infos: &'a ModuleInfo,
+}
+
+/// Tests the conditions so many times: the fastest, `None` where they don't hold.
+fn conditions<C: Clock>(
+    clock: &C,
+    validator: &Validator<Plain>,
+    timed: Timed,
+    count: u64,
+) -> io::Result<Option<u64>> {
+    let Timed { fun, module, infos } = timed;
+    let mut fastest = u64::MAX;
+    for _ in 0..count {
+        let start = Instant::now(clock)?;
+        if !validator.has_types_of(module) || !fits_types(module) {
+            return Ok(None);
+        }
+        if !fits_function(fun, module, infos.functions.len()) {
+            return Ok(None);
+        }
+        fastest = fastest.min(nanos(start.elapsed(clock)?));
+    }
+    Ok(Some(fastest))
+}
+
+/// Judges a function so many times: the fastest, `None` where it is refused. What is answered is dropped behind the clock.
+fn judgement<C: Clock>(
+    clock: &C,
+    alloc: Global,
+    validator: &mut Validator<Plain>,
+    timed: Timed,
+    count: u64,
+) -> io::Result<Option<u64>> {
+    let Timed { fun, module, infos } = timed;
+    if !fits_types(module) || !fits_function(fun, module, infos.functions.len()) {
+        return Ok(None);
+    }
+    let mut fastest = u64::MAX;
+    for _ in 0..count {
+        if !validator.has_types_of(module) {
+            return Ok(None);
+        }
+        let start = Instant::now(clock)?;
+        let answer = validator.validate_function(alloc, fun, module, infos, false);
+        let time = start.elapsed(clock);
+        let is_refused = answer.is_err();
+        drop(answer);
+        if is_refused {
+            return Ok(None);
+        }
+        fastest = fastest.min(nanos(time?));
+    }
+    Ok(Some(fastest))
+}
+
+/// A function's times, each the fastest of so many in a row: so each finds in the caches what it left there itself.
 pub fn function<C: Clock>(
     clock: &C,
     alloc: Global,
     validator: &mut Validator<Plain>,
-    fun: &Function,
-    module: &Module,
-    infos: &ModuleInfo,
+    timed: Timed,
+    count: u64,
 ) -> io::Result<Option<Times>> {
-    let start = Instant::now(clock)?;
-    if !validator.has_types_of(module) || !fits_types(module) {
+    let Some(conditions) = conditions(clock, validator, timed, count)? else {
         return Ok(None);
-    }
-    if !fits_function(fun, module, infos.functions.len()) {
+    };
+    let judged = judgement(clock, alloc, validator, timed, count)?;
+    let Some(whole) = judged else {
         return Ok(None);
+    };
+    let mut fastest = u64::MAX;
+    for _ in 0..count {
+        fastest = fastest.min(lower(clock, alloc, timed.fun, timed.module, timed.infos)?);
     }
-    let conditions = nanos(start.elapsed(clock)?);
-    let start = Instant::now(clock)?;
-    let answer = validator.validate_function(alloc, fun, module, infos, false);
-    let time = start.elapsed(clock);
-    let is_refused = answer.is_err();
-    drop(answer);
-    if is_refused {
-        return Ok(None);
-    }
-    let whole = nanos(time?);
-    let lower = lower(clock, alloc, fun, module, infos)?;
     Ok(Some(Times {
         whole,
-        lower,
+        lower: fastest,
         conditions,
     }))
 }

@@ -13,7 +13,9 @@ use Rattle.naga_runs.specs.Visits.{Place}
 use Rattle.naga_checks.specs.walk.Subgroup.{gathered_points}
 use Rattle.naga_context.specs.Context.{Context}
 use Rattle.naga_context.specs.Points.{may_use, is_in_scope}
-use Rattle.naga_checks.specs.checks.Subgroup.{ballot_points, collective_points, index_of, is_broadcast, index_points, gather_points}
+use Rattle.naga_checks.specs.checks.Subgroup.{ballot_points}
+use Rattle.naga_checks.specs.checks.SubgroupCollective.{collective_points}
+use Rattle.naga_checks.specs.checks.SubgroupGather.{index_of, is_broadcast, index_points, gather_points}
 use Rattle.naga_context.proofs.Flat.{holds_at, holds_behind}
 
 module _ (context : Context) (place : Place) where

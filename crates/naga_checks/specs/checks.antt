@@ -3,4 +3,6 @@ pub mod Control
 pub mod Switch
 pub mod Call
 pub mod Subgroup
+pub mod SubgroupCollective
+pub mod SubgroupGather
 pub mod Barrier

@@ -21,6 +21,28 @@ at_replicate zero i a = refl
 at_replicate (suc n) zero a = refl
 at_replicate (suc n) (suc i) a = at_replicate n i a
 
+-- equal items, filled up with more of them
+filled_up : {A : Type 0} (n m : ℕ) (a : A) → m ≤ n → take n (replicate m a) ++ replicate (n - m) a ≡ replicate n a
+filled_up zero zero a le = refl
+filled_up (suc n) zero a le = let all : suc n - 0 ≡ suc n = omega arith in ap (λ k. replicate k a) all
+filled_up zero (suc m) a le = absurd (omega arith)
+filled_up (suc n) (suc m) a le =
+    let less : suc n - suc m ≡ n - m = omega arith in
+    ap (λ k. a ∷ take n (replicate m a) ++ replicate k a) less ∙ ap (λ l. a ∷ l) (filled_up n m a (omega arith))
+
+-- equal items in front of a list
+front : {A : Type 0} (n : ℕ) (a : A) (rest : List A) → take n (replicate n a ++ rest) ≡ replicate n a
+front zero a rest = refl
+front (suc n) a rest = ap (λ l. a ∷ l) (front n a rest)
+
+-- a column that was cut to n items, filled, and filled up to n
+pub begun : {A : Type 0} (n m : ℕ) (a : A) (rest filled made : List A) → m ≤ n → filled ≡ replicate m a → made ≡ take n (take m (filled ++ rest)) ++ replicate (n - m) a → made ≡ replicate n a
+begun n m a rest filled made le is end =
+    end
+    ∙ ap (λ l. take n (take m (l ++ rest)) ++ replicate (n - m) a) is
+    ∙ ap (λ l. take n l ++ replicate (n - m) a) (front m a rest)
+    ∙ filled_up n m a le
+
 -- a number that is taken is below the next
 pub below_next : (numbers : List ℕ) (next : ℕ) → 0 < next → All (λ n. n < next) numbers → (h : ℕ) → number_at numbers h < next
 below_next [] next some all h = some

@@ -16,4 +16,4 @@ pub use crate::function::{
 };
 pub use crate::interface::{GlobalVariableError, VaryingError};
 pub use crate::mesh::{MeshAnalysis, MeshFault};
-pub use crate::sentences::Explain;
+pub use crate::sentences::{Explain, explain_inside};

@@ -252,7 +252,8 @@ ALL_CAPABILITIES = record { 0 = 0xfffffff }
 abbrev pub ALL_TYPE_FLAGS : TypeFlags
 ALL_TYPE_FLAGS = record { 0 = 0xff }
 
--- no stage, no use of a global, no memory that a barrier orders, no access to a storage image
+-- no stage, no use of a global, no memory that a barrier orders, no access to a storage image, no group of subgroup
+-- operations, no capability, no flag of a type
 abbrev pub NO_STAGE : ShaderStages
 NO_STAGE = record { 0 = 0 }
 
@@ -264,3 +265,12 @@ NO_MEMORY = record { 0 = 0 }
 
 abbrev pub NO_ACCESS : StorageAccess
 NO_ACCESS = record { 0 = 0 }
+
+abbrev pub NO_OPERATION : SubgroupOperationSet
+NO_OPERATION = record { 0 = 0 }
+
+abbrev pub NO_CAPABILITY : Capabilities
+NO_CAPABILITY = record { 0 = 0 }
+
+abbrev pub NO_TYPE_FLAG : TypeFlags
+NO_TYPE_FLAG = record { 0 = 0 }

@@ -11,7 +11,8 @@ use Rattle.naga_runs.specs.Soundness.{Fit}
 use Rattle.naga_runs.specs.Visits.{Place}
 use Rattle.naga_images.specs.walk.Image.{texel_value_points}
 use Rattle.naga_context.specs.Context.{Context}
-use Rattle.naga_images.specs.Image.{array_index_points, stored_format, stored_shape, image_store_points}
+use Rattle.naga_images.specs.Image.{array_index_points, stored_format}
+use Rattle.naga_images.specs.ImageStore.{stored_shape, image_store_points}
 use Rattle.naga_context.specs.Points.{may_use, is_in_scope}
 use Rattle.naga_context.proofs.Flat.{holds_at, holds_behind}
 

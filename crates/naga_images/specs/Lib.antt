@@ -1,3 +1,4 @@
 pub mod Image
+pub mod ImageStore
 pub mod ImageAtomic
 pub mod walk

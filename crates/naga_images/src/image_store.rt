@@ -6,7 +6,7 @@ ghost use Rattle.naga_types.specs.Members.{HasNoMembers};
 ghost use Rattle.naga_context.specs.walk.Answers.{Finds};
 ghost use Rattle.naga_errors.specs.Answers.{AnswersPoints};
 ghost use Rattle.naga_images.specs.walk.Image.{stored_points, texel_value_points};
-ghost use Rattle.naga_images.specs.Image.{stored_type, image_store_points};
+ghost use Rattle.naga_images.specs.ImageStore.{stored_type, image_store_points};
 ghost use Rattle.naga_context.specs.walk.Place.{place_at};
 ghost use Rattle.naga_context.specs.walk.Seen.{context_of};
 ghost use Rattle.naga_context.specs.Types.{type_at};

@@ -17,7 +17,7 @@ pub use crate::module::{
     Constant, EarlyDepthTest, EntryPoint, GlobalVariable, MeshOutputTopology, MeshStageInfo,
     Module, Override, ResourceBinding, ShaderStage, SpecialTypes,
 };
-pub use crate::operands::{operand, operand_count};
+pub use crate::operands::{listed_operands, operand, operand_count};
 pub use crate::operations::{
     AtomicFunction, CollectiveOperation, CooperativeData, GatherMode, RayPipelineFunction,
     RayQueryFunction, SubgroupOperation,

@@ -42,8 +42,8 @@ fn only(operand: Handle<tag::Expression>, place: usize) -> Option<Handle<tag::Ex
     if place == 0 { Some(operand) } else { None }
 }
 
-/// The operands that an expression holds as a list.
-fn listed_operands(expression: &Expression) -> &[Handle<tag::Expression>]
+/// The operands that an expression holds as a list, which are all of an expression but `Access`, `AccessIndex` and `Load`.
+pub fn listed_operands(expression: &Expression) -> &[Handle<tag::Expression>]
     ensures { result.now ≡ listed_operands expression.now }
 {
     match expression {

@@ -1,7 +1,7 @@
 -- A chain of two calls, worked by hand over the plain layer: its infos are vetted, and its last function reaches its first.
 use Rattle.std.specs.Int.RustNames.{bit_or}
 use Rattle.std.specs.Prelude.{false, [], ◌∷◌, None}
-use Rattle.naga_flags.specs.Bits.{EXPRESSIONS, BLOCKS, FRAGMENT, NO_STAGE}
+use Rattle.naga_flags.specs.Bits.{EXPRESSIONS, BLOCKS, FRAGMENT, NO_CAPABILITY, NO_OPERATION, NO_STAGE}
 use Rattle.naga_ir.specs.declared.functions.Function.{Function}
 use Rattle.naga_ir.specs.declared.module.Module.{Module}
 use Rattle.naga_ir.specs.declared.statements.Block.{Block, roll-Block}
@@ -61,9 +61,9 @@ abbrev pub chain_settings : Settings
 chain_settings =
     record {
       flags = record { 0 = bit_or EXPRESSIONS.0 BLOCKS.0 };
-      capabilities = record { 0 = 0 };
+      capabilities = NO_CAPABILITY;
       subgroup_stages = NO_STAGE;
-      subgroup_operations = record { 0 = 0 };
+      subgroup_operations = NO_OPERATION;
     }
 
 -- what holds of the chain

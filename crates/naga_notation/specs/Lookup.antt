@@ -14,12 +14,12 @@ lookup ((text, x) ∷ rest) w = if bytes_eq w text then Some x else lookup rest 
 -- the tokens that have one text each, and the text of each, in a case of any bench
 abbrev pub keywords : List (List ℕ × Token)
 keywords =
-    (codes "emit", token.Emit) ∷ (codes "..", token.To) ∷ (codes "block", token.Block) ∷ (codes "if", token.If)
-    ∷ (codes "switch", token.Switch) ∷ (codes "fall", token.Fall) ∷ (codes "loop", token.Loop)
-    ∷ (codes "break_if", token.BreakIf) ∷ (codes "break", token.Break) ∷ (codes "continue", token.Continue)
-    ∷ (codes "return", token.Return) ∷ (codes "kill", token.Kill) ∷ (codes "store", token.Store)
-    ∷ (codes "barrier", token.Barrier)
-    ∷ (codes "{", token.Open) ∷ (codes "}", token.Close)
+    (codes "{", token.Open) ∷ (codes "}", token.Close) ∷ (codes "emit", token.Emit) ∷ (codes "store", token.Store)
+    ∷ (codes "if", token.If) ∷ (codes "block", token.Block) ∷ (codes "..", token.To)
+    ∷ (codes "return", token.Return) ∷ (codes "break", token.Break) ∷ (codes "loop", token.Loop)
+    ∷ (codes "switch", token.Switch) ∷ (codes "fall", token.Fall) ∷ (codes "break_if", token.BreakIf)
+    ∷ (codes "continue", token.Continue)
+    ∷ (codes "kill", token.Kill) ∷ (codes "barrier", token.Barrier)
     ∷ []
 
 -- those in a case of a bench that has a function to call

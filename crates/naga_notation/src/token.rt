@@ -68,38 +68,38 @@ fn keyword_of(bench: Bench, word: &[u8]) -> Option<Token>
 fn shared_keyword_of(word: &[u8]) -> Option<Token>
     ensures { result ≡ lookup keywords word.now }
 {
-    if word == b"emit".as_slice() {
+    if word == b"{".as_slice() {
+        Some(Token::Open)
+    } else if word == b"}".as_slice() {
+        Some(Token::Close)
+    } else if word == b"emit".as_slice() {
         Some(Token::Emit)
-    } else if word == b"..".as_slice() {
-        Some(Token::To)
-    } else if word == b"block".as_slice() {
-        Some(Token::Block)
+    } else if word == b"store".as_slice() {
+        Some(Token::Store)
     } else if word == b"if".as_slice() {
         Some(Token::If)
+    } else if word == b"block".as_slice() {
+        Some(Token::Block)
+    } else if word == b"..".as_slice() {
+        Some(Token::To)
+    } else if word == b"return".as_slice() {
+        Some(Token::Return)
+    } else if word == b"break".as_slice() {
+        Some(Token::Break)
+    } else if word == b"loop".as_slice() {
+        Some(Token::Loop)
     } else if word == b"switch".as_slice() {
         Some(Token::Switch)
     } else if word == b"fall".as_slice() {
         Some(Token::Fall)
-    } else if word == b"loop".as_slice() {
-        Some(Token::Loop)
     } else if word == b"break_if".as_slice() {
         Some(Token::BreakIf)
-    } else if word == b"break".as_slice() {
-        Some(Token::Break)
     } else if word == b"continue".as_slice() {
         Some(Token::Continue)
-    } else if word == b"return".as_slice() {
-        Some(Token::Return)
     } else if word == b"kill".as_slice() {
         Some(Token::Kill)
-    } else if word == b"store".as_slice() {
-        Some(Token::Store)
     } else if word == b"barrier".as_slice() {
         Some(Token::Barrier)
-    } else if word == b"{".as_slice() {
-        Some(Token::Open)
-    } else if word == b"}".as_slice() {
-        Some(Token::Close)
     } else {
         None
     }
@@ -110,11 +110,11 @@ fn token_of(bench: Bench, word: &[u8]) -> Option<Token>
     ensures found { IfSome result (λ t. IsTextOf bench t word.now) }
     ensures none { IfNone result ((t : declared.Token) → IsTextOf bench t word.now → ⊥) }
 {
-    if let Some(token) = keyword_of(bench, word) {
-        return Some(token);
-    }
     if let Some(index) = bench.index_of(word) {
         return Some(Token::Name(index));
+    }
+    if let Some(token) = keyword_of(bench, word) {
+        return Some(token);
     }
     value_of(word).map(Token::Value)
 }
@@ -124,7 +124,7 @@ pub fn tokens_of(alloc: Global, bench: Bench, words: &[&[u8]]) -> Result<Vec<Tok
     ensures found { IfOk result (λ v. AreTextsOf bench v.items (texts words.now)) }
     ensures none { IsErrOf result ReadError.Unreadable → (ts : List declared.Token) → AreTextsOf bench ts (texts words.now) → ⊥ }
 {
-    let mut tokens = Vec::new(alloc);
+    let mut tokens = Vec::with_capacity(alloc, words.len())?;
     for word in words {
         let Some(token) = token_of(bench, word) else {
             return Err(ReadError::Unreadable);

@@ -1,18 +1,27 @@
 -- A statement that is neither a jump nor asks a condition has the check list of a leaf, which is empty where it holds
 -- others.
-use Rattle.std.proofs.Common.{◌≡◌, ℕ, Option, List, refl, sym}
+use Rattle.std.proofs.Common.{◌≡◌, ℕ, Option, List, false, refl, sym}
 use Rattle.naga_ir.specs.View as view
 use Rattle.naga_ir.specs.declared.statements.Block.{Block}
 use Rattle.naga_ir.specs.declared.statements.Statement as ir
 use Rattle.naga_ir.specs.declared.statements.Statement.{Statement, Switch'}
 use Rattle.naga_ir.specs.declared.statements.Statement.TheBlock.{shown-the_row-SwitchCase-0, backs-Statement}
 use Rattle.naga_ir.specs.declared.statements.SwitchCase.{SwitchCase}
+use Rattle.naga_arena.specs.declared.range.Range.{Range}
 use Rattle.naga_arena.specs.declared.span.Span.{Span}
 use Rattle.naga_runs.specs.Visits.{Place}
 use Rattle.naga_context.specs.Blocks.{emitted_operands}
 use Rattle.naga_context.specs.Context.{Context}
 use Rattle.naga_statements.specs.Past.{Past}
 use Rattle.naga_statements.specs.Rules.{leaf_points, statement_points}
+use Rattle.naga_statements.specs.walk.Frequent.{is_frequent}
+
+-- all kinds but three are judged apart
+pub others : (st : Statement) → ((r : Range) → st ≡ ir.Emit r → ⊥) → ((p v : ℕ) → st ≡ ir.Store p v → ⊥) → ((f : ℕ) (arguments : List ℕ) (r : Option ℕ) → st ≡ ir.Call f arguments r → ⊥) → is_frequent st ≡ false
+others (ir.Emit r) ne ns nc = absurd (ne r refl)
+others (ir.Store p v) ne ns nc = absurd (ns p v refl)
+others (ir.Call f arguments r) ne ns nc = absurd (nc f arguments r refl)
+others _ ne ns nc = refl
 
 module _ (context : Context) (past : Past) (place : Place) (span : Span) where
   pub points_of_leaf : (st : Statement) →

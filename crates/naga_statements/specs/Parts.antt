@@ -1,6 +1,6 @@
 -- What contracts see of a validator: four parts and nothing else.
 use Rattle.std.specs.Prelude.{ℕ, ◌≡◌, ◌<◌, List, All, IfErr, Option, None, Some, length, []}
-use Rattle.naga_flags.specs.Bits.{NO_STAGE}
+use Rattle.naga_flags.specs.Bits.{NO_OPERATION, NO_STAGE}
 use Rattle.naga_ir.specs.declared.module.Module.{Module}
 use Rattle.naga_flags.specs.declared.capabilities.Capabilities.{Capabilities}
 use Rattle.naga_flags.specs.declared.valid.ValidationFlags.{ValidationFlags}
@@ -28,7 +28,7 @@ first_settings flags capabilities =
       flags = flags;
       capabilities = capabilities;
       subgroup_stages = NO_STAGE;
-      subgroup_operations = record { 0 = 0 };
+      subgroup_operations = NO_OPERATION;
     }
 
 -- no ray was traced

@@ -21,14 +21,16 @@ use Rattle.naga_checks.specs.checks.Control.{emit_points, condition_points, retu
 use Rattle.naga_checks.specs.checks.Switch.{switch_points}
 use Rattle.naga_memory.specs.Cooperative.{cooperative_points}
 use Rattle.naga_images.specs.ImageAtomic.{image_atomic_points}
-use Rattle.naga_images.specs.Image.{image_store_points}
+use Rattle.naga_images.specs.ImageStore.{image_store_points}
 use Rattle.naga_memory.specs.Load.{load_points}
 use Rattle.naga_context.specs.Points.{Points}
 use Rattle.naga_rays.specs.RayQuery.{ray_query_points}
 use Rattle.naga_rays.specs.RayTrace.{trace_ray_points}
 use Rattle.naga_statements.specs.Stages.{meet}
 use Rattle.naga_memory.specs.Store.{store_points}
-use Rattle.naga_checks.specs.checks.Subgroup.{ballot_points, collective_points, gather_points}
+use Rattle.naga_checks.specs.checks.Subgroup.{ballot_points}
+use Rattle.naga_checks.specs.checks.SubgroupCollective.{collective_points}
+use Rattle.naga_checks.specs.checks.SubgroupGather.{gather_points}
 
 -- the check list of a statement that is neither a jump nor holds others, behind what the visits before it did
 abbrev pub leaf_points : Context → Past → Place → Statement → Points

@@ -1,6 +1,6 @@
 //! The check lists of the statements that are neither jumps nor hold others.
 
-ghost use Rattle.std.specs.Prelude.{◌≡◌, OnOk};
+ghost use Rattle.std.specs.Prelude.{◌≡◌, false, OnOk};
 ghost use Rattle.naga_errors.specs.Answers.{AnswersPoints};
 ghost use Rattle.naga_context.specs.Blocks.{tree_of};
 ghost use Rattle.naga_context.specs.Context.{ContextFits};
@@ -8,6 +8,7 @@ ghost use Rattle.naga_statements.specs.Ready.{IsStatementReady};
 ghost use Rattle.naga_statements.specs.Rules.{leaf_points};
 ghost use Rattle.naga_context.specs.walk.Place.{place_at};
 ghost use Rattle.naga_context.specs.walk.Seen.{context_of};
+ghost use Rattle.naga_statements.specs.walk.Frequent.{is_frequent};
 ghost use Rattle.naga_statements.specs.walk.State.{kept, seen};
 ghost use Rattle.naga_statements.specs.walk.Walk.{puts};
 ghost use Rattle.naga_context.specs.walk.Table.{HasPut, IsTableOf, known};
@@ -53,11 +54,57 @@ pub fn validate_leaf(
     ensures filled { table.new.filled ≡ table.old.filled }
 {
     let span = located.span;
+    match &located.statement {
+        Statement::Emit(range) => control::validate_emit(&mut table.scope, context, *range, span),
+        Statement::Store { pointer, value } => {
+            check_store(&table.scope, context, *pointer, *value, span)
+        }
+        Statement::Call {
+            function,
+            arguments,
+            result,
+        } => {
+            let site = CallSite {
+                function: *function,
+                named: *result,
+                span,
+            };
+            validate_call(
+                &mut table.scope,
+                &table.filled,
+                context,
+                &site,
+                arguments.as_slice(),
+            )
+        }
+        _ => validate_rarer_leaf(table, state, context, located),
+    }
+}
+
+/// The check list of a statement of any other kind than those that bodies have most. It stands apart from these, so that
+/// nothing is set up for it where one of them is judged.
+#[inline(never)]
+fn validate_rarer_leaf(
+    table: &mut Table,
+    state: &BodyOutcome,
+    context: &BlockContext,
+    located: &Located,
+) -> Result<(), Refused>
+    requires context { ContextFits (context_of context.now) }
+    requires statement { IsStatementReady (context_of context.now) (tree_of (context_of context.now) located.now) }
+    requires kind { is_frequent located.now.statement ≡ false }
+    requires table { IsTableOf (context_of context.now) table.old }
+    ensures fault { AnswersPoints
+        (leaf_points (context_of context.now) (seen (kept table.old.filled state.now)) (place_at (known table.old.scope))
+        located.now.statement)
+        result }
+    ensures scope { OnOk result (HasPut table.old.scope table.new.scope (puts (tree_of (context_of context.now) located.now))) }
+    ensures filled { table.new.filled ≡ table.old.filled }
+{
+    let span = located.span;
     let scope = &mut table.scope;
     let filled = &table.filled;
     match &located.statement {
-        Statement::Emit(range) => control::validate_emit(scope, context, *range, span),
-        Statement::Store { pointer, value } => check_store(scope, context, *pointer, *value, span),
         Statement::ImageStore {
             image,
             coordinate,
@@ -105,18 +152,6 @@ pub fn validate_leaf(
         Statement::WorkGroupUniformLoad { pointer, result } => {
             validate_load(scope, context, *pointer, *result, span)
         }
-        Statement::Call {
-            function,
-            arguments,
-            result,
-        } => {
-            let site = CallSite {
-                function: *function,
-                named: *result,
-                span,
-            };
-            validate_call(scope, filled, context, &site, arguments.as_slice())
-        }
         Statement::CooperativeStore { target, source } => {
             check_cooperative_store(scope, context, *target, source.pointer, span)
         }
@@ -160,6 +195,7 @@ pub fn validate_leaf(
             };
             validate_collective(scope, context, &collective, span)
         }
+        Statement::Emit(_) | Statement::Store { .. } | Statement::Call { .. } => unreachable!(),
         Statement::Block(_)
         | Statement::If { .. }
         | Statement::Switch { .. }

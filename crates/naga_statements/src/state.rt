@@ -55,6 +55,28 @@ pub fn advance(
         (in_context.tree_of (context_of context.now) located.now) }
     ensures count { marked filled.new ≡ marked filled.old }
 {
+    match &located.statement {
+        Statement::Emit(_) => state.stages = state.stages.intersection(ShaderStages::ALL),
+        Statement::Store { .. } => state.stages = state.stages.intersection(ShaderStages::ALL),
+        _ => advance_any(filled, state, context, located),
+    }
+}
+
+/// The same, of a statement of whatever kind.
+fn advance_any(
+    filled: &mut FilledColumn,
+    state: &mut BodyOutcome,
+    context: &BlockContext,
+    located: &Located,
+)
+    requires { IfSome
+        (result_of (StatementNode (in_context.tree_of (context_of context.now) located.now)))
+        (λ r. r < marked filled.old) }
+    ensures state { kept filled.new state.new
+        ≡ with_statement (context_of context.now) (kept filled.old state.old)
+        (in_context.tree_of (context_of context.now) located.now) }
+    ensures count { marked filled.new ≡ marked filled.old }
+{
     if let Some(handle) = result_of(located) {
         filled.fill(handle);
     }

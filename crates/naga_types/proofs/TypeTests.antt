@@ -63,7 +63,7 @@ scalar_iff s None = (λ h. cc, λ e. cc)
 scalar_iff s (Some i) =
     (λ h. ap Some ((inner_iff i (inner.Scalar s)).0 h), λ e. let same : i ≡ inner.Scalar s = cc in (inner_iff i (inner.Scalar s)).1 same)
 
-member_iff : (types : List IrType) (name : List ℕ) (s : Scalar) (m : StructMember) → IsTrue (is_scalar_member types name s m) ↔ IsScalarMember types name s m
+pub member_iff : (types : List IrType) (name : List ℕ) (s : Scalar) (m : StructMember) → IsTrue (is_scalar_member types name s m) ↔ IsScalarMember types name s m
 member_iff types name s m = both_iff _ _ _ _ (named_iff name m.name) (scalar_iff s (inner_at types m.ty))
 
 members_iff : (types : List IrType) (s : Scalar) (ms : List StructMember) → IsTrue (are_exchange_members types s ms) ↔ AreCompareExchangeMembers types s ms

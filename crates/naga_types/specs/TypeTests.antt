@@ -1,7 +1,7 @@
 -- The tests of types, as check lists compute them. A law says that each decides what `Types` says in words.
 use Rattle.std.specs.Prelude.{ℕ, ◌↔◌, IsTrue, Bool, false, ◌&&◌, ◌==◌, List, [], ◌∷◌, Option, None, Some, ◌≡◌, codes}
 use Rattle.std.specs.Cmp.Lexicographic.{pointwise}
-use Rattle.naga_types.specs.Types.{AreEquivalent, IsSameType, IsCompareExchangeStruct, inner_at, bool_scalar, resolved, canonical_of, struct_handle, handle_of}
+use Rattle.naga_types.specs.Types.{AreEquivalent, IsSameType, IsCompareExchangeStruct, IsScalarMember, inner_at, bool_scalar, resolved, canonical_of, struct_handle, handle_of}
 use Rattle.naga_types.specs.contracts.types.TypeInnerPartialEq.TheImpl as type_inner
 use Rattle.naga_types.specs.declared.types.Scalar.{Scalar}
 use Rattle.naga_types.specs.declared.types.StructMember.{StructMember}
@@ -83,3 +83,9 @@ ExchangeStructIsDecided =
 -- of a type that is this scalar
 abbrev pub ScalarIsDecided : Type 0
 ScalarIsDecided = (s : Scalar) (i : Option TypeInner) → IsTrue (is_scalar s i) ↔ (i ≡ Some (inner.Scalar s))
+
+-- of a member of this name, whose type is this scalar
+abbrev pub ScalarMemberIsDecided : Type 0
+ScalarMemberIsDecided =
+    (types : List IrType) (name : List ℕ) (s : Scalar) (m : StructMember) →
+    IsTrue (is_scalar_member types name s m) ↔ IsScalarMember types name s m

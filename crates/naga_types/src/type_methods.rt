@@ -2,7 +2,7 @@
 
 ghost use Rattle.std.specs.Prelude.{◌≡◌, ◌<◌, length};
 ghost use Rattle.naga_types.specs.Types.{scalar_of, scalar_kind_of, pointer_space_of, pointer_base_of, image_coordinates_of, access_of, NamesTypesBelow, NameEachOther, ResolutionFits, value_pointer_of};
-ghost use Rattle.naga_types.specs.TypeTests.{is_equivalent, is_exchange_struct, is_scalar_member, is_same_type, SameIsDecided, EquivalentIsDecided, ExchangeStructIsDecided, ScalarIsDecided};
+ghost use Rattle.naga_types.specs.TypeTests.{is_equivalent, is_exchange_struct, is_scalar_member, is_same_type, SameIsDecided, EquivalentIsDecided, ExchangeStructIsDecided, ScalarIsDecided, ScalarMemberIsDecided};
 ghost use Rattle.naga_types.specs.Formats.{format_kind, format_scalar};
 
 use crate::types::{
@@ -222,6 +222,7 @@ pub fn type_tests_law()
     ensures equivalent { EquivalentIsDecided }
     ensures exchange_struct { ExchangeStructIsDecided }
     ensures scalar { ScalarIsDecided }
+    ensures scalar_member { ScalarMemberIsDecided }
 {}
 
 impl AddressSpace {

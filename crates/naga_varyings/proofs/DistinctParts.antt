@@ -1,8 +1,7 @@
 -- Of an accepted group, no location and no built-in stands twice.
 use Rattle.std.proofs.Common.{◌≡◌, ℕ, suc, Bool, true, false, not, ◌||◌, List, [], ◌∷◌, ◌++◌, Option, None, Some, refl, sym, ap, ◌∙◌, arith}
 use Rattle.std.specs.Prelude.{codes, is_none, unwrap_or}
-use Rattle.naga_flags.specs.declared.capabilities.Capabilities.{Capabilities}
-use Rattle.naga_flags.specs.Bits.{IO_SHAREABLE, MESH_SHADER, has_capability}
+use Rattle.naga_flags.specs.Bits.{IO_SHAREABLE, MESH_SHADER, NO_CAPABILITY, has_capability}
 use Rattle.naga_ir.specs.declared.module.ShaderStage.TheVariants.{Fragment}
 use Rattle.naga_errors.specs.TypeInfos.{type_has}
 use Rattle.naga_errors.specs.declared.interface.VaryingError.TheVariants.{BindingCollision, BlendSrcNotOnStructMember, DuplicateBuiltIn, InvalidBuiltInStage, InvalidBuiltInType, InvalidMultiDimensionalSubgroupBuiltIn, InvalidPerPrimitive, MissingPerPrimitive, NotIOShareableType, UnsupportedCapability}
@@ -80,9 +79,8 @@ built_in_free : (place : VaryingPlace) (types : List IrType) (seen : Seen) (give
 built_in_free place types seen None b e = not_holds _ (first_holds (not (seen.built_ins (canonical b))) (DuplicateBuiltIn b) [] e).0
 built_in_free place types seen (Some i) b e =
     let rule = built_in_rule b place in
-    let none : Capabilities = record { 0 = 0 } in
     let behind : List (Point VaryingError) =
-    (has_required place.capabilities rule.required, UnsupportedCapability (unwrap_or rule.required none))
+    (has_required place.capabilities rule.required, UnsupportedCapability (unwrap_or rule.required NO_CAPABILITY))
     ∷ (not (is_of_one_dimension b) || has_one_dimension place, InvalidMultiDimensionalSubgroupBuiltIn)
     ∷ (not rule.mesh_shader || has_capability place.capabilities MESH_SHADER, UnsupportedCapability MESH_SHADER)
     ∷ (rule.visible, InvalidBuiltInStage b)

@@ -20,7 +20,7 @@ use Rattle.std.specs.Prelude.{◌≡◌, ℕ, suc, Bool, true, false, not, ◌&&
 use Rattle.std.specs.BTreeSet.{contains as set_contains}
 use Rattle.std.specs.List.{list_any}
 use Rattle.std.specs.Ordering.{nat_cmp}
-use Rattle.naga_flags.specs.Bits.{IO_SHAREABLE, MESH_SHADER, has_capability}
+use Rattle.naga_flags.specs.Bits.{IO_SHAREABLE, MESH_SHADER, NO_CAPABILITY, has_capability}
 use Rattle.naga_below.specs.Points.{Point, within}
 use Rattle.naga_types.specs.TypeTests.{is_same_inner, is_scalar}
 use Rattle.naga_types.specs.Types.{inner_at}
@@ -124,9 +124,6 @@ has_built_in_type types given (built_in_type.Inner wanted) = is_same_inner given
 has_built_in_type types given built_in_type.Distances = is_distances types given
 has_built_in_type types given built_in_type.Any = true
 
-abbrev no_capability : Capabilities
-no_capability = record { 0 = 0 }
-
 -- nothing is required, or the target has it
 abbrev pub has_required : Capabilities → Option Capabilities → Bool
 has_required capabilities None = true
@@ -136,7 +133,7 @@ has_required capabilities (Some required) = has_capability capabilities required
 abbrev pub ruled_points : VaryingPlace → List IrType → Seen → TypeInner → BuiltIn → BuiltInRule → List (Point VaryingError)
 ruled_points place types seen given b rule =
     (not (seen.built_ins (canonical b)), DuplicateBuiltIn b)
-    ∷ (has_required place.capabilities rule.required, UnsupportedCapability (unwrap_or rule.required no_capability))
+    ∷ (has_required place.capabilities rule.required, UnsupportedCapability (unwrap_or rule.required NO_CAPABILITY))
     ∷ (not (is_of_one_dimension b) || has_one_dimension place, InvalidMultiDimensionalSubgroupBuiltIn)
     ∷ (not rule.mesh_shader || has_capability place.capabilities MESH_SHADER, UnsupportedCapability MESH_SHADER)
     ∷ (rule.visible, InvalidBuiltInStage b)

@@ -6,7 +6,8 @@ use Rattle.naga_errors.specs.declared.function.SubgroupError.TheVariants as wron
 use Rattle.naga_runs.specs.Visits.{Place}
 use Rattle.naga_context.specs.Context.{Context}
 use Rattle.naga_context.specs.Points.{Points, use_point, put_point}
-use Rattle.naga_checks.specs.checks.Subgroup.{subgroup_point, index_of, is_broadcast, index_points, is_gathered, is_result_of}
+use Rattle.naga_checks.specs.checks.Subgroup.{subgroup_point, is_result_of}
+use Rattle.naga_checks.specs.checks.SubgroupGather.{index_of, is_broadcast, index_points, is_gathered}
 use Rattle.naga_context.specs.Types.{type_at}
 
 -- the result of a collective operation or a gather

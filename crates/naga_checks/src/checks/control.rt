@@ -1,6 +1,6 @@
 //! The check lists of Emit, If, Return, Break and Continue, and of a break condition.
 
-ghost use Rattle.std.specs.Prelude.{◌≡◌, ◌≤◌, OnOk, map};
+ghost use Rattle.std.specs.Prelude.{◌≡◌, ◌≤◌, [], ◌∷◌, OnOk, map};
 ghost use Rattle.std.specs.Option.{option_copied};
 ghost use Rattle.naga_checks.specs.checks.Control.{emit_points, emitted_points, is_bool_scalar, condition_points, declared_type, is_returned_as, return_points, break_points, continue_points};
 ghost use Rattle.naga_context.specs.Results.{is_result};
@@ -26,7 +26,7 @@ use naga_context::refused::Refused;
 use naga_context::table::ScopeColumn;
 use naga_errors::function::FunctionError;
 use naga_ir::expressions::Expression;
-use naga_ir::operands::{operand, operand_count};
+use naga_ir::operands::listed_operands;
 use naga_runs::Abilities;
 use naga_types::type_methods::compare_types;
 use naga_types::types::{Scalar, ScalarKind, TypeInner};
@@ -95,12 +95,41 @@ fn check_each_operand(
 ) -> Result<(), Refused>
     ensures { AnswersPoints (map (use_point (place_at (known scope.now))) (operands_of expression.now)) result }
 {
-    for k in 0..operand_count(expression) {
-        if let Some(handle) = operand(expression, k) {
-            if !scope.may_use(handle) {
-                return Err(not_in_scope(scope.allocator(), handle, span));
-            }
+    match expression {
+        Expression::Load { pointer } => check_operand(scope, *pointer, span),
+        Expression::AccessIndex { base, .. } => check_operand(scope, *base, span),
+        Expression::Access { base, index } => {
+            check_operand(scope, *base, span)?;
+            check_operand(scope, *index, span)
         }
+        _ => check_listed(scope, listed_operands(expression), span),
+    }
+}
+
+/// An operand that every run has put.
+fn check_operand(
+    scope: &ScopeColumn,
+    handle: Handle<tag::Expression>,
+    span: Span,
+) -> Result<(), Refused>
+    ensures { AnswersPoints (use_point (place_at (known scope.now)) handle ∷ []) result }
+{
+    if !scope.may_use(handle) {
+        return Err(not_in_scope(scope.allocator(), handle, span));
+    }
+    Ok(())
+}
+
+/// The operands of a list, in order.
+fn check_listed(
+    scope: &ScopeColumn,
+    operands: &[Handle<tag::Expression>],
+    span: Span,
+) -> Result<(), Refused>
+    ensures { AnswersPoints (map (use_point (place_at (known scope.now))) operands.now) result }
+{
+    for k in 0..operands.len() {
+        check_operand(scope, operands[k], span)?;
     }
     Ok(())
 }

@@ -6,7 +6,7 @@ ghost use Rattle.naga_context.specs.walk.Answers.{Finds};
 ghost use Rattle.naga_errors.specs.Answers.{AnswersPoints};
 ghost use Rattle.naga_context.specs.walk.Place.{place_at};
 ghost use Rattle.naga_context.specs.walk.Seen.{context_of};
-ghost use Rattle.naga_checks.specs.checks.Subgroup.{is_wide_integer, is_combined_by, takes_vectors, is_operand_of, is_scanned, is_done_over, collective_points};
+ghost use Rattle.naga_checks.specs.checks.SubgroupCollective.{is_wide_integer, is_combined_by, takes_vectors, is_operand_of, is_scanned, is_done_over, collective_points};
 ghost use Rattle.naga_context.specs.walk.Table.{HasPut, count, known};
 
 use crate::checks::subgroup::{check_combined, check_operations, check_subgroups, is_number_kind};

@@ -7,7 +7,7 @@ ghost use Rattle.naga_errors.specs.Answers.{AnswersPoints};
 ghost use Rattle.naga_context.specs.walk.Place.{place_at};
 ghost use Rattle.naga_checks.specs.walk.Subgroup.{indexed_points, gathered_points};
 ghost use Rattle.naga_context.specs.walk.Seen.{context_of};
-ghost use Rattle.naga_checks.specs.checks.Subgroup.{index_of, is_broadcast, is_const_at, index_points, is_gathered, gather_points};
+ghost use Rattle.naga_checks.specs.checks.SubgroupGather.{index_of, is_broadcast, is_const_at, index_points, is_gathered, gather_points};
 ghost use Rattle.naga_context.specs.walk.Table.{HasPut, count, known};
 
 use crate::checks::subgroup::{check_combined, check_operations, check_subgroups, is_number_kind};

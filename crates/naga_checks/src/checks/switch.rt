@@ -28,6 +28,7 @@ use std::alloc::Global;
 use std::collections::BTreeSet;
 
 /// Switch: its selector, each case value, and the cases as a whole.
+#[inline(never)]
 pub fn check_switch(
     scope: &ScopeColumn,
     context: &BlockContext,

@@ -23,7 +23,8 @@ impl FilledColumn {
         ensures filled { OnOk result (filled_in self.new ≡ no_handles) }
         ensures count { OnOk result (marked self.new ≡ expressions) }
     {
-        self.marks.clear();
+        self.marks.truncate(expressions);
+        self.marks.as_mut_slice().fill(false);
         self.marks.resize(expressions, false)?;
         Ok(())
     }

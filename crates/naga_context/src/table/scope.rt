@@ -31,7 +31,8 @@ impl ScopeColumn {
         ensures known { OnOk result (known self.new ≡ no_sets) }
         ensures count { OnOk result (count self.new ≡ expressions) }
     {
-        self.numbers.clear();
+        self.numbers.truncate(expressions);
+        self.numbers.as_mut_slice().fill(0);
         self.states.truncate(2);
         self.states[1] = ScopeState::Open;
         self.innermost = 1;

@@ -13,7 +13,8 @@ use Rattle.naga_errors.specs.declared.function.FunctionError.TheVariants.{Invali
 use Rattle.naga_runs.specs.Visits.{Place}
 use Rattle.naga_context.specs.Context.{Context}
 use Rattle.naga_images.specs.ImageAtomic.{change_point, takes_atomics, format_points}
-use Rattle.naga_images.specs.Image.{is_storage_class, stored_format, stored_access, is_coordinate, array_index_points, texel_type, is_of_type}
+use Rattle.naga_images.specs.Image.{is_storage_class, stored_format, stored_access, is_coordinate, array_index_points}
+use Rattle.naga_images.specs.ImageStore.{texel_type, is_of_type}
 use Rattle.naga_context.specs.Points.{Points, use_point}
 use Rattle.naga_context.specs.Types.{type_at, named_type_at}
 use Rattle.naga_images.specs.declared.image.ImageStatement.{ImageStatement}

@@ -9,18 +9,16 @@ ghost use Rattle.naga_statements.specs.Expressions.{with_stages, of_expression};
 ghost use Rattle.naga_statements.specs.walk.Asked.{asked_by, stages_of_all};
 
 use crate::validator::Validator;
+use crate::validator::judge::Subject;
 use bitflags::Flags;
 use naga_arena::handle::Handle;
 use naga_arena::span::Refusal;
 use naga_arena::tag;
-use naga_below::proc::expression_kinds::ExpressionKindTracker;
 use naga_below::valid::expression_error::ExpressionError;
-use naga_below::valid::info::{FunctionInfo, ModuleInfo};
+use naga_below::valid::info::FunctionInfo;
 use naga_errors::below::Below;
 use naga_errors::function::FunctionError;
 use naga_flags::valid::ShaderStages;
-use naga_ir::functions::Function;
-use naga_ir::module::Module;
 use std::alloc::Global;
 
 /// The refusal of an expression by the lower layer, as one of its function. It keeps the places.
@@ -47,23 +45,27 @@ impl<B: Below> Validator<B> {
     pub fn meet_expressions(
         &self,
         alloc: Global,
-        fun: &Function,
-        module: &Module,
-        mod_info: &ModuleInfo,
-        kinds: &ExpressionKindTracker,
+        subject: &Subject,
         info: &mut FunctionInfo,
     ) -> Result<(), Refusal<FunctionError>>
         ensures fault { AnswersLeaving
-            (stages_of_all (B.meaning self.now.below) (asked_by self.now «module».now mod_info.now fun.now kinds.now info.old))
+            (stages_of_all (B.meaning self.now.below) (asked_by self.now subject.now.program.now subject.now.earlier.now subject.now.fun.now subject.now.kinds.now info.old))
             info.new.available_stages result }
         ensures kept { info.new ≡ with_stages info.old info.new.available_stages }
     {
-        let count = fun.expressions.len() as u32;
+        let count = subject.fun.expressions.len() as u32;
         for index in 0..count {
             let handle = Handle::new(index);
             let settings = self.settings;
             let asked = self.below.validate_expression(
-                alloc, settings, handle, fun, module, info, mod_info, kinds,
+                alloc,
+                settings,
+                handle,
+                subject.fun,
+                subject.program,
+                info,
+                subject.earlier,
+                subject.kinds,
             );
             match asked {
                 Ok(mask) => info.available_stages = info.available_stages.intersection(mask),

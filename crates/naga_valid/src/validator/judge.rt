@@ -25,6 +25,16 @@ use naga_ir::functions::Function;
 use naga_ir::module::Module;
 use std::alloc::Global;
 
+/// A function that is judged: the module that it is of, the infos of the functions before it, and one kind for each of its
+/// expressions.
+#[derive(Clone, Copy)]
+pub struct Subject<'a> {
+    pub program: &'a Module,
+    pub earlier: &'a ModuleInfo,
+    pub fun: &'a Function,
+    pub kinds: &'a ExpressionKindTracker,
+}
+
 impl<B: Below> Validator<B> {
     /// What is known of a function where it is accepted, else its first fault. The table is begun anew, and
     /// kept for its memory alone.
@@ -49,8 +59,14 @@ impl<B: Below> Validator<B> {
         let below = &self.below;
         let info = below.process_function(alloc, fun, module, mod_info, flags, capabilities)?;
         let kinds = below.kinds(alloc, &fun.expressions)?;
-        let info = self.check_known(alloc, fun, module, mod_info, &kinds, info, entry_point)?;
-        self.judge_body(alloc, table, fun, module, mod_info, &kinds, info)
+        let subject = Subject {
+            program: module,
+            earlier: mod_info,
+            fun,
+            kinds: &kinds,
+        };
+        let info = self.check_known(alloc, &subject, info, entry_point)?;
+        self.judge_body(alloc, table, &subject, info)
     }
 
     /// The declarations of a function, and its expressions where they are looked at: its info with the stages that they
@@ -58,33 +74,30 @@ impl<B: Below> Validator<B> {
     fn check_known(
         &self,
         alloc: Global,
-        fun: &Function,
-        module: &Module,
-        mod_info: &ModuleInfo,
-        kinds: &ExpressionKindTracker,
+        subject: &Subject,
         info: FunctionInfo,
         entry_point: bool,
     ) -> Result<FunctionInfo, Refusal<FunctionError>>
-        requires infos { AreInfosOf «module».now self.now.types }
-        requires context { ContextFits (asked_by self.now «module».now mod_info.now fun.now kinds.now info) }
+        requires infos { AreInfosOf subject.now.program.now self.now.types }
+        requires context { ContextFits (asked_by self.now subject.now.program.now subject.now.earlier.now subject.now.fun.now subject.now.kinds.now info) }
         ensures { Answers
             (known_by self.now (B.meaning self.now.below) entry_point
-            (asked_by self.now «module».now mod_info.now fun.now kinds.now info))
+            (asked_by self.now subject.now.program.now subject.now.earlier.now subject.now.fun.now subject.now.kinds.now info))
             result }
     {
         let context = BlockContext {
-            program: module,
-            earlier: mod_info,
-            fun,
+            program: subject.program,
+            earlier: subject.earlier,
+            fun: subject.fun,
             info: &info,
-            kinds,
+            kinds: subject.kinds,
             settings: self.settings,
             trace: self.trace,
         };
         check_declarations(alloc, &context, self.infos(), entry_point)?;
         let mut info = info;
         if self.settings.flags.contains(ValidationFlags::EXPRESSIONS) {
-            self.meet_expressions(alloc, fun, module, mod_info, kinds, &mut info)?;
+            self.meet_expressions(alloc, subject, &mut info)?;
         }
         Ok(info)
     }
@@ -94,24 +107,21 @@ impl<B: Below> Validator<B> {
         &self,
         alloc: Global,
         table: &mut Option<Table>,
-        fun: &Function,
-        module: &Module,
-        mod_info: &ModuleInfo,
-        kinds: &ExpressionKindTracker,
+        subject: &Subject,
         info: FunctionInfo,
     ) -> Result<FunctionOutcome, Refusal<FunctionError>>
-        requires context { ContextFits (asked_by self.now «module».now mod_info.now fun.now kinds.now info) }
-        ensures { Answers (judged_with (asked_by self.now «module».now mod_info.now fun.now kinds.now info)) result }
+        requires context { ContextFits (asked_by self.now subject.now.program.now subject.now.earlier.now subject.now.fun.now subject.now.kinds.now info) }
+        ensures { Answers (judged_with (asked_by self.now subject.now.program.now subject.now.earlier.now subject.now.fun.now subject.now.kinds.now info)) result }
     {
         let mut info = info;
         let mut trace = self.trace;
         if self.settings.flags.contains(ValidationFlags::BLOCKS) {
             let context = BlockContext {
-                program: module,
-                earlier: mod_info,
-                fun,
+                program: subject.program,
+                earlier: subject.earlier,
+                fun: subject.fun,
                 info: &info,
-                kinds,
+                kinds: subject.kinds,
                 settings: self.settings,
                 trace,
             };

@@ -1,4 +1,4 @@
-use Rattle.naga_images.specs.Image.{image_store_points}
+use Rattle.naga_images.specs.ImageStore.{image_store_points}
 use Rattle.naga_context.specs.walk.Place.{place_at}
 use Rattle.naga_context.specs.walk.Seen.{context_of}
 use Rattle.naga_context.specs.walk.Table.{known}

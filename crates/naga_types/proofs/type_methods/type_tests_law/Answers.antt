@@ -1,4 +1,4 @@
-use Rattle.naga_types.proofs.TypeTests.{same_iff, equivalent_iff, exchange_iff, scalar_iff}
+use Rattle.naga_types.proofs.TypeTests.{same_iff, equivalent_iff, exchange_iff, member_iff, scalar_iff}
 use Rattle.naga_types.proofs.type_methods.type_tests_law.Goals as goal
 
 pub returns-clause-same : goal.returns-clause-same
@@ -12,3 +12,6 @@ returns-clause-exchange_struct c = exchange_iff
 
 pub returns-clause-scalar : goal.returns-clause-scalar
 returns-clause-scalar c = scalar_iff
+
+pub returns-clause-scalar_member : goal.returns-clause-scalar_member
+returns-clause-scalar_member c = member_iff

@@ -1,7 +1,7 @@
 use Rattle.std.proofs.Common.{rules}
 use Rattle.naga_context.specs.walk.Place.{place_at}
 use Rattle.naga_context.specs.walk.Seen.{context_of}
-use Rattle.naga_checks.specs.checks.Subgroup.{collective_points}
+use Rattle.naga_checks.specs.checks.SubgroupCollective.{collective_points}
 use Rattle.naga_context.specs.walk.Table.{known}
 use Rattle.naga_checks.proofs.Subgroups.{collective_is_new}
 use Rattle.naga_checks.proofs.checks.subgroup_collective.validate_collective.Goals as goal

@@ -1,10 +1,12 @@
-use Rattle.std.proofs.Common.{rules, ◌≡◌, false, replicate}
+use Rattle.std.proofs.Common.{◌≤◌, ◌∙◌, false, replicate, ap, arith}
 use Rattle.naga_context.specs.walk.Table.{filled_in}
-use Rattle.naga_context.proofs.Columns.{nothing_marked}
+use Rattle.naga_context.proofs.Columns.{begun, nothing_marked}
 use Rattle.naga_context.proofs.table.FilledColumn.begin.Goals as goal
 
 pub returns-clause-filled : goal.returns-clause-filled
 unfolding filled_in
 returns-clause-filled c =
-    let is : c.resize.new.self.items ≡ replicate c.args.expressions false = search rules in
+    let less : c.truncate.new.self.len ≤ c.args.expressions = omega (arith, c.truncate.ensures.len) in
+    let all = c.fill.ensures.after (λ y e. e) ∙ ap (λ n. replicate n false) c.as_mut_slice.ensures.len in
+    let is = begun c.args.expressions c.truncate.new.self.len false _ c.fill.new.self c.resize.new.self.items less all c.in_ok-resize.ensures.items in
     nothing_marked _ c.args.expressions is
