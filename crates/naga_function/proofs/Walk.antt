@@ -29,6 +29,7 @@ use Rattle.naga_context.specs.Context.{Context}
 use Rattle.naga_checks.specs.checks.Control.{break_if_points}
 use Rattle.naga_statements.specs.Rules.{statement_points}
 use Rattle.naga_context.specs.walk.Place.{Sets, place_at}
+use Rattle.naga_statements.specs.walk.Frequent.{is_frequent}
 use Rattle.naga_context.specs.walk.Table.{with_all, with_puts}
 use Rattle.naga_statements.specs.walk.Walk.{puts, body_puts, puts_to_continue, behind_loop_body, own_answer, parts_answer, stmt_answer, body_answer, cases_answer, break_if_answer}
 use Rattle.naga_checks.specs.walk.Emitted.{place}
@@ -260,5 +261,19 @@ no_continue context (Switch' h shape row) span nb ni ns nc =
     absurd (ns h (shown-the_row-SwitchCase-0 shape row) (sym (backs-Statement (Switch' h shape row))))
 no_continue context ir.Continue span nb ni ns nc = absurd (nc refl)
 no_continue context _ span nb ni ns nc = refl
+
+-- a statement of a kind that bodies have most has no parts, and holds no Continue
+pub frequent_parts : (context : Context) (k : State) (a : Abilities) (s : Sets) (st : Statement) (span : Span) → is_frequent st ≡ true → parts_answer context k a s (view.tree_of (emitted_operands context.fun) st span) ≡ Ok k
+unfolding parts_answer judge_parts judge_visits
+frequent_parts context k a s (ir.Emit r) span e = refl
+frequent_parts context k a s (ir.Store p v) span e = refl
+frequent_parts context k a s (ir.Call f arguments r) span e = refl
+frequent_parts context k a s _ span e = cc
+
+pub frequent_holds : (context : Context) (st : Statement) (span : Span) → is_frequent st ≡ true → false ≡ holds_continue (view.tree_of (emitted_operands context.fun) st span)
+frequent_holds context (ir.Emit r) span e = refl
+frequent_holds context (ir.Store p v) span e = refl
+frequent_holds context (ir.Call f arguments r) span e = refl
+frequent_holds context _ span e = cc
 
 pub ruleset walking = (parts_block, parts_branch, parts_switch, parts_loop, stmt_more, own_passes, own_refuses, break_if_passes, break_if_refuses, passes, stops_first, stops_next, answers_next)

@@ -24,6 +24,7 @@ use naga_context::table::{ScopeColumn, Table};
 use naga_errors::function::FunctionError;
 use naga_ir::statements::{Block, Located, Statement, SwitchCase};
 use naga_runs::Abilities;
+use naga_statements::leaf::is_frequent;
 use naga_statements::results::check_filled;
 use naga_statements::state::{BodyOutcome, advance};
 use naga_statements::statement::{check_break_if, validate_points};
@@ -104,9 +105,10 @@ fn put_pre_emitted(scope: &mut ScopeColumn, context: &BlockContext)
     }
 }
 
-/// The parts of a statement. Answers whether it holds a Continue for the Loop in whose body it stands.
+/// The parts of a statement; nothing is set up for them where a statement has none. Answers whether it holds a Continue for the Loop in whose body it stands.
 #[tactic(auto, using(crate::proofs::Walk::walking))]
 #[cycle(walk)]
+#[inline(never)]
 fn validate_parts(
     table: &mut Table,
     state: &mut BodyOutcome,
@@ -240,6 +242,9 @@ fn validate_statement(
 {
     validate_points(table, state, context, abilities, located)?;
     advance(&mut table.filled, state, context, located);
+    if is_frequent(located) {
+        return Ok(false);
+    }
     validate_parts(table, state, context, abilities, located)
 }
 

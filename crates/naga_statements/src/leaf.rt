@@ -35,6 +35,16 @@ use naga_memory::store::check_store;
 use naga_rays::ray_query::validate_ray_query;
 use naga_rays::ray_trace::{Ray, check_trace_ray};
 
+/// Whether a statement is of one of the kinds that bodies have most, which hold no others.
+pub fn is_frequent(located: &Located) -> bool
+    ensures { result ≡ is_frequent located.now.statement }
+{
+    matches!(
+        &located.statement,
+        Statement::Emit(_) | Statement::Store { .. } | Statement::Call { .. }
+    )
+}
+
 /// The check list of a statement that is neither a jump nor holds others; of the others it is empty. What the statement
 /// puts is in scope afterwards.
 pub fn validate_leaf(

@@ -30,7 +30,7 @@ pub fn stages_of(context: &BlockContext, located: &Located) -> ShaderStages
 }
 
 /// The stages that an earlier function may run in.
-fn callee_stages(context: &BlockContext, function: Handle<tag::Function>) -> ShaderStages
+pub fn callee_stages(context: &BlockContext, function: Handle<tag::Function>) -> ShaderStages
     ensures { result ≡ callee_stages (context_of context.now).earlier function }
 {
     match context.earlier.functions.as_slice().get(function.index()) {

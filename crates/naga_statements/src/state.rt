@@ -9,7 +9,7 @@ ghost use Rattle.naga_context.specs.walk.Seen.{context_of};
 ghost use Rattle.naga_statements.specs.walk.State.{kept, with_statement};
 ghost use Rattle.naga_context.specs.walk.Table.{marked};
 
-use crate::stages::stages_of;
+use crate::stages::{callee_stages, stages_of};
 use bitflags::Flags;
 use naga_arena::handle::Handle;
 use naga_arena::tag;
@@ -58,11 +58,22 @@ pub fn advance(
     match &located.statement {
         Statement::Emit(_) => state.stages = state.stages.intersection(ShaderStages::ALL),
         Statement::Store { .. } => state.stages = state.stages.intersection(ShaderStages::ALL),
+        Statement::Call {
+            function,
+            result,
+            ..
+        } => {
+            if let Some(handle) = result {
+                filled.fill(*handle);
+            }
+            state.stages = state.stages.intersection(callee_stages(context, *function));
+        }
         _ => advance_any(filled, state, context, located),
     }
 }
 
 /// The same, of a statement of whatever kind.
+#[inline(never)]
 fn advance_any(
     filled: &mut FilledColumn,
     state: &mut BodyOutcome,

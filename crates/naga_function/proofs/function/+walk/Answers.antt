@@ -18,7 +18,7 @@ use Rattle.naga_runs.specs.Must.{body_holds_continue, cases_hold_continue}
 use Rattle.naga_function.proofs.LoopBody.{PutsOfLoop, at_first, one_more, undivided, divided, may_part}
 use Rattle.naga_statements.proofs.Parts.{in_block, in_branch, in_switch, in_lists, in_list, in_cases, in_result}
 use Rattle.naga_context.proofs.Refusals.{next_is, passes, stops_first, stops_next, answers_next}
-use Rattle.naga_function.proofs.Walk.{holds_turn, holds_end, rest_turn, rest_end, cases_hold_turn, cases_hold_end, leaving_err, no_continue, or_assoc, parts_continue, no_parts, own_passes, own_refuses, parts_later, parts_branch, parts_switch, stmt_more, body_turn, puts_turn, body_end, puts_end, cases_turn, cases_end}
+use Rattle.naga_function.proofs.Walk.{holds_turn, holds_end, rest_turn, rest_end, cases_hold_turn, cases_hold_end, leaving_err, no_continue, frequent_parts, frequent_holds, or_assoc, parts_continue, no_parts, own_passes, own_refuses, parts_later, parts_branch, parts_switch, stmt_more, body_turn, puts_turn, body_end, puts_end, cases_turn, cases_end}
 use Rattle.naga_function.proofs.function.+walk.Goals as goal
 
 pub validate_parts-validate_block-requires : goal.validate_parts-validate_block-requires
@@ -65,6 +65,27 @@ validate_statement-returns-clause-fault t c =
     rw (stmt_more context k c.args.abilities s x) (
     answers_next _ _ _ _ _ (own_passes context k c.args.abilities s x c.in_ok-validate_points.ensures.fault) (rw (next, ← parts_later context (kept c.advance.new.filled c.advance.new.state) c.args.abilities s x, ← put) c.validate_parts.ensures.fault)
     )
+
+pub validate_statement-returns-then-is_frequent-clause-fault :
+    goal.validate_statement-returns-then-is_frequent-clause-fault
+validate_statement-returns-then-is_frequent-clause-fault t c =
+    let context = context_of c.args.context.now in
+    let k = kept c.args.table.now.filled c.args.state.now in
+    let s = known c.args.table.now.scope in
+    let x = tree_of context c.args.located.now in
+    let next = ap (λ filled. with_statement context (kept filled c.args.state.now) x) (sym c.in_ok-validate_points.ensures.filled) ∙ sym c.advance.ensures.state in
+    let put = c.in_ok-validate_points.ensures.scope.inside in
+    let later = kept c.advance.new.filled c.advance.new.state in
+    let frequent = sym c.is_frequent.ensures ∙ c.if-is_frequent.true in
+    let none = frequent_parts context later c.args.abilities (known c.validate_points.new.table.scope) c.args.located.now.statement c.args.located.now.span frequent in
+    rw (stmt_more context k c.args.abilities s x) (
+    passes _ _ (with_statement context k x) later (own_passes context k c.args.abilities s x c.in_ok-validate_points.ensures.fault) (rw (next, ← parts_later context later c.args.abilities s x, ← put) none)
+    )
+
+pub validate_statement-returns-then-is_frequent-clause-held :
+    goal.validate_statement-returns-then-is_frequent-clause-held
+validate_statement-returns-then-is_frequent-clause-held t c =
+    frequent_holds (context_of c.args.context.now) c.args.located.now.statement c.args.located.now.span (sym c.is_frequent.ensures ∙ c.if-is_frequent.true)
 
 pub validate_statements-validate_statement-requires :
     goal.validate_statements-validate_statement-requires
