@@ -1,12 +1,10 @@
--- Emit: the operands of an expression, one expression and those behind it, and what an Emit puts.
-use Rattle.std.proofs.Common.{◌≡◌, ℕ, zero, suc, ◌+◌, ◌-◌, ◌<◌, ◌≤◌, ◌==◌, Bool, true, false, not, ◌&&◌, ◌||◌, nat_le, nat_lt, Option, Some, None, List, [], ◌∷◌, ◌++◌, drop, slice_get, refl, sym, ap, ◌∙◌, arith}
+-- Emit: one expression and those behind it, and what an Emit puts.
+use Rattle.std.proofs.Common.{◌≡◌, ℕ, zero, suc, ◌+◌, ◌-◌, ◌<◌, ◌≤◌, ◌==◌, Bool, true, false, not, ◌&&◌, ◌||◌, nat_le, nat_lt, Option, Some, None, List, [], ◌∷◌, ◌++◌, refl, sym, ap, ◌∙◌, arith}
 use Rattle.std.proofs.lemmas.Bool.Decides.{nat_tests}
 use Rattle.std.specs.Option.{option_or}
 use Rattle.std.specs.Prelude.{map, if◌then◌else◌}
-use Rattle.naga_below.proofs.Each.{from_here}
 use Rattle.naga_below.proofs.Points.{first_holds, both_hold, first_of_both, not_holds}
 use Rattle.naga_below.specs.Points.{first_fault}
-use Rattle.naga_ir.specs.Tree.{Act}
 use Rattle.naga_ir.specs.View.{emitted}
 use Rattle.naga_arena.specs.declared.span.Refusal.{Refusal}
 use Rattle.naga_arena.specs.declared.span.Refusal.TheVariants as refusal
@@ -20,8 +18,8 @@ use Rattle.naga_runs.specs.PutsAndUses.{puts_of}
 use Rattle.naga_runs.specs.Visits.{Place}
 use Rattle.naga_context.specs.Blocks.{emitted_operands, operands_if}
 use Rattle.naga_context.specs.Context.{Context}
-use Rattle.naga_context.specs.Points.{Points, use_point, put_point, may_use, is_in_scope}
-use Rattle.naga_checks.specs.checks.Control.{within_emit, emitted_points, emit_points_from, emit_points}
+use Rattle.naga_context.specs.Points.{Points, use_point, put_point, is_in_scope}
+use Rattle.naga_checks.specs.checks.Control.{within_emit, emitted_points, emit_points_from}
 use Rattle.naga_context.specs.Results.{is_result}
 use Rattle.naga_context.specs.Types.{expression_at}
 use Rattle.naga_context.specs.walk.Answers.{IsRefusalFor}
@@ -148,22 +146,6 @@ module _ (context : Context) (place : Place) (start h end : ℕ) (lt : h < end) 
 pub emit_none : (context : Context) (place : Place) (start h end : ℕ) → end ≤ h → first_fault (emit_points_from context place start h (end - h)) ≡ None
 emit_none context place start h end le =
     let none : end - h ≡ 0 = omega arith in ap (λ n. first_fault (emit_points_from context place start h n)) none
-
--- the operands of an expression: one of them, and those behind it
-module _ (place : Place) where
-  abbrev used : List ℕ → Option FunctionError
-  used hs = first_fault (map (use_point place) hs)
-
-  first_used : (xs : List ℕ) (k h : ℕ) (whole : Option FunctionError) (b : Bool) → slice_get xs k ≡ Some h → used (drop k xs) ≡ whole → may_use place h ≡ b → first_fault ((b, fault.Expression h NotInScope) ∷ map (use_point place) (drop (k + 1) xs)) ≡ whole
-  first_used xs k h whole b there e is =
-      sym (ap used (from_here xs k h there) ∙ ap (λ c. first_fault ((c, fault.Expression h NotInScope) ∷ map (use_point place) (drop (k + 1) xs))) is) ∙ e
-
-  pub operand_stops : (xs : List ℕ) (k h : ℕ) (given : Refusal FunctionError) (whole : Points) → slice_get xs k ≡ Some h → used (drop k xs) ≡ first_fault whole → may_use place h ≡ false → IsRefusalFor (fault.Expression h NotInScope) given → IsFirstFault whole given
-  operand_stops xs k h given whole there e unusable for_it =
-      refuses_fault (fault.Expression h NotInScope) given whole for_it (first_used xs k h (first_fault whole) false there e unusable)
-
-  pub operand_next : (xs : List ℕ) (k h : ℕ) (whole : Option FunctionError) → slice_get xs k ≡ Some h → used (drop k xs) ≡ whole → may_use place h ≡ true → used (drop (k + 1) xs) ≡ whole
-  operand_next xs k h whole there e usable = first_used xs k h whole true there e usable
 
 -- what an Emit puts are the handles of its range
 pub emit_puts : (operands : ℕ → List ℕ) (start n : ℕ) → puts_of (emitted operands start n) ≡ handles_from start n

@@ -6,7 +6,7 @@ ghost use Rattle.naga_checks.specs.checks.Control.{emit_points, emitted_points, 
 ghost use Rattle.naga_context.specs.Results.{is_result};
 ghost use Rattle.naga_context.specs.walk.Place.{no_sets, place_at};
 ghost use Rattle.naga_checks.specs.walk.Emitted.{handles_between, place};
-ghost use Rattle.naga_errors.specs.declared.function.FunctionError.TheVariants.{EmitResult, InvalidIfType, InvalidReturnSpot, InvalidReturnType};
+ghost use Rattle.naga_errors.specs.declared.function.FunctionError.TheVariants.{BreakOutsideOfLoopOrSwitch, ContinueOutsideOfLoop, EmitResult, InvalidIfType, InvalidReturnSpot, InvalidReturnType};
 ghost use Rattle.naga_context.specs.walk.Answers.{IsRefusalFor, RefusesFaultsAlone};
 ghost use Rattle.naga_errors.specs.Answers.{AnswersPoints};
 ghost use Rattle.naga_context.specs.Context.{ContextFits};
@@ -256,8 +256,7 @@ pub fn check_break(alloc: Global, abilities: Abilities, span: Span) -> Result<()
     ensures refused { RefusesFaultsAlone (break_points (place abilities no_sets)) result }
 {
     if !abilities.can_break {
-        let fault = FunctionError::BreakOutsideOfLoopOrSwitch;
-        return Err(Refused::placed(alloc, fault, span));
+        return Err(break_outside_of_loop_or_switch(alloc, span));
     }
     Ok(())
 }
@@ -268,10 +267,27 @@ pub fn check_continue(alloc: Global, abilities: Abilities, span: Span) -> Result
     ensures refused { RefusesFaultsAlone (continue_points (place abilities no_sets)) result }
 {
     if !abilities.can_continue {
-        let fault = FunctionError::ContinueOutsideOfLoop;
-        return Err(Refused::placed(alloc, fault, span));
+        return Err(continue_outside_of_loop(alloc, span));
     }
     Ok(())
+}
+
+/// The refusal of a Break that is in no body of a Loop and in no case.
+#[cold]
+#[inline(never)]
+fn break_outside_of_loop_or_switch(alloc: Global, span: Span) -> Refused
+    ensures { IsRefusalFor BreakOutsideOfLoopOrSwitch result }
+{
+    Refused::placed(alloc, FunctionError::BreakOutsideOfLoopOrSwitch, span)
+}
+
+/// The refusal of a Continue that is in no body of a Loop.
+#[cold]
+#[inline(never)]
+fn continue_outside_of_loop(alloc: Global, span: Span) -> Refused
+    ensures { IsRefusalFor ContinueOutsideOfLoop result }
+{
+    Refused::placed(alloc, FunctionError::ContinueOutsideOfLoop, span)
 }
 
 /// The refusal of an Emit of what another statement puts.
