@@ -1,8 +1,8 @@
 -- The check list of Call: its turns, and that it guards what a Call uses and puts.
-use Rattle.std.proofs.Common.{◌≡◌, ℕ, suc, ◌==◌, Bool, true, false, not, ◌&&◌, List, [], ◌∷◌, ◌++◌, Option, None, Some, Result, Ok, Err, length, slice_get, refl, sym, ap, ◌∙◌, subst, arith}
+use Rattle.std.proofs.Common.{◌≡◌, ℕ, zero, suc, ◌<◌, ◌==◌, Bool, true, false, not, ◌&&◌, List, [], ◌∷◌, ◌++◌, Option, None, Some, Result, Ok, Err, length, slice_get, get_or, drop, refl, sym, ap, ◌∙◌, subst, arith}
 use Rattle.std.proofs.lemmas.Bool.Decides.{nat_tests}
-use Rattle.std.specs.Option.{option_map}
-use Rattle.std.specs.Prelude.{IfSome, IsErr, is_some, map}
+use Rattle.std.specs.Option.{option_map, option_or}
+use Rattle.std.specs.Prelude.{◌↔◌, IfSome, IsErr, IsTrue, is_some, map}
 use Rattle.naga_ir.specs.Tree.{Act, Use}
 use Rattle.naga_ir.specs.View.{put_if}
 use Rattle.naga_ir.specs.declared.functions.Function.{Function}
@@ -11,7 +11,7 @@ use Rattle.naga_below.specs.declared.valid.expression_error.ExpressionError.TheV
 use Rattle.naga_errors.specs.declared.function.CallError.{CallError}
 use Rattle.naga_errors.specs.declared.function.CallError.TheVariants.{Argument, ArgumentCount, ArgumentType, ExpressionMismatch, ResultAlreadyInScope, ResultAlreadyPopulated}
 use Rattle.naga_errors.specs.declared.function.FunctionError.TheVariants.{InvalidCall}
-use Rattle.naga_below.proofs.Points.{first_holds, both_hold, first_within, not_holds}
+use Rattle.naga_below.proofs.Points.{first_holds, both_hold, first_of_both, first_within, not_holds}
 use Rattle.naga_runs.specs.Handles.{Handles}
 use Rattle.naga_runs.specs.Visits.{Place}
 use Rattle.naga_below.specs.Points.{Point, first_fault, within}
@@ -23,7 +23,7 @@ use Rattle.naga_context.specs.Context.{Context}
 use Rattle.naga_runs.specs.PutsAndUses.{puts_of}
 use Rattle.naga_context.specs.Points.{Points, may_use, is_in_scope}
 use Rattle.naga_errors.specs.Answers.{AnswersPoints}
-use Rattle.naga_context.specs.walk.Answers.{RefusesFaultsAlone}
+use Rattle.naga_context.specs.walk.Answers.{AllHold, RefusesFaultsAlone}
 use Rattle.naga_context.specs.Results.{is_fresh}
 use Rattle.naga_context.specs.Types.{expression_at}
 use Rattle.naga_checks.proofs.Lists.{within-append}
@@ -47,6 +47,22 @@ arguments_fit context place k (d ∷ ds) (g ∷ gs) acts l e rest =
     (here.0, arguments_fit context place (suc k) ds gs acts same both.1 rest)
 arguments_fit context place k [] (g ∷ gs) acts l e rest = cc
 arguments_fit context place k (d ∷ ds) [] acts l e rest = cc
+
+-- where not every run has put an argument, its point fails
+pub argument_missing : (context : Context) (place : Place) (f i k d : ℕ) (ds : List FunctionArgument) (gs : List ℕ) → i < length gs → length ds ≡ length gs → may_use place (get_or gs i d) ≡ false → first_fault (within (InvalidCall f) (passed_points_from context place k (drop i ds) (drop i gs))) ≡ None → ⊥
+argument_missing context place f i k z [] gs lt l missing none = absurd (omega (arith, lt, l))
+argument_missing context place f i k z (d ∷ ds) [] lt l missing none = cc
+argument_missing context place f zero k z (d ∷ ds) (g ∷ gs) lt l missing none =
+    let typed = within (InvalidCall f) ((is_passed_as context g d.ty, ArgumentType k d.ty g) ∷ passed_points_from context place (suc k) ds gs) in
+    let here = first_holds (may_use place g) (InvalidCall f (Argument k NotInScope)) typed none in
+    cc (here.0)
+argument_missing context place f (suc i) k z (d ∷ ds) (g ∷ gs) lt l missing none =
+    argument_missing context place f i k z ds gs (omega arith) (omega (arith, l)) missing none
+
+-- what holds of all arguments holds of them one by one
+pub arguments_pass : (context : Context) (place : Place) (f : ℕ) (ds : List FunctionArgument) (gs : List ℕ) → AllHold (within (InvalidCall f) (all_passed_points context place ds gs)) → AllHold (within (InvalidCall f) (passed_points_from context place 0 ds gs))
+arguments_pass context place f ds gs all =
+    (first_holds (length ds == length gs) (InvalidCall f (ArgumentCount (length ds) (length gs))) (within (InvalidCall f) (passed_points_from context place 0 ds gs)) all).1
 
 -- the points of a result, where it names one
 pub named_holds : (context : Context) (filled : Handles) (place : Place) (f : ℕ) (returns : Bool) (r : ℕ) → first_fault (call_result_points context filled place f returns (Some r)) ≡ None →
@@ -115,6 +131,14 @@ module _ (context : Context) (filled : Handles) (place : Place) (f : ℕ) (gs : 
 
   both_alone : first_fault (call_points context filled place f gs named) ≡ None → (first_fault arguments ≡ None) × (first_fault results ≡ None)
   both_alone none = both_hold arguments results (ap first_fault (sym split) ∙ none)
+
+  -- where its arguments hold the result decides, and where they don't it doesn't hold
+  pub call_passes : (here next : Bool) → IsTrue here ↔ AllHold arguments → IsTrue next ↔ AllHold results → here ≡ true → IsTrue next ↔ AllHold (call_points context filled place f gs named)
+  call_passes here next h n holds =
+      (λ e. ap first_fault split ∙ first_of_both arguments results ∙ ap (λ o. option_or o (first_fault results)) (h.0 holds) ∙ n.0 e, λ all. n.1 (both_alone all).1)
+
+  pub call_fails : (here : Bool) → IsTrue here ↔ AllHold arguments → here ≡ false → IsTrue false ↔ AllHold (call_points context filled place f gs named)
+  call_fails here h fails = (λ e. cc, λ all. sym fails ∙ h.1 (both_alone all).0)
 
   -- a refusal of the arguments, or of the result, is one of the call
   pub call_stops_alone : {T E : Type 0} (r : Result T E) → RefusesFaultsAlone arguments r → RefusesFaultsAlone (call_points context filled place f gs named) r

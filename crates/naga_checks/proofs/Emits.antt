@@ -2,7 +2,7 @@
 use Rattle.std.proofs.Common.{◌≡◌, ℕ, zero, suc, ◌+◌, ◌-◌, ◌<◌, ◌≤◌, ◌==◌, Bool, true, false, not, ◌&&◌, ◌||◌, nat_le, nat_lt, Option, Some, None, List, [], ◌∷◌, ◌++◌, refl, sym, ap, ◌∙◌, arith}
 use Rattle.std.proofs.lemmas.Bool.Decides.{nat_tests}
 use Rattle.std.specs.Option.{option_or}
-use Rattle.std.specs.Prelude.{map, if◌then◌else◌}
+use Rattle.std.specs.Prelude.{◌↔◌, IsTrue, map, if◌then◌else◌}
 use Rattle.naga_below.proofs.Points.{first_holds, both_hold, first_of_both, not_holds}
 use Rattle.naga_below.specs.Points.{first_fault}
 use Rattle.naga_ir.specs.View.{emitted}
@@ -22,7 +22,7 @@ use Rattle.naga_context.specs.Points.{Points, use_point, put_point, is_in_scope}
 use Rattle.naga_checks.specs.checks.Control.{within_emit, emitted_points, emit_points_from}
 use Rattle.naga_context.specs.Results.{is_result}
 use Rattle.naga_context.specs.Types.{expression_at}
-use Rattle.naga_context.specs.walk.Answers.{IsRefusalFor}
+use Rattle.naga_context.specs.walk.Answers.{AllHold, IsRefusalFor}
 use Rattle.naga_errors.specs.Answers.{IsFirstFault}
 use Rattle.naga_context.specs.walk.Place.{Sets, place_at}
 use Rattle.naga_context.specs.walk.Table.{with_all, with_puts}
@@ -120,6 +120,21 @@ module _ (context : Context) (place : Place) (h : ℕ) where
       let operands = map (use_point place) (emitted_operands context.fun h) in
       let kind = first_holds (not (is_result (expression_at context h))) (EmitResult h) (operands ++ puts) e in
       not_holds (is_in_scope place h) (first_holds (not (is_in_scope place h)) (ExpressionAlreadyInScope h) [] (both_hold operands puts kind.1).1).0
+
+-- the points of one handle, where it is of a kind that an Emit emits and it is asked first whether its operands hold
+module _ (context : Context) (place : Place) (h : ℕ) (o : Option Expression) (is : o ≡ expression_at context h) (kind : is_result o ≡ false) (used : Bool) (asked : IsTrue used ↔ AllHold (map (use_point place) (operands_if o))) where
+  pub emitted_passes : used ≡ true → IsTrue (not (is_in_scope place h)) ↔ AllHold (emitted_points context place place h)
+  emitted_passes holds =
+      (λ new. emitted_once context place h o is kind (asked.0 holds) (not_holds (is_in_scope place h) new), λ all. ap not (emitted_new context place h all))
+
+  pub emitted_fails : used ≡ false → IsTrue false ↔ AllHold (emitted_points context place place h)
+  emitted_fails fails = (λ e. cc, λ all. sym fails ∙ asked.1 (operands_fit all))
+    where
+      operands_fit : first_fault (emitted_points context place place h) ≡ None → first_fault (map (use_point place) (operands_if o)) ≡ None
+      operands_fit all =
+          let operands = map (use_point place) (emitted_operands context.fun h) in
+          let here = (both_hold operands (puts context place h) (first_holds (not (is_result (expression_at context h))) (EmitResult h) (operands ++ puts context place h) all).1).0 in
+          ap (λ x. first_fault (map (use_point place) (operands_if x))) is ∙ here
 
 -- the points of one handle, and those behind it
 module _ (context : Context) (place : Place) (start h end : ℕ) (lt : h < end) where

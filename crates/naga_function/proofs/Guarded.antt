@@ -1,9 +1,9 @@
 -- Where no point of a visit fails, its uses are allowed, its puts are not in scope, and its jump is allowed; so the runs
 -- of an accepted body are sure.
 use Rattle.std.proofs.Common.{◌≡◌, ℕ, zero, suc, ◌≤◌, ◌==◌, ◌&&◌, ◌||◌, nat_le, nat_lt, ◌-◌, true, false, List, [], ◌∷◌, ◌++◌, None, Some, Ok, subst, refl, sym, ap, ◌∙◌, arith}
-use Rattle.std.specs.Prelude.{IfSome, not, is_none, map, if◌then◌else◌}
+use Rattle.std.specs.Prelude.{not, is_none, map, if◌then◌else◌}
 use Rattle.std.proofs.lemmas.Bool.Decides.{nat_tests}
-use Rattle.naga_ir.specs.Tree.{Act, Use, Put, Stmt, Leaf, Block, Branch, Switch, Loop, Break, Continue, Return, Kill}
+use Rattle.naga_ir.specs.Tree.{Act, Use, Put, Leaf, Block, Branch, Switch, Loop, Break, Continue, Return, Kill}
 use Rattle.naga_ir.specs.View.{emitted}
 use Rattle.naga_ir.specs.declared.operations.RayPipelineFunction.TheVariants.{TraceRay}
 use Rattle.naga_ir.specs.declared.statements.Statement as ir
@@ -29,14 +29,13 @@ use Rattle.naga_checks.specs.checks.Switch.{value_points, values_of}
 use Rattle.naga_statements.specs.Judged.{body_judgement}
 use Rattle.naga_context.specs.Points.{Points, use_point, put_point, may_use, is_in_scope}
 use Rattle.naga_statements.specs.Past.{Past}
-use Rattle.naga_context.specs.Results.{is_result, result_of}
-use Rattle.naga_statements.specs.Rules.{statement_points, points_at}
+use Rattle.naga_context.specs.Results.{is_result}
+use Rattle.naga_statements.specs.Rules.{points_at}
 use Rattle.naga_statements.specs.walk.State.{State, seen, kept_rules, begin_state, state_left}
 use Rattle.naga_context.specs.Types.{is_integer, expression_at, type_at, scalar_kind_at}
-use Rattle.naga_memory.proofs.Atomics.{atomic_named, atomic_fits}
-use Rattle.naga_checks.proofs.Calls.{call_holds, call_fits}
+use Rattle.naga_memory.proofs.Atomics.{atomic_fits}
+use Rattle.naga_checks.proofs.Calls.{call_fits}
 use Rattle.naga_checks.proofs.Emits.{or_false, within_more}
-use Rattle.naga_statements.proofs.Fillings.{unfilled}
 use Rattle.naga_images.proofs.ImageAtomics.{image_atomic_fits}
 use Rattle.naga_images.proofs.Images.{image_store_fits}
 use Rattle.naga_function.proofs.Judged.{kept}

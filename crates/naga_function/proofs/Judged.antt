@@ -1,6 +1,6 @@
 -- The judgement by positions, over the visits themselves, is that of the walk from the begin of a body, over what the
 -- code keeps of them.
-use Rattle.std.proofs.Common.{◌≡◌, None, Result, Ok, Err, List, refl, sym, ap, ◌∙◌}
+use Rattle.std.proofs.Common.{◌≡◌, None, Result, Ok, Err, List, sym, ap, ◌∙◌}
 use Rattle.std.specs.Prelude.{IsErr}
 use Rattle.naga_arena.specs.declared.span.Refusal.{Refusal}
 use Rattle.naga_arena.specs.declared.span.Refusal.TheVariants as refusal
@@ -16,7 +16,7 @@ use Rattle.naga_statements.specs.Judged.{body_judgement}
 use Rattle.naga_statements.specs.Past.{past_of}
 use Rattle.naga_context.specs.Results.{filled_points}
 use Rattle.naga_statements.specs.Rules.{points_at, body_rules}
-use Rattle.naga_statements.specs.walk.State.{State, kept_rules, begin_state, state_left, body_outcome, body_left}
+use Rattle.naga_statements.specs.walk.State.{State, kept_rules, begin_state, state_left, body_left}
 use Rattle.naga_statements.specs.declared.state.BodyOutcome.{BodyOutcome}
 use Rattle.naga_context.specs.walk.Place.{Sets}
 use Rattle.naga_runs.specs.ByTree.{body_abilities}

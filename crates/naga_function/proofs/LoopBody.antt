@@ -1,5 +1,5 @@
 -- The body list of a Loop as the code goes through it, statement by statement.
-use Rattle.std.proofs.Common.{◌≡◌, ℕ, Bool, true, false, Option, Some, None, List, [], ◌∷◌, ◌++◌, append-nil, append_assoc, refl, subst, sym, ap, ◌∙◌}
+use Rattle.std.proofs.Common.{◌≡◌, ℕ, Bool, true, false, Option, Some, None, List, [], ◌++◌, append-nil, append_assoc, refl, subst, sym, ap, ◌∙◌}
 use Rattle.std.specs.Prelude.{if◌then◌else◌}
 use Rattle.naga_ir.specs.Tree.{Stmt, Body, Done, Then}
 use Rattle.naga_runs.specs.Must.{holds_continue}

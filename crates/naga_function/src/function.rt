@@ -24,10 +24,9 @@ use naga_context::table::{ScopeColumn, Table};
 use naga_errors::function::FunctionError;
 use naga_ir::statements::{Block, Located, Statement, SwitchCase};
 use naga_runs::Abilities;
-use naga_statements::leaf::is_frequent;
 use naga_statements::results::check_filled;
-use naga_statements::state::{BodyOutcome, advance};
-use naga_statements::statement::{check_break_if, validate_points};
+use naga_statements::state::BodyOutcome;
+use naga_statements::statement::{check_break_if, validate_own};
 use std::alloc::Global;
 
 /// Judges the body of a function: the first fault in visit order, else the lowest result that is not filled, else what
@@ -220,7 +219,7 @@ fn validate_statements(
     Ok(held)
 }
 
-/// One statement: its own check list, its stages, and then its parts.
+/// One statement: itself, and then its parts, if it is of a kind that has any.
 #[cycle(walk)]
 fn validate_statement(
     table: &mut Table,
@@ -240,9 +239,8 @@ fn validate_statement(
     ensures scope { OnOk result (HasPut table.old.scope table.new.scope (puts (tree_of (context_of context.now) located.now))) }
     ensures held { IfOk result (λ held. held ≡ holds_continue (tree_of (context_of context.now) located.now)) }
 {
-    validate_points(table, state, context, abilities, located)?;
-    advance(&mut table.filled, state, context, located);
-    if is_frequent(located) {
+    let whole = validate_own(table, state, context, abilities, located)?;
+    if whole {
         return Ok(false);
     }
     validate_parts(table, state, context, abilities, located)

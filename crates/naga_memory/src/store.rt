@@ -1,10 +1,10 @@
 //! The check list of Store.
 
-ghost use Rattle.std.specs.Prelude.{◌≡◌, true, IfSome, length};
+ghost use Rattle.std.specs.Prelude.{◌≡◌, ◌↔◌, true, IsTrue, IfSome, length};
 ghost use Rattle.std.specs.Option.{option_copied};
 ghost use Rattle.naga_types.specs.Types.{ResolutionFits};
-ghost use Rattle.naga_errors.specs.declared.function.FunctionError.TheVariants.{InvalidStorePointer, InvalidStoreTexture, InvalidStoreTypes};
-ghost use Rattle.naga_context.specs.walk.Answers.{IsRefusalFor, RefusesFaultsAlone};
+ghost use Rattle.naga_errors.specs.declared.function.FunctionError.TheVariants.{InvalidStoreTexture};
+ghost use Rattle.naga_context.specs.walk.Answers.{AllHold, IsRefusalFor, RefusesFaultsAlone};
 ghost use Rattle.naga_errors.specs.Answers.{AnswersPoints};
 ghost use Rattle.naga_context.specs.Context.{ContextFits};
 ghost use Rattle.naga_context.specs.walk.Place.{place_at};
@@ -42,10 +42,48 @@ pub fn check_store(
     ensures fault { AnswersPoints (store_points (context_of context.now) (place_at (known scope.now)) pointer value) result }
     ensures refused { RefusesFaultsAlone (store_points (context_of context.now) (place_at (known scope.now)) pointer value) result }
 {
+    if store_holds(scope, context, pointer, value) {
+        return Ok(());
+    }
+    refuse_store(scope, context, pointer, value, span)
+}
+
+/// Whether no point of a Store fails.
+fn store_holds(
+    scope: &ScopeColumn,
+    context: &BlockContext,
+    pointer: Handle<tag::Expression>,
+    value: Handle<tag::Expression>,
+) -> bool
+    requires { ContextFits (context_of context.now) }
+    ensures { IsTrue result ↔ AllHold (store_points (context_of context.now) (place_at (known scope.now)) pointer value) }
+{
+    is_variable(context.expression(root_of(context, pointer)))
+        && scope.may_use(value)
+        && !is_texture(context.type_inner(value))
+        && is_stored_as(context, value, &base_type(context, pointer))
+        && is_writable(context, pointer)
+}
+
+/// The list of a Store, with the fault of each point, where one fails.
+#[cold]
+#[inline(never)]
+fn refuse_store(
+    scope: &ScopeColumn,
+    context: &BlockContext,
+    pointer: Handle<tag::Expression>,
+    value: Handle<tag::Expression>,
+    span: Span,
+) -> Result<(), Refused>
+    requires { ContextFits (context_of context.now) }
+    ensures fault { AnswersPoints (store_points (context_of context.now) (place_at (known scope.now)) pointer value) result }
+    ensures refused { RefusesFaultsAlone (store_points (context_of context.now) (place_at (known scope.now)) pointer value) result }
+{
     let alloc = scope.allocator();
     let root = root_of(context, pointer);
     if !is_variable(context.expression(root)) {
-        return Err(invalid_store_pointer(alloc, root, span));
+        let fault = FunctionError::InvalidStorePointer(root);
+        return Err(Refused::placed(alloc, fault, span));
     }
     if !scope.may_use(value) {
         return Err(not_in_scope(alloc, value, span));
@@ -55,10 +93,12 @@ pub fn check_store(
         return Err(invalid_store_texture(alloc, value, stored, span));
     }
     if !is_stored_as(context, value, &base_type(context, pointer)) {
-        return Err(invalid_store_types(alloc, pointer, value, span));
+        let fault = FunctionError::InvalidStoreTypes { pointer, value };
+        return Err(Refused::placed(alloc, fault, span));
     }
     if !is_writable(context, pointer) {
-        return Err(invalid_store_pointer(alloc, pointer, span));
+        let fault = FunctionError::InvalidStorePointer(pointer);
+        return Err(Refused::placed(alloc, fault, span));
     }
     Ok(())
 }
@@ -133,18 +173,7 @@ fn is_stored_as(
     }
 }
 
-/// The refusal of a pointer that leads back to no variable, or into a space that takes no stores.
-#[cold]
-#[inline(never)]
-fn invalid_store_pointer(alloc: Global, handle: Handle<tag::Expression>, span: Span) -> Refused
-    ensures { IsRefusalFor (InvalidStorePointer handle) result }
-{
-    Refused::placed(alloc, FunctionError::InvalidStorePointer(handle), span)
-}
-
 /// The refusal of an image or a sampler as a value.
-#[cold]
-#[inline(never)]
 fn invalid_store_texture(
     alloc: Global,
     value: Handle<tag::Expression>,
@@ -176,22 +205,4 @@ fn invalid_store_texture(
         actual_ty,
     };
     Refused::placed(alloc, fault, span)
-}
-
-/// The refusal of a value that the type that is pointed to does not hold.
-#[cold]
-#[inline(never)]
-fn invalid_store_types(
-    alloc: Global,
-    pointer: Handle<tag::Expression>,
-    value: Handle<tag::Expression>,
-    span: Span,
-) -> Refused
-    ensures { IsRefusalFor (InvalidStoreTypes pointer value) result }
-{
-    Refused::placed(
-        alloc,
-        FunctionError::InvalidStoreTypes { pointer, value },
-        span,
-    )
 }

@@ -15,8 +15,6 @@ ghost use Rattle.naga_context.specs.walk.Table.{HasPut, IsTableOf, known};
 
 use crate::state::BodyOutcome;
 use naga_checks::checks::barrier::check_barrier;
-use naga_checks::checks::call::{CallSite, validate_call};
-use naga_checks::checks::control;
 use naga_checks::checks::subgroup::validate_ballot;
 use naga_checks::checks::subgroup_collective::{Collective, validate_collective};
 use naga_checks::checks::subgroup_gather::validate_gather;
@@ -31,70 +29,14 @@ use naga_ir::statements::{Located, Statement};
 use naga_memory::atomic::{AtomicOperation, validate_atomic};
 use naga_memory::cooperative::check_cooperative_store;
 use naga_memory::load::validate_load;
-use naga_memory::store::check_store;
 use naga_rays::ray_query::validate_ray_query;
 use naga_rays::ray_trace::{Ray, check_trace_ray};
 
-/// Whether a statement is of one of the kinds that bodies have most, which hold no others.
-pub fn is_frequent(located: &Located) -> bool
-    ensures { result ≡ is_frequent located.now.statement }
-{
-    matches!(
-        &located.statement,
-        Statement::Emit(_) | Statement::Store { .. } | Statement::Call { .. }
-    )
-}
-
-/// The check list of a statement that is neither a jump nor holds others; of the others it is empty. What the statement
-/// puts is in scope afterwards.
-pub fn validate_leaf(
-    table: &mut Table,
-    state: &BodyOutcome,
-    context: &BlockContext,
-    located: &Located,
-) -> Result<(), Refused>
-    requires context { ContextFits (context_of context.now) }
-    requires statement { IsStatementReady (context_of context.now) (tree_of (context_of context.now) located.now) }
-    requires table { IsTableOf (context_of context.now) table.old }
-    ensures fault { AnswersPoints
-        (leaf_points (context_of context.now) (seen (kept table.old.filled state.now)) (place_at (known table.old.scope))
-        located.now.statement)
-        result }
-    ensures scope { OnOk result (HasPut table.old.scope table.new.scope (puts (tree_of (context_of context.now) located.now))) }
-    ensures filled { table.new.filled ≡ table.old.filled }
-{
-    let span = located.span;
-    match &located.statement {
-        Statement::Emit(range) => control::validate_emit(&mut table.scope, context, *range, span),
-        Statement::Store { pointer, value } => {
-            check_store(&table.scope, context, *pointer, *value, span)
-        }
-        Statement::Call {
-            function,
-            arguments,
-            result,
-        } => {
-            let site = CallSite {
-                function: *function,
-                named: *result,
-                span,
-            };
-            validate_call(
-                &mut table.scope,
-                &table.filled,
-                context,
-                &site,
-                arguments.as_slice(),
-            )
-        }
-        _ => validate_rarer_leaf(table, state, context, located),
-    }
-}
-
-/// The check list of a statement of any other kind than those that bodies have most. It stands apart from these, so that
-/// nothing is set up for it where one of them is judged.
+/// The check list of a statement that is neither a jump nor holds others, of another kind than those that bodies have most; of
+/// jumps and of what holds others it is empty. What the statement puts is in scope afterwards. It stands apart from the
+/// frequent kinds, so that nothing is set up for it where one of them is judged.
 #[inline(never)]
-fn validate_rarer_leaf(
+pub fn validate_rarer_leaf(
     table: &mut Table,
     state: &BodyOutcome,
     context: &BlockContext,

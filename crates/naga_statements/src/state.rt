@@ -6,10 +6,10 @@ ghost use Rattle.naga_ir.specs.View.{tree_of};
 ghost use Rattle.naga_context.specs.Blocks as in_context;
 ghost use Rattle.naga_context.specs.Results.{result_of};
 ghost use Rattle.naga_context.specs.walk.Seen.{context_of};
-ghost use Rattle.naga_statements.specs.walk.State.{kept, with_statement};
-ghost use Rattle.naga_context.specs.walk.Table.{marked};
+ghost use Rattle.naga_statements.specs.walk.State.{kept, with_result, with_statement};
+ghost use Rattle.naga_context.specs.walk.Table.{filled_in, marked};
 
-use crate::stages::{callee_stages, stages_of};
+use crate::stages::stages_of;
 use bitflags::Flags;
 use naga_arena::handle::Handle;
 use naga_arena::tag;
@@ -40,6 +40,17 @@ fn result_of(located: &Located) -> Option<Handle<tag::Expression>>
     }
 }
 
+/// Marks the result that a Call or an Atomic names, if it names one, as filled.
+pub fn fill_named(filled: &mut FilledColumn, named: &Option<Handle<tag::Expression>>)
+    requires { IfSome named.now (λ r. r < marked filled.old) }
+    ensures filled { filled_in filled.new ≡ with_result (filled_in filled.old) named.now }
+    ensures count { marked filled.new ≡ marked filled.old }
+{
+    if let Some(handle) = named {
+        filled.fill(*handle);
+    }
+}
+
 /// What a statement leaves where none of its checks fails.
 pub fn advance(
     filled: &mut FilledColumn,
@@ -55,42 +66,7 @@ pub fn advance(
         (in_context.tree_of (context_of context.now) located.now) }
     ensures count { marked filled.new ≡ marked filled.old }
 {
-    match &located.statement {
-        Statement::Emit(_) => state.stages = state.stages.intersection(ShaderStages::ALL),
-        Statement::Store { .. } => state.stages = state.stages.intersection(ShaderStages::ALL),
-        Statement::Call {
-            function,
-            result,
-            ..
-        } => {
-            if let Some(handle) = result {
-                filled.fill(*handle);
-            }
-            state.stages = state.stages.intersection(callee_stages(context, *function));
-        }
-        _ => advance_any(filled, state, context, located),
-    }
-}
-
-/// The same, of a statement of whatever kind.
-#[inline(never)]
-fn advance_any(
-    filled: &mut FilledColumn,
-    state: &mut BodyOutcome,
-    context: &BlockContext,
-    located: &Located,
-)
-    requires { IfSome
-        (result_of (StatementNode (in_context.tree_of (context_of context.now) located.now)))
-        (λ r. r < marked filled.old) }
-    ensures state { kept filled.new state.new
-        ≡ with_statement (context_of context.now) (kept filled.old state.old)
-        (in_context.tree_of (context_of context.now) located.now) }
-    ensures count { marked filled.new ≡ marked filled.old }
-{
-    if let Some(handle) = result_of(located) {
-        filled.fill(handle);
-    }
+    fill_named(filled, &result_of(located));
     state.stages = state.stages.intersection(stages_of(context, located));
     advance_trace(&mut state.trace, context, located);
 }

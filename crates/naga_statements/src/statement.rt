@@ -1,6 +1,6 @@
-//! The check list of a statement, and of a break condition.
+//! A statement itself, without its parts; and a break condition.
 
-ghost use Rattle.std.specs.Prelude.{◌≡◌, OnOk};
+ghost use Rattle.std.specs.Prelude.{◌≡◌, false, IfOk, OnOk};
 ghost use Rattle.naga_context.specs.walk.Answers.{RefusesFaultsAlone};
 ghost use Rattle.naga_errors.specs.Answers.{AnswersPoints};
 ghost use Rattle.naga_context.specs.Blocks.{tree_of};
@@ -10,25 +10,116 @@ ghost use Rattle.naga_statements.specs.Ready.{IsStatementReady};
 ghost use Rattle.naga_statements.specs.Rules.{statement_points};
 ghost use Rattle.naga_context.specs.walk.Place.{place_at};
 ghost use Rattle.naga_context.specs.walk.Seen.{context_of};
-ghost use Rattle.naga_statements.specs.walk.State.{kept, seen};
+ghost use Rattle.naga_statements.specs.walk.Frequent.{is_frequent};
+ghost use Rattle.naga_statements.specs.walk.State.{kept, seen, with_statement};
 ghost use Rattle.naga_statements.specs.walk.Walk.{puts};
 ghost use Rattle.naga_checks.specs.walk.Emitted.{place};
-ghost use Rattle.naga_context.specs.walk.Table.{HasPut, IsTableOf, known};
+ghost use Rattle.naga_context.specs.walk.Table.{HasPut, IsTableOf, known, marked};
 
-use crate::leaf::validate_leaf;
-use crate::state::BodyOutcome;
+use crate::leaf::validate_rarer_leaf;
+use crate::stages::callee_stages;
+use crate::state::{BodyOutcome, advance, fill_named};
+use bitflags::Flags;
 use naga_arena::handle::Handle;
 use naga_arena::span::Span;
 use naga_arena::tag;
+use naga_checks::checks::call::{CallSite, validate_call};
 use naga_checks::checks::{control, switch};
 use naga_context::context::BlockContext;
 use naga_context::refused::Refused;
 use naga_context::table::{ScopeColumn, Table};
+use naga_flags::valid::ShaderStages;
 use naga_ir::statements::{Located, Statement};
+use naga_memory::store::check_store;
 use naga_runs::Abilities;
 
-/// The check list of a statement itself. What it puts is in scope afterwards.
-pub fn validate_points(
+/// A statement itself: its check list, what it puts, which is in scope afterwards, and what it leaves; its parts are left out.
+/// Answers whether that is all of it: so it is of the kinds that bodies have most, which hold no others.
+pub fn validate_own(
+    table: &mut Table,
+    state: &mut BodyOutcome,
+    context: &BlockContext,
+    abilities: Abilities,
+    located: &Located,
+) -> Result<bool, Refused>
+    requires context { ContextFits (context_of context.now) }
+    requires statement { IsStatementReady (context_of context.now) (tree_of (context_of context.now) located.now) }
+    requires table { IsTableOf (context_of context.now) table.old }
+    ensures fault { AnswersPoints
+        (statement_points (context_of context.now) (seen (kept table.old.filled state.old))
+        (place abilities (known table.old.scope)) (tree_of (context_of context.now) located.now))
+        result }
+    ensures scope { OnOk result (HasPut table.old.scope table.new.scope (puts (tree_of (context_of context.now) located.now))) }
+    ensures state { OnOk result (kept table.new.filled state.new
+        ≡ with_statement (context_of context.now) (kept table.old.filled state.old) (tree_of (context_of context.now) located.now)) }
+    ensures count { OnOk result (marked table.new.filled ≡ marked table.old.filled) }
+    ensures all { IfOk result (λ all. all ≡ is_frequent located.now.statement) }
+{
+    let span = located.span;
+    match &located.statement {
+        Statement::Emit(range) => {
+            control::validate_emit(&mut table.scope, context, *range, span)?;
+            state.stages = state.stages.intersection(ShaderStages::ALL);
+            Ok(true)
+        }
+        Statement::Store { pointer, value } => {
+            check_store(&table.scope, context, *pointer, *value, span)?;
+            state.stages = state.stages.intersection(ShaderStages::ALL);
+            Ok(true)
+        }
+        Statement::Call {
+            function,
+            arguments,
+            result,
+        } => {
+            let site = CallSite {
+                function: *function,
+                named: *result,
+                span,
+            };
+            let arguments = arguments.as_slice();
+            validate_call(&mut table.scope, &table.filled, context, &site, arguments)?;
+            fill_named(&mut table.filled, result);
+            state.stages = state.stages.intersection(callee_stages(context, *function));
+            Ok(true)
+        }
+        _ => {
+            validate_rarer(table, state, context, abilities, located)?;
+            Ok(false)
+        }
+    }
+}
+
+/// The same of a statement of any other kind than those that bodies have most. It stands apart from these, so that nothing
+/// is set up for it where one of them is judged.
+#[inline(never)]
+fn validate_rarer(
+    table: &mut Table,
+    state: &mut BodyOutcome,
+    context: &BlockContext,
+    abilities: Abilities,
+    located: &Located,
+) -> Result<(), Refused>
+    requires context { ContextFits (context_of context.now) }
+    requires statement { IsStatementReady (context_of context.now) (tree_of (context_of context.now) located.now) }
+    requires kind { is_frequent located.now.statement ≡ false }
+    requires table { IsTableOf (context_of context.now) table.old }
+    ensures fault { AnswersPoints
+        (statement_points (context_of context.now) (seen (kept table.old.filled state.old))
+        (place abilities (known table.old.scope)) (tree_of (context_of context.now) located.now))
+        result }
+    ensures scope { OnOk result (HasPut table.old.scope table.new.scope (puts (tree_of (context_of context.now) located.now))) }
+    ensures state { OnOk result (kept table.new.filled state.new
+        ≡ with_statement (context_of context.now) (kept table.old.filled state.old) (tree_of (context_of context.now) located.now)) }
+    ensures count { OnOk result (marked table.new.filled ≡ marked table.old.filled) }
+{
+    validate_points(table, state, context, abilities, located)?;
+    advance(&mut table.filled, state, context, located);
+    Ok(())
+}
+
+/// The check list of a statement of such a kind. What it puts is in scope afterwards.
+fn validate_points(
     table: &mut Table,
     state: &BodyOutcome,
     context: &BlockContext,
@@ -37,6 +128,7 @@ pub fn validate_points(
 ) -> Result<(), Refused>
     requires context { ContextFits (context_of context.now) }
     requires statement { IsStatementReady (context_of context.now) (tree_of (context_of context.now) located.now) }
+    requires kind { is_frequent located.now.statement ≡ false }
     requires table { IsTableOf (context_of context.now) table.old }
     ensures fault { AnswersPoints
         (statement_points (context_of context.now) (seen (kept table.old.filled state.now))
@@ -60,7 +152,7 @@ pub fn validate_points(
         Statement::Return { value } => {
             control::check_return(scope, context, abilities, *value, span)
         }
-        _ => validate_leaf(table, state, context, located),
+        _ => validate_rarer_leaf(table, state, context, located),
     }
 }
 

@@ -6,7 +6,6 @@ use Rattle.naga_ir.specs.declared.operations.CollectiveOperation.TheVariants as 
 use Rattle.naga_ir.specs.declared.operations.SubgroupOperation.{SubgroupOperation}
 use Rattle.naga_ir.specs.declared.operations.SubgroupOperation.TheVariants as op
 use Rattle.naga_types.specs.declared.types.Scalar.{Scalar}
-use Rattle.naga_types.specs.declared.types.ScalarKind.TheVariants as kind
 use Rattle.naga_types.specs.declared.types.TypeInner.{TypeInner}
 use Rattle.naga_types.specs.declared.types.TypeInner.TheVariants as inner
 use Rattle.naga_errors.specs.declared.function.SubgroupError.TheVariants as wrong

@@ -1,6 +1,6 @@
 //! The check list of Call.
 
-ghost use Rattle.std.specs.Prelude.{◌≡◌, ◌<◌, OnOk, IfSome, All, length};
+ghost use Rattle.std.specs.Prelude.{◌≡◌, ◌<◌, ◌↔◌, IsTrue, OnOk, IfSome, All, length};
 ghost use Rattle.std.specs.Option.{option_copied};
 ghost use Rattle.naga_below.specs.FitsBody.{CalleeFits};
 ghost use Rattle.naga_below.specs.Points.{within};
@@ -9,7 +9,7 @@ ghost use Rattle.naga_below.specs.declared.valid.expression_error.ExpressionErro
 ghost use Rattle.naga_errors.specs.declared.function.CallError.TheVariants.{Argument, ArgumentCount, ArgumentType, ExpressionMismatch, ResultAlreadyInScope, ResultAlreadyPopulated};
 ghost use Rattle.naga_errors.specs.declared.function.FunctionError.TheVariants.{InvalidCall};
 ghost use Rattle.naga_runs.specs.PutsAndUses.{puts_of};
-ghost use Rattle.naga_context.specs.walk.Answers.{IsRefusalFor, RefusesFaultsAlone};
+ghost use Rattle.naga_context.specs.walk.Answers.{AllHold, IsRefusalFor, RefusesFaultsAlone};
 ghost use Rattle.naga_errors.specs.Answers.{AnswersPoints};
 ghost use Rattle.naga_checks.specs.checks.Call.{is_passed_as, passed_points, all_passed_points, is_call_result_of, call_result_points, call_points};
 ghost use Rattle.naga_context.specs.Context.{ContextFits};
@@ -83,10 +83,104 @@ fn check_call(
         (call_points (context_of context.now) (filled_in filled.now) (place_at (known scope.now)) site.now.function arguments.now site.now.named)
         result }
 {
+    if call_holds(scope, filled, context, site, arguments) {
+        return Ok(());
+    }
+    refuse_call(scope, filled, context, site, arguments)
+}
+
+/// Whether no point of a Call fails.
+fn call_holds(
+    scope: &ScopeColumn,
+    filled: &FilledColumn,
+    context: &BlockContext,
+    site: &CallSite,
+    arguments: &[Handle<tag::Expression>],
+) -> bool
+    requires context { ContextFits (context_of context.now) }
+    requires callee { CalleeFits (context_of context.now).program site.now.function }
+    ensures { IsTrue result ↔ AllHold
+        (call_points (context_of context.now) (filled_in filled.now) (place_at (known scope.now)) site.now.function arguments.now site.now.named) }
+{
+    let callee = &context.program.functions[site.function];
+    if !arguments_hold(scope, context, site, callee.arguments.as_slice(), arguments) {
+        return false;
+    }
+    call_result_holds(scope, filled, context, site, callee.result.is_some())
+}
+
+/// The list of a Call, with the fault of each point, where one fails.
+#[cold]
+#[inline(never)]
+fn refuse_call(
+    scope: &ScopeColumn,
+    filled: &FilledColumn,
+    context: &BlockContext,
+    site: &CallSite,
+    arguments: &[Handle<tag::Expression>],
+) -> Result<(), Refused>
+    requires context { ContextFits (context_of context.now) }
+    requires callee { CalleeFits (context_of context.now).program site.now.function }
+    ensures fault { AnswersPoints
+        (call_points (context_of context.now) (filled_in filled.now) (place_at (known scope.now)) site.now.function arguments.now site.now.named)
+        result }
+    ensures refused { RefusesFaultsAlone
+        (call_points (context_of context.now) (filled_in filled.now) (place_at (known scope.now)) site.now.function arguments.now site.now.named)
+        result }
+{
     let callee = &context.program.functions[site.function];
     check_arguments(scope, context, site, callee.arguments.as_slice(), arguments)?;
     let returns = callee.result.is_some();
     check_call_result(scope, filled, context, site, returns)
+}
+
+/// Whether no point of the arguments of a Call fails.
+fn arguments_hold(
+    scope: &ScopeColumn,
+    context: &BlockContext,
+    site: &CallSite,
+    declared: &[FunctionArgument],
+    given: &[Handle<tag::Expression>],
+) -> bool
+    requires context { ContextFits (context_of context.now) }
+    requires types { All (λ argument. argument.ty < length (context_of context.now).program.types) declared.now }
+    ensures { IsTrue result ↔ AllHold
+        (within (InvalidCall site.now.function) (all_passed_points (context_of context.now) (place_at (known scope.now)) declared.now given.now)) }
+{
+    if given.len() != declared.len() {
+        return false;
+    }
+    for index in 0..given.len() {
+        if !scope.may_use(given[index]) {
+            return false;
+        }
+        if !is_passed_as(context, given[index], declared[index].ty) {
+            return false;
+        }
+    }
+    true
+}
+
+/// Whether no point of the result of a Call fails.
+fn call_result_holds(
+    scope: &ScopeColumn,
+    filled: &FilledColumn,
+    context: &BlockContext,
+    site: &CallSite,
+    returns: bool,
+) -> bool
+    ensures { IsTrue result ↔ AllHold
+        (within (InvalidCall site.now.function) (call_result_points (context_of context.now) (filled_in filled.now) (place_at (known scope.now)) site.now.function returns site.now.named)) }
+{
+    match &site.named {
+        Some(handle) => {
+            !scope.contains(*handle)
+                && is_call_result_of(site.function, context.expression(*handle))
+                && returns
+                && is_fresh(filled, context, *handle)
+        }
+        None => !returns,
+    }
 }
 
 /// As many arguments as are declared, each put by every run and of its declared type.
@@ -107,7 +201,11 @@ fn check_arguments(
         result }
 {
     if declared.len() != given.len() {
-        return Err(argument_count(scope.allocator(), site, declared.len(), given.len()));
+        let error = CallError::ArgumentCount {
+            required: declared.len(),
+            seen: given.len(),
+        };
+        return Err(refused(scope.allocator(), site, error));
     }
     for index in 0..given.len() {
         check_argument(
@@ -141,10 +239,17 @@ fn check_argument(
         result }
 {
     if !scope.may_use(given) {
-        return Err(argument_not_in_scope(scope.allocator(), site, index));
+        let source = ExpressionError::NotInScope;
+        let error = CallError::Argument { index, source };
+        return Err(refused(scope.allocator(), site, error));
     }
     if !is_passed_as(context, given, declared) {
-        return Err(argument_type(scope.allocator(), site, index, declared, given));
+        let error = CallError::ArgumentType {
+            index,
+            required: declared,
+            seen_expression: given,
+        };
+        return Err(refused(scope.allocator(), site, error));
     }
     Ok(())
 }
@@ -189,13 +294,15 @@ fn check_call_result(
     match &site.named {
         Some(handle) => {
             if scope.contains(*handle) {
-                return Err(result_already_in_scope(alloc, site, *handle));
+                let error = CallError::ResultAlreadyInScope(*handle);
+                return Err(refused(alloc, site, error));
             }
             if !is_call_result_of(site.function, context.expression(*handle)) || !returns {
                 return Err(expression_mismatch(alloc, site));
             }
             if !is_fresh(filled, context, *handle) {
-                return Err(result_already_populated(alloc, site, *handle));
+                let error = CallError::ResultAlreadyPopulated(*handle);
+                return Err(refused(alloc, site, error));
             }
             Ok(())
         }
@@ -230,76 +337,9 @@ fn refused(alloc: Global, site: &CallSite, error: CallError) -> Refused
     )
 }
 
-/// The refusal of a call with so many arguments where so many are declared.
-#[cold]
-#[inline(never)]
-fn argument_count(alloc: Global, site: &CallSite, required: usize, seen: usize) -> Refused
-    ensures { IsRefusalFor (InvalidCall site.now.function (ArgumentCount required seen)) result }
-{
-    refused(alloc, site, CallError::ArgumentCount { required, seen })
-}
-
-/// The refusal of an argument that is not in scope.
-#[cold]
-#[inline(never)]
-fn argument_not_in_scope(alloc: Global, site: &CallSite, index: usize) -> Refused
-    ensures { IsRefusalFor (InvalidCall site.now.function (Argument index NotInScope)) result }
-{
-    let source = ExpressionError::NotInScope;
-    refused(alloc, site, CallError::Argument { index, source })
-}
-
-/// The refusal of an argument of another type than is declared.
-#[cold]
-#[inline(never)]
-fn argument_type(
-    alloc: Global,
-    site: &CallSite,
-    index: usize,
-    required: Handle<tag::Type>,
-    seen_expression: Handle<tag::Expression>,
-) -> Refused
-    ensures { IsRefusalFor (InvalidCall site.now.function (ArgumentType index required seen_expression)) result }
-{
-    let error = CallError::ArgumentType {
-        index,
-        required,
-        seen_expression,
-    };
-    refused(alloc, site, error)
-}
-
-/// The refusal of a result that is in scope already.
-#[cold]
-#[inline(never)]
-fn result_already_in_scope(
-    alloc: Global,
-    site: &CallSite,
-    handle: Handle<tag::Expression>,
-) -> Refused
-    ensures { IsRefusalFor (InvalidCall site.now.function (ResultAlreadyInScope handle)) result }
-{
-    refused(alloc, site, CallError::ResultAlreadyInScope(handle))
-}
-
 /// The refusal of a result that is none of this function, or of none where the function returns one.
-#[cold]
-#[inline(never)]
 fn expression_mismatch(alloc: Global, site: &CallSite) -> Refused
     ensures { IsRefusalFor (InvalidCall site.now.function (ExpressionMismatch site.now.named)) result }
 {
     refused(alloc, site, CallError::ExpressionMismatch(site.named))
-}
-
-/// The refusal of a result that is filled already.
-#[cold]
-#[inline(never)]
-fn result_already_populated(
-    alloc: Global,
-    site: &CallSite,
-    handle: Handle<tag::Expression>,
-) -> Refused
-    ensures { IsRefusalFor (InvalidCall site.now.function (ResultAlreadyPopulated handle)) result }
-{
-    refused(alloc, site, CallError::ResultAlreadyPopulated(handle))
 }

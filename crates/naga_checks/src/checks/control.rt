@@ -1,13 +1,13 @@
 //! The check lists of Emit, If, Return, Break and Continue, and of a break condition.
 
-ghost use Rattle.std.specs.Prelude.{◌≡◌, ◌≤◌, [], ◌∷◌, OnOk, map};
+ghost use Rattle.std.specs.Prelude.{◌≡◌, ◌≤◌, ◌↔◌, [], ◌∷◌, IsTrue, OnOk, map};
 ghost use Rattle.std.specs.Option.{option_copied};
 ghost use Rattle.naga_checks.specs.checks.Control.{emit_points, emitted_points, is_bool_scalar, condition_points, declared_type, is_returned_as, return_points, break_points, continue_points};
 ghost use Rattle.naga_context.specs.Results.{is_result};
 ghost use Rattle.naga_context.specs.walk.Place.{no_sets, place_at};
 ghost use Rattle.naga_checks.specs.walk.Emitted.{handles_between, place};
-ghost use Rattle.naga_errors.specs.declared.function.FunctionError.TheVariants.{BreakOutsideOfLoopOrSwitch, ContinueOutsideOfLoop, EmitResult, InvalidIfType, InvalidReturnSpot, InvalidReturnType};
-ghost use Rattle.naga_context.specs.walk.Answers.{IsRefusalFor, RefusesFaultsAlone};
+ghost use Rattle.naga_errors.specs.declared.function.FunctionError.TheVariants.{BreakOutsideOfLoopOrSwitch, ContinueOutsideOfLoop, InvalidReturnType};
+ghost use Rattle.naga_context.specs.walk.Answers.{AllHold, IsRefusalFor, RefusesFaultsAlone};
 ghost use Rattle.naga_errors.specs.Answers.{AnswersPoints};
 ghost use Rattle.naga_context.specs.Context.{ContextFits};
 ghost use Rattle.naga_context.specs.walk.Seen.{context_of};
@@ -63,9 +63,73 @@ fn check_emitted(
         (emitted_points (context_of context.now) (place_at (known scope.now)) (place_at (known scope.now)) handle)
         result }
 {
+    if emitted_holds(scope, context, handle) {
+        return Ok(());
+    }
+    refuse_emitted(scope, context, handle, span)
+}
+
+/// Whether no point of an expression that is emitted fails.
+fn emitted_holds(
+    scope: &ScopeColumn,
+    context: &BlockContext,
+    handle: Handle<tag::Expression>,
+) -> bool
+    ensures { IsTrue result ↔ AllHold
+        (emitted_points (context_of context.now) (place_at (known scope.now)) (place_at (known scope.now)) handle) }
+{
     let expression = context.expression(handle);
     if is_result(expression) {
-        return Err(emit_result(scope.allocator(), handle, span));
+        return false;
+    }
+    if !operands_hold(scope, expression) {
+        return false;
+    }
+    !scope.contains(handle)
+}
+
+/// Whether every run has put the operands of an expression.
+fn operands_hold(scope: &ScopeColumn, expression: Option<&Expression>) -> bool
+    ensures { IsTrue result ↔ AllHold (map (use_point (place_at (known scope.now))) (operands_if (option_copied expression.entry))) }
+{
+    match expression {
+        Some(Expression::Load { pointer }) => scope.may_use(*pointer),
+        Some(Expression::AccessIndex { base, .. }) => scope.may_use(*base),
+        Some(Expression::Access { base, index }) => scope.may_use(*base) && scope.may_use(*index),
+        Some(expression) => listed_hold(scope, listed_operands(expression)),
+        None => true,
+    }
+}
+
+/// Whether every run has put the operands of a list.
+fn listed_hold(scope: &ScopeColumn, operands: &[Handle<tag::Expression>]) -> bool
+    ensures { IsTrue result ↔ AllHold (map (use_point (place_at (known scope.now))) operands.now) }
+{
+    for k in 0..operands.len() {
+        if !scope.may_use(operands[k]) {
+            return false;
+        }
+    }
+    true
+}
+
+/// The list of an expression that is emitted, with the fault of each point, where one fails.
+#[cold]
+#[inline(never)]
+fn refuse_emitted(
+    scope: &ScopeColumn,
+    context: &BlockContext,
+    handle: Handle<tag::Expression>,
+    span: Span,
+) -> Result<(), Refused>
+    ensures { AnswersPoints
+        (emitted_points (context_of context.now) (place_at (known scope.now)) (place_at (known scope.now)) handle)
+        result }
+{
+    let expression = context.expression(handle);
+    if is_result(expression) {
+        let fault = FunctionError::EmitResult(handle);
+        return Err(Refused::placed(scope.allocator(), fault, span));
     }
     check_operands(scope, expression, span)?;
     if scope.contains(handle) {
@@ -161,11 +225,41 @@ pub fn check_condition(
     ensures fault { AnswersPoints (condition_points (context_of context.now) (place_at (known scope.now)) condition) result }
     ensures refused { RefusesFaultsAlone (condition_points (context_of context.now) (place_at (known scope.now)) condition) result }
 {
+    if condition_holds(scope, context, condition) {
+        return Ok(());
+    }
+    refuse_condition(scope, context, condition, span)
+}
+
+/// Whether no point of a condition fails.
+fn condition_holds(
+    scope: &ScopeColumn,
+    context: &BlockContext,
+    condition: Handle<tag::Expression>,
+) -> bool
+    ensures { IsTrue result ↔ AllHold (condition_points (context_of context.now) (place_at (known scope.now)) condition) }
+{
+    scope.may_use(condition) && is_bool_scalar(context.type_inner(condition))
+}
+
+/// The list of a condition, with the fault of each point, where one fails.
+#[cold]
+#[inline(never)]
+fn refuse_condition(
+    scope: &ScopeColumn,
+    context: &BlockContext,
+    condition: Handle<tag::Expression>,
+    span: Span,
+) -> Result<(), Refused>
+    ensures fault { AnswersPoints (condition_points (context_of context.now) (place_at (known scope.now)) condition) result }
+    ensures refused { RefusesFaultsAlone (condition_points (context_of context.now) (place_at (known scope.now)) condition) result }
+{
     if !scope.may_use(condition) {
         return Err(not_in_scope(scope.allocator(), condition, span));
     }
     if !is_bool_scalar(context.type_inner(condition)) {
-        return Err(invalid_if_type(scope.allocator(), condition, span));
+        let fault = FunctionError::InvalidIfType(condition);
+        return Err(Refused::placed(scope.allocator(), fault, span));
     }
     Ok(())
 }
@@ -194,23 +288,65 @@ pub fn check_return(
     ensures fault { AnswersPoints (return_points (context_of context.now) (place abilities (known scope.now)) value) result }
     ensures refused { RefusesFaultsAlone (return_points (context_of context.now) (place abilities (known scope.now)) value) result }
 {
+    if return_holds(scope, context, abilities, &value) {
+        return Ok(());
+    }
+    refuse_return(scope, context, abilities, &value, span)
+}
+
+/// Whether no point of a Return fails.
+fn return_holds(
+    scope: &ScopeColumn,
+    context: &BlockContext,
+    abilities: Abilities,
+    value: &Option<Handle<tag::Expression>>,
+) -> bool
+    requires { ContextFits (context_of context.now) }
+    ensures { IsTrue result ↔ AllHold (return_points (context_of context.now) (place abilities (known scope.now)) value.now) }
+{
+    let declared = declared_type(context);
+    match value {
+        Some(handle) => {
+            abilities.can_return
+                && scope.may_use(*handle)
+                && is_returned_as(context, *handle, declared)
+        }
+        None => abilities.can_return && declared.is_none(),
+    }
+}
+
+/// The list of a Return, with the fault of each point, where one fails.
+#[cold]
+#[inline(never)]
+fn refuse_return(
+    scope: &ScopeColumn,
+    context: &BlockContext,
+    abilities: Abilities,
+    value: &Option<Handle<tag::Expression>>,
+    span: Span,
+) -> Result<(), Refused>
+    requires { ContextFits (context_of context.now) }
+    ensures fault { AnswersPoints (return_points (context_of context.now) (place abilities (known scope.now)) value.now) result }
+    ensures refused { RefusesFaultsAlone (return_points (context_of context.now) (place abilities (known scope.now)) value.now) result }
+{
     let alloc = scope.allocator();
     if !abilities.can_return {
-        return Err(invalid_return_spot(alloc, span));
+        let fault = FunctionError::InvalidReturnSpot;
+        return Err(Refused::placed(alloc, fault, span));
     }
-    match &value {
+    match value {
         Some(handle) => {
             if !scope.may_use(*handle) {
                 return Err(not_in_scope(alloc, *handle, span));
             }
             if !is_returned_as(context, *handle, declared_type(context)) {
-                return Err(invalid_return_type(alloc, context, &value, span));
+                return Err(invalid_return_type(alloc, context, value, span));
             }
             Ok(())
         }
         None => {
             if declared_type(context).is_some() {
-                return Err(invalid_return_type(alloc, context, &value, span));
+                return Err(invalid_return_type(alloc, context, value, span));
             }
             Ok(())
         }
@@ -290,36 +426,7 @@ fn continue_outside_of_loop(alloc: Global, span: Span) -> Refused
     Refused::placed(alloc, FunctionError::ContinueOutsideOfLoop, span)
 }
 
-/// The refusal of an Emit of what another statement puts.
-#[cold]
-#[inline(never)]
-fn emit_result(alloc: Global, handle: Handle<tag::Expression>, span: Span) -> Refused
-    ensures { IsRefusalFor (EmitResult handle) result }
-{
-    Refused::placed(alloc, FunctionError::EmitResult(handle), span)
-}
-
-/// The refusal of a condition that is no boolean.
-#[cold]
-#[inline(never)]
-fn invalid_if_type(alloc: Global, handle: Handle<tag::Expression>, span: Span) -> Refused
-    ensures { IsRefusalFor (InvalidIfType handle) result }
-{
-    Refused::placed(alloc, FunctionError::InvalidIfType(handle), span)
-}
-
-/// The refusal of a Return in a continuing part.
-#[cold]
-#[inline(never)]
-fn invalid_return_spot(alloc: Global, span: Span) -> Refused
-    ensures { IsRefusalFor InvalidReturnSpot result }
-{
-    Refused::placed(alloc, FunctionError::InvalidReturnSpot, span)
-}
-
 /// The refusal of a Return of another type than is declared, or of a value where none is declared, or of none where one is.
-#[cold]
-#[inline(never)]
 fn invalid_return_type(
     alloc: Global,
     context: &BlockContext,

@@ -36,20 +36,31 @@ fn settings() -> Settings {
     }
 }
 
+/// What a layer is asked about: a function of a module, behind the functions of these infos.
+#[derive(Clone, Copy)]
+struct Subject<'a> {
+    fun: &'a Function,
+    module: &'a Module,
+    mod_info: &'a ModuleInfo,
+}
+
 /// The info of a function, with one more use of a global, and whether the expression is a struct: by the laws
 /// the expression has a type, the type is there, it is no struct as a value, and the global has a use.
 fn with_query<B: Below>(
     below: &B,
     alloc: Global,
-    fun: &Function,
-    module: &Module,
-    mod_info: &ModuleInfo,
+    subject: &Subject,
     handle: Handle<tag::Expression>,
     global: Handle<tag::GlobalVariable>,
 ) -> Result<(FunctionInfo, bool), Refusal<FunctionError>>
-    requires expression { handle < length fun.now.expressions }
-    requires global { global < length «module».now.global_variables }
+    requires expression { handle < length subject.now.fun.now.expressions }
+    requires global { global < length subject.now.module.now.global_variables }
 {
+    let Subject {
+        fun,
+        module,
+        mod_info,
+    } = *subject;
     let Settings {
         flags,
         capabilities,
@@ -85,21 +96,19 @@ fn is_constant<B: Below>(
 fn stages<B: Below>(
     below: &B,
     alloc: Global,
-    fun: &Function,
-    module: &Module,
+    subject: &Subject,
     info: &FunctionInfo,
-    mod_info: &ModuleInfo,
     handle: Handle<tag::Expression>,
 ) -> Result<ShaderStages, Refusal<ExpressionError>> {
-    let kinds = below.kinds(alloc, &fun.expressions)?;
+    let kinds = below.kinds(alloc, &subject.fun.expressions)?;
     below.validate_expression(
         alloc,
         settings(),
         handle,
-        fun,
-        module,
+        subject.fun,
+        subject.module,
         info,
-        mod_info,
+        subject.mod_info,
         &kinds,
     )
 }
@@ -160,14 +169,19 @@ fn assert_answers(
     let global = Handle::new(0);
     assert_eq!(rt; fun.expressions.len(), 1);
     assert_eq!(rt; module.global_variables.len(), 1);
-    let (info, is_struct) = with_query(&Bools, alloc, fun, module, mod_info, handle, global)?;
+    let subject = Subject {
+        fun,
+        module,
+        mod_info,
+    };
+    let (info, is_struct) = with_query(&Bools, alloc, &subject, handle, global)?;
     assert!(rt; !is_struct);
     assert_eq!(rt;
         info.global_uses.as_slice(),
         [GlobalUse::READ.union(GlobalUse::QUERY)].as_slice()
     );
     assert!(rt; is_constant(&Bools, alloc, fun, handle)?);
-    let answer = stages(&Bools, alloc, fun, module, &info, mod_info, handle);
+    let answer = stages(&Bools, alloc, &subject, &info, handle);
     let fault = match &answer {
         Err(Refusal::Fault(fault)) => fault,
         Err(Refusal::Memory) => panic!(rt; "no memory"),

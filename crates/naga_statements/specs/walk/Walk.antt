@@ -1,14 +1,12 @@
 -- The judgement along the tree, over what is in scope: work of lemmas, cited by functions that the validator alone calls.
 use Rattle.std.specs.Prelude.{ℕ, List, [], ◌++◌, Option, Result, if◌then◌else◌}
-use Rattle.naga_ir.specs.Tree.{Act, Use, Put, Stmt, Body, Done, Then, Cases}
-use Rattle.naga_ir.specs.declared.expressions.Expression.{Expression}
+use Rattle.naga_ir.specs.Tree.{Stmt, Body, Done, Then, Cases}
 use Rattle.naga_errors.specs.declared.function.FunctionError.{FunctionError}
 use Rattle.naga_runs.specs.ByTree.{judge, judge_body, judge_parts, judge_stmt, judge_cases, judge_break_if}
 use Rattle.naga_runs.specs.Positions.{StatementNode}
-use Rattle.naga_runs.specs.Handles.{Handles}
 use Rattle.naga_runs.specs.PutsAndUses.{acts_of, puts_of}
 use Rattle.naga_runs.specs.declared.Abilities.{Abilities}
-use Rattle.naga_context.specs.Context.{Context, if_pre_emitted}
+use Rattle.naga_context.specs.Context.{Context}
 use Rattle.naga_checks.specs.walk.Emitted.{place}
 use Rattle.naga_context.specs.walk.Place.{Sets}
 use Rattle.naga_context.specs.walk.Table.{with_all}

@@ -9,6 +9,7 @@ ghost use Rattle.naga_interface.specs.Start.{start_points};
 ghost use Rattle.naga_statements.specs.Parts.{AreInfosOf};
 
 use crate::validator::Validator;
+use crate::validator::judge::Subject;
 use naga_arena::span::Refusal;
 use naga_below::valid::info::{FunctionInfo, ModuleInfo};
 use naga_context::table::Table;
@@ -42,7 +43,13 @@ impl<B: Below> Validator<B> {
         if let Err(fault) = check_start(self.settings.capabilities, ep) {
             return Err(refusal(alloc, fault));
         }
-        let function = self.judge_function(alloc, table, &ep.function, module, mod_info, true);
+        let subject = Subject {
+            program: module,
+            earlier: mod_info,
+            fun: &ep.function,
+            entry_point: true,
+        };
+        let function = self.judge_function(alloc, table, &subject);
         let outcome = answer_of_function(function)?;
         self.judge_interface(alloc, ep, module, outcome)
     }

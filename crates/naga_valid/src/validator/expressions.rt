@@ -14,6 +14,7 @@ use bitflags::Flags;
 use naga_arena::handle::Handle;
 use naga_arena::span::Refusal;
 use naga_arena::tag;
+use naga_below::proc::expression_kinds::ExpressionKindTracker;
 use naga_below::valid::expression_error::ExpressionError;
 use naga_below::valid::info::FunctionInfo;
 use naga_errors::below::Below;
@@ -46,10 +47,11 @@ impl<B: Below> Validator<B> {
         &self,
         alloc: Global,
         subject: &Subject,
+        kinds: &ExpressionKindTracker,
         info: &mut FunctionInfo,
     ) -> Result<(), Refusal<FunctionError>>
         ensures fault { AnswersLeaving
-            (stages_of_all (B.meaning self.now.below) (asked_by self.now subject.now.program.now subject.now.earlier.now subject.now.fun.now subject.now.kinds.now info.old))
+            (stages_of_all (B.meaning self.now.below) (asked_by self.now subject.now.program.now subject.now.earlier.now subject.now.fun.now kinds.now info.old))
             info.new.available_stages result }
         ensures kept { info.new ≡ with_stages info.old info.new.available_stages }
     {
@@ -65,7 +67,7 @@ impl<B: Below> Validator<B> {
                 subject.program,
                 info,
                 subject.earlier,
-                subject.kinds,
+                kinds,
             );
             match asked {
                 Ok(mask) => info.available_stages = info.available_stages.intersection(mask),

@@ -26,6 +26,13 @@ use naga_types::types::AddressSpace;
 use std::alloc::Global;
 use std::collections::BTreeSet;
 
+/// A global variable of a module, with its handle.
+#[derive(Clone, Copy)]
+struct ModuleGlobal<'a> {
+    handle: Handle<tag::GlobalVariable>,
+    var: &'a GlobalVariable,
+}
+
 impl<B: Below> Validator<B> {
     /// Whether the lower layer knows the size of the type of each global in `TaskPayload`.
     pub fn has_payload_sizes(&self, module: &Module) -> bool
@@ -49,12 +56,12 @@ impl<B: Below> Validator<B> {
         &self,
         module: &Module,
         ep: &EntryPoint,
-        handle: Handle<tag::GlobalVariable>,
-        var: &GlobalVariable,
+        global: &ModuleGlobal,
     ) -> Result<(), EntryPointError>
-        requires { var.now.space ≡ space.TaskPayload → IsSome ((B.meaning self.now.below).size_of «module».now var.now.ty) }
-        ensures { Finds (used_payload_points ep.now.task_payload ((B.meaning self.now.below).size_of «module».now var.now.ty) handle var.now.space) result }
+        requires { global.now.var.now.space ≡ space.TaskPayload → IsSome ((B.meaning self.now.below).size_of «module».now global.now.var.now.ty) }
+        ensures { Finds (used_payload_points ep.now.task_payload ((B.meaning self.now.below).size_of «module».now global.now.var.now.ty) global.now.handle global.now.var.now.space) result }
     {
+        let ModuleGlobal { handle, var } = *global;
         if !is_task_payload(var.space) {
             return Ok(());
         }
@@ -74,15 +81,14 @@ impl<B: Below> Validator<B> {
         &self,
         module: &Module,
         ep: &EntryPoint,
-        handle: Handle<tag::GlobalVariable>,
-        var: &GlobalVariable,
+        global: &ModuleGlobal,
         uses: GlobalUse,
     ) -> Result<(), EntryPointError>
-        requires { var.now.space ≡ space.TaskPayload → IsSome ((B.meaning self.now.below).size_of «module».now var.now.ty) }
-        ensures { Finds (use_points (B.meaning self.now.below) self.now.settings.flags «module».now ep.now [] handle var.now uses) result }
+        requires { global.now.var.now.space ≡ space.TaskPayload → IsSome ((B.meaning self.now.below).size_of «module».now global.now.var.now.ty) }
+        ensures { Finds (use_points (B.meaning self.now.below) self.now.settings.flags «module».now ep.now [] global.now.handle global.now.var.now uses) result }
     {
-        self.check_used_payload(module, ep, handle, var)?;
-        check_allowed(module, ep.stage, handle, var, uses)
+        self.check_used_payload(module, ep, global)?;
+        check_allowed(module, ep.stage, global.handle, global.var, uses)
     }
 
     /// A global, where it is used: how, and its binding.
@@ -93,27 +99,26 @@ impl<B: Below> Validator<B> {
         ep: &EntryPoint,
         info: &FunctionInfo,
         taken: &BTreeSet<ResourceBinding>,
-        handle: Handle<tag::GlobalVariable>,
-        var: &GlobalVariable,
+        global: &ModuleGlobal,
     ) -> Result<(), EntryPointError>
-        requires size { var.now.space ≡ space.TaskPayload → IsSome ((B.meaning self.now.below).size_of «module».now var.now.ty) }
-        requires taken { AreTaken taken.now info.now.global_uses «module».now.global_variables handle }
-        ensures { Finds (global_points (B.meaning self.now.below) self.now.settings.flags «module».now ep.now info.now.global_uses handle var.now) result }
+        requires size { global.now.var.now.space ≡ space.TaskPayload → IsSome ((B.meaning self.now.below).size_of «module».now global.now.var.now.ty) }
+        requires taken { AreTaken taken.now info.now.global_uses «module».now.global_variables global.now.handle }
+        ensures { Finds (global_points (B.meaning self.now.below) self.now.settings.flags «module».now ep.now info.now.global_uses global.now.handle global.now.var.now) result }
     {
-        let Some(uses) = uses_of(info, handle.index()) else {
+        let Some(uses) = uses_of(info, global.handle.index()) else {
             return Ok(());
         };
         if uses.is_empty() {
             return Ok(());
         }
-        self.check_use(module, ep, handle, var, uses)?;
+        self.check_use(module, ep, global, uses)?;
         check_binding(
             self.settings.flags,
             module,
             info,
             taken,
-            handle,
-            var.binding,
+            global.handle,
+            global.var.binding,
         )
     }
 
@@ -132,7 +137,11 @@ impl<B: Below> Validator<B> {
         let globals = module.global_variables.as_slice();
         for index in 0..module.global_variables.len() {
             let handle = Handle::new(index as u32);
-            let checked = self.check_global(module, ep, info, &taken, handle, &globals[index]);
+            let global = ModuleGlobal {
+                handle,
+                var: &globals[index],
+            };
+            let checked = self.check_global(module, ep, info, &taken, &global);
             answer(alloc, checked)?;
             take_binding(module, info, &mut taken, index)?;
         }

@@ -25,14 +25,14 @@ use naga_ir::functions::Function;
 use naga_ir::module::Module;
 use std::alloc::Global;
 
-/// A function that is judged: the module that it is of, the infos of the functions before it, and one kind for each of its
-/// expressions.
+/// A function that is judged: the module that it is of, the infos of the functions before it, and whether it is an entry
+/// point's.
 #[derive(Clone, Copy)]
 pub struct Subject<'a> {
     pub program: &'a Module,
     pub earlier: &'a ModuleInfo,
     pub fun: &'a Function,
-    pub kinds: &'a ExpressionKindTracker,
+    pub entry_point: bool,
 }
 
 impl<B: Below> Validator<B> {
@@ -42,31 +42,28 @@ impl<B: Below> Validator<B> {
         &self,
         alloc: Global,
         table: &mut Option<Table>,
-        fun: &Function,
-        module: &Module,
-        mod_info: &ModuleInfo,
-        entry_point: bool,
+        subject: &Subject,
     ) -> Result<FunctionOutcome, Refusal<FunctionError>>
-        requires infos { AreInfosOf «module».now self.now.types }
-        requires types { FitsTypes «module».now }
-        requires function { FitsFunction fun.now «module».now (length mod_info.now.functions) }
+        requires infos { AreInfosOf subject.now.program.now self.now.types }
+        requires types { FitsTypes subject.now.program.now }
+        requires function { FitsFunction subject.now.fun.now subject.now.program.now (length subject.now.earlier.now.functions) }
         ensures { Answers
-            (judgement_by self.now (B.meaning self.now.below) «module».now mod_info.now fun.now entry_point)
+            (judgement_by self.now (B.meaning self.now.below) subject.now.program.now subject.now.earlier.now subject.now.fun.now subject.now.entry_point)
             result }
     {
         let flags = self.settings.flags;
         let capabilities = self.settings.capabilities;
         let below = &self.below;
-        let info = below.process_function(alloc, fun, module, mod_info, flags, capabilities)?;
-        let kinds = below.kinds(alloc, &fun.expressions)?;
-        let subject = Subject {
-            program: module,
-            earlier: mod_info,
+        let Subject {
+            program,
+            earlier,
             fun,
-            kinds: &kinds,
-        };
-        let info = self.check_known(alloc, &subject, info, entry_point)?;
-        self.judge_body(alloc, table, &subject, info)
+            ..
+        } = *subject;
+        let info = below.process_function(alloc, fun, program, earlier, flags, capabilities)?;
+        let kinds = below.kinds(alloc, &fun.expressions)?;
+        let info = self.check_known(alloc, subject, &kinds, info)?;
+        self.judge_body(alloc, table, subject, &kinds, info)
     }
 
     /// The declarations of a function, and its expressions where they are looked at: its info with the stages that they
@@ -75,14 +72,14 @@ impl<B: Below> Validator<B> {
         &self,
         alloc: Global,
         subject: &Subject,
+        kinds: &ExpressionKindTracker,
         info: FunctionInfo,
-        entry_point: bool,
     ) -> Result<FunctionInfo, Refusal<FunctionError>>
         requires infos { AreInfosOf subject.now.program.now self.now.types }
-        requires context { ContextFits (asked_by self.now subject.now.program.now subject.now.earlier.now subject.now.fun.now subject.now.kinds.now info) }
+        requires context { ContextFits (asked_by self.now subject.now.program.now subject.now.earlier.now subject.now.fun.now kinds.now info) }
         ensures { Answers
-            (known_by self.now (B.meaning self.now.below) entry_point
-            (asked_by self.now subject.now.program.now subject.now.earlier.now subject.now.fun.now subject.now.kinds.now info))
+            (known_by self.now (B.meaning self.now.below) subject.now.entry_point
+            (asked_by self.now subject.now.program.now subject.now.earlier.now subject.now.fun.now kinds.now info))
             result }
     {
         let context = BlockContext {
@@ -90,14 +87,14 @@ impl<B: Below> Validator<B> {
             earlier: subject.earlier,
             fun: subject.fun,
             info: &info,
-            kinds: subject.kinds,
+            kinds,
             settings: self.settings,
             trace: self.trace,
         };
-        check_declarations(alloc, &context, self.infos(), entry_point)?;
+        check_declarations(alloc, &context, self.infos(), subject.entry_point)?;
         let mut info = info;
         if self.settings.flags.contains(ValidationFlags::EXPRESSIONS) {
-            self.meet_expressions(alloc, subject, &mut info)?;
+            self.meet_expressions(alloc, subject, kinds, &mut info)?;
         }
         Ok(info)
     }
@@ -108,10 +105,11 @@ impl<B: Below> Validator<B> {
         alloc: Global,
         table: &mut Option<Table>,
         subject: &Subject,
+        kinds: &ExpressionKindTracker,
         info: FunctionInfo,
     ) -> Result<FunctionOutcome, Refusal<FunctionError>>
-        requires context { ContextFits (asked_by self.now subject.now.program.now subject.now.earlier.now subject.now.fun.now subject.now.kinds.now info) }
-        ensures { Answers (judged_with (asked_by self.now subject.now.program.now subject.now.earlier.now subject.now.fun.now subject.now.kinds.now info)) result }
+        requires context { ContextFits (asked_by self.now subject.now.program.now subject.now.earlier.now subject.now.fun.now kinds.now info) }
+        ensures { Answers (judged_with (asked_by self.now subject.now.program.now subject.now.earlier.now subject.now.fun.now kinds.now info)) result }
     {
         let mut info = info;
         let mut trace = self.trace;
@@ -121,7 +119,7 @@ impl<B: Below> Validator<B> {
                 earlier: subject.earlier,
                 fun: subject.fun,
                 info: &info,
-                kinds: subject.kinds,
+                kinds,
                 settings: self.settings,
                 trace,
             };

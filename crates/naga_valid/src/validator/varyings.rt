@@ -35,6 +35,27 @@ use naga_varyings::item::check_varying_item;
 use naga_varyings::varying::{MeshOutputType, VaryingPlace, VaryingState};
 use std::alloc::Global;
 
+/// An argument of a function, with its index, which counts from 0.
+#[derive(Clone, Copy)]
+struct IndexedArgument<'a> {
+    index: u32,
+    argument: &'a FunctionArgument,
+}
+
+/// What is put out: a value of a type, bound or not.
+#[derive(Clone, Copy)]
+struct OutputItem {
+    ty: Handle<tag::Type>,
+    binding: Option<Binding>,
+}
+
+/// An output of a mesh, which is of this type.
+#[derive(Clone, Copy)]
+struct MeshOutput {
+    which: MeshOutputType,
+    ty: Handle<tag::Type>,
+}
+
 impl<B: Below> Validator<B> {
     /// Where an input or an output of an entry point stands.
     fn place_of(&self, ep: &EntryPoint, output: bool, mesh_output: MeshOutputType) -> VaryingPlace
@@ -51,22 +72,22 @@ impl<B: Below> Validator<B> {
         }
     }
 
-    /// An argument, counted from 0.
+    /// An argument.
     fn check_argument(
         &self,
         alloc: Global,
         module: &Module,
         place: &VaryingPlace,
         state: &mut VaryingState,
-        index: u32,
-        argument: &FunctionArgument,
+        argument: &IndexedArgument,
     ) -> Result<(), Refusal<EntryPointError>>
         requires infos { AreInfosOf «module».now self.now.types }
         requires types { FitsTypes «module».now }
-        requires ty { argument.now.ty < length «module».now.types }
-        ensures fault { Judges (within (OfArgument index) (points_from place.now «module».now.types self.now.types (seen_in state.old) argument.now.ty argument.now.binding)) result }
-        ensures seen { OnOk result (seen_in state.new ≡ seen_with (seen_in state.old) (parts_of «module».now.types self.now.types argument.now.ty argument.now.binding)) }
+        requires ty { argument.now.argument.now.ty < length «module».now.types }
+        ensures fault { Judges (within (OfArgument argument.now.index) (points_from place.now «module».now.types self.now.types (seen_in state.old) argument.now.argument.now.ty argument.now.argument.now.binding)) result }
+        ensures seen { OnOk result (seen_in state.new ≡ seen_with (seen_in state.old) (parts_of «module».now.types self.now.types argument.now.argument.now.ty argument.now.argument.now.binding)) }
     {
+        let IndexedArgument { index, argument } = *argument;
         let infos = self.infos();
         let types = &module.types;
         match check_varying_item(
@@ -99,8 +120,11 @@ impl<B: Below> Validator<B> {
         let mut state = VaryingState::new(alloc);
         let arguments = ep.function.arguments.as_slice();
         for index in 0..arguments.len() {
-            let argument = &arguments[index];
-            self.check_argument(alloc, module, &place, &mut state, index as u32, argument)?;
+            let argument = IndexedArgument {
+                index: index as u32,
+                argument: &arguments[index],
+            };
+            self.check_argument(alloc, module, &place, &mut state, &argument)?;
         }
         Ok(())
     }
@@ -112,15 +136,15 @@ impl<B: Below> Validator<B> {
         module: &Module,
         place: &VaryingPlace,
         state: &mut VaryingState,
-        ty: Handle<tag::Type>,
-        binding: Option<Binding>,
+        item: OutputItem,
     ) -> Result<(), Refusal<EntryPointError>>
         requires infos { AreInfosOf «module».now self.now.types }
         requires types { FitsTypes «module».now }
-        requires ty { ty < length «module».now.types }
-        ensures fault { Judges (within OfResult (points_from place.now «module».now.types self.now.types (seen_in state.old) ty binding)) result }
-        ensures seen { OnOk result (seen_in state.new ≡ seen_with (seen_in state.old) (parts_of «module».now.types self.now.types ty binding)) }
+        requires ty { item.ty < length «module».now.types }
+        ensures fault { Judges (within OfResult (points_from place.now «module».now.types self.now.types (seen_in state.old) item.ty item.binding)) result }
+        ensures seen { OnOk result (seen_in state.new ≡ seen_with (seen_in state.old) (parts_of «module».now.types self.now.types item.ty item.binding)) }
     {
+        let OutputItem { ty, binding } = item;
         let infos = self.infos();
         match check_varying_item(alloc, place, state, &module.types, infos, ty, binding) {
             Ok(()) => Ok(()),
@@ -147,7 +171,11 @@ impl<B: Below> Validator<B> {
             return Ok(());
         };
         let place = self.place_of(ep, true, MeshOutputType::Neither);
-        self.check_output_item(alloc, module, &place, state, declared.ty, declared.binding)
+        let item = OutputItem {
+            ty: declared.ty,
+            binding: declared.binding,
+        };
+        self.check_output_item(alloc, module, &place, state, item)
     }
 
     /// The result, and what the stage has to return.
@@ -176,20 +204,23 @@ impl<B: Below> Validator<B> {
         ep: &EntryPoint,
         module: &Module,
         state: &mut VaryingState,
-        output: MeshOutputType,
-        ty: Handle<tag::Type>,
+        output: MeshOutput,
     ) -> Result<(), Refusal<EntryPointError>>
         requires infos { AreInfosOf «module».now self.now.types }
         requires types { FitsTypes «module».now }
-        requires ty { ty < length «module».now.types }
-        ensures fault { Judges ((it_is is_struct (inner_at «module».now.types ty), Other fault.InvalidMeshOutputType) ∷ within OfResult (points_from (place_of self.now.settings ep.now true output) «module».now.types self.now.types (seen_in state.old) ty None)) result }
-        ensures seen { OnOk result (seen_in state.new ≡ seen_with (seen_in state.old) (parts_of «module».now.types self.now.types ty None)) }
+        requires ty { output.ty < length «module».now.types }
+        ensures fault { Judges ((it_is is_struct (inner_at «module».now.types output.ty), Other fault.InvalidMeshOutputType) ∷ within OfResult (points_from (place_of self.now.settings ep.now true output.which) «module».now.types self.now.types (seen_in state.old) output.ty None)) result }
+        ensures seen { OnOk result (seen_in state.new ≡ seen_with (seen_in state.old) (parts_of «module».now.types self.now.types output.ty None)) }
     {
-        if !is_struct(inner_at(module, ty)) {
+        if !is_struct(inner_at(module, output.ty)) {
             return Err(refusal(alloc, EntryPointError::InvalidMeshOutputType));
         }
-        let place = self.place_of(ep, true, output);
-        self.check_output_item(alloc, module, &place, state, ty, None)
+        let place = self.place_of(ep, true, output.which);
+        let item = OutputItem {
+            ty: output.ty,
+            binding: None,
+        };
+        self.check_output_item(alloc, module, &place, state, item)
     }
 
     /// The output of each vertex of a mesh, which has a position.
@@ -208,8 +239,11 @@ impl<B: Below> Validator<B> {
         ensures fault { Judges (vertex_points self.now.settings «module».now.types self.now.types ep.now ty) result }
         ensures seen { OnOk result (seen_in state.new ≡ seen_at (place_of self.now.settings ep.now true which.VertexOutput) (placed_parts «module».now.types self.now.types (output_item self.now.settings ep.now which.VertexOutput ty))) }
     {
-        let output = MeshOutputType::VertexOutput;
-        self.check_output(alloc, ep, module, state, output, ty)?;
+        let output = MeshOutput {
+            which: MeshOutputType::VertexOutput,
+            ty,
+        };
+        self.check_output(alloc, ep, module, state, output)?;
         if !state.has_built_in(BuiltIn::Position { invariant: false }) {
             let fault = EntryPointError::MissingVertexOutputPosition;
             return Err(refusal(alloc, fault));
@@ -233,8 +267,11 @@ impl<B: Below> Validator<B> {
         requires seen { seen_in state.old ≡ seen_at (place_of self.now.settings ep.now true which.PrimitiveOutput) (placed_parts «module».now.types self.now.types (output_item self.now.settings ep.now which.VertexOutput mesh.now.vertex_output_type)) }
         ensures { Judges (primitive_points self.now.settings «module».now.types self.now.types ep.now (placed_parts «module».now.types self.now.types (output_item self.now.settings ep.now which.VertexOutput mesh.now.vertex_output_type)) mesh.now.primitive_output_type) result }
     {
-        let output = MeshOutputType::PrimitiveOutput;
-        self.check_output(alloc, ep, module, state, output, mesh.primitive_output_type)?;
+        let output = MeshOutput {
+            which: MeshOutputType::PrimitiveOutput,
+            ty: mesh.primitive_output_type,
+        };
+        self.check_output(alloc, ep, module, state, output)?;
         if !has_one_of_indices(state) {
             let fault = EntryPointError::InvalidMeshPrimitiveOutputType;
             return Err(refusal(alloc, fault));

@@ -14,6 +14,7 @@ ghost use Rattle.naga_function.specs.Shapes.{HasNoReturnInContinuing, HasWholeSw
 ghost use Rattle.naga_statements.specs.walk.Asked.{judgement_by};
 
 use crate::validator::Validator;
+use crate::validator::judge::Subject;
 use naga_arena::span::Refusal;
 use naga_below::valid::info::{FunctionInfo, ModuleInfo};
 use naga_errors::below::Below;
@@ -98,7 +99,13 @@ impl<B: Below> Validator<B> {
         ensures kept { self.new ≡ self.old }
     {
         let mut table = self.table.take();
-        let judged = self.judge_function(alloc, &mut table, fun, module, mod_info, entry_point);
+        let subject = Subject {
+            program: module,
+            earlier: mod_info,
+            fun,
+            entry_point,
+        };
+        let judged = self.judge_function(alloc, &mut table, &subject);
         self.table = table;
         judged
     }

@@ -245,17 +245,27 @@ fn fault_of(
     }
 }
 
+/// An item: its type, which is one of the bench, and its binding.
+#[derive(Clone, Copy)]
+struct Item {
+    ty: u32,
+    binding: Option<Binding>,
+}
+
+fn item(ty: u32, binding: Option<Binding>) -> Item {
+    Item { ty, binding }
+}
+
 /// An item behind what the state has gets this answer.
 fn next(
     rt: &(impl Abort + AllocGlobal),
     bench: &Bench,
     place: &VaryingPlace,
     state: &mut VaryingState,
-    ty: u32,
-    binding: Option<Binding>,
+    item: Item,
     expected: Option<VaryingError>,
 ) {
-    assert!(rt; fault_of(rt, bench, place, state, ty, binding) == expected);
+    assert!(rt; fault_of(rt, bench, place, state, item.ty, item.binding) == expected);
 }
 
 /// An item alone gets this answer.
@@ -268,5 +278,5 @@ fn alone(
     expected: Option<VaryingError>,
 ) {
     let mut state = VaryingState::new(rt.alloc());
-    next(rt, bench, place, &mut state, ty, binding, expected);
+    next(rt, bench, place, &mut state, item(ty, binding), expected);
 }

@@ -1,24 +1,21 @@
-use Rattle.std.proofs.Common.{rules, ◌≡◌, Err, None, Some, ◌||◌, IfSome, ◌<◌, subst, append-nil, ◌++◌, ◌+◌, [], refl, sym, ap, ◌∙◌, drop, append_assoc}
+use Rattle.std.proofs.Common.{rules, ◌≡◌, Err, None, Some, ◌||◌, subst, append-nil, ◌++◌, ◌+◌, [], refl, sym, ap, ◌∙◌, drop, append_assoc}
 use Rattle.naga_ir.specs.declared.statements.Block.{the_lemmas}
 use Rattle.naga_ir.proofs.Rows.{body_of-list, tree_of-switch}
 use Rattle.naga_ir.specs.View as view
-use Rattle.naga_runs.specs.Positions.{StatementNode}
-use Rattle.naga_context.specs.Results.{result_of}
 use Rattle.naga_context.specs.Blocks.{emitted_operands, tree_of, list_of, cases_of, block_of}
 use Rattle.naga_errors.specs.Answers.{Refuses}
 use Rattle.naga_statements.specs.Ready.{IsStatementReady, IsBodyReady}
 use Rattle.naga_context.specs.walk.Seen.{context_of}
 use Rattle.naga_statements.specs.walk.State.{kept, with_statement}
-use Rattle.naga_context.specs.walk.Table.{HasPut, known, marked, shown}
-use Rattle.naga_statements.specs.walk.Walk.{puts, body_puts, body_answer, cases_answer}
-use Rattle.naga_checks.specs.walk.Emitted.{place}
+use Rattle.naga_context.specs.walk.Table.{HasPut, known}
+use Rattle.naga_statements.specs.walk.Walk.{puts, body_puts, body_answer}
 use Rattle.naga_context.proofs.Columns.{both_put, put_nothing, same_known, stays_put, shows_before, may_leave}
 use Rattle.naga_context.proofs.Divided.{loop_left, may_leave_loop}
 use Rattle.naga_runs.specs.Must.{body_holds_continue, cases_hold_continue}
 use Rattle.naga_function.proofs.LoopBody.{PutsOfLoop, at_first, one_more, undivided, divided, may_part}
-use Rattle.naga_statements.proofs.Parts.{in_block, in_branch, in_switch, in_lists, in_list, in_cases, in_result}
+use Rattle.naga_statements.proofs.Parts.{in_block, in_branch, in_switch, in_lists, in_list, in_cases}
 use Rattle.naga_context.proofs.Refusals.{next_is, passes, stops_first, stops_next, answers_next}
-use Rattle.naga_function.proofs.Walk.{holds_turn, holds_end, rest_turn, rest_end, cases_hold_turn, cases_hold_end, leaving_err, no_continue, frequent_parts, frequent_holds, or_assoc, parts_continue, no_parts, own_passes, own_refuses, parts_later, parts_branch, parts_switch, stmt_more, body_turn, puts_turn, body_end, puts_end, cases_turn, cases_end}
+use Rattle.naga_function.proofs.Walk.{holds_turn, rest_turn, rest_end, cases_hold_turn, leaving_err, no_continue, frequent_parts, frequent_holds, or_assoc, parts_continue, no_parts, own_passes, own_refuses, parts_later, parts_branch, parts_switch, stmt_more, body_turn, puts_turn, body_end, puts_end, cases_turn, cases_end}
 use Rattle.naga_function.proofs.function.+walk.Goals as goal
 
 pub validate_parts-validate_block-requires : goal.validate_parts-validate_block-requires
@@ -43,16 +40,10 @@ validate_parts-returns-in-Switch-clause-fault t c =
     let tree = ap (λ st. view.tree_of (emitted_operands (context_of c.args.context.now).fun) st span) c.in-Switch.is ∙ tree_of-switch (emitted_operands (context_of c.args.context.now).fun) c.in-Switch.selector c.in-Switch.cases span in
     rw (tree, parts_switch (context_of c.args.context.now) (kept c.args.table.now.filled c.args.state.now) c.args.abilities (known c.args.table.now.scope) c.in-Switch.selector (cases_of (context_of c.args.context.now) c.in-Switch.cases), ← c.in_case-abilities.ensures, ← c.as_slice.ensures) c.validate_cases.ensures.fault
 
-pub validate_statement-returns-in_err-validate_points-clause-fault :
-    goal.validate_statement-returns-in_err-validate_points-clause-fault
-validate_statement-returns-in_err-validate_points-clause-fault t c =
+pub validate_statement-returns-in_err-whole-clause-fault :
+    goal.validate_statement-returns-in_err-whole-clause-fault
+validate_statement-returns-in_err-whole-clause-fault t c =
     rw (stmt_more (context_of c.args.context.now) (kept c.args.table.now.filled c.args.state.now) c.args.abilities (known c.args.table.now.scope) (tree_of (context_of c.args.context.now) c.args.located.now)) (search (rules, stops_first, own_refuses))
-
-pub validate_statement-advance-requires : goal.validate_statement-advance-requires
-validate_statement-advance-requires t c =
-    let x = tree_of (context_of c.args.context.now) c.args.located.now in
-    let marks = ap marked c.in_ok-validate_points.ensures.filled ∙ c.requires.table.filled in
-    subst (λ n. IfSome (result_of (StatementNode x)) (λ r. r < n)) (sym marks) (in_result (context_of c.args.context.now) x c.requires.ready)
 
 pub validate_statement-returns-clause-fault : goal.validate_statement-returns-clause-fault
 validate_statement-returns-clause-fault t c =
@@ -60,32 +51,33 @@ validate_statement-returns-clause-fault t c =
     let k = kept c.args.table.now.filled c.args.state.now in
     let s = known c.args.table.now.scope in
     let x = tree_of context c.args.located.now in
-    let next = ap (λ filled. with_statement context (kept filled c.args.state.now) x) (sym c.in_ok-validate_points.ensures.filled) ∙ sym c.advance.ensures.state in
-    let put = c.in_ok-validate_points.ensures.scope.inside in
+    let next = sym c.in_ok-whole.ensures.state in
+    let put = c.in_ok-whole.ensures.scope.inside in
+    let later = kept c.validate_own.new.table.filled c.validate_own.new.state in
     rw (stmt_more context k c.args.abilities s x) (
-    answers_next _ _ _ _ _ (own_passes context k c.args.abilities s x c.in_ok-validate_points.ensures.fault) (rw (next, ← parts_later context (kept c.advance.new.filled c.advance.new.state) c.args.abilities s x, ← put) c.validate_parts.ensures.fault)
+    answers_next _ _ _ _ _ (own_passes context k c.args.abilities s x c.in_ok-whole.ensures.fault) (rw (next, ← parts_later context later c.args.abilities s x, ← put) c.validate_parts.ensures.fault)
     )
 
-pub validate_statement-returns-then-is_frequent-clause-fault :
-    goal.validate_statement-returns-then-is_frequent-clause-fault
-validate_statement-returns-then-is_frequent-clause-fault t c =
+pub validate_statement-returns-then-whole-clause-fault :
+    goal.validate_statement-returns-then-whole-clause-fault
+validate_statement-returns-then-whole-clause-fault t c =
     let context = context_of c.args.context.now in
     let k = kept c.args.table.now.filled c.args.state.now in
     let s = known c.args.table.now.scope in
     let x = tree_of context c.args.located.now in
-    let next = ap (λ filled. with_statement context (kept filled c.args.state.now) x) (sym c.in_ok-validate_points.ensures.filled) ∙ sym c.advance.ensures.state in
-    let put = c.in_ok-validate_points.ensures.scope.inside in
-    let later = kept c.advance.new.filled c.advance.new.state in
-    let frequent = sym c.is_frequent.ensures ∙ c.if-is_frequent.true in
-    let none = frequent_parts context later c.args.abilities (known c.validate_points.new.table.scope) c.args.located.now.statement c.args.located.now.span frequent in
+    let next = sym c.in_ok-whole.ensures.state in
+    let put = c.in_ok-whole.ensures.scope.inside in
+    let later = kept c.validate_own.new.table.filled c.validate_own.new.state in
+    let frequent = sym c.in_ok-whole.ensures.all ∙ c.if-whole.true in
+    let none = frequent_parts context later c.args.abilities (known c.validate_own.new.table.scope) c.args.located.now.statement c.args.located.now.span frequent in
     rw (stmt_more context k c.args.abilities s x) (
-    passes _ _ (with_statement context k x) later (own_passes context k c.args.abilities s x c.in_ok-validate_points.ensures.fault) (rw (next, ← parts_later context later c.args.abilities s x, ← put) none)
+    passes _ _ (with_statement context k x) later (own_passes context k c.args.abilities s x c.in_ok-whole.ensures.fault) (rw (next, ← parts_later context later c.args.abilities s x, ← put) none)
     )
 
-pub validate_statement-returns-then-is_frequent-clause-held :
-    goal.validate_statement-returns-then-is_frequent-clause-held
-validate_statement-returns-then-is_frequent-clause-held t c =
-    frequent_holds (context_of c.args.context.now) c.args.located.now.statement c.args.located.now.span (sym c.is_frequent.ensures ∙ c.if-is_frequent.true)
+pub validate_statement-returns-then-whole-clause-held :
+    goal.validate_statement-returns-then-whole-clause-held
+validate_statement-returns-then-whole-clause-held t c =
+    frequent_holds (context_of c.args.context.now) c.args.located.now.statement c.args.located.now.span (sym c.in_ok-whole.ensures.all ∙ c.if-whole.true)
 
 pub validate_statements-validate_statement-requires :
     goal.validate_statements-validate_statement-requires
@@ -146,7 +138,7 @@ validate_parts-returns-in_ok-check_break_if-in-Loop-clause-scope t c =
 
 pub validate_statement-returns-clause-scope : goal.validate_statement-returns-clause-scope
 validate_statement-returns-clause-scope t c =
-    stays_put (context_of c.args.context.now) _ _ _ _ c.validate_parts.result c.in_ok-validate_points.ensures.scope c.requires.table.scope c.validate_parts.ensures.table c.validate_parts.ensures.scope
+    stays_put (context_of c.args.context.now) _ _ _ _ c.validate_parts.result c.in_ok-whole.ensures.scope c.requires.table.scope c.validate_parts.ensures.table c.validate_parts.ensures.scope
 
 pub validate_statements-loop-located-init : goal.validate_statements-loop-located-init
 validate_statements-loop-located-init t c =

@@ -1,9 +1,8 @@
-use Rattle.std.proofs.Common.{Some, arith, length, take, ◌∷◌, [], ◌≡◌, sym, ap, ◌∙◌}
+use Rattle.std.proofs.Common.{Some, arith, ◌∷◌, [], sym, ap, ◌∙◌}
 use Rattle.std.proofs.lemmas.Option.{get_or_from_slice_get}
-use Rattle.std.proofs.lemmas.List.{take_all}
 use Rattle.naga_context.specs.Context.{if_pre_emitted}
 use Rattle.naga_context.specs.walk.Table.{count, known, with_all}
-use Rattle.naga_function.proofs.PreEmitted.{pre_emitted_in, is_new, one_more, none_more}
+use Rattle.naga_function.proofs.PreEmitted.{is_new, one_more, none_more}
 use Rattle.naga_function.proofs.function.put_pre_emitted.Goals as goal
 use Rattle.naga_function.proofs.function.put_pre_emitted.Goals.{then-needs_pre_emit, else-needs_pre_emit}
 

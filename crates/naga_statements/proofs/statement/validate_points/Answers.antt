@@ -23,4 +23,4 @@ returns-in-Switch-clause-fault c =
 pub returns-in_default-clause-fault : goal.returns-in_default-clause-fault
 returns-in_default-clause-fault c =
     let same = points_of_leaf (context_of c.args.context.now) (seen (kept c.args.table.now.filled c.args.state.now)) (place c.args.abilities (known c.args.table.now.scope)) c.args.located.now.span c.args.located.now.statement c.in_default.not-If c.in_default.not-Switch c.in_default.not-Break c.in_default.not-Continue c.in_default.not-Return in
-    rw (← same) c.validate_leaf.ensures.fault
+    rw (← same) c.validate_rarer_leaf.ensures.fault

@@ -7,14 +7,14 @@ use Rattle.naga_valid.proofs.validator.Validator.check_global.Goals as goal
 
 pub returns-in_err-check_use : goal.returns-in_err-check_use
 returns-in_err-check_use g c =
-    let is : slice_get c.args.info.now.global_uses c.args.handle ≡ Some c.in-Some.uses = search rules in
+    let is : slice_get c.args.info.now.global_uses c.args.global.now.handle ≡ Some c.in-Some.uses = search rules in
     let some : (c.in-Some.uses.0 == 0) ≡ false = search rules in
-    use_refused (g.B.Below.meaning c.args.self.now.below) c.args.self.now.settings.flags c.args.module.now c.args.ep.now c.args.info.now.global_uses c.args.handle c.args.var.now c.in-Some.uses is some c.from_residual.result (search rules) (search rules)
+    use_refused (g.B.Below.meaning c.args.self.now.below) c.args.self.now.settings.flags c.args.module.now c.args.ep.now c.args.info.now.global_uses c.args.global.now.handle c.args.global.now.var.now c.in-Some.uses is some c.from_residual.result (search rules) (search rules)
 
 pub returns : goal.returns
 returns g c =
-    let is : slice_get c.args.info.now.global_uses c.args.handle ≡ Some c.in-Some.uses = search rules in
+    let is : slice_get c.args.info.now.global_uses c.args.global.now.handle ≡ Some c.in-Some.uses = search rules in
     let some : (c.in-Some.uses.0 == 0) ≡ false = search rules in
-    let none : first_fault (use_points (g.B.Below.meaning c.args.self.now.below) c.args.self.now.settings.flags c.args.module.now c.args.ep.now [] c.args.handle c.args.var.now c.in-Some.uses) ≡ None = sym c.in_ok-check_use.ensures in
-    let bound : Finds (binding_points c.args.self.now.settings.flags c.args.info.now.global_uses c.args.module.now.global_variables c.args.handle c.args.var.now.binding) c.check_binding.result = search rules in
-    binding_decides (g.B.Below.meaning c.args.self.now.below) c.args.self.now.settings.flags c.args.module.now c.args.ep.now c.args.info.now.global_uses c.args.handle c.args.var.now c.in-Some.uses is some c.check_binding.result none bound
+    let none : first_fault (use_points (g.B.Below.meaning c.args.self.now.below) c.args.self.now.settings.flags c.args.module.now c.args.ep.now [] c.args.global.now.handle c.args.global.now.var.now c.in-Some.uses) ≡ None = sym c.in_ok-check_use.ensures in
+    let bound : Finds (binding_points c.args.self.now.settings.flags c.args.info.now.global_uses c.args.module.now.global_variables c.args.global.now.handle c.args.global.now.var.now.binding) c.check_binding.result = search rules in
+    binding_decides (g.B.Below.meaning c.args.self.now.below) c.args.self.now.settings.flags c.args.module.now c.args.ep.now c.args.info.now.global_uses c.args.global.now.handle c.args.global.now.var.now c.in-Some.uses is some c.check_binding.result none bound

@@ -9,10 +9,10 @@ use Rattle.naga_valid.proofs.validator.Validator.check_output_item.Goals as goal
 
 pub returns-in-Ok-clause-fault : goal.returns-in-Ok-clause-fault
 returns-in-Ok-clause-fault g c =
-    let points = λ (infos : List TypeInfo). points_from c.args.place.now c.args.module.now.types infos (seen_in c.args.state.now) c.args.ty c.args.binding in
+    let points = λ (infos : List TypeInfo). points_from c.args.place.now c.args.module.now.types infos (seen_in c.args.state.now) c.args.item.ty c.args.item.binding in
     passes_within OfResult (points c.args.self.now.types) (subst (λ infos. first_fault (points infos) ≡ None) c.infos-infos.ensures c.in-Ok.ensures.fault)
 
 pub returns-in-Err-clause-fault : goal.returns-in-Err-clause-fault
 returns-in-Err-clause-fault g c =
-    let points = λ (infos : List TypeInfo). points_from c.args.place.now c.args.module.now.types infos (seen_in c.args.state.now) c.args.ty c.args.binding in
+    let points = λ (infos : List TypeInfo). points_from c.args.place.now c.args.module.now.types infos (seen_in c.args.state.now) c.args.item.ty c.args.item.binding in
     c.result_refused.ensures (points c.args.self.now.types) (subst (λ infos. IsFirstVaryingFault (points infos) c.in-Err.refused) c.infos-infos.ensures c.in-Err.ensures.fault)

@@ -12,7 +12,7 @@ returns-in_err-info-2 g c = search (rules, known_refuses)
 
 pub judge_body-requires : goal.judge_body-requires
 judge_body-requires g c =
-    let context = asked_context c.args.self.now.settings c.args.self.now.trace c.args.module.now c.args.mod_info.now c.args.fun.now c.in_ok-kinds.kinds c.in_ok-info.info in
+    let context = asked_context c.args.self.now.settings c.args.self.now.trace c.args.subject.now.program.now c.args.subject.now.earlier.now c.args.subject.now.fun.now c.in_ok-kinds.kinds c.in_ok-info.info in
     let fits : ContextFits context =
     record {
       types = c.requires.types;
@@ -22,7 +22,7 @@ judge_body-requires g c =
       no_struct_values = g.met.B.Below.no_struct_values _ _ _ _ _ _ _ c.in_ok-info.ensures;
       one_kind_each = ap length c.in_ok-kinds.ensures ∙ g.met.B.Below.one_kind_each _ _;
     } in
-    let same = known_is (g.B.Below.meaning c.args.self.now.below) c.args.self.now.types c.args.entry_point context c.in_ok-info-2.info c.in_ok-info-2.ensures in
+    let same = known_is (g.B.Below.meaning c.args.self.now.below) c.args.self.now.types c.args.subject.now.entry_point context c.in_ok-info-2.info c.in_ok-info-2.ensures in
     record { context = fits_with context c.in_ok-info-2.info same fits }
 
 pub returns : goal.returns

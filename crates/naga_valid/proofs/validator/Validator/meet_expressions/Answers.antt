@@ -10,7 +10,7 @@ use Rattle.naga_valid.proofs.validator.Validator.meet_expressions.Goals as goal
 pub returns-in-Err-clause-fault : goal.returns-in-Err-clause-fault
 returns-in-Err-clause-fault g c =
     let below = g.B.Below.meaning c.args.self.now.below in
-    let context = asked_context c.args.self.now.settings c.args.self.now.trace c.args.subject.now.program.now c.args.subject.now.earlier.now c.args.subject.now.fun.now c.args.subject.now.kinds.now c.args.info.now in
+    let context = asked_context c.args.self.now.settings c.args.self.now.trace c.args.subject.now.program.now c.args.subject.now.earlier.now c.args.subject.now.fun.now c.args.kinds.now c.args.info.now in
     let lt = rw c.len-count.ensures.len at c.loop-index-test.true in
     let right = below.expression_stages context.settings c.new-handle.result context.fun context.program c.loop-index.info context.earlier context.kinds in
     let asked : Answers right c.validate_expression-asked.result = search rules in
@@ -20,7 +20,7 @@ returns-in-Err-clause-fault g c =
 pub loop-index-preserved : goal.loop-index-preserved
 loop-index-preserved g c =
     let below = g.B.Below.meaning c.args.self.now.below in
-    let context = asked_context c.args.self.now.settings c.args.self.now.trace c.args.subject.now.program.now c.args.subject.now.earlier.now c.args.subject.now.fun.now c.args.subject.now.kinds.now c.args.info.now in
+    let context = asked_context c.args.self.now.settings c.args.self.now.trace c.args.subject.now.program.now c.args.subject.now.earlier.now c.args.subject.now.fun.now c.args.kinds.now c.args.info.now in
     let lt = rw c.len-count.ensures.len at c.loop-index-test.true in
     let right = below.expression_stages context.settings c.new-handle.result context.fun context.program c.loop-index.info context.earlier context.kinds in
     let asked : Answers right c.validate_expression-asked.result = search rules in
@@ -34,4 +34,4 @@ loop-index-preserved g c =
 pub returns-clause-fault : goal.returns-clause-fault
 returns-clause-fault g c =
     let over = rw c.len-count.ensures.len at c.loop-index-test.false in
-    masks_end (g.B.Below.meaning c.args.self.now.below) (asked_context c.args.self.now.settings c.args.self.now.trace c.args.subject.now.program.now c.args.subject.now.earlier.now c.args.subject.now.fun.now c.args.subject.now.kinds.now c.args.info.now) (length c.args.subject.now.fun.now.expressions) c.loop-index.index c.loop-index.info.available_stages _ over c.loop-index.invariant.faults
+    masks_end (g.B.Below.meaning c.args.self.now.below) (asked_context c.args.self.now.settings c.args.self.now.trace c.args.subject.now.program.now c.args.subject.now.earlier.now c.args.subject.now.fun.now c.args.kinds.now c.args.info.now) (length c.args.subject.now.fun.now.expressions) c.loop-index.index c.loop-index.info.available_stages _ over c.loop-index.invariant.faults

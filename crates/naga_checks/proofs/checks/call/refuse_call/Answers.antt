@@ -3,7 +3,7 @@ use Rattle.naga_context.specs.walk.Place.{place_at}
 use Rattle.naga_context.specs.walk.Seen.{context_of}
 use Rattle.naga_context.specs.walk.Table.{filled_in, known}
 use Rattle.naga_checks.proofs.Calls.{call_stops, call_next, call_stops_alone, call_next_alone}
-use Rattle.naga_checks.proofs.checks.call.check_call.Goals as goal
+use Rattle.naga_checks.proofs.checks.call.refuse_call.Goals as goal
 
 pub returns-in_err-check_arguments-clause-fault : goal.returns-in_err-check_arguments-clause-fault
 returns-in_err-check_arguments-clause-fault c =

@@ -5,7 +5,7 @@ use Rattle.naga_context.specs.walk.Place.{place_at}
 use Rattle.naga_context.specs.walk.Seen.{context_of}
 use Rattle.naga_context.specs.walk.Table.{known}
 use Rattle.naga_checks.proofs.Emits.{emitted_stops, emitted_twice, emitted_once}
-use Rattle.naga_checks.proofs.checks.control.check_emitted.Goals as goal
+use Rattle.naga_checks.proofs.checks.control.refuse_emitted.Goals as goal
 
 pub returns-in_err-check_operands : goal.returns-in_err-check_operands
 returns-in_err-check_operands c =
