@@ -1,17 +1,18 @@
 -- What the columns of a table show as they change.
-use Rattle.std.proofs.Common.{◌≡◌, ℕ, zero, suc, ◌+◌, ◌-◌, ◌<◌, ◌≤◌, ◌==◌, eqb, Bool, true, false, Option, Some, None, List, [], ◌∷◌, ◌++◌, All, OnOk, Result, Ok, Err, is_some, length, get_or, length-set, replicate, take, refl, sym, ap, ◌∙◌, arith}
+use Rattle.std.proofs.Common.{◌≡◌, ℕ, zero, suc, ◌-◌, ◌<◌, ◌≤◌, ◌==◌, Bool, true, false, Option, Some, None, List, [], ◌∷◌, ◌++◌, All, OnOk, Result, Ok, Err, is_some, length, get_or, length-set, replicate, take, refl, sym, ap, ◌∙◌, arith}
 use Rattle.std.proofs.lemmas.Bool.Decides.{nat_tests}
-use Rattle.std.proofs.lemmas.List.{get_or_append_left, get_or_push, get_or-set_same, get_or-set_other}
-use Rattle.std.proofs.lemmas.List.Elements.{All-get_or}
+use Rattle.std.proofs.lemmas.List.{get_or_append_left}
 use Rattle.std.proofs.Math.ListN.{set}
 use Rattle.std.specs.Prelude.{if◌then◌else◌}
 use Rattle.naga_runs.specs.Handles.{Handles, no_handles, with_handle}
 use Rattle.naga_context.specs.walk.Numbers.{number_at, state_at, IsSound}
 use Rattle.naga_context.specs.walk.Place.{Sets, no_sets}
-use Rattle.naga_context.specs.walk.Table.{Shown, where_kept, is_open, put_open, shown, known, known_in, count, unless_by, closing, closing_if, left, skipped, with_all, with_puts, HasPut, IsTableOf}
+use Rattle.naga_context.specs.walk.Table.{Shown, where_kept, is_open, put_open, shown, known, known_in, count, unless_by, closing, left, skipped, with_all, with_puts, HasPut, IsTableOf}
 use Rattle.naga_context.specs.declared.table.Table.{Table}
 use Rattle.naga_context.specs.Context.{Context}
 use Rattle.naga_context.specs.declared.table.ScopeColumn.{ScopeColumn}
+use Rattle.naga_context.specs.declared.table.ResultState.{ResultState}
+use Rattle.naga_context.specs.declared.table.ResultState.TheVariants.{NoResult}
 use Rattle.naga_context.specs.declared.table.ScopeState.{ScopeState}
 use Rattle.naga_context.specs.declared.table.ScopeState.TheVariants.{Closed, Open, Skipped}
 
@@ -304,8 +305,10 @@ none_in_scope numbers n states inner is never i =
       must = λ h. ap (put_open (state_at states)) (nothing_put numbers n states is never h) i;
     }
 
-pub nothing_marked : (marks : List Bool) (n : ℕ) → marks ≡ replicate n false → ◌≡◌ {A = ℕ → Bool} (λ h. get_or marks h false) no_handles
-nothing_marked marks n is i h = (ap (λ (l : List Bool). get_or l h false) is ∙ at_replicate n h false) i
+-- no mark of a column that is begun has a property that that of no result lacks
+pub nothing_marked : (marks : List ResultState) (n : ℕ) (has : ResultState → Bool) → has NoResult ≡ false → marks ≡ replicate n NoResult → ◌≡◌ {A = ℕ → Bool} (λ h. has (get_or marks h NoResult)) no_handles
+nothing_marked marks n has none is i h =
+    (ap (λ (l : List ResultState). has (get_or l h NoResult)) is ∙ ap has (at_replicate n h NoResult) ∙ none) i
 
 pub all-append : (xs ys : List ℕ) (s : Handles) → with_all s (xs ++ ys) ≡ with_all (with_all s xs) ys
 all-append [] ys s = refl

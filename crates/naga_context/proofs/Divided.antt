@@ -1,11 +1,10 @@
 -- The body list of a Loop, whose puts behind its first Continue have a number of their own.
-use Rattle.std.proofs.Common.{◌≡◌, ℕ, ◌==◌, Bool, true, false, Option, Some, None, List, [], ◌∷◌, ◌++◌, append_assoc, append-nil, refl, sym, ap, ◌∙◌}
+use Rattle.std.proofs.Common.{◌≡◌, ℕ, ◌==◌, Bool, true, false, Option, Some, None, List, ◌++◌, refl, sym, ap, ◌∙◌}
 use Rattle.std.specs.Prelude.{if◌then◌else◌}
-use Rattle.naga_runs.specs.Handles.{Handles}
 use Rattle.naga_context.specs.declared.table.ScopeColumn.{ScopeColumn}
 use Rattle.naga_context.specs.declared.table.ScopeState.{ScopeState}
 use Rattle.naga_context.specs.declared.table.ScopeState.TheVariants.{Closed, Open, Skipped}
-use Rattle.naga_context.specs.walk.Table.{Shown, is_open, put_open, shown, known, known_in, count, unless_by, closing, closing_if, left, skipped, with_all, with_puts, HasPut, HasLooped}
+use Rattle.naga_context.specs.walk.Table.{Shown, is_open, put_open, shown, known, known_in, count, unless_by, closing, closing_if, left, skipped, with_all, HasPut, HasLooped}
 use Rattle.naga_context.proofs.Columns.{all-append, both_put}
 
 -- closing two scopes is the same in both orders

@@ -14,7 +14,7 @@ use naga_flags::valid::ValidationFlags;
 use naga_ir::expressions::Expression;
 
 /// Whether an expression is of a kind that a Call or an Atomic fills.
-fn is_to_fill(expression: Option<&Expression>) -> bool
+pub fn is_to_fill(expression: Option<&Expression>) -> bool
     ensures { result ≡ is_to_fill (option_copied expression.entry) }
 {
     matches!(

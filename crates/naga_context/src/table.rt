@@ -33,11 +33,22 @@ pub struct ScopeColumn {
     ghost sound: { IsSound numbers.items states.items innermost },
 }
 
-/// Which results are filled (those that naga's `needs_visit` lacks).
+/// What is known of an expression as a result of a Call or an Atomic.
+#[derive(Clone, Copy, PartialEq, Eq, Debug)]
+pub enum ResultState {
+    /// It is none.
+    NoResult,
+    /// It is one, and nothing filled it so far.
+    Unfilled,
+    /// A statement named it, and so filled it.
+    Filled,
+}
+
+/// Which results are filled, and which are still to be filled (naga's `needs_visit`).
 #[derive(Drop)]
 pub struct FilledColumn {
     // by expression
-    marks: Vec<bool>,
+    marks: Vec<ResultState>,
 }
 
 /// Both columns, which grow to the size of the largest function that they were begun for.

@@ -1,6 +1,7 @@
 //! The judgement of a body of statements: naga's `validate_block`.
 
 ghost use Rattle.std.specs.Prelude.{◌≡◌, IfOk, OnOk, length};
+ghost use Rattle.naga_runs.specs.Handles.{no_handles};
 ghost use Rattle.naga_runs.specs.Must.{holds_continue, body_holds_continue, cases_hold_continue};
 ghost use Rattle.naga_context.specs.walk.Place.{no_sets};
 ghost use Rattle.naga_runs.specs.Judgement.{viewed};
@@ -12,7 +13,7 @@ ghost use Rattle.naga_statements.specs.Judged.{body_judgement};
 ghost use Rattle.naga_statements.specs.Ready.{IsStatementReady, IsBodyReady, AreCasesReady};
 ghost use Rattle.naga_context.specs.walk.Seen.{context_of};
 ghost use Rattle.naga_statements.specs.walk.State.{kept, state_left, body_left};
-ghost use Rattle.naga_context.specs.walk.Table.{HasLooped, HasPut, IsTableOf, count, known, shown};
+ghost use Rattle.naga_context.specs.walk.Table.{HasLooped, HasPut, IsTableOf, KnowsResults, count, filled_in, known, marked, shown, unfilled_in};
 ghost use Rattle.naga_statements.specs.walk.Walk.{puts, body_puts, puts_to_continue, parts_answer, stmt_answer, body_answer, cases_answer};
 
 use naga_arena::handle::Handle;
@@ -20,7 +21,8 @@ use naga_arena::span::Refusal;
 use naga_context::context::BlockContext;
 use naga_context::refuse::answer_of_function;
 use naga_context::refused::Refused;
-use naga_context::table::{ScopeColumn, Table};
+use naga_context::results::is_to_fill;
+use naga_context::table::{FilledColumn, ScopeColumn, Table};
 use naga_errors::function::FunctionError;
 use naga_ir::statements::{Block, Located, Statement, SwitchCase};
 use naga_runs::Abilities;
@@ -71,35 +73,45 @@ fn validate_body_statements(
 ) -> Result<BodyOutcome, Refused>
     requires context { ContextFits (context_of context.now) }
     requires ready { IsBodyReady (context_of context.now) (body_of (context_of context.now).fun) }
-    ensures { AnswersState (viewed (state_left (context_of context.now)) (body_judgement (context_of context.now)))
+    ensures state { AnswersState (viewed (state_left (context_of context.now)) (body_judgement (context_of context.now)))
         (kept table.new.filled) result }
+    ensures results { OnOk result (KnowsResults (context_of context.now) table.new.filled) }
 {
     let count = context.fun.expressions.len();
     table.scope.begin(count)?;
     table.filled.begin(count)?;
-    put_pre_emitted(&mut table.scope, context);
+    begin_columns(&mut table.scope, &mut table.filled, context);
     let mut state = BodyOutcome {
         stages: context.info.available_stages,
         trace: context.trace,
     };
     let abilities = Abilities::at_begin();
-    validate_statements(table, &mut state, context, abilities, &context.fun.body)?;
+    validate_statements(table, &mut state, context, &abilities, &context.fun.body)?;
     Ok(state)
 }
 
-/// Puts in scope what is there before the first statement.
-fn put_pre_emitted(scope: &mut ScopeColumn, context: &BlockContext)
+/// Puts in scope what is there before the first statement, and marks the results that are to be filled.
+fn begin_columns(scope: &mut ScopeColumn, filled: &mut FilledColumn, context: &BlockContext)
     requires none { known scope.old ≡ no_sets }
     requires count { count scope.old ≡ length (context_of context.now).fun.expressions }
+    requires filled { filled_in filled.old ≡ no_handles }
+    requires unfilled { unfilled_in filled.old ≡ no_handles }
+    requires marked { marked filled.old ≡ length (context_of context.now).fun.expressions }
     ensures scope { (known scope.new).scope ≡ pre_emitted (context_of context.now) }
     ensures must { (known scope.new).must ≡ pre_emitted (context_of context.now) }
     ensures count { count scope.new ≡ count scope.old }
+    ensures filled { filled_in filled.new ≡ no_handles }
+    ensures results { KnowsResults (context_of context.now) filled.new }
+    ensures marked { marked filled.new ≡ marked filled.old }
 {
     let count = context.fun.expressions.len() as u32;
     for index in 0..count {
         let handle = Handle::new(index);
         if context.fun.expressions[handle].needs_pre_emit() {
             scope.put(handle);
+        }
+        if is_to_fill(context.expression(handle)) {
+            filled.expect(handle);
         }
     }
 }
@@ -112,14 +124,14 @@ fn validate_parts(
     table: &mut Table,
     state: &mut BodyOutcome,
     context: &BlockContext,
-    abilities: Abilities,
+    abilities: &Abilities,
     located: &Located,
 ) -> Result<bool, Refused>
     requires context { ContextFits (context_of context.now) }
     requires ready { IsStatementReady (context_of context.now) (tree_of (context_of context.now) located.now) }
     requires table { IsTableOf (context_of context.now) table.old }
     ensures fault { AnswersLeaving
-        (parts_answer (context_of context.now) (kept table.old.filled state.old) abilities (known table.old.scope)
+        (parts_answer (context_of context.now) (kept table.old.filled state.old) abilities.now (known table.old.scope)
         (tree_of (context_of context.now) located.now))
         (kept table.new.filled state.new) result }
     ensures table { OnOk result (IsTableOf (context_of context.now) table.new) }
@@ -135,7 +147,7 @@ fn validate_parts(
         }
         Statement::Switch { cases, .. } => {
             let abilities = abilities.in_case();
-            validate_cases(table, state, context, abilities, cases.as_slice())
+            validate_cases(table, state, context, &abilities, cases.as_slice())
         }
         Statement::Loop {
             body,
@@ -143,14 +155,10 @@ fn validate_parts(
             break_if,
         } => {
             let outer = table.scope.enter()?;
-            let skipped = validate_loop_body(table, state, context, abilities.in_loop(), body)?;
-            validate_statements(
-                table,
-                state,
-                context,
-                Abilities::in_continuing(),
-                continuing,
-            )?;
+            let inside = abilities.in_loop();
+            let skipped = validate_loop_body(table, state, context, &inside, body)?;
+            let behind = Abilities::in_continuing();
+            validate_statements(table, state, context, &behind, continuing)?;
             check_break_if(&table.scope, context, *break_if, located.span)?;
             table.scope.leave(outer, skipped);
             Ok(false)
@@ -167,14 +175,14 @@ fn validate_loop_body(
     table: &mut Table,
     state: &mut BodyOutcome,
     context: &BlockContext,
-    abilities: Abilities,
+    abilities: &Abilities,
     block: &Block,
 ) -> Result<Option<usize>, Refused>
     requires context { ContextFits (context_of context.now) }
     requires ready { IsBodyReady (context_of context.now) (block_of (context_of context.now) block.now) }
     requires table { IsTableOf (context_of context.now) table.old }
     ensures fault { AnswersLeaving
-        (body_answer (context_of context.now) (kept table.old.filled state.old) abilities (known table.old.scope)
+        (body_answer (context_of context.now) (kept table.old.filled state.old) abilities.now (known table.old.scope)
         (block_of (context_of context.now) block.now))
         (kept table.new.filled state.new) result }
     ensures table { OnOk result (IsTableOf (context_of context.now) table.new) }
@@ -197,14 +205,14 @@ fn validate_statements(
     table: &mut Table,
     state: &mut BodyOutcome,
     context: &BlockContext,
-    abilities: Abilities,
+    abilities: &Abilities,
     block: &Block,
 ) -> Result<bool, Refused>
     requires context { ContextFits (context_of context.now) }
     requires ready { IsBodyReady (context_of context.now) (block_of (context_of context.now) block.now) }
     requires table { IsTableOf (context_of context.now) table.old }
     ensures fault { AnswersLeaving
-        (body_answer (context_of context.now) (kept table.old.filled state.old) abilities (known table.old.scope)
+        (body_answer (context_of context.now) (kept table.old.filled state.old) abilities.now (known table.old.scope)
         (block_of (context_of context.now) block.now))
         (kept table.new.filled state.new) result }
     ensures table { OnOk result (IsTableOf (context_of context.now) table.new) }
@@ -225,14 +233,14 @@ fn validate_statement(
     table: &mut Table,
     state: &mut BodyOutcome,
     context: &BlockContext,
-    abilities: Abilities,
+    abilities: &Abilities,
     located: &Located,
 ) -> Result<bool, Refused>
     requires context { ContextFits (context_of context.now) }
     requires ready { IsStatementReady (context_of context.now) (tree_of (context_of context.now) located.now) }
     requires table { IsTableOf (context_of context.now) table.old }
     ensures fault { AnswersLeaving
-        (stmt_answer (context_of context.now) (kept table.old.filled state.old) abilities (known table.old.scope)
+        (stmt_answer (context_of context.now) (kept table.old.filled state.old) abilities.now (known table.old.scope)
         (tree_of (context_of context.now) located.now))
         (kept table.new.filled state.new) result }
     ensures table { OnOk result (IsTableOf (context_of context.now) table.new) }
@@ -252,14 +260,14 @@ fn validate_block(
     table: &mut Table,
     state: &mut BodyOutcome,
     context: &BlockContext,
-    abilities: Abilities,
+    abilities: &Abilities,
     block: &Block,
 ) -> Result<bool, Refused>
     requires context { ContextFits (context_of context.now) }
     requires ready { IsBodyReady (context_of context.now) (block_of (context_of context.now) block.now) }
     requires table { IsTableOf (context_of context.now) table.old }
     ensures fault { AnswersLeaving
-        (body_answer (context_of context.now) (kept table.old.filled state.old) abilities (known table.old.scope)
+        (body_answer (context_of context.now) (kept table.old.filled state.old) abilities.now (known table.old.scope)
         (block_of (context_of context.now) block.now))
         (kept table.new.filled state.new) result }
     ensures table { OnOk result (IsTableOf (context_of context.now) table.new) }
@@ -278,14 +286,14 @@ fn validate_cases(
     table: &mut Table,
     state: &mut BodyOutcome,
     context: &BlockContext,
-    abilities: Abilities,
+    abilities: &Abilities,
     cases: &[SwitchCase],
 ) -> Result<bool, Refused>
     requires context { ContextFits (context_of context.now) }
     requires ready { AreCasesReady (context_of context.now) (cases_of (context_of context.now) cases.now) }
     requires table { IsTableOf (context_of context.now) table.old }
     ensures fault { AnswersLeaving
-        (cases_answer (context_of context.now) (kept table.old.filled state.old) abilities (known table.old.scope)
+        (cases_answer (context_of context.now) (kept table.old.filled state.old) abilities.now (known table.old.scope)
         (cases_of (context_of context.now) cases.now))
         (kept table.new.filled state.new) result }
     ensures table { OnOk result (IsTableOf (context_of context.now) table.new) }

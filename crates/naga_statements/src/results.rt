@@ -4,17 +4,17 @@ ghost use Rattle.std.specs.Prelude.{◌≡◌, length};
 ghost use Rattle.naga_context.specs.walk.Answers.{Finds};
 ghost use Rattle.naga_context.specs.Results.{filled_points_from, filled_points};
 ghost use Rattle.naga_context.specs.walk.Seen.{context_of};
-ghost use Rattle.naga_context.specs.walk.Table.{count, filled_in};
+ghost use Rattle.naga_context.specs.walk.Table.{KnowsResults, count, filled_in};
 
 use naga_arena::handle::Handle;
 use naga_context::context::BlockContext;
-use naga_context::results::is_unfilled;
 use naga_context::table::FilledColumn;
 use naga_errors::function::FunctionError;
 use naga_flags::valid::ValidationFlags;
 
 /// Behind a body, where expressions are looked at: each result of the function is filled.
 pub fn check_filled(filled: &FilledColumn, context: &BlockContext) -> Result<(), FunctionError>
+    requires { KnowsResults (context_of context.now) filled.now }
     ensures { Finds (filled_points (context_of context.now) (filled_in filled.now)) result }
 {
     let flags = context.settings.flags;
@@ -26,6 +26,7 @@ pub fn check_filled(filled: &FilledColumn, context: &BlockContext) -> Result<(),
 }
 
 fn check_each_filled(filled: &FilledColumn, context: &BlockContext) -> Result<(), FunctionError>
+    requires { KnowsResults (context_of context.now) filled.now }
     ensures { Finds
         (filled_points_from (context_of context.now) (filled_in filled.now) 0 (length (context_of context.now).fun.expressions))
         result }
@@ -33,7 +34,7 @@ fn check_each_filled(filled: &FilledColumn, context: &BlockContext) -> Result<()
     let count = context.fun.expressions.len() as u32;
     for index in 0..count {
         let handle = Handle::new(index);
-        if is_unfilled(filled, context, handle) {
+        if filled.is_unfilled(handle) {
             return Err(FunctionError::UnvisitedExpression(handle));
         }
     }

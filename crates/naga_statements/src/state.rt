@@ -4,10 +4,11 @@ ghost use Rattle.std.specs.Prelude.{◌≡◌, ◌<◌, ℕ, List, IfSome};
 ghost use Rattle.naga_runs.specs.Positions.{StatementNode};
 ghost use Rattle.naga_ir.specs.View.{tree_of};
 ghost use Rattle.naga_context.specs.Blocks as in_context;
+ghost use Rattle.naga_context.specs.Context.{Context};
 ghost use Rattle.naga_context.specs.Results.{result_of};
 ghost use Rattle.naga_context.specs.walk.Seen.{context_of};
 ghost use Rattle.naga_statements.specs.walk.State.{kept, with_result, with_statement};
-ghost use Rattle.naga_context.specs.walk.Table.{filled_in, marked};
+ghost use Rattle.naga_context.specs.walk.Table.{KnowsResults, filled_in, marked};
 
 use crate::stages::stages_of;
 use bitflags::Flags;
@@ -44,6 +45,7 @@ fn result_of(located: &Located) -> Option<Handle<tag::Expression>>
 pub fn fill_named(filled: &mut FilledColumn, named: &Option<Handle<tag::Expression>>)
     requires { IfSome named.now (λ r. r < marked filled.old) }
     ensures filled { filled_in filled.new ≡ with_result (filled_in filled.old) named.now }
+    ensures results { (context : Context) → KnowsResults context filled.old → KnowsResults context filled.new }
     ensures count { marked filled.new ≡ marked filled.old }
 {
     if let Some(handle) = named {
@@ -64,6 +66,7 @@ pub fn advance(
     ensures state { kept filled.new state.new
         ≡ with_statement (context_of context.now) (kept filled.old state.old)
         (in_context.tree_of (context_of context.now) located.now) }
+    ensures results { KnowsResults (context_of context.now) filled.old → KnowsResults (context_of context.now) filled.new }
     ensures count { marked filled.new ≡ marked filled.old }
 {
     fill_named(filled, &result_of(located));

@@ -14,7 +14,7 @@ ghost use Rattle.naga_statements.specs.walk.Frequent.{is_frequent};
 ghost use Rattle.naga_statements.specs.walk.State.{kept, seen, with_statement};
 ghost use Rattle.naga_statements.specs.walk.Walk.{puts};
 ghost use Rattle.naga_checks.specs.walk.Emitted.{place};
-ghost use Rattle.naga_context.specs.walk.Table.{HasPut, IsTableOf, known, marked};
+ghost use Rattle.naga_context.specs.walk.Table.{HasPut, IsTableOf, known};
 
 use crate::leaf::validate_rarer_leaf;
 use crate::stages::callee_stages;
@@ -39,7 +39,7 @@ pub fn validate_own(
     table: &mut Table,
     state: &mut BodyOutcome,
     context: &BlockContext,
-    abilities: Abilities,
+    abilities: &Abilities,
     located: &Located,
 ) -> Result<bool, Refused>
     requires context { ContextFits (context_of context.now) }
@@ -47,12 +47,12 @@ pub fn validate_own(
     requires table { IsTableOf (context_of context.now) table.old }
     ensures fault { AnswersPoints
         (statement_points (context_of context.now) (seen (kept table.old.filled state.old))
-        (place abilities (known table.old.scope)) (tree_of (context_of context.now) located.now))
+        (place abilities.now (known table.old.scope)) (tree_of (context_of context.now) located.now))
         result }
     ensures scope { OnOk result (HasPut table.old.scope table.new.scope (puts (tree_of (context_of context.now) located.now))) }
     ensures state { OnOk result (kept table.new.filled state.new
         ≡ with_statement (context_of context.now) (kept table.old.filled state.old) (tree_of (context_of context.now) located.now)) }
-    ensures count { OnOk result (marked table.new.filled ≡ marked table.old.filled) }
+    ensures table { OnOk result (IsTableOf (context_of context.now) table.new) }
     ensures all { IfOk result (λ all. all ≡ is_frequent located.now.statement) }
 {
     let span = located.span;
@@ -97,7 +97,7 @@ fn validate_rarer(
     table: &mut Table,
     state: &mut BodyOutcome,
     context: &BlockContext,
-    abilities: Abilities,
+    abilities: &Abilities,
     located: &Located,
 ) -> Result<(), Refused>
     requires context { ContextFits (context_of context.now) }
@@ -106,12 +106,12 @@ fn validate_rarer(
     requires table { IsTableOf (context_of context.now) table.old }
     ensures fault { AnswersPoints
         (statement_points (context_of context.now) (seen (kept table.old.filled state.old))
-        (place abilities (known table.old.scope)) (tree_of (context_of context.now) located.now))
+        (place abilities.now (known table.old.scope)) (tree_of (context_of context.now) located.now))
         result }
     ensures scope { OnOk result (HasPut table.old.scope table.new.scope (puts (tree_of (context_of context.now) located.now))) }
     ensures state { OnOk result (kept table.new.filled state.new
         ≡ with_statement (context_of context.now) (kept table.old.filled state.old) (tree_of (context_of context.now) located.now)) }
-    ensures count { OnOk result (marked table.new.filled ≡ marked table.old.filled) }
+    ensures table { OnOk result (IsTableOf (context_of context.now) table.new) }
 {
     validate_points(table, state, context, abilities, located)?;
     advance(&mut table.filled, state, context, located);
@@ -123,7 +123,7 @@ fn validate_points(
     table: &mut Table,
     state: &BodyOutcome,
     context: &BlockContext,
-    abilities: Abilities,
+    abilities: &Abilities,
     located: &Located,
 ) -> Result<(), Refused>
     requires context { ContextFits (context_of context.now) }
@@ -132,7 +132,7 @@ fn validate_points(
     requires table { IsTableOf (context_of context.now) table.old }
     ensures fault { AnswersPoints
         (statement_points (context_of context.now) (seen (kept table.old.filled state.now))
-        (place abilities (known table.old.scope)) (tree_of (context_of context.now) located.now))
+        (place abilities.now (known table.old.scope)) (tree_of (context_of context.now) located.now))
         result }
     ensures scope { OnOk result (HasPut table.old.scope table.new.scope (puts (tree_of (context_of context.now) located.now))) }
     ensures filled { table.new.filled ≡ table.old.filled }
@@ -147,10 +147,10 @@ fn validate_points(
         Statement::Switch { selector, cases } => {
             switch::check_switch(scope, context, *selector, cases.as_slice(), span)
         }
-        Statement::Break => control::check_break(alloc, abilities, span),
-        Statement::Continue => control::check_continue(alloc, abilities, span),
+        Statement::Break => control::check_break(alloc, *abilities, span),
+        Statement::Continue => control::check_continue(alloc, *abilities, span),
         Statement::Return { value } => {
-            control::check_return(scope, context, abilities, *value, span)
+            control::check_return(scope, context, *abilities, *value, span)
         }
         _ => validate_rarer_leaf(table, state, context, located),
     }

@@ -7,7 +7,6 @@ use Rattle.naga_arena.specs.declared.span.Refusal.TheVariants as refusal
 use Rattle.naga_errors.specs.Answers.{Refuses}
 use Rattle.naga_errors.specs.declared.function.FunctionError.{FunctionError}
 use Rattle.naga_below.specs.Points.{Point, first_fault}
-use Rattle.naga_context.specs.Points.{Points}
 
 -- a judgement of which the code keeps the state: it is right, or there was no memory
 abbrev pub AnswersLeaving : {T State : Type 0} →

@@ -2,6 +2,9 @@
 use Rattle.std.specs.Prelude.{ℕ, ◌≡◌, ◌==◌, Bool, true, false, Option, Some, None, is_some, List, [], ◌∷◌, length, slice_index_or, if◌then◌else◌}
 use Rattle.naga_runs.specs.Handles.{Handles, with_handle}
 use Rattle.naga_context.specs.Context.{Context}
+use Rattle.naga_context.specs.Results.{is_unfilled}
+use Rattle.naga_context.specs.declared.table.ResultState.{ResultState}
+use Rattle.naga_context.specs.declared.table.ResultState.TheVariants.{NoResult, Unfilled, Filled}
 use Rattle.naga_context.specs.declared.table.FilledColumn.{FilledColumn}
 use Rattle.naga_context.specs.declared.table.ScopeColumn.{ScopeColumn}
 use Rattle.naga_context.specs.declared.table.Table.{Table}
@@ -110,15 +113,37 @@ pub record HasLooped (before after : ScopeColumn) (skipped : Option ℕ) (sure a
   pub outside : (outer : ℕ) → closing_if skipped (left (shown after) outer) ≡ left (shown before) outer
   pub as_many : count after ≡ count before
 
--- which results are filled
+abbrev pub is_filled_state : ResultState → Bool
+is_filled_state NoResult = false
+is_filled_state Unfilled = false
+is_filled_state Filled = true
+
+abbrev pub is_unfilled_state : ResultState → Bool
+is_unfilled_state NoResult = false
+is_unfilled_state Unfilled = true
+is_unfilled_state Filled = false
+
+-- which results are filled, and which are known as still to be filled
 unfoldable pub filled_in : FilledColumn → Handles
-filled_in t h = slice_index_or t.marks.items h false
+filled_in t h = is_filled_state (slice_index_or t.marks.items h NoResult)
+
+unfoldable pub unfilled_in : FilledColumn → Handles
+unfilled_in t h = is_unfilled_state (slice_index_or t.marks.items h NoResult)
+
+-- a set without a handle
+abbrev pub without_handle : Handles → ℕ → Handles
+without_handle s h = λ x. if h == x then false else s x
 
 -- of how many expressions it is
 abbrev pub marked : FilledColumn → ℕ
 marked t = length t.marks.items
 
--- both columns are of the function's expressions
+-- what is known as still to be filled is each result that nothing filled
+abbrev pub KnowsResults : Context → FilledColumn → Type 0
+KnowsResults context t = (h : ℕ) → unfilled_in t h ≡ is_unfilled context (filled_in t) h
+
+-- both columns are of the function's expressions, of whose results the second knows
 pub record IsTableOf (context : Context) (t : Table) : Type 0 where
   pub scope : count t.scope ≡ length context.fun.expressions
   pub filled : marked t.filled ≡ length context.fun.expressions
+  pub results : KnowsResults context t.filled

@@ -38,12 +38,12 @@ pub validate_parts-returns-in-Switch-clause-fault :
 validate_parts-returns-in-Switch-clause-fault t c =
     let span = c.args.located.now.span in
     let tree = ap (λ st. view.tree_of (emitted_operands (context_of c.args.context.now).fun) st span) c.in-Switch.is ∙ tree_of-switch (emitted_operands (context_of c.args.context.now).fun) c.in-Switch.selector c.in-Switch.cases span in
-    rw (tree, parts_switch (context_of c.args.context.now) (kept c.args.table.now.filled c.args.state.now) c.args.abilities (known c.args.table.now.scope) c.in-Switch.selector (cases_of (context_of c.args.context.now) c.in-Switch.cases), ← c.in_case-abilities.ensures, ← c.as_slice.ensures) c.validate_cases.ensures.fault
+    rw (tree, parts_switch (context_of c.args.context.now) (kept c.args.table.now.filled c.args.state.now) c.args.abilities.now (known c.args.table.now.scope) c.in-Switch.selector (cases_of (context_of c.args.context.now) c.in-Switch.cases), ← c.in_case-abilities.ensures, ← c.as_slice.ensures) c.validate_cases.ensures.fault
 
 pub validate_statement-returns-in_err-whole-clause-fault :
     goal.validate_statement-returns-in_err-whole-clause-fault
 validate_statement-returns-in_err-whole-clause-fault t c =
-    rw (stmt_more (context_of c.args.context.now) (kept c.args.table.now.filled c.args.state.now) c.args.abilities (known c.args.table.now.scope) (tree_of (context_of c.args.context.now) c.args.located.now)) (search (rules, stops_first, own_refuses))
+    rw (stmt_more (context_of c.args.context.now) (kept c.args.table.now.filled c.args.state.now) c.args.abilities.now (known c.args.table.now.scope) (tree_of (context_of c.args.context.now) c.args.located.now)) (search (rules, stops_first, own_refuses))
 
 pub validate_statement-returns-clause-fault : goal.validate_statement-returns-clause-fault
 validate_statement-returns-clause-fault t c =
@@ -54,8 +54,8 @@ validate_statement-returns-clause-fault t c =
     let next = sym c.in_ok-whole.ensures.state in
     let put = c.in_ok-whole.ensures.scope.inside in
     let later = kept c.validate_own.new.table.filled c.validate_own.new.state in
-    rw (stmt_more context k c.args.abilities s x) (
-    answers_next _ _ _ _ _ (own_passes context k c.args.abilities s x c.in_ok-whole.ensures.fault) (rw (next, ← parts_later context later c.args.abilities s x, ← put) c.validate_parts.ensures.fault)
+    rw (stmt_more context k c.args.abilities.now s x) (
+    answers_next _ _ _ _ _ (own_passes context k c.args.abilities.now s x c.in_ok-whole.ensures.fault) (rw (next, ← parts_later context later c.args.abilities.now s x, ← put) c.validate_parts.ensures.fault)
     )
 
 pub validate_statement-returns-then-whole-clause-fault :
@@ -69,9 +69,9 @@ validate_statement-returns-then-whole-clause-fault t c =
     let put = c.in_ok-whole.ensures.scope.inside in
     let later = kept c.validate_own.new.table.filled c.validate_own.new.state in
     let frequent = sym c.in_ok-whole.ensures.all ∙ c.if-whole.true in
-    let none = frequent_parts context later c.args.abilities (known c.validate_own.new.table.scope) c.args.located.now.statement c.args.located.now.span frequent in
-    rw (stmt_more context k c.args.abilities s x) (
-    passes _ _ (with_statement context k x) later (own_passes context k c.args.abilities s x c.in_ok-whole.ensures.fault) (rw (next, ← parts_later context later c.args.abilities s x, ← put) none)
+    let none = frequent_parts context later c.args.abilities.now (known c.validate_own.new.table.scope) c.args.located.now.statement c.args.located.now.span frequent in
+    rw (stmt_more context k c.args.abilities.now s x) (
+    passes _ _ (with_statement context k x) later (own_passes context k c.args.abilities.now s x c.in_ok-whole.ensures.fault) (rw (next, ← parts_later context later c.args.abilities.now s x, ← put) none)
     )
 
 pub validate_statement-returns-then-whole-clause-held :
@@ -87,7 +87,7 @@ validate_statements-validate_statement-requires t c =
 
 pub validate_statements-returns-clause-fault : goal.validate_statements-returns-clause-fault
 validate_statements-returns-clause-fault t c =
-    sym c.loop-located.invariant.faults ∙ body_end (context_of c.args.context.now) c.as_slice-located-items.result.now c.loop-located.located-index (kept c.loop-located.table.filled c.loop-located.state) c.args.abilities (known c.loop-located.table.scope) c.loop-located-test.false
+    sym c.loop-located.invariant.faults ∙ body_end (context_of c.args.context.now) c.as_slice-located-items.result.now c.loop-located.located-index (kept c.loop-located.table.filled c.loop-located.state) c.args.abilities.now (known c.loop-located.table.scope) c.loop-located-test.false
 
 pub validate_statements-returns-clause-scope : goal.validate_statements-returns-clause-scope
 validate_statements-returns-clause-scope t c =
@@ -97,7 +97,7 @@ validate_statements-returns-clause-scope t c =
 
 pub validate_block-validate_statements-requires : goal.validate_block-validate_statements-requires
 validate_block-validate_statements-requires t c =
-    (search (rules, the_lemmas), (c.requires.context, (c.requires.ready, record { scope = c.in_ok-outer.ensures.count ∙ c.requires.table.scope; filled = c.requires.table.filled })))
+    (search (rules, the_lemmas), (c.requires.context, (c.requires.ready, record { scope = c.in_ok-outer.ensures.count ∙ c.requires.table.scope; filled = c.requires.table.filled; results = c.requires.table.results })))
 
 pub validate_cases-validate_block-requires : goal.validate_cases-validate_block-requires
 validate_cases-validate_block-requires t c =
@@ -105,7 +105,7 @@ validate_cases-validate_block-requires t c =
 
 pub validate_cases-returns-clause-fault : goal.validate_cases-returns-clause-fault
 validate_cases-returns-clause-fault t c =
-    sym c.loop-case.invariant.faults ∙ cases_end (context_of c.args.context.now) c.args.cases.now c.loop-case.case-index (kept c.loop-case.table.filled c.loop-case.state) c.args.abilities (known c.loop-case.table.scope) c.loop-case-test.false
+    sym c.loop-case.invariant.faults ∙ cases_end (context_of c.args.context.now) c.args.cases.now c.loop-case.case-index (kept c.loop-case.table.filled c.loop-case.state) c.args.abilities.now (known c.loop-case.table.scope) c.loop-case-test.false
 
 pub validate_parts-validate_block-requires-in-If-2 :
     goal.validate_parts-validate_block-requires-in-If-2
@@ -114,7 +114,7 @@ validate_parts-validate_block-requires-in-If-2 t c =
 
 pub validate_parts-validate_loop_body-requires : goal.validate_parts-validate_loop_body-requires
 validate_parts-validate_loop_body-requires t c =
-    (search (rules, the_lemmas), (c.requires.context, ((in_lists (context_of c.args.context.now) _ _ _ (rw c.in-Loop.is at c.requires.ready)).0, record { scope = c.in_ok-outer-in-Loop.ensures.count ∙ c.requires.table.scope; filled = c.requires.table.filled })))
+    (search (rules, the_lemmas), (c.requires.context, ((in_lists (context_of c.args.context.now) _ _ _ (rw c.in-Loop.is at c.requires.ready)).0, record { scope = c.in_ok-outer-in-Loop.ensures.count ∙ c.requires.table.scope; filled = c.requires.table.filled; results = c.requires.table.results })))
 
 pub validate_parts-validate_statements-requires : goal.validate_parts-validate_statements-requires
 validate_parts-validate_statements-requires t c =
@@ -122,7 +122,7 @@ validate_parts-validate_statements-requires t c =
 
 pub validate_parts-returns-in_default : goal.validate_parts-returns-in_default
 validate_parts-returns-in_default t c = record {
-  fault = no_parts (context_of c.args.context.now) (kept c.args.table.now.filled c.args.state.now) c.args.abilities (known c.args.table.now.scope) c.args.located.now.statement c.args.located.now.span c.in_default.not-Block c.in_default.not-If c.in_default.not-Switch c.in_default.not-Loop;
+  fault = no_parts (context_of c.args.context.now) (kept c.args.table.now.filled c.args.state.now) c.args.abilities.now (known c.args.table.now.scope) c.args.located.now.statement c.args.located.now.span c.in_default.not-Block c.in_default.not-If c.in_default.not-Switch c.in_default.not-Loop;
   table = c.requires.table;
   scope = refl;
   held = sym (no_continue (context_of c.args.context.now) c.args.located.now.statement c.args.located.now.span c.in_default.not-Block c.in_default.not-If c.in_default.not-Switch c.in_default.not-Continue);
@@ -145,7 +145,7 @@ validate_statements-loop-located-init t c =
     let same = body_of-list (emitted_operands (context_of c.args.context.now).fun) c.args.block.now ∙ ap (list_of (context_of c.args.context.now)) (sym c.as_slice-located-items.ensures) in
     record {
       ready = subst (IsBodyReady (context_of c.args.context.now)) same c.requires.ready;
-      faults = ap (body_answer (context_of c.args.context.now) (kept c.args.table.now.filled c.args.state.now) c.args.abilities (known c.args.table.now.scope)) (sym same);
+      faults = ap (body_answer (context_of c.args.context.now) (kept c.args.table.now.filled c.args.state.now) c.args.abilities.now (known c.args.table.now.scope)) (sym same);
       table = c.requires.table;
       held = ap body_holds_continue (sym same);
       puts = record { earlier = []; put = put_nothing c.args.table.now.scope c.args.table.now.scope refl refl; joined = ap body_puts (sym same) };
@@ -156,7 +156,7 @@ validate_loop_body-loop-located-init t c =
     let same = body_of-list (emitted_operands (context_of c.args.context.now).fun) c.args.block.now ∙ ap (list_of (context_of c.args.context.now)) (sym c.as_slice-located-items.ensures) in
     record {
       ready = subst (IsBodyReady (context_of c.args.context.now)) same c.requires.ready;
-      faults = ap (body_answer (context_of c.args.context.now) (kept c.args.table.now.filled c.args.state.now) c.args.abilities (known c.args.table.now.scope)) (sym same);
+      faults = ap (body_answer (context_of c.args.context.now) (kept c.args.table.now.filled c.args.state.now) c.args.abilities.now (known c.args.table.now.scope)) (sym same);
       table = c.requires.table;
       puts = subst (λ b. PutsOfLoop c.args.table.now.scope c.args.table.now.scope None b (block_of (context_of c.args.context.now) c.args.block.now)) same (at_first c.args.table.now.scope _);
     }
@@ -170,7 +170,7 @@ validate_loop_body-validate_statement-requires t c =
 pub validate_loop_body-returns-in_err-held-clause-fault :
     goal.validate_loop_body-returns-in_err-held-clause-fault
 validate_loop_body-returns-in_err-held-clause-fault t c =
-    rw (← c.loop-located.invariant.faults) (rw (body_turn (context_of c.args.context.now) c.as_slice-located-items.result.now c.loop-located.located-index (kept c.loop-located.table.filled c.loop-located.state) c.args.abilities (known c.loop-located.table.scope) c.located-item.result c.loop-located-test.true c.located-item.is) (search (rules, stops_first)))
+    rw (← c.loop-located.invariant.faults) (rw (body_turn (context_of c.args.context.now) c.as_slice-located-items.result.now c.loop-located.located-index (kept c.loop-located.table.filled c.loop-located.state) c.args.abilities.now (known c.loop-located.table.scope) c.located-item.result c.loop-located-test.true c.located-item.is) (search (rules, stops_first)))
 
 pub validate_loop_body-loop-located-preserved : goal.validate_loop_body-loop-located-preserved
 validate_loop_body-loop-located-preserved t c =
@@ -186,8 +186,8 @@ validate_loop_body-loop-located-preserved t c =
     let puts = subst (λ b. PutsOfLoop c.args.table.now.scope c.loop-located.table.scope c.loop-located.home b whole) (rest_turn context xs i x lt is) old.puts in
     record {
       ready = (in_list context xs i x lt is old.ready).1;
-      faults = rw (c.in_ok-home.ensures.known, put.inside) (next_is _ _ _ _ (body_turn context xs i (kept c.loop-located.table.filled c.loop-located.state) c.args.abilities (known c.loop-located.table.scope) x lt is) c.in_ok-held.ensures.fault ∙ old.faults);
-      table = record { scope = c.in_ok-home.ensures.count ∙ c.in_ok-held.ensures.table.scope; filled = c.in_ok-held.ensures.table.filled };
+      faults = rw (c.in_ok-home.ensures.known, put.inside) (next_is _ _ _ _ (body_turn context xs i (kept c.loop-located.table.filled c.loop-located.state) c.args.abilities.now (known c.loop-located.table.scope) x lt is) c.in_ok-held.ensures.fault ∙ old.faults);
+      table = record { scope = c.in_ok-home.ensures.count ∙ c.in_ok-held.ensures.table.scope; filled = c.in_ok-held.ensures.table.filled; results = c.in_ok-held.ensures.table.results };
       puts = one_more c.args.table.now.scope c.loop-located.table.scope _ _ (tree_of context x) (list_of context (drop (i + 1) xs)) whole put c.in_ok-home.ensures.known c.in_ok-home.ensures.count c.loop-located.home _ c.in_ok-held.held puts c.in_ok-held.ensures.held c.in_ok-home.ensures.home;
     }
 
@@ -203,7 +203,7 @@ validate_loop_body-skip-requires t c =
 
 pub validate_loop_body-returns-in-Some-clause-fault : goal.validate_loop_body-returns-in-Some-clause-fault
 validate_loop_body-returns-in-Some-clause-fault t c =
-    sym c.loop-located.invariant.faults ∙ body_end (context_of c.args.context.now) c.as_slice-located-items.result.now c.loop-located.located-index (kept c.loop-located.table.filled c.loop-located.state) c.args.abilities (known c.loop-located.table.scope) c.loop-located-test.false
+    sym c.loop-located.invariant.faults ∙ body_end (context_of c.args.context.now) c.as_slice-located-items.result.now c.loop-located.located-index (kept c.loop-located.table.filled c.loop-located.state) c.args.abilities.now (known c.loop-located.table.scope) c.loop-located-test.false
 
 pub validate_loop_body-returns-in-Some-clause-scope : goal.validate_loop_body-returns-in-Some-clause-scope
 validate_loop_body-returns-in-Some-clause-scope t c =
@@ -217,7 +217,7 @@ validate_loop_body-returns-in-Some-clause-scope t c =
 
 pub validate_loop_body-returns-in-None-clause-fault : goal.validate_loop_body-returns-in-None-clause-fault
 validate_loop_body-returns-in-None-clause-fault t c =
-    sym c.loop-located.invariant.faults ∙ body_end (context_of c.args.context.now) c.as_slice-located-items.result.now c.loop-located.located-index (kept c.loop-located.table.filled c.loop-located.state) c.args.abilities (known c.loop-located.table.scope) c.loop-located-test.false
+    sym c.loop-located.invariant.faults ∙ body_end (context_of c.args.context.now) c.as_slice-located-items.result.now c.loop-located.located-index (kept c.loop-located.table.filled c.loop-located.state) c.args.abilities.now (known c.loop-located.table.scope) c.loop-located-test.false
 
 pub validate_loop_body-returns-in-None-clause-scope : goal.validate_loop_body-returns-in-None-clause-scope
 validate_loop_body-returns-in-None-clause-scope t c =
@@ -232,9 +232,9 @@ pub validate_parts-returns-in_err-rejects-in-If-clause-fault : goal.validate_par
 validate_parts-returns-in_err-rejects-in-If-clause-fault t c =
     let context = context_of c.args.context.now in
     let tree = ap (λ st. view.tree_of (emitted_operands context.fun) st c.args.located.now.span) c.in-If.is in
-    let turn = parts_branch context (kept c.args.table.now.filled c.args.state.now) c.args.abilities (known c.args.table.now.scope) c.in-If.condition (block_of context c.in-If.accept) (block_of context c.in-If.reject) in
-    let refused = subst (λ s. Refuses (body_answer context (kept c.validate_block-in-If.new.table.filled c.validate_block-in-If.new.state) c.args.abilities s (block_of context c.in-If.reject)) c.in_err-rejects-in-If.field-0.0) (same_known _ _ c.in_ok-accepts-in-If.ensures.scope) c.in_err-rejects-in-If.ensures.fault in
-    let all = stops_next _ _ (λ l. body_answer context l c.args.abilities (known c.args.table.now.scope) (block_of context c.in-If.reject)) _ c.in_ok-accepts-in-If.ensures.fault refused in
+    let turn = parts_branch context (kept c.args.table.now.filled c.args.state.now) c.args.abilities.now (known c.args.table.now.scope) c.in-If.condition (block_of context c.in-If.accept) (block_of context c.in-If.reject) in
+    let refused = subst (λ s. Refuses (body_answer context (kept c.validate_block-in-If.new.table.filled c.validate_block-in-If.new.state) c.args.abilities.now s (block_of context c.in-If.reject)) c.in_err-rejects-in-If.field-0.0) (same_known _ _ c.in_ok-accepts-in-If.ensures.scope) c.in_err-rejects-in-If.ensures.fault in
+    let all = stops_next _ _ (λ l. body_answer context l c.args.abilities.now (known c.args.table.now.scope) (block_of context c.in-If.reject)) _ c.in_ok-accepts-in-If.ensures.fault refused in
     let is : c.from_residual-in_err-rejects-in-If.result ≡ Err c.in_err-rejects-in-If.field-0.0 = search rules in
     rw (tree, turn) (leaving_err _ _ _ _ is all)
 
@@ -242,7 +242,7 @@ pub validate_parts-returns-in_ok-rejects-in-If-clause-fault : goal.validate_part
 validate_parts-returns-in_ok-rejects-in-If-clause-fault t c =
     let context = context_of c.args.context.now in
     let tree = ap (λ st. view.tree_of (emitted_operands context.fun) st c.args.located.now.span) c.in-If.is in
-    let turn = parts_branch context (kept c.args.table.now.filled c.args.state.now) c.args.abilities (known c.args.table.now.scope) c.in-If.condition (block_of context c.in-If.accept) (block_of context c.in-If.reject) in
+    let turn = parts_branch context (kept c.args.table.now.filled c.args.state.now) c.args.abilities.now (known c.args.table.now.scope) c.in-If.condition (block_of context c.in-If.accept) (block_of context c.in-If.reject) in
     rw (tree, turn) (
     passes _ _ _ _ c.in_ok-accepts-in-If.ensures.fault (rw (← same_known _ _ c.in_ok-accepts-in-If.ensures.scope) c.in_ok-rejects-in-If.ensures.fault)
     )
@@ -257,12 +257,12 @@ pub validate_parts-returns-in-Continue-clause-fault : goal.validate_parts-return
 validate_parts-returns-in-Continue-clause-fault t c =
     let context = context_of c.args.context.now in
     let tree = ap (λ st. view.tree_of (emitted_operands context.fun) st c.args.located.now.span) c.in-Continue.is in
-    rw tree (parts_continue context (kept c.args.table.now.filled c.args.state.now) c.args.abilities (known c.args.table.now.scope))
+    rw tree (parts_continue context (kept c.args.table.now.filled c.args.state.now) c.args.abilities.now (known c.args.table.now.scope))
 
 pub validate_statements-returns-in_err-holds-clause-fault :
     goal.validate_statements-returns-in_err-holds-clause-fault
 validate_statements-returns-in_err-holds-clause-fault t c =
-    rw (← c.loop-located.invariant.faults) (rw (body_turn (context_of c.args.context.now) c.as_slice-located-items.result.now c.loop-located.located-index (kept c.loop-located.table.filled c.loop-located.state) c.args.abilities (known c.loop-located.table.scope) c.located-item.result c.loop-located-test.true c.located-item.is) (search (rules, stops_first)))
+    rw (← c.loop-located.invariant.faults) (rw (body_turn (context_of c.args.context.now) c.as_slice-located-items.result.now c.loop-located.located-index (kept c.loop-located.table.filled c.loop-located.state) c.args.abilities.now (known c.loop-located.table.scope) c.located-item.result c.loop-located-test.true c.located-item.is) (search (rules, stops_first)))
 
 pub validate_statements-loop-located-preserved : goal.validate_statements-loop-located-preserved
 validate_statements-loop-located-preserved t c =
@@ -277,7 +277,7 @@ validate_statements-loop-located-preserved t c =
     let put = c.in_ok-holds.ensures.scope in
     record {
       ready = (in_list context xs i x lt is old.ready).1;
-      faults = rw put.inside (next_is _ _ _ _ (body_turn context xs i (kept c.loop-located.table.filled c.loop-located.state) c.args.abilities (known c.loop-located.table.scope) x lt is) c.in_ok-holds.ensures.fault ∙ old.faults);
+      faults = rw put.inside (next_is _ _ _ _ (body_turn context xs i (kept c.loop-located.table.filled c.loop-located.state) c.args.abilities.now (known c.loop-located.table.scope) x lt is) c.in_ok-holds.ensures.fault ∙ old.faults);
       table = c.in_ok-holds.ensures.table;
       held = or_assoc c.loop-located.held c.in_ok-holds.holds (body_holds_continue next) ∙ ap (λ z. c.loop-located.held || (z || body_holds_continue next)) c.in_ok-holds.ensures.held ∙ ap (λ z. c.loop-located.held || z) (sym (holds_turn context xs i x lt is)) ∙ old.held;
       puts = record {
@@ -298,7 +298,7 @@ validate_block-returns-clause-scope t c =
 pub validate_cases-returns-in_err-holds-clause-fault :
     goal.validate_cases-returns-in_err-holds-clause-fault
 validate_cases-returns-in_err-holds-clause-fault t c =
-    rw (← c.loop-case.invariant.faults) (rw (cases_turn (context_of c.args.context.now) c.args.cases.now c.loop-case.case-index (kept c.loop-case.table.filled c.loop-case.state) c.args.abilities (known c.loop-case.table.scope) c.case-item.result c.loop-case-test.true c.case-item.is) (search (rules, stops_first)))
+    rw (← c.loop-case.invariant.faults) (rw (cases_turn (context_of c.args.context.now) c.args.cases.now c.loop-case.case-index (kept c.loop-case.table.filled c.loop-case.state) c.args.abilities.now (known c.loop-case.table.scope) c.case-item.result c.loop-case-test.true c.case-item.is) (search (rules, stops_first)))
 
 pub validate_cases-loop-case-preserved : goal.validate_cases-loop-case-preserved
 validate_cases-loop-case-preserved t c =
@@ -312,7 +312,7 @@ validate_cases-loop-case-preserved t c =
     let rest = cases_hold_continue (cases_of context (drop (i + 1) cs)) in
     record {
       ready = (in_cases context cs i x lt is old.ready).1;
-      faults = rw (same_known _ _ c.in_ok-holds.ensures.scope) (next_is _ _ _ _ (cases_turn context cs i (kept c.loop-case.table.filled c.loop-case.state) c.args.abilities (known c.loop-case.table.scope) x lt is) c.in_ok-holds.ensures.fault ∙ old.faults);
+      faults = rw (same_known _ _ c.in_ok-holds.ensures.scope) (next_is _ _ _ _ (cases_turn context cs i (kept c.loop-case.table.filled c.loop-case.state) c.args.abilities.now (known c.loop-case.table.scope) x lt is) c.in_ok-holds.ensures.fault ∙ old.faults);
       table = c.in_ok-holds.ensures.table;
       scope = c.in_ok-holds.ensures.scope ∙ old.scope;
       held = or_assoc c.loop-case.held c.in_ok-holds.holds rest ∙ ap (λ z. c.loop-case.held || (z || rest)) c.in_ok-holds.ensures.held ∙ ap (λ z. c.loop-case.held || z) (sym (cases_hold_turn context cs i x lt is)) ∙ old.held;

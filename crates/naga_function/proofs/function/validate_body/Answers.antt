@@ -13,7 +13,7 @@ returns-in_err-answer_of_function c =
     let filled = c.validate_body_statements.new.table.filled in
     let state = kept filled c.in_ok-state.state in
     let unfilled = c.in_err-answer_of_function.ensures.fault (filled_points context (filled_in filled)) c.check_filled.ensures in
-    unfilled_refuses context (body_judgement context) state c.from_residual-in_err-answer_of_function.result c.in_ok-state.ensures (search rules) (search (rules, unfilled))
+    unfilled_refuses context (body_judgement context) state c.from_residual-in_err-answer_of_function.result c.in_ok-state.ensures.state (search rules) (search (rules, unfilled))
 
 pub returns : goal.returns
 returns c =
@@ -21,4 +21,4 @@ returns c =
     let filled = c.validate_body_statements.new.table.filled in
     let state = kept filled c.in_ok-state.state in
     let none = c.in_ok-answer_of_function.ensures.fault (filled_points context (filled_in filled)) c.check_filled.ensures in
-    all_filled context (body_judgement context) state c.in_ok-state.ensures none
+    all_filled context (body_judgement context) state c.in_ok-state.ensures.state none

@@ -12,7 +12,7 @@ returns-then-is_unfilled c =
     let filled = filled_in c.args.filled.now in
     let h = c.loop-index.index in
     let lt = rw c.len-count.ensures.len at c.loop-index-test.true in
-    let left : is_unfilled context filled h ≡ true = ap (is_unfilled context filled) (sym c.new-handle.ensures) ∙ sym c.is_unfilled.ensures ∙ c.if-is_unfilled.true in
+    let left : is_unfilled context filled h ≡ true = ap (is_unfilled context filled) (sym c.new-handle.ensures) ∙ sym (c.requires c.new-handle.result) ∙ sym c.is_unfilled.ensures ∙ c.if-is_unfilled.true in
     ap (λ x. Some (UnvisitedExpression x)) c.new-handle.ensures ∙ sym (filled_stops context filled h (length context.fun.expressions) lt left) ∙ c.loop-index.invariant
 
 pub loop-index-preserved : goal.loop-index-preserved
@@ -21,7 +21,7 @@ loop-index-preserved c =
     let filled = filled_in c.args.filled.now in
     let h = c.loop-index.index in
     let lt = rw c.len-count.ensures.len at c.loop-index-test.true in
-    let left : is_unfilled context filled h ≡ false = ap (is_unfilled context filled) (sym c.new-handle.ensures) ∙ sym c.is_unfilled.ensures ∙ c.if-is_unfilled.false in
+    let left : is_unfilled context filled h ≡ false = ap (is_unfilled context filled) (sym c.new-handle.ensures) ∙ sym (c.requires c.new-handle.result) ∙ sym c.is_unfilled.ensures ∙ c.if-is_unfilled.false in
     sym (filled_next context filled h (length context.fun.expressions) lt left) ∙ c.loop-index.invariant
 
 pub returns : goal.returns

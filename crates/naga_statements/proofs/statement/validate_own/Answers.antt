@@ -1,4 +1,4 @@
-use Rattle.std.proofs.Common.{arith, ◌≡◌, ◌<◌, ◌-◌, IfSome, Result, Ok, Err, subst, sym}
+use Rattle.std.proofs.Common.{arith, ◌≡◌, ◌<◌, ◌-◌, IfSome, Result, Ok, Err, subst, sym, ◌∙◌}
 use Rattle.std.specs.Prelude.{IsErr, IsErrAnd}
 use Rattle.naga_arena.specs.declared.span.Refusal.{Refusal}
 use Rattle.naga_errors.specs.Answers.{AnswersPoints, IsFirstFault}
@@ -60,3 +60,11 @@ returns-in_ok-validate_call-in-Call-clause-scope c =
 pub validate_rarer-requires-clause-kind : goal.validate_rarer-requires-clause-kind
 validate_rarer-requires-clause-kind c =
     others c.args.located.now.statement c.in_default.not-Emit c.in_default.not-Store c.in_default.not-Call
+
+pub returns-in_ok-validate_call-in-Call-clause-table :
+    goal.returns-in_ok-validate_call-in-Call-clause-table
+returns-in_ok-validate_call-in-Call-clause-table c = record {
+  scope = c.in_ok-validate_call-in-Call.ensures.scope.as_many ∙ c.requires.table.scope;
+  filled = c.fill_named.ensures.count ∙ c.requires.table.filled;
+  results = c.fill_named.ensures.results (context_of c.args.context.now) c.requires.table.results;
+}
