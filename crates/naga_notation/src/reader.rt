@@ -91,12 +91,12 @@ impl Reader {
     }
 
     /// A tail of the newest statement, or a token where a statement may begin.
-    #[tactic(auto, using(crate::proofs::Reading::Stack::stacks), unfolding(crate::specs::Reading::go_on))]
+    #[tactic(auto, using(crate::proofs::Reading::Stack::stacks), unfolding(crate::specs::Reading::go_on, crate::specs::Reading::settle))]
     fn go_on(&mut self, tail: Tail, token: Token) -> Result<(), ReadError>
         ensures { Moves (λ opened list. go_on opened list tail token) self.old result self.new }
     {
         match tail {
-            Tail::Nothing => self.begin_behind(tail, token),
+            Tail::Nothing => self.begin(token),
             Tail::Emit(first) => match token {
                 Token::To => self.want(Wants::Name(Naming::Last(first))),
                 _ => self.begin_behind(tail, token),

@@ -16,6 +16,7 @@ impl Reader {
     ghost use Rattle.naga_notation.specs.Views.{Moves, state_of};
 
     /// Says what is wanted next.
+    #[inline(always)]
     pub fn want(&mut self, wants: Wants) -> Result<(), ReadError>
         ensures { Moves (λ opened list. wanting opened list wants) self.old result self.new }
     {
@@ -24,6 +25,7 @@ impl Reader {
     }
 
     /// Takes the list at hand, and leaves an empty one.
+    #[inline(always)]
     pub fn take_list(&mut self) -> Sequence<Located>
         ensures list { result ≡ (state_of self.old).list }
         ensures rest { state_of self.new ≡ record (state_of self.old) { list = [] } }
@@ -32,6 +34,7 @@ impl Reader {
     }
 
     /// Opens one part more, with an empty list.
+    #[inline(always)]
     #[tactic(auto, using(crate::proofs::Reading::Stack::stacks))]
     pub fn enter(&mut self, frame: Frame, wants: Wants) -> Result<(), ReadError>
         ensures { Moves (λ opened _. enter opened frame wants) self.old result self.new }
@@ -45,6 +48,7 @@ impl Reader {
     }
 
     /// Puts a whole statement behind the others.
+    #[inline(always)]
     pub fn put(&mut self, statement: Statement) -> Result<(), ReadError>
         ensures { Moves (λ opened list. ready opened (list ++ placed statement ∷ [])) self.old result self.new }
     {
@@ -53,6 +57,7 @@ impl Reader {
     }
 
     /// Puts a whole statement behind those that stood before it.
+    #[inline(always)]
     pub fn put_behind(
         &mut self,
         outer: Sequence<Located>,
@@ -65,6 +70,7 @@ impl Reader {
     }
 
     /// Opens a frame in place of one that was closed, with an empty list.
+    #[inline(always)]
     #[tactic(auto, using(crate::proofs::Reading::Stack::stacks))]
     pub fn go_over(&mut self, frame: Frame, wants: Wants) -> Result<(), ReadError>
         ensures { Moves (λ opened _. wanting (frame ∷ opened) [] wants) self.old result self.new }
