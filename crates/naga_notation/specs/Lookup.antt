@@ -1,8 +1,8 @@
 -- How the reader looks up a word. No public contract cites this.
-use Rattle.std.specs.Prelude.{ℕ, ◌==◌, ◌&&◌, ◌||◌, nat_le, length, Bool, true, false, List, [], ◌∷◌, codes, Option, Some, None, if◌then◌else◌, option_and_then}
+use Rattle.std.specs.Prelude.{ℕ, ◌==◌, ◌&&◌, ◌||◌, nat_le, length, Bool, false, List, [], ◌∷◌, codes, Option, Some, None, if◌then◌else◌, option_and_then}
 use Rattle.std.specs.Str.{bytes_eq}
-use Rattle.naga_notation.specs.Bench.{has_callee}
 use Rattle.naga_notation.specs.declared.bench.Bench.{Bench}
+use Rattle.naga_notation.specs.declared.bench.Bench.TheVariants.{P, C, D}
 use Rattle.naga_notation.specs.declared.token.Token.{Token}
 use Rattle.naga_notation.specs.declared.token.Token.TheVariants as token
 
@@ -11,27 +11,33 @@ abbrev pub lookup : {X : Type 0} → List (List ℕ × X) → List ℕ → Optio
 lookup [] w = None
 lookup ((text, x) ∷ rest) w = if bytes_eq w text then Some x else lookup rest w
 
--- the tokens that have one text each, and the text of each, in a case of any bench
-abbrev pub keywords : List (List ℕ × Token)
-keywords =
+-- the words that have one meaning each in a case of any bench
+abbrev pub shared_words : List (List ℕ × Token)
+shared_words =
     (codes "{", token.Open) ∷ (codes "}", token.Close) ∷ (codes "emit", token.Emit) ∷ (codes "store", token.Store)
     ∷ (codes "if", token.If) ∷ (codes "block", token.Block) ∷ (codes "..", token.To)
     ∷ (codes "return", token.Return) ∷ (codes "break", token.Break) ∷ (codes "loop", token.Loop)
     ∷ (codes "switch", token.Switch) ∷ (codes "fall", token.Fall) ∷ (codes "break_if", token.BreakIf)
     ∷ (codes "continue", token.Continue)
     ∷ (codes "kill", token.Kill) ∷ (codes "barrier", token.Barrier)
+    ∷ (codes "t", token.Name 0) ∷ (codes "u", token.Name 1) ∷ (codes "i", token.Name 2) ∷ (codes "e1", token.Name 3)
+    ∷ (codes "v", token.Name 4) ∷ (codes "x1", token.Name 5)
     ∷ []
 
--- those in a case of a bench that has a function to call
-abbrev pub call_keywords : List (List ℕ × Token)
-call_keywords = (codes "call", token.Call) ∷ (codes "f", token.Callee) ∷ (codes "->", token.Arrow) ∷ keywords
+-- those that a case of the bench has besides
+abbrev pub own_words : Bench → List (List ℕ × Token)
+own_words P = []
+own_words C =
+    (codes "call", token.Call) ∷ (codes "f", token.Callee) ∷ (codes "->", token.Arrow) ∷ (codes "r1", token.Name 6) ∷ []
+own_words D = (codes "e2", token.Name 6) ∷ []
 
-abbrev pub keywords_if : Bool → List (List ℕ × Token)
-keywords_if false = keywords
-keywords_if true = call_keywords
+abbrev pub or_else : {X : Type 0} → Option X → Option X → Option X
+or_else None o = o
+or_else (Some x) o = Some x
 
-unfoldable pub keyword_of : Bench → List ℕ → Option Token
-keyword_of bench w = lookup (keywords_if (has_callee bench)) w
+-- what a word means in a case of the bench, where it is no value
+unfoldable pub meaning_of : Bench → List ℕ → Option Token
+meaning_of bench w = or_else (lookup shared_words w) (lookup (own_words bench) w)
 
 -- A text begins as that of a number does: with a digit, which is no zero unless it stands alone.
 abbrev pub begins_number : List ℕ → Bool

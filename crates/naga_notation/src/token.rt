@@ -1,8 +1,10 @@
 //! The tokens of the notation.
 
-ghost use Rattle.std.specs.Prelude.{◌≡◌, IfSome, IfNone, IfOk, IsErrOf, List};
+ghost use Rattle.std.specs.Prelude.{◌≡◌, ◌∷◌, IfSome, IfNone, IfOk, IsErrOf, List, Some, None, if◌then◌else◌};
+ghost use Rattle.std.specs.Str.{bytes_eq};
+ghost use Rattle.naga_notation.specs.declared.bench.Bench.TheVariants as bench;
 ghost use Rattle.naga_notation.specs.declared.token.Token as declared;
-ghost use Rattle.naga_notation.specs.Lookup.{lookup, keywords, keyword_of};
+ghost use Rattle.naga_notation.specs.Lookup.{lookup, shared_words, own_words};
 ghost use Rattle.naga_notation.specs.Text.{IsTextOf, AreTextsOf};
 ghost use Rattle.naga_notation.specs.Words.{texts};
 
@@ -45,14 +47,111 @@ pub enum Token {
     Value(SwitchValue),
 }
 
-/// The token that has this one text in a case of the bench.
-#[tactic(auto, unfolding(crate::specs::Lookup::keyword_of))]
-fn keyword_of(bench: Bench, word: &[u8]) -> Option<Token>
-    ensures { result ≡ keyword_of bench word.now }
+/// The token, where this rest of a word is the text.
+#[inline(always)]
+fn token_if(rest: &[u8], text: &[u8], token: Token) -> Option<Token>
+    ensures { result ≡ (if bytes_eq rest.now text.now then Some token else None) }
 {
-    if !bench.has_callee() {
-        return shared_keyword_of(word);
+    if rest == text { Some(token) } else { None }
+}
+
+/// What a word means in a case of any bench, where it is no value.
+#[inline]
+fn shared_meaning_of(word: &[u8]) -> Option<Token>
+    ensures { result ≡ lookup shared_words word.now }
+{
+    let Some((first, rest)) = word.split_first() else {
+        return None;
+    };
+    match *first {
+        b'{' => token_if(rest, b"".as_slice(), Token::Open),
+        b'}' => token_if(rest, b"".as_slice(), Token::Close),
+        b't' => token_if(rest, b"".as_slice(), Token::Name(0)),
+        b'u' => token_if(rest, b"".as_slice(), Token::Name(1)),
+        b'v' => token_if(rest, b"".as_slice(), Token::Name(4)),
+        b'x' => token_if(rest, b"1".as_slice(), Token::Name(5)),
+        b'i' => behind_i(rest),
+        b'e' => behind_e(rest),
+        b's' => behind_s(rest),
+        b'b' => behind_b(rest),
+        b'.' => token_if(rest, b".".as_slice(), Token::To),
+        b'r' => token_if(rest, b"eturn".as_slice(), Token::Return),
+        b'l' => token_if(rest, b"oop".as_slice(), Token::Loop),
+        b'f' => token_if(rest, b"all".as_slice(), Token::Fall),
+        b'c' => token_if(rest, b"ontinue".as_slice(), Token::Continue),
+        b'k' => token_if(rest, b"ill".as_slice(), Token::Kill),
+        _ => None,
     }
+}
+
+/// What a word means that is this behind an `i`.
+#[inline(always)]
+fn behind_i(rest: &[u8]) -> Option<Token>
+    ensures { result ≡ lookup shared_words (105 ∷ rest.now) }
+{
+    if rest == b"f".as_slice() {
+        Some(Token::If)
+    } else {
+        token_if(rest, b"".as_slice(), Token::Name(2))
+    }
+}
+
+/// What a word means that is this behind an `e`.
+#[inline(always)]
+fn behind_e(rest: &[u8]) -> Option<Token>
+    ensures { result ≡ lookup shared_words (101 ∷ rest.now) }
+{
+    if rest == b"mit".as_slice() {
+        Some(Token::Emit)
+    } else {
+        token_if(rest, b"1".as_slice(), Token::Name(3))
+    }
+}
+
+/// What a word means that is this behind an `s`.
+#[inline(always)]
+fn behind_s(rest: &[u8]) -> Option<Token>
+    ensures { result ≡ lookup shared_words (115 ∷ rest.now) }
+{
+    if rest == b"tore".as_slice() {
+        Some(Token::Store)
+    } else {
+        token_if(rest, b"witch".as_slice(), Token::Switch)
+    }
+}
+
+/// What a word means that is this behind a `b`.
+#[inline(always)]
+fn behind_b(rest: &[u8]) -> Option<Token>
+    ensures { result ≡ lookup shared_words (98 ∷ rest.now) }
+{
+    if rest == b"lock".as_slice() {
+        Some(Token::Block)
+    } else if rest == b"reak".as_slice() {
+        Some(Token::Break)
+    } else if rest == b"reak_if".as_slice() {
+        Some(Token::BreakIf)
+    } else {
+        token_if(rest, b"arrier".as_slice(), Token::Barrier)
+    }
+}
+
+/// What a word means that is none of those, and no value, in a case of the bench.
+#[inline(never)]
+fn own_meaning_of(bench: Bench, word: &[u8]) -> Option<Token>
+    ensures { result ≡ lookup (own_words bench) word.now }
+{
+    match bench {
+        Bench::P => None,
+        Bench::C => call_meaning_of(word),
+        Bench::D => token_if(word, b"e2".as_slice(), Token::Name(6)),
+    }
+}
+
+/// What a word means that only the bench with calls has.
+fn call_meaning_of(word: &[u8]) -> Option<Token>
+    ensures { result ≡ lookup (own_words bench.C) word.now }
+{
     if word == b"call".as_slice() {
         Some(Token::Call)
     } else if word == b"f".as_slice() {
@@ -60,60 +159,20 @@ fn keyword_of(bench: Bench, word: &[u8]) -> Option<Token>
     } else if word == b"->".as_slice() {
         Some(Token::Arrow)
     } else {
-        shared_keyword_of(word)
-    }
-}
-
-/// The token that has this one text in a case of any bench.
-fn shared_keyword_of(word: &[u8]) -> Option<Token>
-    ensures { result ≡ lookup keywords word.now }
-{
-    if word == b"{".as_slice() {
-        Some(Token::Open)
-    } else if word == b"}".as_slice() {
-        Some(Token::Close)
-    } else if word == b"emit".as_slice() {
-        Some(Token::Emit)
-    } else if word == b"store".as_slice() {
-        Some(Token::Store)
-    } else if word == b"if".as_slice() {
-        Some(Token::If)
-    } else if word == b"block".as_slice() {
-        Some(Token::Block)
-    } else if word == b"..".as_slice() {
-        Some(Token::To)
-    } else if word == b"return".as_slice() {
-        Some(Token::Return)
-    } else if word == b"break".as_slice() {
-        Some(Token::Break)
-    } else if word == b"loop".as_slice() {
-        Some(Token::Loop)
-    } else if word == b"switch".as_slice() {
-        Some(Token::Switch)
-    } else if word == b"fall".as_slice() {
-        Some(Token::Fall)
-    } else if word == b"break_if".as_slice() {
-        Some(Token::BreakIf)
-    } else if word == b"continue".as_slice() {
-        Some(Token::Continue)
-    } else if word == b"kill".as_slice() {
-        Some(Token::Kill)
-    } else if word == b"barrier".as_slice() {
-        Some(Token::Barrier)
-    } else {
-        None
+        token_if(word, b"r1".as_slice(), Token::Name(6))
     }
 }
 
 /// What a word means in a case of the bench.
-fn token_of(bench: Bench, word: &[u8]) -> Option<Token>
+#[inline]
+pub fn token_of(bench: Bench, word: &[u8]) -> Option<Token>
     ensures found { IfSome result (λ t. IsTextOf bench t word.now) }
     ensures none { IfNone result ((t : declared.Token) → IsTextOf bench t word.now → ⊥) }
 {
-    if let Some(index) = bench.index_of(word) {
-        return Some(Token::Name(index));
+    if let Some(token) = shared_meaning_of(word) {
+        return Some(token);
     }
-    if let Some(token) = keyword_of(bench, word) {
+    if let Some(token) = own_meaning_of(bench, word) {
         return Some(token);
     }
     value_of(word).map(Token::Value)

@@ -3,7 +3,6 @@ use Rattle.std.proofs.Common.{◌≡◌, ◌<◌, ◌≤◌, ◌^◌, ℕ, zero,
 use Rattle.std.proofs.lemmas.List.{take_more, get_or-map, length-map}
 use Rattle.std.specs.Prelude.{not, ◌⊎◌, ◌==◌, ◌||◌, ◌&&◌, nat_le}
 use Rattle.std.proofs.Common.{inl, inr}
-use Rattle.std.specs.List.{position_from}
 use Rattle.std.specs.Str.{bytes_eq}
 use Rattle.std.specs.Cmp.Lexicographic.{same_text}
 use Rattle.naga_ir.specs.declared.statements.SwitchValue.{SwitchValue}
@@ -19,8 +18,8 @@ use Rattle.naga_notation.specs.declared.bench.Bench.{Bench}
 use Rattle.naga_notation.specs.declared.bench.Bench.TheVariants.{P, C, D}
 use Rattle.naga_notation.specs.declared.token.Token.{Token}
 use Rattle.naga_notation.specs.declared.token.Token.TheVariants as token
-use Rattle.naga_notation.specs.Bench.{names_of, index_of}
-use Rattle.naga_notation.specs.Lookup.{lookup, keywords, call_keywords, keyword_of}
+use Rattle.naga_notation.specs.Bench.{names_of}
+use Rattle.naga_notation.specs.Lookup.{lookup, shared_words, own_words, meaning_of}
 use Rattle.naga_notation.specs.Text.{IsValueText, IsTextOf, AreTextsOf}
 
 -- what holds of a text and what stands beside it, all along a table
@@ -40,43 +39,21 @@ lookup_found Q ((text, y) ∷ rest) w x all e =
       | inr h ↦ lookup_found Q rest w x all.1 h.1
     ]
 
--- a keyword that is found has the text
-shared_texts : (bench : Bench) → AllEntries (IsTextOf bench) keywords
-shared_texts bench = (refl, (refl, (refl, (refl, (refl, (refl, (refl, (refl, (refl, (refl, (refl, (refl, (refl, (refl, (refl, (refl, tt))))))))))))))))
+-- a word that is found is the text of what it means
+pub shared_found : (bench : Bench) (w : List ℕ) (t : Token) → lookup shared_words w ≡ Some t → IsTextOf bench t w
+shared_found P w t e = lookup_found (IsTextOf P) shared_words w t (refl, (refl, (refl, (refl, (refl, (refl, (refl, (refl, (refl, (refl, (refl, (refl, (refl, (refl, (refl, (refl, (refl, (refl, (refl, (refl, (refl, (refl, tt)))))))))))))))))))))) e
+shared_found C w t e = lookup_found (IsTextOf C) shared_words w t (refl, (refl, (refl, (refl, (refl, (refl, (refl, (refl, (refl, (refl, (refl, (refl, (refl, (refl, (refl, (refl, (refl, (refl, (refl, (refl, (refl, (refl, tt)))))))))))))))))))))) e
+shared_found D w t e = lookup_found (IsTextOf D) shared_words w t (refl, (refl, (refl, (refl, (refl, (refl, (refl, (refl, (refl, (refl, (refl, (refl, (refl, (refl, (refl, (refl, (refl, (refl, (refl, (refl, (refl, (refl, tt)))))))))))))))))))))) e
 
-pub keyword_found : (bench : Bench) (w : List ℕ) (t : Token) → keyword_of bench w ≡ Some t → IsTextOf bench t w
-unfolding keyword_of
-keyword_found P w t e = lookup_found (IsTextOf P) keywords w t (shared_texts P) e
-keyword_found D w t e = lookup_found (IsTextOf D) keywords w t (shared_texts D) e
-keyword_found C w t e =
-    lookup_found (IsTextOf C) call_keywords w t ((refl, refl), ((refl, refl), ((refl, refl), shared_texts C))) e
+pub own_found : (bench : Bench) (w : List ℕ) (t : Token) → lookup (own_words bench) w ≡ Some t → IsTextOf bench t w
+own_found P w t e = cc
+own_found C w t e = lookup_found (IsTextOf C) (own_words C) w t ((refl, refl), ((refl, refl), ((refl, refl), (refl, tt)))) e
+own_found D w t e = lookup_found (IsTextOf D) (own_words D) w t (refl, tt) e
 
-position_found : (names : List (List ℕ)) (w : List ℕ) (from h : ℕ) → position_from (λ n. bytes_eq w n) from names ≡ Some h → (k : ℕ) × (h ≡ from + k) × (slice_get names k ≡ Some w)
-position_found [] w from h e = cc
-position_found (n ∷ names) w from h e =
-    elim (chosen (bytes_eq w n) from h (position_from (λ m. bytes_eq w m) (from + 1) names) e) [
-      | inl g ↦ (0, omega (arith, g.1), ap Some (sym (same_text w n (sym g.0))))
-      | inr g ↦
-          (let rest = position_found names w (from + 1) h g.1 in
-          (suc rest.0, omega (arith, rest.1), rest.2))
-    ]
-
--- a name that is found has the text
-pub name_found : (bench : Bench) (w : List ℕ) (h : ℕ) → index_of bench w ≡ Some h → IsTextOf bench (token.Name h) w
-name_found bench w h e =
-    let found = position_found (names_of bench) w 0 h e in
-    let same : found.0 ≡ h = omega (arith, found.1) in
-    subst (λ k. slice_get (names_of bench) k ≡ Some w) same found.2
-
--- the keyword and the name that a word is, where it is the text of this token
-abbrev keyword_at : Token → Option Token
-keyword_at (token.Name h) = None
-keyword_at (token.Value v) = None
-keyword_at t = Some t
-
-abbrev name_at : Token → Option ℕ
-name_at (token.Name h) = Some h
-name_at t = None
+-- what the text of a token is looked up as
+abbrev meant : Token → Option Token
+meant (token.Value v) = None
+meant t = Some t
 
 -- a text begins with a digit, or with a minus that is not that of an arrow
 abbrev begins_numeric : List ℕ → Bool
@@ -99,27 +76,18 @@ lookup_numeric : {X : Type 0} (table : List (List ℕ × X)) (w : List ℕ) → 
 lookup_numeric [] w all e = refl
 lookup_numeric ((text, x) ∷ rest) w all e = rw (other_text w text all.0 e) (lookup_numeric rest w all.1 e)
 
-abbrev AllOther : List (List ℕ) → Type 0
-AllOther [] = Unit {0}
-AllOther (n ∷ names) = (begins_numeric n ≡ false) × AllOther names
+shared_other : AllEntries IsOther shared_words
+shared_other = (refl, (refl, (refl, (refl, (refl, (refl, (refl, (refl, (refl, (refl, (refl, (refl, (refl, (refl, (refl, (refl, (refl, (refl, (refl, (refl, (refl, (refl, tt))))))))))))))))))))))
 
-position_numeric : (names : List (List ℕ)) (w : List ℕ) (from : ℕ) → AllOther names → begins_numeric w ≡ true → position_from (λ n. bytes_eq w n) from names ≡ None
-position_numeric [] w from all e = refl
-position_numeric (n ∷ names) w from all e = rw (other_text w n all.0 e) (position_numeric names w (from + 1) all.1 e)
+own_other : (bench : Bench) → AllEntries IsOther (own_words bench)
+own_other P = tt
+own_other C = (refl, (refl, (refl, (refl, tt))))
+own_other D = (refl, tt)
 
-shared_other : AllEntries IsOther keywords
-shared_other = (refl, (refl, (refl, (refl, (refl, (refl, (refl, (refl, (refl, (refl, (refl, (refl, (refl, (refl, (refl, (refl, tt))))))))))))))))
-
-keyword_numeric : (bench : Bench) (w : List ℕ) → begins_numeric w ≡ true → keyword_of bench w ≡ None
-unfolding keyword_of
-keyword_numeric P w e = lookup_numeric keywords w shared_other e
-keyword_numeric D w e = lookup_numeric keywords w shared_other e
-keyword_numeric C w e = lookup_numeric call_keywords w (refl, (refl, (refl, shared_other))) e
-
-name_numeric : (bench : Bench) (w : List ℕ) → begins_numeric w ≡ true → index_of bench w ≡ None
-name_numeric P w e = position_numeric (names_of P) w 0 (refl, (refl, (refl, (refl, (refl, (refl, tt)))))) e
-name_numeric D w e = position_numeric (names_of D) w 0 (refl, (refl, (refl, (refl, (refl, (refl, (refl, tt))))))) e
-name_numeric C w e = position_numeric (names_of C) w 0 (refl, (refl, (refl, (refl, (refl, (refl, (refl, tt))))))) e
+meaning_numeric : (bench : Bench) (w : List ℕ) → begins_numeric w ≡ true → meaning_of bench w ≡ None
+unfolding meaning_of
+meaning_numeric bench w e =
+    rw (lookup_numeric shared_words w shared_other e) (lookup_numeric (own_words bench) w (own_other bench) e)
 
 digit_is : (b : ℕ) → 48 ≤ b → b ≤ 57 → nat_le 48 b && nat_le b 57 ≡ true
 digit_is b low high = grind (arith, common_steps)
@@ -152,93 +120,83 @@ signed_numeric (negsuc n) lt =
     let other : not (get_or (decimal (suc n) ++ codes "i") 0 0 == 62) ≡ true = rw same (no_arrow (get_or (decimal (suc n)) 0 0) first.1) in
     first_of _ _ other
 
--- a name that stands in its place is found there, and is no keyword
-name_is : (bench : Bench) (h : ℕ) (w : List ℕ) → slice_get (names_of bench) h ≡ Some w → (keyword_of bench w ≡ None) × (index_of bench w ≡ Some h)
-unfolding keyword_of
-name_is P zero w e = let same : codes "t" ≡ w = cc in rw (← same) (refl, refl)
-name_is P (suc zero) w e = let same : codes "u" ≡ w = cc in rw (← same) (refl, refl)
-name_is P (suc (suc zero)) w e = let same : codes "i" ≡ w = cc in rw (← same) (refl, refl)
-name_is P (suc (suc (suc zero))) w e = let same : codes "e1" ≡ w = cc in rw (← same) (refl, refl)
-name_is P (suc (suc (suc (suc zero)))) w e = let same : codes "v" ≡ w = cc in rw (← same) (refl, refl)
-name_is P (suc (suc (suc (suc (suc zero))))) w e = let same : codes "x1" ≡ w = cc in rw (← same) (refl, refl)
+-- a name that stands in its place means it
+name_is : (bench : Bench) (h : ℕ) (w : List ℕ) → slice_get (names_of bench) h ≡ Some w → meaning_of bench w ≡ Some (token.Name h)
+unfolding meaning_of
+name_is P zero w e = let same : codes "t" ≡ w = cc in rw (← same) refl
+name_is P (suc zero) w e = let same : codes "u" ≡ w = cc in rw (← same) refl
+name_is P (suc (suc zero)) w e = let same : codes "i" ≡ w = cc in rw (← same) refl
+name_is P (suc (suc (suc zero))) w e = let same : codes "e1" ≡ w = cc in rw (← same) refl
+name_is P (suc (suc (suc (suc zero)))) w e = let same : codes "v" ≡ w = cc in rw (← same) refl
+name_is P (suc (suc (suc (suc (suc zero))))) w e = let same : codes "x1" ≡ w = cc in rw (← same) refl
 name_is P (suc (suc (suc (suc (suc (suc h)))))) w e = cc
-name_is C zero w e = let same : codes "t" ≡ w = cc in rw (← same) (refl, refl)
-name_is C (suc zero) w e = let same : codes "u" ≡ w = cc in rw (← same) (refl, refl)
-name_is C (suc (suc zero)) w e = let same : codes "i" ≡ w = cc in rw (← same) (refl, refl)
-name_is C (suc (suc (suc zero))) w e = let same : codes "e1" ≡ w = cc in rw (← same) (refl, refl)
-name_is C (suc (suc (suc (suc zero)))) w e = let same : codes "v" ≡ w = cc in rw (← same) (refl, refl)
-name_is C (suc (suc (suc (suc (suc zero))))) w e = let same : codes "x1" ≡ w = cc in rw (← same) (refl, refl)
-name_is C (suc (suc (suc (suc (suc (suc zero)))))) w e = let same : codes "r1" ≡ w = cc in rw (← same) (refl, refl)
+name_is C zero w e = let same : codes "t" ≡ w = cc in rw (← same) refl
+name_is C (suc zero) w e = let same : codes "u" ≡ w = cc in rw (← same) refl
+name_is C (suc (suc zero)) w e = let same : codes "i" ≡ w = cc in rw (← same) refl
+name_is C (suc (suc (suc zero))) w e = let same : codes "e1" ≡ w = cc in rw (← same) refl
+name_is C (suc (suc (suc (suc zero)))) w e = let same : codes "v" ≡ w = cc in rw (← same) refl
+name_is C (suc (suc (suc (suc (suc zero))))) w e = let same : codes "x1" ≡ w = cc in rw (← same) refl
+name_is C (suc (suc (suc (suc (suc (suc zero)))))) w e = let same : codes "r1" ≡ w = cc in rw (← same) refl
 name_is C (suc (suc (suc (suc (suc (suc (suc h))))))) w e = cc
-name_is D zero w e = let same : codes "t" ≡ w = cc in rw (← same) (refl, refl)
-name_is D (suc zero) w e = let same : codes "u" ≡ w = cc in rw (← same) (refl, refl)
-name_is D (suc (suc zero)) w e = let same : codes "i" ≡ w = cc in rw (← same) (refl, refl)
-name_is D (suc (suc (suc zero))) w e = let same : codes "e1" ≡ w = cc in rw (← same) (refl, refl)
-name_is D (suc (suc (suc (suc zero)))) w e = let same : codes "v" ≡ w = cc in rw (← same) (refl, refl)
-name_is D (suc (suc (suc (suc (suc zero))))) w e = let same : codes "x1" ≡ w = cc in rw (← same) (refl, refl)
-name_is D (suc (suc (suc (suc (suc (suc zero)))))) w e = let same : codes "e2" ≡ w = cc in rw (← same) (refl, refl)
+name_is D zero w e = let same : codes "t" ≡ w = cc in rw (← same) refl
+name_is D (suc zero) w e = let same : codes "u" ≡ w = cc in rw (← same) refl
+name_is D (suc (suc zero)) w e = let same : codes "i" ≡ w = cc in rw (← same) refl
+name_is D (suc (suc (suc zero))) w e = let same : codes "e1" ≡ w = cc in rw (← same) refl
+name_is D (suc (suc (suc (suc zero)))) w e = let same : codes "v" ≡ w = cc in rw (← same) refl
+name_is D (suc (suc (suc (suc (suc zero))))) w e = let same : codes "x1" ≡ w = cc in rw (← same) refl
+name_is D (suc (suc (suc (suc (suc (suc zero)))))) w e = let same : codes "e2" ≡ w = cc in rw (← same) refl
 name_is D (suc (suc (suc (suc (suc (suc (suc h))))))) w e = cc
 
 not_true : false ≡ true → ⊥
 not_true e = cc
 
--- what a text of a token is looked up as
-text_is : (bench : Bench) (t : Token) (w : List ℕ) → IsTextOf bench t w → (keyword_of bench w ≡ keyword_at t) × (index_of bench w ≡ name_at t)
-unfolding keyword_of
+-- a text of a token means it
+text_is : (bench : Bench) (t : Token) (w : List ℕ) → IsTextOf bench t w → meaning_of bench w ≡ meant t
+unfolding meaning_of
 text_is bench (token.Name h) w e = name_is bench h w e
 text_is bench (token.Value (I32 z)) w (fits, e) =
-    let numeric : begins_numeric w ≡ true = rw e (signed_numeric z fits.sfits) in
-    (keyword_numeric bench w numeric, name_numeric bench w numeric)
+    let numeric : begins_numeric w ≡ true = rw e (signed_numeric z fits.sfits) in meaning_numeric bench w numeric
 text_is bench (token.Value (U32 n)) w (lt, e) =
     let numeric : begins_numeric w ≡ true = rw (e, ← append-nil (decimal n)) (decimal_numeric n [] lt) in
-    (keyword_numeric bench w numeric, name_numeric bench w numeric)
-text_is P (token.Value Default) w e = rw e (refl, refl)
-text_is C (token.Value Default) w e = rw e (refl, refl)
-text_is D (token.Value Default) w e = rw e (refl, refl)
+    meaning_numeric bench w numeric
+text_is P (token.Value Default) w e = rw e refl
+text_is C (token.Value Default) w e = rw e refl
+text_is D (token.Value Default) w e = rw e refl
 text_is P token.Call w (there, e) = absurd (not_true there)
 text_is P token.Callee w (there, e) = absurd (not_true there)
 text_is P token.Arrow w (there, e) = absurd (not_true there)
 text_is D token.Call w (there, e) = absurd (not_true there)
 text_is D token.Callee w (there, e) = absurd (not_true there)
 text_is D token.Arrow w (there, e) = absurd (not_true there)
-text_is C token.Call w (there, e) = rw e (refl, refl)
-text_is C token.Callee w (there, e) = rw e (refl, refl)
-text_is C token.Arrow w (there, e) = rw e (refl, refl)
-text_is P t w e = rw e (refl, refl)
-text_is C t w e = rw e (refl, refl)
-text_is D t w e = rw e (refl, refl)
+text_is C token.Call w (there, e) = rw e refl
+text_is C token.Callee w (there, e) = rw e refl
+text_is C token.Arrow w (there, e) = rw e refl
+text_is P t w e = rw e refl
+text_is C t w e = rw e refl
+text_is D t w e = rw e refl
 
-keyword_back : (u t : Token) → keyword_at u ≡ Some t → u ≡ t
-keyword_back (token.Name h) t e = cc
-keyword_back (token.Value v) t e = cc
-keyword_back u t e = cc
-
-name_back : (u : Token) (h : ℕ) → name_at u ≡ Some h → u ≡ token.Name h
-name_back (token.Name k) h e = cc
-name_back u h e = cc
+meant_back : (u t : Token) → meant u ≡ Some t → u ≡ t
+meant_back (token.Value v) t e = cc
+meant_back u t e = cc
 
 -- what is looked up as nothing is a value
-value_back : (bench : Bench) (u : Token) (w : List ℕ) → keyword_at u ≡ None → name_at u ≡ None → IsTextOf bench u w → (v : SwitchValue) × (u ≡ token.Value v) × IsValueText v w
-value_back bench (token.Name h) w e f k = cc
-value_back bench (token.Value v) w e f k = (v, refl, k)
-value_back bench u w e f k = cc
+value_back : (bench : Bench) (u : Token) (w : List ℕ) → meant u ≡ None → IsTextOf bench u w → (v : SwitchValue) × (u ≡ token.Value v) × IsValueText v w
+value_back bench (token.Value v) w e k = (v, refl, k)
+value_back bench u w e k = cc
 
 -- a word is the text of one token
 pub one_token : (bench : Bench) (t u : Token) (w : List ℕ) → IsTextOf bench t w → IsTextOf bench u w → t ≡ u
-one_token bench (token.Name h) u w a b =
-    sym (name_back u h (sym (text_is bench u w b).1 ∙ (text_is bench (token.Name h) w a).1))
 one_token bench (token.Value v) u w a b =
-    let of_t = text_is bench (token.Value v) w a in
-    let of_u = text_is bench u w b in
-    let value = value_back bench u w (sym of_u.0 ∙ of_t.0) (sym of_u.1 ∙ of_t.1) b in
+    let value = value_back bench u w (sym (text_is bench u w b) ∙ text_is bench (token.Value v) w a) b in
     ap token.Value (one_value v value.0 w a value.2) ∙ sym value.1
-one_token bench t u w a b = sym (keyword_back u t (sym (text_is bench u w b).0 ∙ (text_is bench t w a).0))
+one_token bench t u w a b = sym (meant_back u t (sym (text_is bench u w b) ∙ text_is bench t w a))
 
 -- a word that is nothing that can be looked up, and no value, is no text of a token
-pub no_token : (bench : Bench) (w : List ℕ) → keyword_of bench w ≡ None → index_of bench w ≡ None → ((v : SwitchValue) → IsValueText v w → ⊥) → (t : Token) → IsTextOf bench t w → ⊥
-no_token bench w no_keyword no_name no_value t a =
-    let of_t = text_is bench t w a in
-    let value = value_back bench t w (sym of_t.0 ∙ no_keyword) (sym of_t.1 ∙ no_name) a in
+pub no_token : (bench : Bench) (w : List ℕ) → lookup shared_words w ≡ None → lookup (own_words bench) w ≡ None → ((v : SwitchValue) → IsValueText v w → ⊥) → (t : Token) → IsTextOf bench t w → ⊥
+unfolding meaning_of
+no_token bench w not_shared not_own no_value t a =
+    let none : meaning_of bench w ≡ None = rw not_shared not_own in
+    let value = value_back bench t w (sym (text_is bench t w a) ∙ none) a in
     no_value value.0 value.2
 
 -- words are the texts of one list of tokens
