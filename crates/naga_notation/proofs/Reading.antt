@@ -7,6 +7,8 @@ pub mod Sound
 pub mod Made
 pub mod Values
 pub mod Tokens
+pub mod Scan
+pub mod Fed
 pub mod Head
 pub mod Whole
 pub mod Sayable

@@ -6,6 +6,7 @@ pub mod Blocks
 pub mod Head
 pub mod Lookup
 pub mod Case
+pub mod Scanning
 pub mod Sayable
 pub mod Feeding
 pub mod Reading

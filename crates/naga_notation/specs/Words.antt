@@ -1,6 +1,5 @@
 -- The words of an input.
-use Rattle.std.specs.Prelude.{ℕ, Bool, not, ◌==◌, ◌||◌, ◌&&◌, nat_le, List, length, filter, map}
-use Rattle.std.specs.Borrow.{Bor}
+use Rattle.std.specs.Prelude.{ℕ, Bool, not, ◌==◌, ◌||◌, ◌&&◌, nat_le, List, length, filter}
 use Rattle.std.specs.List.{slice_split, AllPass}
 
 -- space, tab, carriage return, newline
@@ -21,7 +20,3 @@ is_word w = not (length w == 0)
 -- the words: what stands between white space
 abbrev pub words_of : List ℕ → List (List ℕ)
 words_of input = filter is_word (slice_split is_space input)
-
--- what borrowed words hold
-abbrev pub texts : List (Bor (List ℕ)) → List (List ℕ)
-texts words = map (λ w. w.now) words

@@ -2,15 +2,13 @@
 
 ghost use Rattle.std.specs.Prelude.{◌≡◌, ℕ, List, IfOk, IsErrOf};
 ghost use Rattle.naga_notation.specs.Case as notation;
-ghost use Rattle.naga_notation.specs.Words.{texts};
 ghost use Rattle.naga_notation.specs.Sayable.{IsSayable};
 ghost use Rattle.naga_notation.specs.declared.case.ReadError.TheVariants.{Memory};
 
 use crate::bench::Bench;
 use crate::head::options_of;
 use crate::reader::read_body;
-use crate::token::tokens_of;
-use crate::words::{is_printable, words_of};
+use crate::words::first_word;
 use naga_ir::statements::Block;
 use std::alloc::{AllocError, AllocFailed, Global};
 
@@ -67,30 +65,19 @@ pub fn read_case(alloc: Global, input: &[u8]) -> Result<Case, ReadError>
     // An input is unreadable only where it says nothing.
     ensures none { IsErrOf result ReadError.Unreadable → (c : notation.Case) → notation.Reads input.now c → ⊥ }
 {
-    if input.len() > MOST_BYTES || !is_printable(input) {
+    if input.len() > MOST_BYTES {
         return Err(ReadError::Unreadable);
     }
-    let words = words_of(alloc, input)?;
-    case_of_words(alloc, words.as_slice())
-}
-
-/// The case that these words say.
-fn case_of_words(alloc: Global, words: &[&[u8]]) -> Result<Case, ReadError>
-    ensures found { IfOk result (λ c. notation.Say (texts words.now) (notation.case_of c)) }
-    ensures block { IfOk result (λ c. notation.HoldsBlock c) }
-    ensures none { IsErrOf result ReadError.Unreadable → (c : notation.Case) → notation.Say (texts words.now) c → ⊥ }
-{
-    let Some((first, rest)) = words.split_first() else {
+    let Some((word, behind)) = first_word(input) else {
         return Err(ReadError::Unreadable);
     };
-    let Some(bench) = Bench::named(first) else {
+    let Some(bench) = Bench::named(word) else {
         return Err(ReadError::Unreadable);
     };
-    let Some((flags, count)) = options_of(rest) else {
+    let Some((flags, text)) = options_of(behind) else {
         return Err(ReadError::Unreadable);
     };
-    let tokens = tokens_of(alloc, bench, &rest[count..])?;
-    let body = read_body(alloc, tokens.as_slice())?;
+    let body = read_body(alloc, bench, text)?;
     Ok(Case {
         bench,
         expressions: flags.expressions,

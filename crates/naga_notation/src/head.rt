@@ -1,8 +1,10 @@
 //! The options of a case.
 
-ghost use Rattle.std.specs.Prelude.{◌≡◌, ◌≤◌, length, drop, true, MatchOption, None, Some};
+ghost use Rattle.std.specs.Prelude.{◌≡◌, true, MatchOption, None, Some};
 ghost use Rattle.naga_notation.specs.Lookup.{options_of, take_option};
-ghost use Rattle.naga_notation.specs.Words.{texts};
+ghost use Rattle.naga_notation.specs.Words.{IsPrintable, words_of};
+
+use crate::words::first_word;
 
 /// Which flags the options leave on.
 #[derive(Clone, Copy, PartialEq, Eq, Debug)]
@@ -42,22 +44,21 @@ fn take_option(flags: OptionFlags, option: &[u8]) -> Option<OptionFlags>
     }
 }
 
-/// The flags that the options at the front of these words leave on, and how many words they are, the `:` behind them
-/// included.
-pub fn options_of(words: &[&[u8]]) -> Option<(OptionFlags, usize)>
-    ensures { MatchOption result (options_of true true (texts words.now) ≡ None)
-        (λ o. (options_of true true (texts words.now) ≡ Some (o.0.expressions, o.0.blocks, drop o.1 (texts words.now)))
-        × (o.1 ≤ length words.now)) }
+/// The flags that the options at the front of a text leave on, and what stands behind the `:` that ends them.
+pub fn options_of(text: &[u8]) -> Option<(OptionFlags, &[u8])>
+    ensures { MatchOption result (options_of true true (words_of text.now) ≡ None)
+        (λ o. (options_of true true (words_of text.now) ≡ Some (o.0.expressions, o.0.blocks, words_of o.1.now))
+        × (IsPrintable o.1.now → IsPrintable text.now)) }
 {
     let mut flags = OptionFlags {
         expressions: true,
         blocks: true,
     };
-    let mut count = 0;
-    for word in words {
-        count += 1;
-        if *word == b":".as_slice() {
-            return Some((flags, count));
+    let mut rest = text;
+    while let Some((word, after)) = first_word(rest) {
+        rest = after;
+        if word == b":".as_slice() {
+            return Some((flags, rest));
         }
         let Some(next) = take_option(flags, word) else {
             return None;

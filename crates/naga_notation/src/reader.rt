@@ -1,21 +1,26 @@
 //! Reads the statements of a body, a token at a time, with a stack of the parts that are open.
 
-ghost use Rattle.std.specs.Prelude.{◌≡◌, ◌≤◌, option_and_then, IfOk, IsErrOf};
+ghost use Rattle.std.specs.Prelude.{◌≡◌, List, Some, None, option_and_then, IfOk, IsErrOf};
 ghost use Rattle.naga_ir.specs.Tree.{Body};
 ghost use Rattle.naga_ir.specs.View.{body_of, no_operands};
 ghost use Rattle.naga_notation.specs.Blocks.{block_of};
-ghost use Rattle.naga_notation.specs.Grammar.{Spells, depth};
+ghost use Rattle.naga_notation.specs.declared.token.Token as declared;
 ghost use Rattle.naga_notation.specs.Feeding.{Ends};
 ghost use Rattle.naga_notation.specs.Reading.{reading_of};
+ghost use Rattle.naga_notation.specs.Scanning.{SayBody};
+ghost use Rattle.naga_notation.specs.Text.{AreTextsOf};
+ghost use Rattle.naga_notation.specs.Words.{IsPrintable, words_of};
 
 mod closing;
 pub mod parts;
 mod stack;
 
+use crate::bench::Bench;
 use crate::build::{block_of, calling, emission, expression, storing, waiting};
 use crate::case::ReadError;
 use crate::reader::parts::{Brace, Frame, Naming, Tail, Wants};
-use crate::token::Token;
+use crate::token::{Token, token_of};
+use crate::words::first_word;
 use naga_arena::sequence::Sequence;
 use naga_ir::statements::{Block, Located, Statement};
 use std::alloc::Global;
@@ -256,23 +261,31 @@ impl Reader {
     }
 }
 
-/// The body that the tokens say.
-fn body_of_tokens(alloc: Global, tokens: &[Token]) -> Result<Block, ReadError>
-    ensures { Ends (reading_of tokens.now) result }
+/// The body that the words of a text say, a word at a time.
+fn body_of_text(alloc: Global, bench: Bench, text: &[u8]) -> Result<Block, ReadError>
+    ensures found { IfOk result (λ b. (ts : List declared.Token) × AreTextsOf bench ts (words_of text.now)
+        × (reading_of ts ≡ Some b) × IsPrintable text.now) }
+    ensures none { IsErrOf result ReadError.Unreadable
+        → (ts : List declared.Token) → AreTextsOf bench ts (words_of text.now) → reading_of ts ≡ None }
 {
     let mut reader = Reader::new(alloc);
-    for token in tokens {
-        reader.step(*token)?;
+    let mut rest = text;
+    while let Some((word, after)) = first_word(rest) {
+        rest = after;
+        let Some(token) = token_of(bench, word) else {
+            return Err(ReadError::Unreadable);
+        };
+        reader.step(token)?;
     }
     reader.finish()
 }
 
-/// The body that the tokens spell.
-#[tactic(auto, using(crate::proofs::Reading::Made::readings))]
-pub fn read_body(alloc: Global, tokens: &[Token]) -> Result<Block, ReadError>
-    ensures found { IfOk result (λ b. Spells (body_of no_operands b) tokens.now × (depth (body_of no_operands b) ≤ 256)) }
+/// The body that the words of a text say.
+pub fn read_body(alloc: Global, bench: Bench, text: &[u8]) -> Result<Block, ReadError>
+    ensures found { IfOk result (λ b. SayBody bench (words_of text.now) (body_of no_operands b)) }
+    ensures printable { IfOk result (λ _. IsPrintable text.now) }
     ensures made { IfOk result (λ b. b ≡ block_of (body_of no_operands b)) }
-    ensures none { IsErrOf result ReadError.Unreadable → (b : Body) → Spells b tokens.now → depth b ≤ 256 → ⊥ }
+    ensures none { IsErrOf result ReadError.Unreadable → (b : Body) → SayBody bench (words_of text.now) b → ⊥ }
 {
-    body_of_tokens(alloc, tokens)
+    body_of_text(alloc, bench, text)
 }

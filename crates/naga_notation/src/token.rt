@@ -1,18 +1,15 @@
 //! The tokens of the notation.
 
-ghost use Rattle.std.specs.Prelude.{◌≡◌, ◌∷◌, IfSome, IfNone, IfOk, IsErrOf, List, Some, None, if◌then◌else◌};
+ghost use Rattle.std.specs.Prelude.{◌≡◌, ◌∷◌, IfSome, IfNone, Some, None, if◌then◌else◌};
 ghost use Rattle.std.specs.Str.{bytes_eq};
 ghost use Rattle.naga_notation.specs.declared.bench.Bench.TheVariants as bench;
 ghost use Rattle.naga_notation.specs.declared.token.Token as declared;
 ghost use Rattle.naga_notation.specs.Lookup.{lookup, shared_words, own_words};
-ghost use Rattle.naga_notation.specs.Text.{IsTextOf, AreTextsOf};
-ghost use Rattle.naga_notation.specs.Words.{texts};
+ghost use Rattle.naga_notation.specs.Text.{IsTextOf};
 
 use crate::bench::Bench;
-use crate::case::ReadError;
 use crate::value::value_of;
 use naga_ir::statements::SwitchValue;
-use std::alloc::Global;
 
 /// What a word behind the options means.
 #[derive(Clone, Copy, PartialEq, Eq, Debug)]
@@ -176,19 +173,4 @@ pub fn token_of(bench: Bench, word: &[u8]) -> Option<Token>
         return Some(token);
     }
     value_of(word).map(Token::Value)
-}
-
-/// What these words mean in a case of the bench, in order.
-pub fn tokens_of(alloc: Global, bench: Bench, words: &[&[u8]]) -> Result<Vec<Token>, ReadError>
-    ensures found { IfOk result (λ v. AreTextsOf bench v.items (texts words.now)) }
-    ensures none { IsErrOf result ReadError.Unreadable → (ts : List declared.Token) → AreTextsOf bench ts (texts words.now) → ⊥ }
-{
-    let mut tokens = Vec::with_capacity(alloc, words.len())?;
-    for word in words {
-        let Some(token) = token_of(bench, word) else {
-            return Err(ReadError::Unreadable);
-        };
-        tokens.push(token)?;
-    }
-    Ok(tokens)
 }

@@ -1,9 +1,9 @@
-//! The words of an input.
+//! The words of a text.
 
-ghost use Rattle.std.specs.Prelude.{◌≡◌, ◌↔◌, IsTrue, IfOk};
-ghost use Rattle.naga_notation.specs.Words.{is_space, is_visible, is_word, IsPrintable, texts, words_of};
-
-use std::alloc::{AllocError, Global};
+ghost use Rattle.std.specs.Prelude.{◌≡◌, MatchOption};
+ghost use Rattle.std.specs.List.{prefix_len};
+ghost use Rattle.naga_notation.specs.Scanning.{FirstWord, NoWord, is_other};
+ghost use Rattle.naga_notation.specs.Words.{is_space};
 
 /// Whether a byte stands between words: a space, a tab, a carriage return or a newline.
 fn is_space(byte: u8) -> bool
@@ -12,28 +12,41 @@ fn is_space(byte: u8) -> bool
     byte == b' ' || byte == b'\t' || byte == b'\r' || byte == b'\n'
 }
 
-/// Whether a byte may stand in a word.
-fn is_visible(byte: u8) -> bool
-    ensures { result ≡ is_visible byte }
+/// How much white space is in front.
+#[inline(always)]
+fn space_in_front(text: &[u8]) -> usize
+    ensures { result ≡ prefix_len is_space text.now }
 {
-    33 <= byte && byte <= 126
+    for (i, byte) in text.iter().enumerate() {
+        if !is_space(*byte) {
+            return i;
+        }
+    }
+    text.len()
 }
 
-/// Whether an input holds nothing but words and white space.
-pub fn is_printable(input: &[u8]) -> bool
-    ensures { IsTrue result ↔ IsPrintable input.now }
+/// How many bytes stand before the first white space.
+#[inline(always)]
+fn word_in_front(text: &[u8]) -> usize
+    ensures { result ≡ prefix_len is_other text.now }
 {
-    input
-        .iter()
-        .all(|byte| is_space(*byte) || is_visible(*byte))
+    for (i, byte) in text.iter().enumerate() {
+        if is_space(*byte) {
+            return i;
+        }
+    }
+    text.len()
 }
 
-/// The words of an input, in order.
-pub fn words_of(alloc: Global, input: &[u8]) -> Result<Vec<&[u8]>, AllocError>
-    ensures { IfOk result (λ v. texts v.items ≡ words_of input.now) }
+/// The first word, and what stands behind it.
+#[inline(always)]
+pub fn first_word(text: &[u8]) -> Option<(&[u8], &[u8])>
+    ensures { MatchOption result (NoWord text.now) (λ p. FirstWord text.now p.0.now p.1.now) }
 {
-    input
-        .split(|byte| is_space(*byte))
-        .filter(|word| !word.is_empty())
-        .collect(alloc)
+    let (_, text) = text.split_at(space_in_front(text));
+    let end = word_in_front(text);
+    if end == 0 {
+        return None;
+    }
+    Some(text.split_at(end))
 }

@@ -1,29 +1,38 @@
 -- The options of a case.
-use Rattle.std.proofs.Common.{◌≡◌, ◌<◌, ◌≤◌, ◌+◌, ℕ, List, ◌∷◌, Bool, true, false, Option, Some, None, refl, ap, sym, ◌∙◌, arith, length, get_or, drop, codes, Bor, add-one}
+use Rattle.std.proofs.Common.{◌≡◌, ℕ, List, Bool, true, false, Option, Some, None, refl, ap, sym, ◌∙◌, inl, inr, codes}
+use Rattle.std.specs.List.{AllPass}
 use Rattle.std.specs.Str.{bytes_eq}
-use Rattle.std.proofs.Math.Seq.{drop-cons}
-use Rattle.std.proofs.lemmas.List.{drop_all, get_or-map, length-map}
+use Rattle.std.specs.Cmp.Lexicographic.{same_text}
 use Rattle.naga_notation.specs.Lookup.{options_of, take_option}
-use Rattle.naga_notation.specs.Words.{texts}
+use Rattle.naga_notation.specs.Scanning.{FirstWord, NoWord}
+use Rattle.naga_notation.specs.Words.{is_visible, words_of}
+use Rattle.naga_notation.proofs.Reading.Tokens.{shown}
+use Rattle.naga_notation.proofs.Reading.Whole.{take_found}
 
-words_at : (words : List (Bor (List ℕ))) (i : ℕ) (w : Bor (List ℕ)) → i < length words → drop i (texts words) ≡ (get_or words i w).now ∷ drop (i + 1) (texts words)
-words_at words i w lt =
-    rw (add-one, drop-cons (texts words) i w.now (omega (arith, length-map words (λ b. b.now))), get_or-map (λ b. b.now) words i w w.now lt) refl
-
-module _ (words : List (Bor (List ℕ))) (i : ℕ) (w : Bor (List ℕ)) (lt : i < length words) (e b : Bool) (all : Option (Bool × Bool × List (List ℕ))) (rest : options_of e b (drop i (texts words)) ≡ all) where
-  pub at_colon : bytes_eq (get_or words i w).now (codes ":") ≡ true → all ≡ Some (e, b, drop (i + 1) (texts words))
+module _ (rest word after : List ℕ) (cut : FirstWord rest word after) (e b : Bool) (all : Option (Bool × Bool × List (List ℕ))) (leads : options_of e b (words_of rest) ≡ all) where
+  pub at_colon : bytes_eq word (codes ":") ≡ true → all ≡ Some (e, b, words_of after)
   unfolding options_of
-  at_colon is = sym rest ∙ ap (options_of e b) (words_at words i w lt) ∙ (rw is refl)
+  at_colon is = sym leads ∙ ap (options_of e b) cut.first ∙ (rw is refl)
 
-  pub at_option : bytes_eq (get_or words i w).now (codes ":") ≡ false → (f g : Bool) → take_option e b (get_or words i w).now ≡ Some (f, g) → options_of f g (drop (i + 1) (texts words)) ≡ all
+  pub at_option : bytes_eq word (codes ":") ≡ false → (f g : Bool) → take_option e b word ≡ Some (f, g) → options_of f g (words_of after) ≡ all
   unfolding options_of
-  at_option other f g taken = sym (ap (options_of e b) (words_at words i w lt) ∙ (rw (other, taken) refl)) ∙ rest
+  at_option other f g taken = sym (ap (options_of e b) cut.first ∙ (rw (other, taken) refl)) ∙ leads
 
-  pub at_other : bytes_eq (get_or words i w).now (codes ":") ≡ false → take_option e b (get_or words i w).now ≡ None → all ≡ None
+  pub at_other : bytes_eq word (codes ":") ≡ false → take_option e b word ≡ None → all ≡ None
   unfolding options_of
-  at_other other none = sym rest ∙ ap (options_of e b) (words_at words i w lt) ∙ (rw (other, none) refl)
+  at_other other none = sym (sym (ap (options_of e b) cut.first ∙ (rw (other, none) refl)) ∙ leads)
 
-pub at_end : (words : List (Bor (List ℕ))) (i : ℕ) → length words ≤ i → (e b : Bool) (all : Option (Bool × Bool × List (List ℕ))) → options_of e b (drop i (texts words)) ≡ all → all ≡ None
+pub at_end : (rest : List ℕ) → NoWord rest → (e b : Bool) (all : Option (Bool × Bool × List (List ℕ))) → options_of e b (words_of rest) ≡ all → all ≡ None
 unfolding options_of
-at_end words i le e b all rest =
-    sym rest ∙ ap (options_of e b) (drop_all i (texts words) (omega (arith, length-map words (λ w. w.now))))
+at_end rest end e b all leads = sym leads ∙ ap (options_of e b) end.none
+
+-- these words have no byte that words don't
+pub colon_shown : (word : List ℕ) → bytes_eq word (codes ":") ≡ true → AllPass is_visible word
+colon_shown word is = shown word (codes ":") (same_text word (codes ":") (sym is)) refl
+
+pub option_shown : (e b : Bool) (word : List ℕ) (o : Bool × Bool) → take_option e b word ≡ Some o → AllPass is_visible word
+option_shown e b word o taken =
+    elim (take_found e b word o taken) [
+      | inl h ↦ shown word (codes "-expressions") h.0 refl
+      | inr h ↦ shown word (codes "-blocks") h.0 refl
+    ]

@@ -1,6 +1,5 @@
 -- The texts of tokens: each word has one meaning.
-use Rattle.std.proofs.Common.{◌≡◌, ◌<◌, ◌≤◌, ◌^◌, ℕ, zero, suc, ℤ, pos, negsuc, append-nil, List, [], ◌∷◌, ◌++◌, Bool, true, false, Option, Some, None, refl, ap, sym, subst, ◌∙◌, arith, length, get_or, cond, codes, decimal, map, slice_get, ◌+◌, take, Bor}
-use Rattle.std.proofs.lemmas.List.{take_more, get_or-map, length-map}
+use Rattle.std.proofs.Common.{◌≡◌, ◌<◌, ◌≤◌, ◌^◌, ℕ, zero, suc, ℤ, pos, negsuc, append-nil, List, [], ◌∷◌, ◌++◌, Bool, true, false, Option, Some, None, refl, ap, sym, subst, ◌∙◌, arith, get_or, cond, codes, decimal, slice_get}
 use Rattle.std.specs.Prelude.{not, ◌⊎◌, ◌==◌, ◌||◌, ◌&&◌, nat_le}
 use Rattle.std.proofs.Common.{inl, inr}
 use Rattle.std.specs.Str.{bytes_eq}
@@ -12,8 +11,14 @@ use Rattle.std.specs.Int.Signed.{mag}
 use Rattle.std.proofs.Math.ListN.{get_or-append}
 use Rattle.std.proofs.lemmas.Fmt.{decimal_nonempty}
 use Rattle.std.proofs.lemmas.Bool.Decides.{nat_tests}
-use Rattle.std.proofs.lemmas.Grind.{common_steps}
-use Rattle.naga_notation.proofs.Reading.Values.{decimal_first, one_value}
+use Rattle.std.proofs.lemmas.Grind.{common_steps, get_or_default_zero}
+use Rattle.std.specs.List.{AllPass, list_all}
+use Rattle.std.proofs.lemmas.List.Elements.{All-append, All-cons}
+use Rattle.std.proofs.lemmas.List.Sums.{AllPass-from_list_all}
+use Rattle.std.proofs.lemmas.Str.Parse.{digit_at}
+use Rattle.std.proofs.lemmas.Fmt.{digits_decimal}
+use Rattle.naga_notation.specs.Words.{is_visible}
+use Rattle.naga_notation.proofs.Reading.Values.{decimal_first, one_value, own}
 use Rattle.naga_notation.specs.declared.bench.Bench.{Bench}
 use Rattle.naga_notation.specs.declared.bench.Bench.TheVariants.{P, C, D}
 use Rattle.naga_notation.specs.declared.token.Token.{Token}
@@ -211,25 +216,56 @@ one_list bench [] us (w ∷ ws) a b = absurd a
 one_list bench ts (u ∷ us) [] a b = absurd b
 one_list bench ts [] (w ∷ ws) a b = absurd b
 
--- one word more
-texts_push : (bench : Bench) (ts : List Token) (ws : List (List ℕ)) (t : Token) (w : List ℕ) → AreTextsOf bench ts ws → IsTextOf bench t w → AreTextsOf bench (ts ++ t ∷ []) (ws ++ w ∷ [])
-texts_push bench [] [] t w h k = (k, tt)
-texts_push bench (u ∷ ts) (v ∷ ws) t w h k = (h.0, texts_push bench ts ws t w h.1 k)
-texts_push bench [] (v ∷ ws) t w h k = absurd h
-texts_push bench (u ∷ ts) [] t w h k = absurd h
+-- a text of a token has no byte that words don't
+pub shown : (w text : List ℕ) → w ≡ text → list_all is_visible text ≡ true → AllPass is_visible w
+shown w text e h = AllPass-from_list_all is_visible w (rw e h)
 
-pub texts_more : (bench : Bench) (ts : List Token) (words : List (Bor (List ℕ))) (i : ℕ) (w : Bor (List ℕ)) (t : Token) → i < length words → AreTextsOf bench ts (take i (map (λ b. b.now) words)) → IsTextOf bench t (get_or words i w).now → AreTextsOf bench (ts ++ t ∷ []) (take (i + 1) (map (λ b. b.now) words))
-texts_more bench ts words i w t lt h k =
-    rw (take_more (map (λ b. b.now) words) i w.now (omega (arith, length-map words (λ b. b.now)))) (texts_push bench ts _ t _ h (rw (get_or-map (λ b. b.now) words i w w.now lt) k))
+abbrev AllShown : List (List ℕ) → Type 0
+AllShown [] = Unit {0}
+AllShown (n ∷ names) = (list_all is_visible n ≡ true) × AllShown names
 
--- each of the words has a token
-texts_at : (bench : Bench) (ts : List Token) (ws : List (List ℕ)) (i : ℕ) (d : List ℕ) → AreTextsOf bench ts ws → i < length ws → (t : Token) × IsTextOf bench t (get_or ws i d)
-texts_at bench ts [] i d h lt = absurd (omega arith)
-texts_at bench [] (w ∷ ws) i d h lt = absurd h
-texts_at bench (t ∷ ts) (w ∷ ws) zero d h lt = (t, h.0)
-texts_at bench (t ∷ ts) (w ∷ ws) (suc i) d h lt = texts_at bench ts ws i d h.1 (omega arith)
+name_shown : (names : List (List ℕ)) → AllShown names → (h : ℕ) (w : List ℕ) → slice_get names h ≡ Some w → AllPass is_visible w
+name_shown [] all h w e = cc
+name_shown (n ∷ names) all zero w e = let same : n ≡ w = cc in shown w n (sym same) all.0
+name_shown (n ∷ names) all (suc h) w e = name_shown names all.1 h w e
 
-pub texts_none : (bench : Bench) (words : List (Bor (List ℕ))) (i : ℕ) (w : Bor (List ℕ)) → i < length words → ((t : Token) → IsTextOf bench t (get_or words i w).now → ⊥) → (ts : List Token) → AreTextsOf bench ts (map (λ b. b.now) words) → ⊥
-texts_none bench words i w lt none ts h =
-    let found = texts_at bench ts (map (λ b. b.now) words) i w.now h (omega (arith, length-map words (λ b. b.now))) in
-    none found.0 (rw (get_or-map (λ b. b.now) words i w w.now lt) at found.1)
+digit_shown : (b : ℕ) → 48 ≤ b → b ≤ 57 → is_visible b ≡ true
+digit_shown b low high = grind (arith, common_steps)
+
+decimal_shown : (n : ℕ) → n < 2 ^ 64 → AllPass is_visible (decimal n)
+decimal_shown n lt = λ k d in_range.
+    let digit = digit_at (decimal n) k (digits_decimal own n lt) in_range in
+    rw (get_or_default_zero (decimal n) k d in_range) (digit_shown (get_or (decimal n) k 0) (omega (arith, digit)) (omega (arith, digit)))
+
+signed_shown : (z : ℤ) → mag z < 2 ^ 31 → AllPass is_visible (signed_decimal z)
+signed_shown (pos n) lt = decimal_shown n (omega arith)
+signed_shown (negsuc n) lt =
+    All-cons (λ b. is_visible b ≡ true) 45 (decimal (suc n)) refl (decimal_shown (suc n) (omega arith))
+
+pub text_visible : (bench : Bench) (t : Token) (w : List ℕ) → IsTextOf bench t w → AllPass is_visible w
+text_visible P (token.Name h) w e = name_shown (names_of P) (refl, (refl, (refl, (refl, (refl, (refl, tt)))))) h w e
+text_visible C (token.Name h) w e = name_shown (names_of C) (refl, (refl, (refl, (refl, (refl, (refl, (refl, tt))))))) h w e
+text_visible D (token.Name h) w e = name_shown (names_of D) (refl, (refl, (refl, (refl, (refl, (refl, (refl, tt))))))) h w e
+text_visible bench (token.Value (I32 z)) w (fits, e) =
+    rw e (All-append (λ b. is_visible b ≡ true) (signed_decimal z) (codes "i") (signed_shown z fits.sfits) (shown (codes "i") (codes "i") refl refl))
+text_visible bench (token.Value (U32 n)) w (lt, e) = rw e (decimal_shown n (omega arith))
+text_visible bench (token.Value Default) w e = shown w (codes "default") e refl
+text_visible bench token.Emit w e = shown w (codes "emit") e refl
+text_visible bench token.To w e = shown w (codes "..") e refl
+text_visible bench token.Block w e = shown w (codes "block") e refl
+text_visible bench token.If w e = shown w (codes "if") e refl
+text_visible bench token.Switch w e = shown w (codes "switch") e refl
+text_visible bench token.Fall w e = shown w (codes "fall") e refl
+text_visible bench token.Loop w e = shown w (codes "loop") e refl
+text_visible bench token.BreakIf w e = shown w (codes "break_if") e refl
+text_visible bench token.Break w e = shown w (codes "break") e refl
+text_visible bench token.Continue w e = shown w (codes "continue") e refl
+text_visible bench token.Return w e = shown w (codes "return") e refl
+text_visible bench token.Kill w e = shown w (codes "kill") e refl
+text_visible bench token.Store w e = shown w (codes "store") e refl
+text_visible bench token.Barrier w e = shown w (codes "barrier") e refl
+text_visible bench token.Open w e = shown w (codes "{") e refl
+text_visible bench token.Close w e = shown w (codes "}") e refl
+text_visible bench token.Call w (there, e) = shown w (codes "call") e refl
+text_visible bench token.Callee w (there, e) = shown w (codes "f") e refl
+text_visible bench token.Arrow w (there, e) = shown w (codes "->") e refl

@@ -21,7 +21,7 @@ use Rattle.naga_ir.specs.declared.statements.SwitchValue.TheVariants.{I32, U32, 
 use Rattle.naga_notation.specs.Text.{IsValueText}
 use Rattle.naga_notation.specs.Lookup.{begins_number, begins_signed}
 
-own : IsNumeralModel (AllDigits 10) (digits_value 10)
+pub own : IsNumeralModel (AllDigits 10) (digits_value 10)
 own = numerals_by_value (AllDigits 10) tells_digits
 
 -- what a text that begins as a number does has first

@@ -1,7 +1,7 @@
 -- A whole case.
 use Rattle.std.proofs.Common.{◌≡◌, ◌≤◌, ℕ, List, [], ◌∷◌, ◌++◌, Bool, true, false, Option, Some, None, refl, ap, sym, subst, ◌∙◌, codes, cond, inl, inr, ◌⊎◌}
-use Rattle.std.proofs.Common.{drop, take, length, ◌-◌, Bor, arith, length-drop}
-use Rattle.std.proofs.lemmas.List.{drop-map, take_all}
+use Rattle.std.proofs.Common.{length}
+use Rattle.std.specs.List.{AllPass}
 use Rattle.std.specs.Prelude.{option_and_then}
 use Rattle.std.specs.Str.{bytes_eq}
 use Rattle.std.specs.Cmp.Lexicographic.{same_text}
@@ -17,10 +17,11 @@ use Rattle.naga_notation.specs.Head.{AreOptions}
 use Rattle.naga_notation.specs.Lookup.{options_of, take_option}
 use Rattle.naga_notation.specs.Reading.{reading_of}
 use Rattle.naga_notation.specs.Text.{AreTextsOf}
-use Rattle.naga_notation.specs.Words.{texts, words_of}
+use Rattle.naga_notation.specs.Scanning.{FirstWord, NoWord, SayBody}
+use Rattle.naga_notation.specs.Words.{is_visible, IsPrintable, words_of}
 use Rattle.naga_notation.proofs.Reading.Complete.{reads_complete}
 use Rattle.naga_notation.proofs.Reading.Trees.{body_of, same_tree}
-use Rattle.naga_notation.proofs.Reading.Tokens.{one_list}
+use Rattle.naga_notation.proofs.Reading.Tokens.{one_list, shown}
 
 -- the bench's word
 bench_is : (b : Bench) → bench_of (bench_word b) ≡ Some b
@@ -40,6 +41,14 @@ bench_found w b e =
     go false false true is other last found =
         let same : bench.D ≡ b = cc in same_text w (bench_word bench.D) (sym last) ∙ ap bench_word same
     go false false false is other last found = cc
+
+bench_shown : (w : List ℕ) (b : Bench) → bench_of w ≡ Some b → AllPass is_visible w
+bench_shown w b e = go b (bench_found w b e)
+  where
+    go : (b : Bench) → w ≡ bench_word b → AllPass is_visible w
+    go bench.P is = shown w (bench_word bench.P) is refl
+    go bench.C is = shown w (bench_word bench.C) is refl
+    go bench.D is = shown w (bench_word bench.D) is refl
 
 -- the options, as they are taken
 options_is : (e b : Bool) (options rest : List (List ℕ)) → AreOptions e b options → options_of true true (options ++ codes ":" ∷ rest) ≡ Some (e, b, rest)
@@ -91,7 +100,7 @@ some_some : {A : Type 0} (x y : A) → Some x ≡ Some y → x ≡ y
 some_some x y e = cc
 
 -- which option was taken
-take_found : (e b : Bool) (w : List ℕ) (o : Bool × Bool) → take_option e b w ≡ Some o → ((w ≡ codes "-expressions") × (e ≡ true) × ((false, b) ≡ o)) ⊎ ((w ≡ codes "-blocks") × (b ≡ true) × ((e, false) ≡ o))
+pub take_found : (e b : Bool) (w : List ℕ) (o : Bool × Bool) → take_option e b w ≡ Some o → ((w ≡ codes "-expressions") × (e ≡ true) × ((false, b) ≡ o)) ⊎ ((w ≡ codes "-blocks") × (b ≡ true) × ((e, false) ≡ o))
 unfolding take_option
 take_found e b w o h = first (bytes_eq w (codes "-expressions")) (bytes_eq w (codes "-blocks")) refl refl e b refl refl h
   where
@@ -165,37 +174,37 @@ say_head ws first others b e k rest at is taken c said =
     let flags : (c.expressions, c.blocks, said.rest) ≡ (e, k, rest) = some_some _ _ (sym (say_options ws first others at c said) ∙ taken) in
     (some_some _ _ (sym (say_bench ws first others at c said) ∙ is), ap (λ p. p.0) flags, ap (λ p. p.1) flags, ap (λ p. p.2) flags)
 
--- the words from one on
-pub cut_at : {X : Type 0} (xs : List X) (n : ℕ) → take (length xs - n) (drop n xs) ≡ drop n xs
-cut_at xs n = take_all (length xs - n) (drop n xs) (omega (arith, length-drop n xs))
+-- what was read says the case that the parts of its text say, and a text whose parts say none reads as none
+module _ (input word behind : List ℕ) (cut : FirstWord input word behind) where
+  pub no_bench : bench_of word ≡ None → (c : Case) → Reads input c → ⊥
+  no_bench none c reads =
+      none_some _ (sym none ∙ say_bench (words_of input) word (words_of behind) cut.first c reads.said)
 
-module _ (words : List (Bor (List ℕ))) (first : Bor (List ℕ)) (others : List (Bor (List ℕ))) (b : Bench) (e k : Bool) (count : ℕ) (at : words ≡ first ∷ others) (is : bench_of first.now ≡ Some b) (taken : options_of true true (texts others) ≡ Some (e, k, drop count (texts others))) (after : List (Bor (List ℕ))) (cut : after ≡ drop count others) where
-  texts_are : texts words ≡ first.now ∷ texts others
-  texts_are = ap texts at
+  pub no_options : options_of true true (words_of behind) ≡ None → (c : Case) → Reads input c → ⊥
+  no_options none c reads =
+      none_some _ (sym none ∙ say_options (words_of input) word (words_of behind) cut.first c reads.said)
 
-  behind : texts after ≡ drop count (texts others)
-  behind = ap texts cut ∙ sym (drop-map (λ w. w.now) count others)
+  module _ (b : Bench) (e k : Bool) (text : List ℕ) (is : bench_of word ≡ Some b) (taken : options_of true true (words_of behind) ≡ Some (e, k, words_of text)) where
+    pub case_found : (body : Body) → SayBody b (words_of text) body → length input ≤ 65536 → IsPrintable behind → Reads input (record { bench = b; expressions = e; blocks = k; body = body })
+    case_found body said bounded shown_behind =
+        record {
+          bounded = bounded;
+          printable = cut.printable (bench_shown word b is) shown_behind;
+          said = say_found (words_of input) word (words_of behind) b e k (words_of text) said.tokens body cut.first is taken said.are_tokens said.spelled said.shallow;
+        }
 
-  pub words_found : (ts : List Token) (body : Body) → AreTextsOf b ts (texts after) → Spells body ts × (depth body ≤ 256) → Say (texts words) (record { bench = b; expressions = e; blocks = k; body = body })
-  words_found ts body named spelled =
-      say_found (texts words) first.now (texts others) b e k _ ts body texts_are is taken (subst (AreTextsOf b ts) behind named) spelled.0 spelled.1
+    pub no_body : ((body : Body) → SayBody b (words_of text) body → ⊥) → (c : Case) → Reads input c → ⊥
+    no_body none c reads =
+        let head = say_head (words_of input) word (words_of behind) b e k (words_of text) cut.first is taken c reads.said in
+        none c.body (record {
+          tokens = reads.said.tokens;
+          are_tokens = subst (AreTextsOf b reads.said.tokens) head.3 (subst (λ x. AreTextsOf x reads.said.tokens reads.said.rest) head.0 reads.said.are_tokens);
+          spelled = reads.said.spelled;
+          shallow = reads.said.shallow;
+        })
 
-  said_texts : (c : Case) → (said : Say (texts words) c) → AreTextsOf b said.tokens (texts after)
-  said_texts c said =
-      let head = say_head (texts words) first.now (texts others) b e k _ texts_are is taken c said in
-      subst (AreTextsOf b said.tokens) (head.3 ∙ sym behind) (subst (λ x. AreTextsOf x said.tokens said.rest) head.0 said.are_tokens)
-
-  pub no_tokens : ((ts : List Token) → AreTextsOf b ts (texts after) → ⊥) → (c : Case) → Say (texts words) c → ⊥
-  no_tokens none c said = none said.tokens (said_texts c said)
-
-  pub no_body : (ts : List Token) → AreTextsOf b ts (texts after) → ((body : Body) → Spells body ts → depth body ≤ 256 → ⊥) → (c : Case) → Say (texts words) c → ⊥
-  no_body ts named none c said =
-      let same : said.tokens ≡ ts = one_list b said.tokens ts _ (said_texts c said) named in
-      none c.body (subst (Spells c.body) same said.spelled) said.shallow
-
-pub no_options : (words : List (Bor (List ℕ))) (first : Bor (List ℕ)) (others : List (Bor (List ℕ))) → words ≡ first ∷ others → options_of true true (texts others) ≡ None → (c : Case) → Say (texts words) c → ⊥
-no_options words first others at none c said =
-    none_some _ (sym none ∙ say_options (texts words) first.now (texts others) (ap texts at) c said)
+pub no_word : (input : List ℕ) → NoWord input → (c : Case) → Reads input c → ⊥
+no_word input end c reads = say_some (words_of input) end.none c reads.said
 
 -- words say one case
 one_case : (ws : List (List ℕ)) (a c : Case) → Say ws a → Say ws c → a ≡ c

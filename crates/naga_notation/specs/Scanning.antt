@@ -1,0 +1,31 @@
+-- What the functions that go over a text do. No public contract cites this.
+use Rattle.std.specs.Prelude.{◌≡◌, ◌<◌, ◌≤◌, ℕ, Bool, not, List, [], ◌∷◌, length}
+use Rattle.std.specs.List.{AllPass}
+use Rattle.naga_ir.specs.Tree.{Body}
+use Rattle.naga_notation.specs.declared.bench.Bench.{Bench}
+use Rattle.naga_notation.specs.declared.token.Token.{Token}
+use Rattle.naga_notation.specs.Grammar.{Spells, depth}
+use Rattle.naga_notation.specs.Text.{AreTextsOf}
+use Rattle.naga_notation.specs.Words.{is_space, is_visible, IsPrintable, words_of}
+
+-- what no white space is
+abbrev pub is_other : ℕ → Bool
+is_other b = not (is_space b)
+
+-- a text is white space, a word, and what stands behind it
+pub record FirstWord (text word after : List ℕ) : Type 0 where
+  pub first : words_of text ≡ word ∷ words_of after
+  pub printable : AllPass is_visible word → IsPrintable after → IsPrintable text
+  pub shorter : length after < length text
+
+-- a text is white space alone
+pub record NoWord (text : List ℕ) : Type 0 where
+  pub none : words_of text ≡ []
+  pub printable : IsPrintable text
+
+-- words say a body
+pub record SayBody (bench : Bench) (words : List (List ℕ)) (body : Body) : Type 0 where
+  pub tokens : List Token
+  pub are_tokens : AreTextsOf bench tokens words
+  pub spelled : Spells body tokens
+  pub shallow : depth body ≤ 256
