@@ -9,5 +9,6 @@ pub mod Case
 pub mod Scanning
 pub mod Sayable
 pub mod Feeding
+pub mod Parts
 pub mod Reading
 pub mod Views

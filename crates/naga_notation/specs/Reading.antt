@@ -13,8 +13,8 @@ use Rattle.naga_notation.specs.declared.reader.parts.Naming.{Naming}
 use Rattle.naga_notation.specs.declared.reader.parts.Naming.TheVariants as naming
 use Rattle.naga_notation.specs.declared.reader.parts.Brace.{Brace}
 use Rattle.naga_notation.specs.declared.reader.parts.Brace.TheVariants as brace
-use Rattle.naga_notation.specs.declared.reader.parts.Frame.{Frame}
-use Rattle.naga_notation.specs.declared.reader.parts.Frame.TheVariants as frame
+use Rattle.naga_notation.specs.Parts.{Part}
+use Rattle.naga_notation.specs.Parts as part
 use Rattle.naga_notation.specs.declared.reader.parts.Wants.{Wants}
 use Rattle.naga_notation.specs.declared.reader.parts.Wants.TheVariants as wants
 use Rattle.naga_notation.specs.Feeding.{feeds}
@@ -23,58 +23,62 @@ use Rattle.naga_notation.specs.Grammar.{emitting, call_of, store_of, control_bar
 
 -- what has been read so far: the open parts, the newest first, and the list at hand
 pub record State : Type 0 where
-  pub opened : List Frame
+  pub opened : List Part
   pub list : List Located
   pub wants : Wants
 
-abbrev pub wanting : List Frame → List Located → Wants → Option State
+abbrev pub wanting : List Part → List Located → Wants → Option State
 wanting opened list wants = Some (record { opened = opened; list = list; wants = wants })
 
 -- a statement may begin
-abbrev pub ready : List Frame → List Located → Option State
+abbrev pub ready : List Part → List Located → Option State
 ready opened list = wanting opened list (wants.Statement tail.Nothing)
 
 abbrev pub begun : State
 begun = record { opened = []; list = []; wants = wants.Statement tail.Nothing }
 
 -- one brace more is open
-abbrev pub enter : List Frame → Frame → Wants → Option State
+abbrev pub enter : List Part → Part → Wants → Option State
 enter opened part next = if nat_lt (length opened) 256 then wanting (part ∷ opened) [] next else None
 
 -- a case of the Switch at hand is whole
-unfoldable pub add_case : List Frame → SwitchCase → Option State
-add_case (frame.Cases selector cases outer ∷ opened) c =
-    wanting (frame.Cases selector (cases ++ c ∷ []) outer ∷ opened) [] wants.CaseValue
-add_case opened c = None
+unfoldable pub add_case : List Part → List Located → SwitchCase → Option State
+add_case (part.Cases selector cases outer ∷ opened) list c =
+    wanting (part.Cases selector (cases ++ c ∷ []) outer ∷ opened) list wants.CaseValue
+add_case opened list c = None
+
+-- the list at hand is closed, and with it its part
+unfoldable pub leave : List Part → List Located → Option State
+leave (part.Block outer ∷ opened) list = ready opened (outer ++ placed (ir.Block (block_from list)) ∷ [])
+leave (part.Reject c accept outer ∷ opened) list =
+    ready opened (outer ++ placed (ir.If c accept (block_from list)) ∷ [])
+leave (part.Case value falls ∷ opened) list = add_case opened [] (SwitchCase' value (block_from list) falls)
+leave opened list = None
 
 -- the list at hand is closed
-unfoldable pub close : List Frame → List Located → Option State
-close (frame.Block outer ∷ opened) list = ready opened (outer ++ placed (ir.Block (block_from list)) ∷ [])
-close (frame.Accept c outer ∷ opened) list =
-    wanting (frame.Reject c (block_from list) outer ∷ opened) [] (wants.Open brace.Reject)
-close (frame.Reject c accept outer ∷ opened) list =
-    ready opened (outer ++ placed (ir.If c accept (block_from list)) ∷ [])
-close (frame.Case value falls ∷ opened) list = add_case opened (SwitchCase' value (block_from list) falls)
-close (frame.Turn outer ∷ opened) list =
-    wanting (frame.Continuing (block_from list) outer ∷ opened) [] (wants.Open brace.Continuing)
-close (frame.Continuing turn outer ∷ opened) list =
-    wanting (frame.Looped turn (block_from list) outer ∷ opened) [] (wants.Statement tail.Loop)
-close opened list = None
+unfoldable pub close : List Part → List Located → Option State
+close (part.Accept c outer ∷ opened) list =
+    wanting (part.Reject c (block_from list) outer ∷ opened) [] (wants.Open brace.Reject)
+close (part.Turn outer ∷ opened) list =
+    wanting (part.Continuing (block_from list) outer ∷ opened) [] (wants.Open brace.Continuing)
+close (part.Continuing turn outer ∷ opened) list =
+    wanting (part.Continuing turn outer ∷ opened) list (wants.Statement tail.Loop)
+close opened list = leave opened list
 
 -- the Switch at hand is closed
-unfoldable pub close_switch : List Frame → Option State
-close_switch (frame.Cases selector cases outer ∷ opened) =
+unfoldable pub close_switch : List Part → Option State
+close_switch (part.Cases selector cases outer ∷ opened) =
     ready opened (outer ++ placed (ir.Switch selector cases) ∷ [])
 close_switch opened = None
 
 -- the Loop at hand ends
-unfoldable pub end_loop : List Frame → Option ℕ → Option State
-end_loop (frame.Looped turn continuing outer ∷ opened) condition =
-    ready opened (outer ++ placed (ir.Loop turn continuing condition) ∷ [])
-end_loop opened condition = None
+unfoldable pub end_loop : List Part → List Located → Option ℕ → Option State
+end_loop (part.Continuing turn outer ∷ opened) list condition =
+    ready opened (outer ++ placed (ir.Loop turn (block_from list) condition) ∷ [])
+end_loop opened list condition = None
 
 -- a token where a statement may begin
-unfoldable pub begin : List Frame → List Located → Token → Option State
+unfoldable pub begin : List Part → List Located → Token → Option State
 begin opened list token.Emit = wanting opened list (wants.Name naming.First)
 begin opened list token.Block = wanting opened list (wants.Open brace.Block)
 begin opened list token.If = wanting opened list (wants.Name naming.Condition)
@@ -91,18 +95,18 @@ begin opened list token.Close = close opened list
 begin opened list t = None
 
 -- the statement at hand gets no tail
-unfoldable pub settle : List Frame → List Located → Tail → Option State
+unfoldable pub settle : List Part → List Located → Tail → Option State
 settle opened list tail.Nothing = ready opened list
 settle opened list (tail.Emit first) = ready opened (list ++ placed (emitting first first) ∷ [])
 settle opened list tail.Return = ready opened (list ++ placed (ir.Return None) ∷ [])
-settle opened list tail.Loop = end_loop opened None
+settle opened list tail.Loop = end_loop opened list None
 settle opened list tail.Call = ready opened (list ++ placed (call_of None) ∷ [])
 
 abbrev pub begin_at : Token → State → Option State
 begin_at t s = begin s.opened s.list t
 
 -- a tail of the statement at hand, or a token where a statement may begin
-unfoldable pub go_on : List Frame → List Located → Tail → Token → Option State
+unfoldable pub go_on : List Part → List Located → Tail → Token → Option State
 go_on opened list (tail.Emit first) token.To = wanting opened list (wants.Name (naming.Last first))
 go_on opened list tail.Return (token.Name value) = ready opened (list ++ placed (ir.Return (Some value)) ∷ [])
 go_on opened list tail.Loop token.BreakIf = wanting opened list (wants.Name naming.BreakIf)
@@ -110,28 +114,28 @@ go_on opened list tail.Call token.Arrow = wanting opened list (wants.Name naming
 go_on opened list t w = option_and_then (begin_at w) (settle opened list t)
 
 -- a name
-unfoldable pub take_name : List Frame → List Located → Naming → ℕ → Option State
+unfoldable pub take_name : List Part → List Located → Naming → ℕ → Option State
 take_name opened list naming.First h = wanting opened list (wants.Statement (tail.Emit h))
 take_name opened list (naming.Last first) h =
     if nat_le first h then ready opened (list ++ placed (emitting first h) ∷ []) else None
 take_name opened list naming.Condition h = wanting opened list (wants.Open (brace.Accept h))
 take_name opened list naming.Selector h = wanting opened list (wants.Open (brace.Cases h))
-take_name opened list naming.BreakIf h = end_loop opened (Some h)
+take_name opened list naming.BreakIf h = end_loop opened list (Some h)
 take_name opened list naming.Pointer h = wanting opened list (wants.Name (naming.Stored h))
 take_name opened list (naming.Stored pointer) h = ready opened (list ++ placed (store_of pointer h) ∷ [])
 take_name opened list naming.Result h = ready opened (list ++ placed (call_of (Some h)) ∷ [])
 
 -- an open brace
-unfoldable pub open_brace : List Frame → List Located → Brace → Option State
-open_brace opened list brace.Block = enter opened (frame.Block list) (wants.Statement tail.Nothing)
-open_brace opened list (brace.Accept c) = enter opened (frame.Accept c list) (wants.Statement tail.Nothing)
+unfoldable pub open_brace : List Part → List Located → Brace → Option State
+open_brace opened list brace.Block = enter opened (part.Block list) (wants.Statement tail.Nothing)
+open_brace opened list (brace.Accept c) = enter opened (part.Accept c list) (wants.Statement tail.Nothing)
 open_brace opened list brace.Reject = ready opened list
-open_brace opened list (brace.Cases h) = enter opened (frame.Cases h [] list) wants.CaseValue
-open_brace opened list (brace.Case value falls) = enter opened (frame.Case value falls) (wants.Statement tail.Nothing)
-open_brace opened list brace.Turn = enter opened (frame.Turn list) (wants.Statement tail.Nothing)
+open_brace opened list (brace.Cases h) = enter opened (part.Cases h [] list) wants.CaseValue
+open_brace opened list (brace.Case value falls) = enter opened (part.Case value falls) (wants.Statement tail.Nothing)
+open_brace opened list brace.Turn = enter opened (part.Turn list) (wants.Statement tail.Nothing)
 open_brace opened list brace.Continuing = ready opened list
 
-unfoldable pub next : List Frame → List Located → Wants → Token → Option State
+unfoldable pub next : List Part → List Located → Wants → Token → Option State
 next opened list (wants.Statement t) w = go_on opened list t w
 next opened list (wants.Name n) (token.Name h) = take_name opened list n h
 next opened list (wants.Open b) token.Open = open_brace opened list b
@@ -146,11 +150,11 @@ abbrev pub step : State → Token → Option State
 step s t = next s.opened s.list s.wants t
 
 -- the block, where no part is open
-abbrev pub whole : List Frame → List Located → Option Block
+abbrev pub whole : List Part → List Located → Option Block
 whole [] list = Some (block_from list)
 whole (p ∷ ps) list = None
 
-unfoldable pub end_at : List Frame → List Located → Wants → Option Block
+unfoldable pub end_at : List Part → List Located → Wants → Option Block
 end_at opened list (wants.Statement t) = option_and_then (λ s. whole s.opened s.list) (settle opened list t)
 end_at opened list w = None
 

@@ -18,7 +18,7 @@ mod stack;
 use crate::bench::Bench;
 use crate::build::{block_of, calling, emission, expression, storing, waiting};
 use crate::case::ReadError;
-use crate::reader::parts::{Brace, Frame, Naming, Tail, Wants};
+use crate::reader::parts::{Brace, Frame, Kind, Naming, Tail, Wants};
 use crate::token::{Token, token_of};
 use crate::words::first_word;
 use naga_arena::sequence::Sequence;
@@ -204,38 +204,20 @@ impl Reader {
         let statement = Wants::Statement(Tail::Nothing);
         match brace {
             Brace::Reject | Brace::Continuing => self.want(statement),
-            Brace::Block => {
-                let outer = self.take_list();
-                self.enter(Frame::Block { outer }, statement)
-            }
-            Brace::Accept(condition) => {
-                let outer = self.take_list();
-                self.enter(Frame::Accept { condition, outer }, statement)
-            }
-            Brace::Cases(selector) => {
-                let outer = self.take_list();
-                let cases = Sequence::new(self.alloc);
-                let frame = Frame::Cases {
-                    selector,
-                    cases,
-                    outer,
-                };
-                self.enter(frame, Wants::CaseValue)
-            }
+            Brace::Block => self.enter(Kind::Block, statement),
+            Brace::Accept(condition) => self.enter(Kind::Accept(condition), statement),
+            Brace::Cases(selector) => self.enter(Kind::Cases(selector), Wants::CaseValue),
             Brace::Case {
                 value,
                 fall_through,
             } => {
-                let frame = Frame::Case {
+                let kind = Kind::Case {
                     value,
                     fall_through,
                 };
-                self.enter(frame, statement)
+                self.enter(kind, statement)
             }
-            Brace::Turn => {
-                let outer = self.take_list();
-                self.enter(Frame::Turn { outer }, statement)
-            }
+            Brace::Turn => self.enter(Kind::Turn, statement),
         }
     }
 

@@ -1,7 +1,7 @@
 //! What the reader keeps of a body that isn't whole: the open parts, and what may come next.
 
 use naga_arena::sequence::Sequence;
-use naga_ir::statements::{Block, Located, SwitchCase, SwitchValue};
+use naga_ir::statements::{Located, SwitchCase, SwitchValue};
 
 /// What the newest statement may still get.
 #[derive(Clone, Copy, Debug)]
@@ -66,42 +66,34 @@ pub enum Wants {
     CaseRest(SwitchValue),
 }
 
-/// A part that is open, with the statements that stood before its own statement.
-#[derive(Drop)]
-pub enum Frame {
-    Block {
-        outer: Sequence<Located>,
-    },
-    Accept {
-        condition: u8,
-        outer: Sequence<Located>,
-    },
-    Reject {
-        condition: u8,
-        accept: Block,
-        outer: Sequence<Located>,
-    },
-    Cases {
-        selector: u8,
-        cases: Sequence<SwitchCase>,
-        outer: Sequence<Located>,
-    },
-    /// A case of the Switch whose frame lies below.
+/// Which part is open.
+#[derive(Clone, Copy, Debug)]
+pub enum Kind {
+    Block,
+    /// The first list of an If with this condition.
+    Accept(u8),
+    /// Its second.
+    Reject(u8),
+    /// The cases of a Switch with this selector.
+    Cases(u8),
+    /// A case of the Switch that lies below.
     Case {
         value: SwitchValue,
         fall_through: bool,
     },
-    Turn {
-        outer: Sequence<Located>,
-    },
-    Continuing {
-        turn: Block,
-        outer: Sequence<Located>,
-    },
-    /// A Loop whose lists are both closed: no brace of it is open.
-    Looped {
-        turn: Block,
-        continuing: Block,
-        outer: Sequence<Located>,
-    },
+    /// The body of a Loop.
+    Turn,
+    Continuing,
+}
+
+/// A part that is open, what was read of its statement, and what stood before.
+#[derive(Drop)]
+pub struct Frame {
+    pub kind: Kind,
+    /// The statements before its own.
+    pub outer: Sequence<Located>,
+    /// The first list of an If or a Loop whose second one is open.
+    pub first: Sequence<Located>,
+    /// The cases of a Switch.
+    pub cases: Sequence<SwitchCase>,
 }

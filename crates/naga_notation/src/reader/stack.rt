@@ -2,7 +2,7 @@
 
 use crate::build::push;
 use crate::case::ReadError;
-use crate::reader::parts::{Frame, Tail, Wants};
+use crate::reader::parts::{Frame, Kind, Tail, Wants};
 use crate::reader::{MOST_OPEN, Reader};
 use naga_arena::sequence::Sequence;
 use naga_ir::statements::{Located, Statement};
@@ -13,7 +13,7 @@ impl Reader {
     ghost use Rattle.naga_notation.specs.Blocks.{placed};
     ghost use Rattle.naga_notation.specs.Feeding.{Steps};
     ghost use Rattle.naga_notation.specs.Reading.{State, enter, ready, wanting};
-    ghost use Rattle.naga_notation.specs.Views.{Moves, state_of};
+    ghost use Rattle.naga_notation.specs.Views.{Moves, part_as, state_of};
 
     /// Says what is wanted next.
     #[inline(always)]
@@ -36,13 +36,18 @@ impl Reader {
     /// Opens one part more, with an empty list.
     #[inline(always)]
     #[tactic(auto, using(crate::proofs::Reading::Stack::stacks))]
-    pub fn enter(&mut self, frame: Frame, wants: Wants) -> Result<(), ReadError>
-        ensures { Moves (λ opened _. enter opened frame wants) self.old result self.new }
+    pub fn enter(&mut self, kind: Kind, wants: Wants) -> Result<(), ReadError>
+        ensures { Moves (λ opened list. enter opened (part_as kind [] [] list) wants) self.old result self.new }
     {
         if self.opened.len() >= MOST_OPEN {
             return Err(ReadError::Unreadable);
         }
-        self.list = Sequence::new(self.alloc);
+        let frame = Frame {
+            kind,
+            outer: self.take_list(),
+            first: Sequence::new(self.alloc),
+            cases: Sequence::new(self.alloc),
+        };
         self.opened.push(frame)?;
         self.want(wants)
     }
@@ -67,16 +72,5 @@ impl Reader {
     {
         self.list = outer;
         self.put(statement)
-    }
-
-    /// Opens a frame in place of one that was closed, with an empty list.
-    #[inline(always)]
-    #[tactic(auto, using(crate::proofs::Reading::Stack::stacks))]
-    pub fn go_over(&mut self, frame: Frame, wants: Wants) -> Result<(), ReadError>
-        ensures { Moves (λ opened _. wanting (frame ∷ opened) [] wants) self.old result self.new }
-    {
-        self.list = Sequence::new(self.alloc);
-        self.opened.push(frame)?;
-        self.want(wants)
     }
 }
