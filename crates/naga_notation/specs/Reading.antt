@@ -13,7 +13,7 @@ use Rattle.naga_notation.specs.declared.reader.parts.Naming.{Naming}
 use Rattle.naga_notation.specs.declared.reader.parts.Naming.TheVariants as naming
 use Rattle.naga_notation.specs.declared.reader.parts.Brace.{Brace}
 use Rattle.naga_notation.specs.declared.reader.parts.Brace.TheVariants as brace
-use Rattle.naga_notation.specs.Parts.{Part}
+use Rattle.naga_notation.specs.Parts.{Part, part_as, kind_of}
 use Rattle.naga_notation.specs.Parts as part
 use Rattle.naga_notation.specs.declared.reader.parts.Wants.{Wants}
 use Rattle.naga_notation.specs.declared.reader.parts.Wants.TheVariants as wants
@@ -47,23 +47,30 @@ add_case (part.Cases selector cases outer ∷ opened) list c =
     wanting (part.Cases selector (cases ++ c ∷ []) outer ∷ opened) list wants.CaseValue
 add_case opened list c = None
 
--- the list at hand is closed, and with it its part
-unfoldable pub leave : List Part → List Located → Option State
-leave (part.Block outer ∷ opened) list = ready opened (outer ++ placed (ir.Block (block_from list)) ∷ [])
-leave (part.Reject c accept outer ∷ opened) list =
+-- the Block, the If or the case at hand is closed
+unfoldable pub close_block : List Part → List Located → Option State
+close_block (part.Block outer ∷ opened) list = ready opened (outer ++ placed (ir.Block (block_from list)) ∷ [])
+close_block opened list = None
+
+unfoldable pub close_if : List Part → List Located → Option State
+close_if (part.Reject c accept outer ∷ opened) list =
     ready opened (outer ++ placed (ir.If c accept (block_from list)) ∷ [])
-leave (part.Case value falls ∷ opened) list = add_case opened [] (SwitchCase' value (block_from list) falls)
-leave opened list = None
+close_if opened list = None
+
+unfoldable pub close_case : List Part → List Located → Option State
+close_case (part.Case value falls ∷ opened) list = add_case opened [] (SwitchCase' value (block_from list) falls)
+close_case opened list = None
 
 -- the list at hand is closed
 unfoldable pub close : List Part → List Located → Option State
-close (part.Accept c outer ∷ opened) list =
-    wanting (part.Reject c (block_from list) outer ∷ opened) [] (wants.Open brace.Reject)
-close (part.Turn outer ∷ opened) list =
-    wanting (part.Continuing (block_from list) outer ∷ opened) [] (wants.Open brace.Continuing)
+close (part.Block outer ∷ opened) list = close_block (part.Block outer ∷ opened) list
+close (part.Accept c outer ∷ opened) list = wanting (part.Reject c (block_from list) outer ∷ opened) [] wants.Between
+close (part.Reject c accept outer ∷ opened) list = close_if (part.Reject c accept outer ∷ opened) list
+close (part.Case value falls ∷ opened) list = close_case (part.Case value falls ∷ opened) list
+close (part.Turn outer ∷ opened) list = wanting (part.Continuing (block_from list) outer ∷ opened) [] wants.Between
 close (part.Continuing turn outer ∷ opened) list =
     wanting (part.Continuing turn outer ∷ opened) list (wants.Statement tail.Loop)
-close opened list = leave opened list
+close opened list = None
 
 -- the Switch at hand is closed
 unfoldable pub close_switch : List Part → Option State
@@ -77,6 +84,14 @@ end_loop (part.Continuing turn outer ∷ opened) list condition =
     ready opened (outer ++ placed (ir.Loop turn (block_from list) condition) ∷ [])
 end_loop opened list condition = None
 
+-- a token that is a statement by itself
+unfoldable pub put_alone : List Part → List Located → Token → Option State
+put_alone opened list token.Break = ready opened (list ++ placed ir.Break ∷ [])
+put_alone opened list token.Continue = ready opened (list ++ placed ir.Continue ∷ [])
+put_alone opened list token.Kill = ready opened (list ++ placed ir.Kill ∷ [])
+put_alone opened list token.Barrier = ready opened (list ++ placed control_barrier ∷ [])
+put_alone opened list t = None
+
 -- a token where a statement may begin
 unfoldable pub begin : List Part → List Located → Token → Option State
 begin opened list token.Emit = wanting opened list (wants.Name naming.First)
@@ -84,15 +99,11 @@ begin opened list token.Block = wanting opened list (wants.Open brace.Block)
 begin opened list token.If = wanting opened list (wants.Name naming.Condition)
 begin opened list token.Switch = wanting opened list (wants.Name naming.Selector)
 begin opened list token.Loop = wanting opened list (wants.Open brace.Turn)
-begin opened list token.Break = ready opened (list ++ placed ir.Break ∷ [])
-begin opened list token.Continue = ready opened (list ++ placed ir.Continue ∷ [])
 begin opened list token.Return = wanting opened list (wants.Statement tail.Return)
-begin opened list token.Kill = ready opened (list ++ placed ir.Kill ∷ [])
 begin opened list token.Store = wanting opened list (wants.Name naming.Pointer)
-begin opened list token.Barrier = ready opened (list ++ placed control_barrier ∷ [])
 begin opened list token.Call = wanting opened list wants.Callee
 begin opened list token.Close = close opened list
-begin opened list t = None
+begin opened list t = put_alone opened list t
 
 -- the statement at hand gets no tail
 unfoldable pub settle : List Part → List Located → Tail → Option State
@@ -113,32 +124,37 @@ go_on opened list tail.Loop token.BreakIf = wanting opened list (wants.Name nami
 go_on opened list tail.Call token.Arrow = wanting opened list (wants.Name naming.Result)
 go_on opened list t w = option_and_then (begin_at w) (settle opened list t)
 
+-- the last name of a statement
+unfoldable pub put_named : List Part → List Located → Naming → ℕ → Option State
+put_named opened list (naming.Last first) h =
+    if nat_le first h then ready opened (list ++ placed (emitting first h) ∷ []) else None
+put_named opened list naming.BreakIf h = end_loop opened list (Some h)
+put_named opened list (naming.Stored pointer) h = ready opened (list ++ placed (store_of pointer h) ∷ [])
+put_named opened list naming.Result h = ready opened (list ++ placed (call_of (Some h)) ∷ [])
+put_named opened list n h = None
+
 -- a name
 unfoldable pub take_name : List Part → List Located → Naming → ℕ → Option State
 take_name opened list naming.First h = wanting opened list (wants.Statement (tail.Emit h))
-take_name opened list (naming.Last first) h =
-    if nat_le first h then ready opened (list ++ placed (emitting first h) ∷ []) else None
 take_name opened list naming.Condition h = wanting opened list (wants.Open (brace.Accept h))
 take_name opened list naming.Selector h = wanting opened list (wants.Open (brace.Cases h))
-take_name opened list naming.BreakIf h = end_loop opened list (Some h)
 take_name opened list naming.Pointer h = wanting opened list (wants.Name (naming.Stored h))
-take_name opened list (naming.Stored pointer) h = ready opened (list ++ placed (store_of pointer h) ∷ [])
-take_name opened list naming.Result h = ready opened (list ++ placed (call_of (Some h)) ∷ [])
+take_name opened list n h = put_named opened list n h
 
--- an open brace
+-- what is wanted behind a brace
+abbrev pub behind_brace : Brace → Wants
+behind_brace (brace.Cases h) = wants.CaseValue
+behind_brace b = wants.Statement tail.Nothing
+
+-- the brace of a part
 unfoldable pub open_brace : List Part → List Located → Brace → Option State
-open_brace opened list brace.Block = enter opened (part.Block list) (wants.Statement tail.Nothing)
-open_brace opened list (brace.Accept c) = enter opened (part.Accept c list) (wants.Statement tail.Nothing)
-open_brace opened list brace.Reject = ready opened list
-open_brace opened list (brace.Cases h) = enter opened (part.Cases h [] list) wants.CaseValue
-open_brace opened list (brace.Case value falls) = enter opened (part.Case value falls) (wants.Statement tail.Nothing)
-open_brace opened list brace.Turn = enter opened (part.Turn list) (wants.Statement tail.Nothing)
-open_brace opened list brace.Continuing = ready opened list
+open_brace opened list b = enter opened (part_as (kind_of b) list) (behind_brace b)
 
 unfoldable pub next : List Part → List Located → Wants → Token → Option State
 next opened list (wants.Statement t) w = go_on opened list t w
 next opened list (wants.Name n) (token.Name h) = take_name opened list n h
 next opened list (wants.Open b) token.Open = open_brace opened list b
+next opened list wants.Between token.Open = ready opened list
 next opened list wants.Callee token.Callee = wanting opened list (wants.Statement tail.Call)
 next opened list wants.CaseValue (token.Value v) = wanting opened list (wants.CaseRest v)
 next opened list wants.CaseValue token.Close = close_switch opened

@@ -17,6 +17,7 @@ use naga_ir::statements::{Block, Located, Statement, SwitchCase, SwitchValue};
 use std::alloc::{AllocError, Global};
 
 /// The expression of a bench at this index.
+#[inline(always)]
 pub fn expression(index: u8) -> Handle<tag::Expression>
     ensures { result ≡ index }
 {
@@ -33,6 +34,7 @@ pub fn push(list: &mut Sequence<Located>, statement: Statement) -> Result<(), Al
 }
 
 /// A block of these statements.
+#[inline(always)]
 #[tactic(auto, unfolding(crate::specs::Blocks::block_from))]
 pub fn block_of(list: Sequence<Located>) -> Block
     ensures { result ≡ block_from list }
@@ -41,6 +43,7 @@ pub fn block_of(list: Sequence<Located>) -> Block
 }
 
 /// An Emit of the expressions from `first` to `last`, both included.
+#[inline(always)]
 pub fn emission(first: u8, last: u8) -> Statement
     ensures { result ≡ emitting first last }
 {
@@ -51,6 +54,7 @@ pub fn emission(first: u8, last: u8) -> Statement
 }
 
 /// A store of a value where a pointer points.
+#[inline(always)]
 pub fn storing(pointer: u8, value: u8) -> Statement
     ensures { result ≡ store_of pointer value }
 {
@@ -61,6 +65,7 @@ pub fn storing(pointer: u8, value: u8) -> Statement
 }
 
 /// The control barrier that names no memory.
+#[inline(always)]
 pub fn waiting() -> Statement
     ensures { result ≡ control_barrier }
 {
@@ -68,6 +73,7 @@ pub fn waiting() -> Statement
 }
 
 /// A call of `f` with this result.
+#[inline(always)]
 pub fn calling(alloc: Global, answer: Option<u8>) -> Statement
     ensures { result ≡ call_of answer }
 {
@@ -82,6 +88,7 @@ pub fn calling(alloc: Global, answer: Option<u8>) -> Statement
 }
 
 /// A case of a Switch.
+#[inline(always)]
 pub fn case_of(value: SwitchValue, body: Block, fall_through: bool) -> SwitchCase
     ensures { result ≡ SwitchCase' value body fall_through }
 {
@@ -93,6 +100,7 @@ pub fn case_of(value: SwitchValue, body: Block, fall_through: bool) -> SwitchCas
 }
 
 /// A choice between two blocks.
+#[inline(always)]
 pub fn choice(condition: u8, accept: Block, reject: Block) -> Statement
     ensures { result ≡ ir.If condition accept reject }
 {
@@ -104,6 +112,7 @@ pub fn choice(condition: u8, accept: Block, reject: Block) -> Statement
 }
 
 /// A loop over two blocks, left where `break_if` holds, if it names an expression.
+#[inline(always)]
 pub fn repetition(body: Block, continuing: Block, break_if: Option<u8>) -> Statement
     ensures { result ≡ ir.Loop body continuing break_if }
 {
@@ -119,6 +128,7 @@ pub fn repetition(body: Block, continuing: Block, break_if: Option<u8>) -> State
 }
 
 /// A choice among cases.
+#[inline(always)]
 pub fn switch(selector: u8, cases: Sequence<SwitchCase>) -> Statement
     ensures { result ≡ ir.Switch selector cases }
 {

@@ -18,7 +18,7 @@ mod stack;
 use crate::bench::Bench;
 use crate::build::{block_of, calling, emission, expression, storing, waiting};
 use crate::case::ReadError;
-use crate::reader::parts::{Brace, Frame, Kind, Naming, Tail, Wants};
+use crate::reader::parts::{Brace, Frame, Naming, Tail, Wants};
 use crate::token::{Token, token_of};
 use crate::words::first_word;
 use naga_arena::sequence::Sequence;
@@ -41,7 +41,7 @@ pub struct Reader {
 
 impl Reader {
     ghost use Rattle.naga_notation.specs.Feeding.{Steps};
-    ghost use Rattle.naga_notation.specs.Reading.{State, begun, step, go_on, settle, begin, begin_at, take_name, open_brace, finish};
+    ghost use Rattle.naga_notation.specs.Reading.{State, begun, step, go_on, settle, begin, begin_at, put_alone, take_name, put_named, finish};
     ghost use Rattle.naga_notation.specs.Views.{Moves, state_of};
 
     /// A reader that has read nothing.
@@ -58,11 +58,13 @@ impl Reader {
     }
 
     /// Takes the next token.
-    #[tactic(auto, using(crate::proofs::Reading::Stack::stacks), unfolding(crate::specs::Reading::next))]
+    #[inline(always)]
+    #[tactic(auto, using(crate::proofs::Reading::Stack::stacks), unfolding(crate::specs::Reading::next, crate::specs::Reading::go_on, crate::specs::Reading::settle))]
     pub fn step(&mut self, token: Token) -> Result<(), ReadError>
         ensures { Steps (step (state_of self.old) token) result (state_of self.new) }
     {
         match self.wants {
+            Wants::Statement(Tail::Nothing) => self.begin(token),
             Wants::Statement(tail) => self.go_on(tail, token),
             Wants::Name(naming) => match token {
                 Token::Name(name) => self.take_name(naming, name),
@@ -73,7 +75,11 @@ impl Reader {
                 _ => Err(ReadError::Unreadable),
             },
             Wants::Open(brace) => match token {
-                Token::Open => self.open(brace),
+                Token::Open => self.enter(brace),
+                _ => Err(ReadError::Unreadable),
+            },
+            Wants::Between => match token {
+                Token::Open => self.want(Wants::Statement(Tail::Nothing)),
                 _ => Err(ReadError::Unreadable),
             },
             Wants::CaseValue => match token {
@@ -86,7 +92,7 @@ impl Reader {
                     value,
                     fall_through: true,
                 })),
-                Token::Open => self.open(Brace::Case {
+                Token::Open => self.enter(Brace::Case {
                     value,
                     fall_through: false,
                 }),
@@ -96,6 +102,7 @@ impl Reader {
     }
 
     /// A tail of the newest statement, or a token where a statement may begin.
+    #[inline(always)]
     #[tactic(auto, using(crate::proofs::Reading::Stack::stacks), unfolding(crate::specs::Reading::go_on, crate::specs::Reading::settle))]
     fn go_on(&mut self, tail: Tail, token: Token) -> Result<(), ReadError>
         ensures { Moves (λ opened list. go_on opened list tail token) self.old result self.new }
@@ -124,6 +131,7 @@ impl Reader {
     }
 
     /// A token where a statement may begin, the newest one having no tail.
+    #[inline(always)]
     fn begin_behind(&mut self, tail: Tail, token: Token) -> Result<(), ReadError>
         ensures { Moves (λ opened list. option_and_then (begin_at token) (settle opened list tail)) self.old result self.new }
     {
@@ -132,6 +140,7 @@ impl Reader {
     }
 
     /// Ends the newest statement with no tail.
+    #[inline(never)]
     #[tactic(auto, using(crate::proofs::Reading::Stack::stacks), unfolding(crate::specs::Reading::settle))]
     fn settle(&mut self, tail: Tail) -> Result<(), ReadError>
         ensures { Moves (λ opened list. settle opened list tail) self.old result self.new }
@@ -149,6 +158,7 @@ impl Reader {
     }
 
     /// A token where a statement may begin.
+    #[inline(always)]
     #[tactic(auto, using(crate::proofs::Reading::Stack::stacks), unfolding(crate::specs::Reading::begin))]
     fn begin(&mut self, token: Token) -> Result<(), ReadError>
         ensures { Moves (λ opened list. begin opened list token) self.old result self.new }
@@ -159,65 +169,66 @@ impl Reader {
             Token::If => self.want(Wants::Name(Naming::Condition)),
             Token::Switch => self.want(Wants::Name(Naming::Selector)),
             Token::Loop => self.want(Wants::Open(Brace::Turn)),
-            Token::Break => self.put(Statement::Break),
-            Token::Continue => self.put(Statement::Continue),
             Token::Return => self.want(Wants::Statement(Tail::Return)),
-            Token::Kill => self.put(Statement::Kill),
             Token::Store => self.want(Wants::Name(Naming::Pointer)),
-            Token::Barrier => self.put(waiting()),
             Token::Call => self.want(Wants::Callee),
             Token::Close => self.close(),
+            _ => self.put_alone(token),
+        }
+    }
+
+    /// A token that is a statement by itself.
+    #[inline(never)]
+    #[tactic(auto, using(crate::proofs::Reading::Stack::stacks), unfolding(crate::specs::Reading::put_alone))]
+    fn put_alone(&mut self, token: Token) -> Result<(), ReadError>
+        ensures { Moves (λ opened list. put_alone opened list token) self.old result self.new }
+    {
+        match token {
+            Token::Break => self.put(Statement::Break),
+            Token::Continue => self.put(Statement::Continue),
+            Token::Kill => self.put(Statement::Kill),
+            Token::Barrier => self.put(waiting()),
             _ => Err(ReadError::Unreadable),
         }
     }
 
     /// A name.
+    #[inline(always)]
     #[tactic(auto, using(crate::proofs::Reading::Stack::stacks), unfolding(crate::specs::Reading::take_name))]
     fn take_name(&mut self, naming: Naming, name: u8) -> Result<(), ReadError>
         ensures { Moves (λ opened list. take_name opened list naming name) self.old result self.new }
     {
         match naming {
             Naming::First => self.want(Wants::Statement(Tail::Emit(name))),
+            Naming::Condition => self.want(Wants::Open(Brace::Accept(name))),
+            Naming::Selector => self.want(Wants::Open(Brace::Cases(name))),
+            Naming::Pointer => self.want(Wants::Name(Naming::Stored(name))),
+            _ => self.put_named(naming, name),
+        }
+    }
+
+    /// The last name of a statement.
+    #[inline(never)]
+    #[tactic(auto, using(crate::proofs::Reading::Stack::stacks), unfolding(crate::specs::Reading::put_named))]
+    fn put_named(&mut self, naming: Naming, name: u8) -> Result<(), ReadError>
+        ensures { Moves (λ opened list. put_named opened list naming name) self.old result self.new }
+    {
+        match naming {
             Naming::Last(first) => {
                 if name < first {
                     return Err(ReadError::Unreadable);
                 }
                 self.put(emission(first, name))
             }
-            Naming::Condition => self.want(Wants::Open(Brace::Accept(name))),
-            Naming::Selector => self.want(Wants::Open(Brace::Cases(name))),
             Naming::BreakIf => self.end_loop(Some(name)),
-            Naming::Pointer => self.want(Wants::Name(Naming::Stored(name))),
             Naming::Stored(pointer) => self.put(storing(pointer, name)),
             Naming::Result => {
                 let statement = calling(self.alloc, Some(name));
                 self.put(statement)
             }
-        }
-    }
-
-    /// An open brace.
-    #[tactic(auto, using(crate::proofs::Reading::Stack::stacks), unfolding(crate::specs::Reading::open_brace))]
-    fn open(&mut self, brace: Brace) -> Result<(), ReadError>
-        ensures { Moves (λ opened list. open_brace opened list brace) self.old result self.new }
-    {
-        let statement = Wants::Statement(Tail::Nothing);
-        match brace {
-            Brace::Reject | Brace::Continuing => self.want(statement),
-            Brace::Block => self.enter(Kind::Block, statement),
-            Brace::Accept(condition) => self.enter(Kind::Accept(condition), statement),
-            Brace::Cases(selector) => self.enter(Kind::Cases(selector), Wants::CaseValue),
-            Brace::Case {
-                value,
-                fall_through,
-            } => {
-                let kind = Kind::Case {
-                    value,
-                    fall_through,
-                };
-                self.enter(kind, statement)
+            Naming::First | Naming::Condition | Naming::Selector | Naming::Pointer => {
+                Err(ReadError::Unreadable)
             }
-            Brace::Turn => self.enter(Kind::Turn, statement),
         }
     }
 

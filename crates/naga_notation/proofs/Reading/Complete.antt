@@ -21,7 +21,7 @@ use Rattle.naga_notation.specs.declared.reader.parts.Wants.TheVariants as wants
 use Rattle.naga_notation.specs.Feeding.{feeds}
 use Rattle.naga_notation.specs.Grammar.{Spells, SpellsStatement, SpellsCases, depth, statement_depth, cases_depth, emission, calling, storing, waiting, emitting, call_of, store_of, control_barrier, arrow_if_any, SpellsEmit, in_braces, fall_if, break_if_any}
 use Rattle.naga_notation.specs.Blocks.{block_from, block_of, placed, list_of, located_of, cases_of}
-use Rattle.naga_notation.specs.Reading.{State, begun, ready, wanting, enter, add_case, leave, close, close_switch, end_loop, begin, begin_at, settle, go_on, take_name, open_brace, next, step, whole, end_at, finish, reading_of}
+use Rattle.naga_notation.specs.Reading.{State, begun, ready, wanting, enter, add_case, close_block, close_if, close_case, close, close_switch, end_loop, begin, put_alone, begin_at, settle, go_on, take_name, put_named, open_brace, next, step, whole, end_at, finish, reading_of}
 
 abbrev feed : Option State → List Token → Option State
 feed = feeds step
@@ -89,93 +89,93 @@ and_then o t = option_and_then (λ s. step s t) o
 
 module _ (o : Option State) (opened : List Part) (list : List Located) (h : Gets o opened list) where
   emit_one : (a : ℕ) → Gets (and_then (and_then o token.Emit) (token.Name a)) opened (list ++ placed (emitting a a) ∷ [])
-  unfolding begin next take_name settle
+  unfolding begin put_alone next take_name put_named settle
   emit_one a = rw (key o opened list h token.Emit tt) refl
 
   emit_range : (a b : ℕ) → a ≤ b → Gets (and_then (and_then (and_then (and_then o token.Emit) (token.Name a)) token.To) (token.Name b)) opened (list ++ placed (emitting a b) ∷ [])
-  unfolding begin next take_name settle go_on
+  unfolding begin put_alone next take_name put_named settle go_on
   emit_range a b le = rw (key o opened list h token.Emit tt, le-leb a b le) refl
 
   return_none : Gets (and_then o token.Return) opened (list ++ placed (ir.Return None) ∷ [])
-  unfolding begin settle
+  unfolding begin put_alone settle
   return_none = rw (key o opened list h token.Return tt) refl
 
   return_some : (a : ℕ) → Gets (and_then (and_then o token.Return) (token.Name a)) opened (list ++ placed (ir.Return (Some a)) ∷ [])
-  unfolding begin next go_on settle
+  unfolding begin put_alone next go_on settle
   return_some a = rw (key o opened list h token.Return tt) refl
 
   break_one : Gets (and_then o token.Break) opened (list ++ placed ir.Break ∷ [])
-  unfolding begin settle
+  unfolding begin put_alone settle
   break_one = rw (key o opened list h token.Break tt) refl
 
   continue_one : Gets (and_then o token.Continue) opened (list ++ placed ir.Continue ∷ [])
-  unfolding begin settle
+  unfolding begin put_alone settle
   continue_one = rw (key o opened list h token.Continue tt) refl
 
   kill_one : Gets (and_then o token.Kill) opened (list ++ placed ir.Kill ∷ [])
-  unfolding begin settle
+  unfolding begin put_alone settle
   kill_one = rw (key o opened list h token.Kill tt) refl
 
   barrier_one : Gets (and_then o token.Barrier) opened (list ++ placed control_barrier ∷ [])
-  unfolding begin settle
+  unfolding begin put_alone settle
   barrier_one = rw (key o opened list h token.Barrier tt) refl
 
   store_one : (a b : ℕ) → Gets (and_then (and_then (and_then o token.Store) (token.Name a)) (token.Name b)) opened (list ++ placed (store_of a b) ∷ [])
-  unfolding begin next take_name settle
+  unfolding begin put_alone next take_name put_named settle
   store_one a b = rw (key o opened list h token.Store tt) refl
 
   call_none : Gets (and_then (and_then o token.Call) token.Callee) opened (list ++ placed (call_of None) ∷ [])
-  unfolding begin next settle
+  unfolding begin put_alone next settle
   call_none = rw (key o opened list h token.Call tt) refl
 
   call_some : (a : ℕ) → Gets (and_then (and_then (and_then (and_then o token.Call) token.Callee) token.Arrow) (token.Name a)) opened (list ++ placed (call_of (Some a)) ∷ [])
-  unfolding begin next go_on take_name settle
+  unfolding begin put_alone next go_on take_name put_named settle
   call_some a = rw (key o opened list h token.Call tt) refl
 
   module _ (lt : length opened < 256) where
     block_in : Gets (and_then (and_then o token.Block) token.Open) (part.Block list ∷ opened) []
-    unfolding begin next open_brace settle
+    unfolding begin put_alone next open_brace settle
     block_in = rw (key o opened list h token.Block tt, enters opened (part.Block list) (wants.Statement tail.Nothing) lt) refl
 
     if_in : (c : ℕ) → Gets (and_then (and_then (and_then o token.If) (token.Name c)) token.Open) (part.Accept c list ∷ opened) []
-    unfolding begin next take_name open_brace settle
+    unfolding begin put_alone next take_name put_named open_brace settle
     if_in c = rw (key o opened list h token.If tt, enters opened (part.Accept c list) (wants.Statement tail.Nothing) lt) refl
 
     switch_in : (c : ℕ) → and_then (and_then (and_then o token.Switch) (token.Name c)) token.Open ≡ wanting (part.Cases c [] list ∷ opened) [] wants.CaseValue
-    unfolding begin next take_name open_brace
+    unfolding begin put_alone next take_name put_named open_brace
     switch_in c = rw (key o opened list h token.Switch tt, enters opened (part.Cases c [] list) wants.CaseValue lt) refl
 
     loop_in : Gets (and_then (and_then o token.Loop) token.Open) (part.Turn list ∷ opened) []
-    unfolding begin next open_brace settle
+    unfolding begin put_alone next open_brace settle
     loop_in = rw (key o opened list h token.Loop tt, enters opened (part.Turn list) (wants.Statement tail.Nothing) lt) refl
 
 module _ (o : Option State) (opened : List Part) (list body : List Located) where
   block_out : Gets o (part.Block list ∷ opened) body → Gets (and_then o token.Close) opened (list ++ placed (ir.Block (block_from body)) ∷ [])
-  unfolding begin close leave settle
+  unfolding begin put_alone close close_block close_if close_case settle
   block_out h = rw (key o (part.Block list ∷ opened) body h token.Close tt) refl
 
   if_else : (c : ℕ) → Gets o (part.Accept c list ∷ opened) body → Gets (and_then (and_then o token.Close) token.Open) (part.Reject c (block_from body) list ∷ opened) []
-  unfolding begin next close leave open_brace settle
+  unfolding begin put_alone next close close_block close_if close_case open_brace settle
   if_else c h = rw (key o (part.Accept c list ∷ opened) body h token.Close tt) refl
 
   if_out : (c : ℕ) (accept : b.Block) → Gets o (part.Reject c accept list ∷ opened) body → Gets (and_then o token.Close) opened (list ++ placed (ir.If c accept (block_from body)) ∷ [])
-  unfolding begin close leave settle
+  unfolding begin put_alone close close_block close_if close_case settle
   if_out c accept h = rw (key o (part.Reject c accept list ∷ opened) body h token.Close tt) refl
 
   loop_between : Gets o (part.Turn list ∷ opened) body → Gets (and_then (and_then o token.Close) token.Open) (part.Continuing (block_from body) list ∷ opened) []
-  unfolding begin next close leave open_brace settle
+  unfolding begin put_alone next close close_block close_if close_case open_brace settle
   loop_between h = rw (key o (part.Turn list ∷ opened) body h token.Close tt) refl
 
   loop_out : (turn : b.Block) → Gets o (part.Continuing turn list ∷ opened) body → Gets (and_then o token.Close) opened (list ++ placed (ir.Loop turn (block_from body) None) ∷ [])
-  unfolding begin close leave settle end_loop
+  unfolding begin put_alone close close_block close_if close_case settle end_loop
   loop_out turn h = rw (key o (part.Continuing turn list ∷ opened) body h token.Close tt) refl
 
   loop_out_if : (turn : b.Block) (c : ℕ) → Gets o (part.Continuing turn list ∷ opened) body → Gets (and_then (and_then (and_then o token.Close) token.BreakIf) (token.Name c)) opened (list ++ placed (ir.Loop turn (block_from body) (Some c)) ∷ [])
-  unfolding begin next close leave settle end_loop go_on take_name
+  unfolding begin put_alone next close close_block close_if close_case settle end_loop go_on take_name put_named
   loop_out_if turn c h = rw (key o (part.Continuing turn list ∷ opened) body h token.Close tt) refl
 
   case_out : (v : SwitchValue) (f : Bool) (h : ℕ) (cs : List SwitchCase) → Gets o (part.Case v f ∷ part.Cases h cs list ∷ opened) body → and_then o token.Close ≡ wanting (part.Cases h (cs ++ SwitchCase' v (block_from body) f ∷ []) list ∷ opened) [] wants.CaseValue
-  unfolding begin close leave add_case
+  unfolding begin put_alone close close_block close_if close_case add_case
   case_out v f h cs g = rw (key o (part.Case v f ∷ part.Cases h cs list ∷ opened) body g token.Close tt) refl
 
 abbrev in_switch : List Part → ℕ → List SwitchCase → List Located → Option State

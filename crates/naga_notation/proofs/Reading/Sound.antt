@@ -23,7 +23,7 @@ use Rattle.naga_notation.specs.declared.reader.parts.Wants.TheVariants as wants
 use Rattle.naga_notation.specs.Feeding.{feeds}
 use Rattle.naga_notation.specs.Grammar.{Spells, SpellsStatement, SpellsCases, depth, statement_depth, cases_depth, emitting, call_of, store_of, control_barrier, in_braces, fall_if, break_if_any}
 use Rattle.naga_notation.specs.Blocks.{block_from, placed}
-use Rattle.naga_notation.specs.Reading.{State, begun, wanting, enter, add_case, leave, close, close_switch, end_loop, begin, begin_at, settle, go_on, take_name, open_brace, next, step, whole, end_at, finish, reading_of}
+use Rattle.naga_notation.specs.Reading.{State, begun, wanting, enter, add_case, close_block, close_if, close_case, close, close_switch, end_loop, begin, put_alone, begin_at, settle, go_on, take_name, put_named, open_brace, next, step, whole, end_at, finish, reading_of}
 use Rattle.naga_notation.proofs.Reading.Trees.{body_of, body_in, stmt_of, cases_in, block_tree, switch_tree}
 
 -- one statement more, and one case more
@@ -140,16 +140,15 @@ TellsName opened list naming.Result ts = Behind opened list ts (token.Call ∷ t
 abbrev TellsBrace : List Part → List Located → Brace → List Token → Type 0
 TellsBrace opened list brace.Block ts = Behind opened list ts (token.Block ∷ [])
 TellsBrace opened list (brace.Accept c) ts = Behind opened list ts (token.If ∷ token.Name c ∷ [])
-TellsBrace opened list brace.Reject ts = Between opened list ts
 TellsBrace opened list (brace.Cases h) ts = Behind opened list ts (token.Switch ∷ token.Name h ∷ [])
 TellsBrace opened list (brace.Case v f) ts = Behind opened [] ts (token.Value v ∷ fall_if f)
 TellsBrace opened list brace.Turn ts = Behind opened list ts (token.Loop ∷ [])
-TellsBrace opened list brace.Continuing ts = Between opened list ts
 
 abbrev Tells : List Part → List Located → Wants → List Token → Type 0
 Tells opened list (wants.Statement t) ts = TellsTail opened list t ts
 Tells opened list (wants.Name n) ts = TellsName opened list n ts
 Tells opened list (wants.Open b) ts = TellsBrace opened list b ts
+Tells opened list wants.Between ts = Between opened list ts
 Tells opened list wants.Callee ts = Behind opened list ts (token.Call ∷ [])
 Tells opened list wants.CaseValue ts = Told opened [] ts
 Tells opened list (wants.CaseRest v) ts = Behind opened [] ts (token.Value v ∷ [])
@@ -201,7 +200,7 @@ case_told opened v f list ts h s to = absurd (none_some _ to)
 
 -- the list at hand is closed
 close_told : (opened : List Part) (list : List Located) (ts : List Token) → Told opened list ts → (s : State) → close opened list ≡ Some s → LeadsTo s (ts ++ token.Close ∷ [])
-unfolding close leave Told Spells depth
+unfolding close close_block close_if close_case Told Spells depth
 close_told [] list ts h s to = absurd (none_some _ to)
 close_told (part.Block outer ∷ opened) list ts (before, head, inner, told, at, here, shallow, e) s to =
     leads_to _ _ _ _ (rw (e, at, append_assoc) (Told-more opened outer before (placed (ir.Block (block_from list))) (token.Block ∷ in_braces inner) told (inner, closed list inner here, refl) (omega (arith, closed_depth list)))) s to
@@ -233,7 +232,7 @@ pick false x s e = cc
 
 -- a token where a statement may begin
 begin_told : (opened : List Part) (list : List Located) (ts : List Token) → Told opened list ts → (t : Token) (s : State) → begin opened list t ≡ Some s → LeadsTo s (ts ++ t ∷ [])
-unfolding begin Spells depth
+unfolding begin put_alone Spells depth
 begin_told opened list ts h token.Emit s to = leads_to _ _ _ _ (ts, h, refl) s to
 begin_told opened list ts h token.Block s to = leads_to _ _ _ _ (ts, h, refl) s to
 begin_told opened list ts h token.If s to = leads_to _ _ _ _ (ts, h, refl) s to
@@ -285,7 +284,7 @@ end_told (part.Continuing turn outer ∷ opened) list c ts (before, first, secon
 end_told opened list c ts h s to = absurd h
 
 name_told : (opened : List Part) (list : List Located) (n : Naming) (ts : List Token) → TellsName opened list n ts → (h : ℕ) (s : State) → take_name opened list n h ≡ Some s → LeadsTo s (ts ++ token.Name h ∷ [])
-unfolding take_name Spells depth
+unfolding take_name put_named Spells depth
 name_told opened list naming.First ts g h s to = leads_to _ _ _ _ (behind opened list ts _ (token.Name h) g) s to
 name_told opened list (naming.Last a) ts (before, told, e) h s to =
     let found = pick (nat_le a h) _ s to in
@@ -325,7 +324,6 @@ brace_told opened list brace.Block ts (before, told, e) s to =
 brace_told opened list (brace.Accept c) ts (before, told, e) s to =
     let found = entered opened (part.Accept c list) _ s to in
     leads_to _ _ _ _ (opened_told opened (part.Accept c list) before _ told refl found.0 _ (rw (e, append_assoc) refl)) s found.1
-brace_told opened list brace.Reject ts h s to = leads_to _ _ _ _ (between_told opened list ts h) s to
 brace_told opened list (brace.Cases h) ts (before, told, e) s to =
     let found = entered opened (part.Cases h [] list) _ s to in
     leads_to _ _ _ _ (opened_told opened (part.Cases h [] list) before _ told ([], refl, omega arith, refl) found.0 _ (rw (e, append_assoc) refl)) s found.1
@@ -335,13 +333,13 @@ brace_told opened list (brace.Case v f) ts (before, told, e) s to =
 brace_told opened list brace.Turn ts (before, told, e) s to =
     let found = entered opened (part.Turn list) _ s to in
     leads_to _ _ _ _ (opened_told opened (part.Turn list) before _ told refl found.0 _ (rw (e, append_assoc) refl)) s found.1
-brace_told opened list brace.Continuing ts h s to = leads_to _ _ _ _ (between_told opened list ts h) s to
 
 next_told : (opened : List Part) (list : List Located) (w : Wants) (ts : List Token) → Tells opened list w ts → (t : Token) (s : State) → next opened list w t ≡ Some s → LeadsTo s (ts ++ t ∷ [])
 unfolding next
 next_told opened list (wants.Statement tail) ts h t s to = go_on_told opened list tail ts h t s to
 next_told opened list (wants.Name n) ts h (token.Name a) s to = name_told opened list n ts h a s to
 next_told opened list (wants.Open b) ts h token.Open s to = brace_told opened list b ts h s to
+next_told opened list wants.Between ts h token.Open s to = leads_to _ _ _ _ (between_told opened list ts h) s to
 next_told opened list wants.Callee ts h token.Callee s to = leads_to _ _ _ _ (behind opened list ts _ token.Callee h) s to
 next_told opened list wants.CaseValue ts h (token.Value v) s to = leads_to _ _ _ _ (ts, h, refl) s to
 next_told opened list wants.CaseValue ts h token.Close s to = switch_told opened ts h s to

@@ -1,11 +1,12 @@
 -- The stack of open parts, the newest first.
-use Rattle.std.proofs.Common.{◌≡◌, ℕ, suc, List, [], ◌∷◌, ◌++◌, Option, None, Result, refl, ap, sym, subst, ◌∙◌, arith, length, get_or, set, take, drop, map}
+use Rattle.std.proofs.Common.{Bool, ◌≡◌, ℕ, suc, List, [], ◌∷◌, ◌++◌, Option, None, Result, refl, ap, sym, subst, ◌∙◌, arith, length, get_or, set, take, drop, map}
 use Rattle.std.proofs.Math.Seq.{take-suc-set, split_at}
 use Rattle.std.proofs.lemmas.List.{reverse-append, length-reverse, length-map, length-set, take_all, drop_all}
+use Rattle.naga_ir.specs.declared.statements.Block.{Block}
 use Rattle.naga_ir.specs.declared.statements.Located.{Located}
 use Rattle.naga_ir.specs.declared.statements.SwitchCase.{SwitchCase}
+use Rattle.naga_ir.specs.declared.statements.SwitchValue.{SwitchValue}
 use Rattle.naga_notation.specs.declared.case.ReadError.{ReadError}
-use Rattle.naga_notation.specs.declared.reader.parts.Brace.TheVariants as brace
 use Rattle.naga_notation.specs.declared.reader.parts.Frame.{Frame}
 use Rattle.naga_notation.specs.declared.reader.parts.Kind.{Kind}
 use Rattle.naga_notation.specs.declared.reader.parts.Kind.TheVariants as kind
@@ -13,10 +14,10 @@ use Rattle.naga_notation.specs.declared.reader.parts.Tail.TheVariants as tail
 use Rattle.naga_notation.specs.declared.reader.parts.Wants.TheVariants as wants
 use Rattle.naga_notation.specs.Blocks.{block_from}
 use Rattle.naga_notation.specs.Feeding.{Steps}
-use Rattle.naga_notation.specs.Parts.{Part}
+use Rattle.naga_notation.specs.Parts.{Part, part_as}
 use Rattle.naga_notation.specs.Parts as part
-use Rattle.naga_notation.specs.Reading.{State, wanting, close, leave, add_case}
-use Rattle.naga_notation.specs.Views.{newest_first, part_as, part_of}
+use Rattle.naga_notation.specs.Reading.{State, wanting, close, close_block, close_if, close_case, add_case}
+use Rattle.naga_notation.specs.Views.{newest_first, part_of}
 
 pub newest_none : (fs : List Frame) → fs ≡ [] → newest_first fs ≡ []
 unfolding newest_first
@@ -36,26 +37,16 @@ pub ruleset stacks = (newest_none, newest_push, newest_length)
 pub moved : (o p : Option State) (r : Result Unit ReadError) (s : State) → o ≡ p → Steps p r s → Steps o r s
 moved o p r s e h = subst (λ x. Steps x r s) (sym e) h
 
--- a part that is left as it is, where another step is for its kind
-close_leaves : (k : Kind) (first : List Located) (cases : List SwitchCase) (outer list : List Located) (rest : List Part) → ((c : ℕ) → k ≡ kind.Accept c → ⊥) → (k ≡ kind.Turn → ⊥) → (k ≡ kind.Continuing → ⊥) → close (part_as k first cases outer ∷ rest) list ≡ leave (part_as k first cases outer ∷ rest) list
-unfolding close
-close_leaves (kind.Accept c) first cases outer list rest a t l = absurd (a c refl)
-close_leaves kind.Turn first cases outer list rest a t l = absurd (t refl)
-close_leaves kind.Continuing first cases outer list rest a t l = absurd (l refl)
-close_leaves kind.Block first cases outer list rest a t l = refl
-close_leaves (kind.Reject c) first cases outer list rest a t l = refl
-close_leaves (kind.Cases h) first cases outer list rest a t l = refl
-close_leaves (kind.Case v f) first cases outer list rest a t l = refl
-
-no_switch : (k : Kind) (first : List Located) (cases : List SwitchCase) (outer list : List Located) (rest : List Part) (c : SwitchCase) → ((h : ℕ) → k ≡ kind.Cases h → ⊥) → add_case (part_as k first cases outer ∷ rest) list c ≡ None
+-- a case behind a part that is no Switch
+no_switch : (k : Kind) (outer list : List Located) (rest : List Part) (c : SwitchCase) → ((h : ℕ) (cases : List SwitchCase) → k ≡ kind.Cases h cases → ⊥) → add_case (part_as k outer ∷ rest) list c ≡ None
 unfolding add_case
-no_switch (kind.Cases h) first cases outer list rest c other = absurd (other h refl)
-no_switch kind.Block first cases outer list rest c other = refl
-no_switch (kind.Accept h) first cases outer list rest c other = refl
-no_switch (kind.Reject h) first cases outer list rest c other = refl
-no_switch (kind.Case v f) first cases outer list rest c other = refl
-no_switch kind.Turn first cases outer list rest c other = refl
-no_switch kind.Continuing first cases outer list rest c other = refl
+no_switch (kind.Cases h cases) outer list rest c other = absurd (other h cases refl)
+no_switch kind.Block outer list rest c other = refl
+no_switch (kind.Accept h) outer list rest c other = refl
+no_switch (kind.Reject h accept) outer list rest c other = refl
+no_switch (kind.Case v f) outer list rest c other = refl
+no_switch kind.Turn outer list rest c other = refl
+no_switch (kind.Continuing turn) outer list rest c other = refl
 
 -- the newest part, which is the last of the stack
 module _ (fs : List Frame) (i : ℕ) (f : Frame) (end : suc i ≡ length fs) (at : f ≡ get_or fs i f) where
@@ -74,33 +65,54 @@ module _ (fs : List Frame) (i : ℕ) (f : Frame) (end : suc i ≡ length fs) (at
       let lengths = length-set fs i g in
       ap newest_first (sym (take_all (suc i) (set fs i g) (omega arith)) ∙ take-suc-set fs i g (omega arith)) ∙ newest_push (take i fs) g
 
-  top_is : (k : Kind) → f.kind ≡ k → newest_first fs ≡ part_as k f.first f.cases f.outer ∷ rest
-  top_is k is = top ∙ ap (λ x. part_as x f.first f.cases f.outer ∷ rest) is
+  top_is : (k : Kind) → f.kind ≡ k → newest_first fs ≡ part_as k f.outer ∷ rest
+  top_is k is = top ∙ ap (λ x. part_as x f.outer ∷ rest) is
 
-  pub close_accept : (c : ℕ) (list first after : List Located) → f.kind ≡ kind.Accept c → first ≡ list → after ≡ [] → close (newest_first fs) list ≡ wanting (newest_first (set fs i (record { kind = kind.Reject c; outer = f.outer; first = first; cases = f.cases }))) after (wants.Open brace.Reject)
+  set_is : (k : Kind) → newest_first (set fs i (record { kind = k; outer = f.outer })) ≡ part_as k f.outer ∷ rest
+  set_is k = top_set (record { kind = k; outer = f.outer })
+
+  -- as it is
+  same_is : (k : Kind) → f.kind ≡ k → newest_first (set fs i f) ≡ part_as k f.outer ∷ rest
+  same_is k is = top_set f ∙ sym top ∙ top_is k is
+
+  pub close_accept : (c : ℕ) (accept : Block) (list after : List Located) → f.kind ≡ kind.Accept c → accept ≡ block_from list → after ≡ [] → close (newest_first fs) list ≡ wanting (newest_first (set fs i (record { kind = kind.Reject c accept; outer = f.outer }))) after wants.Between
   unfolding close
-  close_accept c list first after is same none =
-      ap (λ ps. close ps list) (top_is (kind.Accept c) is) ∙ sym ((λ j. wanting (top_set (record { kind = kind.Reject c; outer = f.outer; first = first; cases = f.cases }) j) (none j) (wants.Open brace.Reject)) ∙ ap (λ x. wanting (part.Reject c (block_from x) f.outer ∷ rest) [] (wants.Open brace.Reject)) same)
+  close_accept c accept list after is same none =
+      ap (λ ps. close ps list) (top_is (kind.Accept c) is) ∙ sym ((λ j. wanting (set_is (kind.Reject c accept) j) (none j) wants.Between) ∙ ap (λ x. wanting (part.Reject c x f.outer ∷ rest) [] wants.Between) same)
 
-  pub close_turn : (list first after : List Located) → f.kind ≡ kind.Turn → first ≡ list → after ≡ [] → close (newest_first fs) list ≡ wanting (newest_first (set fs i (record { kind = kind.Continuing; outer = f.outer; first = first; cases = f.cases }))) after (wants.Open brace.Continuing)
+  pub close_turn : (turn : Block) (list after : List Located) → f.kind ≡ kind.Turn → turn ≡ block_from list → after ≡ [] → close (newest_first fs) list ≡ wanting (newest_first (set fs i (record { kind = kind.Continuing turn; outer = f.outer }))) after wants.Between
   unfolding close
-  close_turn list first after is same none =
-      ap (λ ps. close ps list) (top_is kind.Turn is) ∙ sym ((λ j. wanting (top_set (record { kind = kind.Continuing; outer = f.outer; first = first; cases = f.cases }) j) (none j) (wants.Open brace.Continuing)) ∙ ap (λ x. wanting (part.Continuing (block_from x) f.outer ∷ rest) [] (wants.Open brace.Continuing)) same)
+  close_turn turn list after is same none =
+      ap (λ ps. close ps list) (top_is kind.Turn is) ∙ sym ((λ j. wanting (set_is (kind.Continuing turn) j) (none j) wants.Between) ∙ ap (λ x. wanting (part.Continuing x f.outer ∷ rest) [] wants.Between) same)
 
-  pub close_continuing : (list : List Located) → f.kind ≡ kind.Continuing → close (newest_first fs) list ≡ wanting (newest_first (set fs i f)) list (wants.Statement tail.Loop)
+  pub close_continuing : (turn : Block) (list : List Located) → f.kind ≡ kind.Continuing turn → close (newest_first fs) list ≡ wanting (newest_first (set fs i f)) list (wants.Statement tail.Loop)
   unfolding close
-  close_continuing list is =
-      ap (λ ps. close ps list) (top_is kind.Continuing is) ∙ sym (ap (λ ps. wanting ps list (wants.Statement tail.Loop)) (top_set f ∙ sym top ∙ top_is kind.Continuing is))
+  close_continuing turn list is =
+      ap (λ ps. close ps list) (top_is (kind.Continuing turn) is) ∙ sym (ap (λ ps. wanting ps list (wants.Statement tail.Loop)) (same_is (kind.Continuing turn) is))
 
-  pub close_other : (list : List Located) → ((c : ℕ) → f.kind ≡ kind.Accept c → ⊥) → (f.kind ≡ kind.Turn → ⊥) → (f.kind ≡ kind.Continuing → ⊥) → close (newest_first fs) list ≡ leave (newest_first (set fs i f)) list
-  close_other list a t l =
-      ap (λ ps. close ps list) top ∙ close_leaves f.kind f.first f.cases f.outer list rest a t l ∙ sym (ap (λ ps. leave ps list) (top_set f))
+  pub close_a_block : (list : List Located) → f.kind ≡ kind.Block → close (newest_first fs) list ≡ close_block (newest_first (set fs i f)) list
+  unfolding close
+  close_a_block list is =
+      ap (λ ps. close ps list) (top_is kind.Block is) ∙ sym (ap (λ ps. close_block ps list) (same_is kind.Block is))
 
-  pub case_added : (h : ℕ) (list : List Located) (c : SwitchCase) (cases : List SwitchCase) → f.kind ≡ kind.Cases h → cases ≡ f.cases ++ c ∷ [] → add_case (newest_first fs) list c ≡ wanting (newest_first (set fs i (record { kind = f.kind; outer = f.outer; first = f.first; cases = cases }))) list wants.CaseValue
+  pub close_an_if : (c : ℕ) (accept : Block) (list : List Located) → f.kind ≡ kind.Reject c accept → close (newest_first fs) list ≡ close_if (newest_first (set fs i f)) list
+  unfolding close
+  close_an_if c accept list is =
+      ap (λ ps. close ps list) (top_is (kind.Reject c accept) is) ∙ sym (ap (λ ps. close_if ps list) (same_is (kind.Reject c accept) is))
+
+  pub close_a_case : (v : SwitchValue) (falls : Bool) (list : List Located) → f.kind ≡ kind.Case v falls → close (newest_first fs) list ≡ close_case (newest_first (set fs i f)) list
+  unfolding close
+  close_a_case v falls list is =
+      ap (λ ps. close ps list) (top_is (kind.Case v falls) is) ∙ sym (ap (λ ps. close_case ps list) (same_is (kind.Case v falls) is))
+
+  pub no_list : (h : ℕ) (cases : List SwitchCase) (list : List Located) → f.kind ≡ kind.Cases h cases → close (newest_first fs) list ≡ None
+  unfolding close
+  no_list h cases list is = ap (λ ps. close ps list) (top_is (kind.Cases h cases) is)
+
+  pub case_added : (h : ℕ) (cases more : List SwitchCase) (list : List Located) (c : SwitchCase) → f.kind ≡ kind.Cases h cases → more ≡ cases ++ c ∷ [] → add_case (newest_first fs) list c ≡ wanting (newest_first (set fs i (record { kind = kind.Cases h more; outer = f.outer }))) list wants.CaseValue
   unfolding add_case
-  case_added h list c cases is more =
-      ap (λ ps. add_case ps list c) (top_is (kind.Cases h) is) ∙ sym (ap (λ ps. wanting ps list wants.CaseValue) (top_set (record { kind = f.kind; outer = f.outer; first = f.first; cases = cases }) ∙ (λ j. part_as (is j) f.first (more j) f.outer ∷ rest)))
+  case_added h cases more list c is same =
+      ap (λ ps. add_case ps list c) (top_is (kind.Cases h cases) is) ∙ sym (ap (λ ps. wanting ps list wants.CaseValue) (set_is (kind.Cases h more) ∙ ap (λ x. part_as (kind.Cases h x) f.outer ∷ rest) same))
 
-  pub case_alone : (list : List Located) (c : SwitchCase) → ((h : ℕ) → f.kind ≡ kind.Cases h → ⊥) → add_case (newest_first fs) list c ≡ None
-  case_alone list c other =
-      ap (λ ps. add_case ps list c) top ∙ no_switch f.kind f.first f.cases f.outer list rest c other
+  pub case_alone : (list : List Located) (c : SwitchCase) → ((h : ℕ) (cases : List SwitchCase) → f.kind ≡ kind.Cases h cases → ⊥) → add_case (newest_first fs) list c ≡ None
+  case_alone list c other = ap (λ ps. add_case ps list c) top ∙ no_switch f.kind f.outer list rest c other

@@ -3,18 +3,19 @@
 use crate::build::{block_of, case_of, choice, repetition, switch};
 use crate::case::ReadError;
 use crate::reader::Reader;
-use crate::reader::parts::{Brace, Frame, Kind, Tail, Wants};
+use crate::reader::parts::{Frame, Kind, Tail, Wants};
 use naga_arena::sequence::Sequence;
 use naga_ir::statements::{Statement, SwitchCase};
 use std::mem;
 
 impl Reader {
     ghost use Rattle.naga_notation.specs.Feeding.{Steps};
-    ghost use Rattle.naga_notation.specs.Reading.{State, close, leave, add_case, close_switch, end_loop};
+    ghost use Rattle.naga_notation.specs.Reading.{State, close, close_block, close_if, close_case, add_case, close_switch, end_loop};
     ghost use Rattle.naga_notation.specs.Views.{Moves, state_of};
 
     /// Closes the list at hand.
-    #[tactic(auto, using(crate::proofs::Reading::Stack::stacks), unfolding(crate::specs::Reading::close, crate::specs::Reading::leave))]
+    #[inline(never)]
+    #[tactic(auto, using(crate::proofs::Reading::Stack::stacks), unfolding(crate::specs::Reading::close))]
     pub fn close(&mut self) -> Result<(), ReadError>
         ensures { Moves close self.old result self.new }
     {
@@ -23,44 +24,81 @@ impl Reader {
         };
         match frame.kind {
             Kind::Accept(condition) => {
-                frame.kind = Kind::Reject(condition);
-                frame.first = mem::replace(&mut self.list, Sequence::new(self.alloc));
-                self.want(Wants::Open(Brace::Reject))
+                let list = mem::replace(&mut self.list, Sequence::new(self.alloc));
+                frame.kind = Kind::Reject {
+                    condition,
+                    accept: block_of(list),
+                };
+                self.want(Wants::Between)
             }
             Kind::Turn => {
-                frame.kind = Kind::Continuing;
-                frame.first = mem::replace(&mut self.list, Sequence::new(self.alloc));
-                self.want(Wants::Open(Brace::Continuing))
+                let list = mem::replace(&mut self.list, Sequence::new(self.alloc));
+                frame.kind = Kind::Continuing {
+                    turn: block_of(list),
+                };
+                self.want(Wants::Between)
             }
-            Kind::Continuing => self.want(Wants::Statement(Tail::Loop)),
-            _ => self.leave(),
+            Kind::Continuing { .. } => self.want(Wants::Statement(Tail::Loop)),
+            Kind::Block => self.close_block(),
+            Kind::Reject { .. } => self.close_if(),
+            Kind::Case { .. } => self.close_case(),
+            Kind::Cases { .. } => Err(ReadError::Unreadable),
         }
     }
 
-    /// Closes the list at hand, and with it the newest part.
-    #[tactic(auto, using(crate::proofs::Reading::Stack::stacks), unfolding(crate::specs::Reading::leave))]
-    fn leave(&mut self) -> Result<(), ReadError>
-        ensures { Moves leave self.old result self.new }
+    /// Closes the Block at hand.
+    #[inline(never)]
+    #[tactic(auto, using(crate::proofs::Reading::Stack::stacks), unfolding(crate::specs::Reading::close_block))]
+    fn close_block(&mut self) -> Result<(), ReadError>
+        ensures { Moves close_block self.old result self.new }
     {
-        let Some(frame) = self.opened.pop() else {
+        let Some(Frame { kind, outer }) = self.opened.pop() else {
             return Err(ReadError::Unreadable);
         };
-        let list = block_of(self.take_list());
-        let Frame {
-            kind,
-            outer,
-            first,
-            cases: _,
-        } = frame;
         match kind {
-            Kind::Block => self.put_behind(outer, Statement::Block(list)),
-            Kind::Reject(condition) => {
-                self.put_behind(outer, choice(condition, block_of(first), list))
+            Kind::Block => {
+                let list = self.change_list(outer);
+                self.put(Statement::Block(block_of(list)))
             }
+            _ => Err(ReadError::Unreadable),
+        }
+    }
+
+    /// Closes the If at hand.
+    #[inline(never)]
+    #[tactic(auto, using(crate::proofs::Reading::Stack::stacks), unfolding(crate::specs::Reading::close_if))]
+    fn close_if(&mut self) -> Result<(), ReadError>
+        ensures { Moves close_if self.old result self.new }
+    {
+        let Some(Frame { kind, outer }) = self.opened.pop() else {
+            return Err(ReadError::Unreadable);
+        };
+        match kind {
+            Kind::Reject { condition, accept } => {
+                let reject = block_of(self.change_list(outer));
+                self.put(choice(condition, accept, reject))
+            }
+            _ => Err(ReadError::Unreadable),
+        }
+    }
+
+    /// Closes the case at hand.
+    #[inline(never)]
+    #[tactic(auto, using(crate::proofs::Reading::Stack::stacks), unfolding(crate::specs::Reading::close_case))]
+    fn close_case(&mut self) -> Result<(), ReadError>
+        ensures { Moves close_case self.old result self.new }
+    {
+        let Some(Frame { kind, outer: _ }) = self.opened.pop() else {
+            return Err(ReadError::Unreadable);
+        };
+        match kind {
             Kind::Case {
                 value,
                 fall_through,
-            } => self.add_case(case_of(value, list, fall_through)),
+            } => {
+                let list = block_of(self.take_list());
+                self.add_case(case_of(value, list, fall_through))
+            }
             _ => Err(ReadError::Unreadable),
         }
     }
@@ -73,10 +111,10 @@ impl Reader {
         let Some(frame) = self.opened.last_mut() else {
             return Err(ReadError::Unreadable);
         };
-        let Kind::Cases(_) = frame.kind else {
+        let Kind::Cases { cases, .. } = &mut frame.kind else {
             return Err(ReadError::Unreadable);
         };
-        frame.cases.push(case)?;
+        cases.push(case)?;
         self.want(Wants::CaseValue)
     }
 
@@ -85,13 +123,16 @@ impl Reader {
     pub fn close_switch(&mut self) -> Result<(), ReadError>
         ensures { Moves (λ opened _. close_switch opened) self.old result self.new }
     {
-        let Some(frame) = self.opened.pop() else {
+        let Some(Frame { kind, outer }) = self.opened.pop() else {
             return Err(ReadError::Unreadable);
         };
-        let Kind::Cases(selector) = frame.kind else {
-            return Err(ReadError::Unreadable);
-        };
-        self.put_behind(frame.outer, switch(selector, frame.cases))
+        match kind {
+            Kind::Cases { selector, cases } => {
+                self.list = outer;
+                self.put(switch(selector, cases))
+            }
+            _ => Err(ReadError::Unreadable),
+        }
     }
 
     /// Ends the Loop at hand.
@@ -99,14 +140,15 @@ impl Reader {
     pub fn end_loop(&mut self, break_if: Option<u8>) -> Result<(), ReadError>
         ensures { Moves (λ opened list. end_loop opened list break_if) self.old result self.new }
     {
-        let Some(frame) = self.opened.pop() else {
+        let Some(Frame { kind, outer }) = self.opened.pop() else {
             return Err(ReadError::Unreadable);
         };
-        let Kind::Continuing = frame.kind else {
-            return Err(ReadError::Unreadable);
-        };
-        let continuing = block_of(self.take_list());
-        let statement = repetition(block_of(frame.first), continuing, break_if);
-        self.put_behind(frame.outer, statement)
+        match kind {
+            Kind::Continuing { turn } => {
+                let continuing = block_of(self.change_list(outer));
+                self.put(repetition(turn, continuing, break_if))
+            }
+            _ => Err(ReadError::Unreadable),
+        }
     }
 }

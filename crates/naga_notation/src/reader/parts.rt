@@ -1,7 +1,7 @@
 //! What the reader keeps of a body that isn't whole: the open parts, and what may come next.
 
 use naga_arena::sequence::Sequence;
-use naga_ir::statements::{Located, SwitchCase, SwitchValue};
+use naga_ir::statements::{Block, Located, SwitchCase, SwitchValue};
 
 /// What the newest statement may still get.
 #[derive(Clone, Copy, Debug)]
@@ -39,8 +39,9 @@ pub enum Naming {
 #[derive(Clone, Copy, Debug)]
 pub enum Brace {
     Block,
+    /// The first list of an If with this condition.
     Accept(u8),
-    Reject,
+    /// The cases of a Switch with this selector.
     Cases(u8),
     Case {
         value: SwitchValue,
@@ -48,7 +49,6 @@ pub enum Brace {
     },
     /// The body of a Loop.
     Turn,
-    Continuing,
 }
 
 /// Which token is wanted next.
@@ -59,23 +59,31 @@ pub enum Wants {
     Name(Naming),
     /// The function that is called.
     Callee,
+    /// The brace of a new part.
     Open(Brace),
+    /// The brace of the second list of the newest part.
+    Between,
     /// The value of a case, or the end of the Switch.
     CaseValue,
     /// `fall`, or the brace of the case's body.
     CaseRest(SwitchValue),
 }
 
-/// Which part is open.
-#[derive(Clone, Copy, Debug)]
+/// Which part is open, with what was read of its statement.
+#[derive(Drop)]
 pub enum Kind {
     Block,
-    /// The first list of an If with this condition.
+    /// The first list of an If.
     Accept(u8),
     /// Its second.
-    Reject(u8),
-    /// The cases of a Switch with this selector.
-    Cases(u8),
+    Reject {
+        condition: u8,
+        accept: Block,
+    },
+    Cases {
+        selector: u8,
+        cases: Sequence<SwitchCase>,
+    },
     /// A case of the Switch that lies below.
     Case {
         value: SwitchValue,
@@ -83,17 +91,14 @@ pub enum Kind {
     },
     /// The body of a Loop.
     Turn,
-    Continuing,
+    Continuing {
+        turn: Block,
+    },
 }
 
-/// A part that is open, what was read of its statement, and what stood before.
+/// A part that is open, and the statements before its own.
 #[derive(Drop)]
 pub struct Frame {
     pub kind: Kind,
-    /// The statements before its own.
     pub outer: Sequence<Located>,
-    /// The first list of an If or a Loop whose second one is open.
-    pub first: Sequence<Located>,
-    /// The cases of a Switch.
-    pub cases: Sequence<SwitchCase>,
 }

@@ -1,19 +1,60 @@
 //! The stack of open parts, and the list of the newest one.
 
+ghost use Rattle.std.specs.Prelude.{◌≡◌};
+ghost use Rattle.naga_notation.specs.Parts.{kind_of};
+ghost use Rattle.naga_notation.specs.Reading.{behind_brace};
+
 use crate::build::push;
 use crate::case::ReadError;
-use crate::reader::parts::{Frame, Kind, Tail, Wants};
+use crate::reader::parts::{Brace, Frame, Kind, Tail, Wants};
 use crate::reader::{MOST_OPEN, Reader};
 use naga_arena::sequence::Sequence;
 use naga_ir::statements::{Located, Statement};
+use std::alloc::Global;
 use std::mem;
+
+/// The part that a brace opens.
+#[inline(always)]
+fn kind_of(alloc: Global, brace: Brace) -> Kind
+    ensures { result ≡ kind_of brace }
+{
+    match brace {
+        Brace::Block => Kind::Block,
+        Brace::Accept(condition) => Kind::Accept(condition),
+        Brace::Cases(selector) => Kind::Cases {
+            selector,
+            cases: Sequence::new(alloc),
+        },
+        Brace::Case {
+            value,
+            fall_through,
+        } => Kind::Case {
+            value,
+            fall_through,
+        },
+        Brace::Turn => Kind::Turn,
+    }
+}
+
+/// What is wanted behind a brace.
+#[inline(always)]
+fn behind_brace(brace: Brace) -> Wants
+    ensures { result ≡ behind_brace brace }
+{
+    match brace {
+        Brace::Cases(_) => Wants::CaseValue,
+        Brace::Block | Brace::Accept(_) | Brace::Case { .. } | Brace::Turn => {
+            Wants::Statement(Tail::Nothing)
+        }
+    }
+}
 
 impl Reader {
     ghost use Rattle.std.specs.Prelude.{◌≡◌, ◌++◌, ◌∷◌, []};
     ghost use Rattle.naga_notation.specs.Blocks.{placed};
     ghost use Rattle.naga_notation.specs.Feeding.{Steps};
-    ghost use Rattle.naga_notation.specs.Reading.{State, enter, ready, wanting};
-    ghost use Rattle.naga_notation.specs.Views.{Moves, part_as, state_of};
+    ghost use Rattle.naga_notation.specs.Reading.{State, behind_brace, enter, open_brace, ready, wanting};
+    ghost use Rattle.naga_notation.specs.Views.{Moves, state_of};
 
     /// Says what is wanted next.
     #[inline(always)]
@@ -24,32 +65,39 @@ impl Reader {
         Ok(())
     }
 
+    /// Takes the list at hand, and leaves another one.
+    #[inline(always)]
+    pub fn change_list(&mut self, list: Sequence<Located>) -> Sequence<Located>
+        ensures taken { result ≡ (state_of self.old).list }
+        ensures rest { state_of self.new ≡ record (state_of self.old) { list = list } }
+    {
+        mem::replace(&mut self.list, list)
+    }
+
     /// Takes the list at hand, and leaves an empty one.
     #[inline(always)]
     pub fn take_list(&mut self) -> Sequence<Located>
-        ensures list { result ≡ (state_of self.old).list }
+        ensures taken { result ≡ (state_of self.old).list }
         ensures rest { state_of self.new ≡ record (state_of self.old) { list = [] } }
     {
-        mem::replace(&mut self.list, Sequence::new(self.alloc))
+        self.change_list(Sequence::new(self.alloc))
     }
 
     /// Opens one part more, with an empty list.
     #[inline(always)]
-    #[tactic(auto, using(crate::proofs::Reading::Stack::stacks))]
-    pub fn enter(&mut self, kind: Kind, wants: Wants) -> Result<(), ReadError>
-        ensures { Moves (λ opened list. enter opened (part_as kind [] [] list) wants) self.old result self.new }
+    #[tactic(auto, using(crate::proofs::Reading::Stack::stacks), unfolding(crate::specs::Reading::open_brace))]
+    pub fn enter(&mut self, brace: Brace) -> Result<(), ReadError>
+        ensures { Moves (λ opened list. open_brace opened list brace) self.old result self.new }
     {
         if self.opened.len() >= MOST_OPEN {
             return Err(ReadError::Unreadable);
         }
         let frame = Frame {
-            kind,
+            kind: kind_of(self.alloc, brace),
             outer: self.take_list(),
-            first: Sequence::new(self.alloc),
-            cases: Sequence::new(self.alloc),
         };
         self.opened.push(frame)?;
-        self.want(wants)
+        self.want(behind_brace(brace))
     }
 
     /// Puts a whole statement behind the others.
@@ -59,18 +107,5 @@ impl Reader {
     {
         push(&mut self.list, statement)?;
         self.want(Wants::Statement(Tail::Nothing))
-    }
-
-    /// Puts a whole statement behind those that stood before it.
-    #[inline(always)]
-    pub fn put_behind(
-        &mut self,
-        outer: Sequence<Located>,
-        statement: Statement,
-    ) -> Result<(), ReadError>
-        ensures { Moves (λ opened _. ready opened (outer ++ placed statement ∷ [])) self.old result self.new }
-    {
-        self.list = outer;
-        self.put(statement)
     }
 }

@@ -8,4 +8,4 @@ returns-in_default-kind c =
 
 pub returns : goal.returns
 returns c =
-    moved _ _ _ _ (case_added c.args.self.now.opened.items _ c.in-Some.frame.now (omega (arith, c.args.self.now.opened.ok.0, c.in-Some.ensures.item.3.0)) c.in-Some.ensures.value _ _ _ _ c.in-Cases.is c.in_ok-push.ensures.pushed) c.want.ensures
+    moved _ _ _ _ (case_added c.args.self.now.opened.items _ c.in-Some.frame.now (omega (arith, c.args.self.now.opened.ok.0, c.in-Some.ensures.item.3.0)) c.in-Some.ensures.value _ _ _ _ _ c.in-Cases.is c.in_ok-push.ensures.pushed) c.want.ensures

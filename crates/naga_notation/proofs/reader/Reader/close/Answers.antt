@@ -1,19 +1,31 @@
-use Rattle.std.proofs.Common.{arith, ◌∙◌}
-use Rattle.naga_notation.proofs.Reading.Stack.{moved, close_accept, close_turn, close_continuing, close_other}
+use Rattle.std.proofs.Common.{ap, ◌∙◌, arith}
+use Rattle.naga_notation.specs.Blocks.{block_from}
+use Rattle.naga_notation.proofs.Reading.Stack.{moved, close_accept, close_turn, close_continuing, close_a_block, close_an_if, close_a_case, no_list}
 use Rattle.naga_notation.proofs.reader.Reader.close.Goals as goal
 
 pub returns-in-Accept : goal.returns-in-Accept
 returns-in-Accept c =
-    moved _ _ _ _ (close_accept c.args.self.now.opened.items _ c.in-Some.frame.now (omega (arith, c.args.self.now.opened.ok.0, c.in-Some.ensures.item.3.0)) c.in-Some.ensures.value _ _ _ _ c.in-Accept.is c.replace.ensures.value (c.replace.ensures.after ∙ c.new.ensures)) c.want.ensures
+    moved _ _ _ _ (close_accept c.args.self.now.opened.items _ c.in-Some.frame.now (omega (arith, c.args.self.now.opened.ok.0, c.in-Some.ensures.item.3.0)) c.in-Some.ensures.value _ _ _ _ c.in-Accept.is (c.block_of.ensures ∙ ap block_from c.replace-list.ensures.value) (c.replace-list.ensures.after ∙ c.new.ensures)) c.want.ensures
 
 pub returns-in-Turn : goal.returns-in-Turn
 returns-in-Turn c =
-    moved _ _ _ _ (close_turn c.args.self.now.opened.items _ c.in-Some.frame.now (omega (arith, c.args.self.now.opened.ok.0, c.in-Some.ensures.item.3.0)) c.in-Some.ensures.value _ _ _ c.in-Turn.is c.replace-in-Turn.ensures.value (c.replace-in-Turn.ensures.after ∙ c.new-in-Turn.ensures)) c.want-in-Turn.ensures
+    moved _ _ _ _ (close_turn c.args.self.now.opened.items _ c.in-Some.frame.now (omega (arith, c.args.self.now.opened.ok.0, c.in-Some.ensures.item.3.0)) c.in-Some.ensures.value _ _ _ c.in-Turn.is (c.block_of-in-Turn.ensures ∙ ap block_from c.replace-list-in-Turn.ensures.value) (c.replace-list-in-Turn.ensures.after ∙ c.new-in-Turn.ensures)) c.want-in-Turn.ensures
 
 pub returns-in-Continuing : goal.returns-in-Continuing
 returns-in-Continuing c =
-    moved _ _ _ _ (close_continuing c.args.self.now.opened.items _ c.in-Some.frame.now (omega (arith, c.args.self.now.opened.ok.0, c.in-Some.ensures.item.3.0)) c.in-Some.ensures.value _ c.in-Continuing.is) c.want-in-Continuing.ensures
+    moved _ _ _ _ (close_continuing c.args.self.now.opened.items _ c.in-Some.frame.now (omega (arith, c.args.self.now.opened.ok.0, c.in-Some.ensures.item.3.0)) c.in-Some.ensures.value _ _ c.in-Continuing.is) c.want-in-Continuing.ensures
 
-pub returns-in_default-kind : goal.returns-in_default-kind
-returns-in_default-kind c =
-    moved _ _ _ _ (close_other c.args.self.now.opened.items _ c.in-Some.frame.now (omega (arith, c.args.self.now.opened.ok.0, c.in-Some.ensures.item.3.0)) c.in-Some.ensures.value _ c.in_default-kind.not-Accept c.in_default-kind.not-Turn c.in_default-kind.not-Continuing) c.leave.ensures
+pub returns-in-Block : goal.returns-in-Block
+returns-in-Block c =
+    moved _ _ _ _ (close_a_block c.args.self.now.opened.items _ c.in-Some.frame.now (omega (arith, c.args.self.now.opened.ok.0, c.in-Some.ensures.item.3.0)) c.in-Some.ensures.value _ c.in-Block.is) c.close_block.ensures
+
+pub returns-in-Reject : goal.returns-in-Reject
+returns-in-Reject c =
+    moved _ _ _ _ (close_an_if c.args.self.now.opened.items _ c.in-Some.frame.now (omega (arith, c.args.self.now.opened.ok.0, c.in-Some.ensures.item.3.0)) c.in-Some.ensures.value _ _ _ c.in-Reject.is) c.close_if.ensures
+
+pub returns-in-Case : goal.returns-in-Case
+returns-in-Case c =
+    moved _ _ _ _ (close_a_case c.args.self.now.opened.items _ c.in-Some.frame.now (omega (arith, c.args.self.now.opened.ok.0, c.in-Some.ensures.item.3.0)) c.in-Some.ensures.value _ _ _ c.in-Case.is) c.close_case.ensures
+
+pub returns-in-Cases : goal.returns-in-Cases
+returns-in-Cases c = no_list c.args.self.now.opened.items _ c.in-Some.frame.now (omega (arith, c.args.self.now.opened.ok.0, c.in-Some.ensures.item.3.0)) c.in-Some.ensures.value _ _ _ c.in-Cases.is
