@@ -1,6 +1,6 @@
 -- What the functions that go over a text do. No public contract cites this.
-use Rattle.std.specs.Prelude.{◌≡◌, ◌<◌, ◌≤◌, ℕ, Bool, not, List, [], ◌∷◌, length}
-use Rattle.std.specs.List.{AllPass}
+use Rattle.std.specs.Prelude.{◌≡◌, ◌<◌, ◌≤◌, ℕ, Bool, not, List, [], ◌∷◌, length, take, drop}
+use Rattle.std.specs.List.{AllPass, prefix_len}
 use Rattle.naga_ir.specs.Tree.{Body}
 use Rattle.naga_notation.specs.declared.bench.Bench.{Bench}
 use Rattle.naga_notation.specs.declared.token.Token.{Token}
@@ -22,6 +22,14 @@ pub record FirstWord (text word after : List ℕ) : Type 0 where
 pub record NoWord (text : List ℕ) : Type 0 where
   pub none : words_of text ≡ []
   pub printable : IsPrintable text
+
+-- a text is what stands before its first white space, and the text behind that, if there is any
+pub record CutAtSpace (text word after : List ℕ) : Type 0 where
+  pub long : length word ≡ prefix_len is_other text
+  pub front : word ≡ take (prefix_len is_other text) text
+  pub same : words_of (drop (prefix_len is_other text) text) ≡ words_of after
+  pub printable : IsPrintable after → IsPrintable (drop (prefix_len is_other text) text)
+  pub shorter : length after ≤ length (drop (prefix_len is_other text) text)
 
 -- words say a body
 pub record SayBody (bench : Bench) (words : List (List ℕ)) (body : Body) : Type 0 where

@@ -110,10 +110,13 @@ fn behind_e(rest: &[u8]) -> Option<Token>
 fn behind_s(rest: &[u8]) -> Option<Token>
     ensures { result ≡ lookup shared_words (115 ∷ rest.now) }
 {
-    if rest == b"tore".as_slice() {
-        Some(Token::Store)
-    } else {
-        token_if(rest, b"witch".as_slice(), Token::Switch)
+    let Some((second, rest)) = rest.split_first() else {
+        return None;
+    };
+    match *second {
+        b't' => token_if(rest, b"ore".as_slice(), Token::Store),
+        b'w' => token_if(rest, b"itch".as_slice(), Token::Switch),
+        _ => None,
     }
 }
 
@@ -122,14 +125,26 @@ fn behind_s(rest: &[u8]) -> Option<Token>
 fn behind_b(rest: &[u8]) -> Option<Token>
     ensures { result ≡ lookup shared_words (98 ∷ rest.now) }
 {
-    if rest == b"lock".as_slice() {
-        Some(Token::Block)
-    } else if rest == b"reak".as_slice() {
+    let Some((second, rest)) = rest.split_first() else {
+        return None;
+    };
+    match *second {
+        b'l' => token_if(rest, b"ock".as_slice(), Token::Block),
+        b'r' => behind_br(rest),
+        b'a' => token_if(rest, b"rrier".as_slice(), Token::Barrier),
+        _ => None,
+    }
+}
+
+/// What a word means that is this behind `br`.
+#[inline(always)]
+fn behind_br(rest: &[u8]) -> Option<Token>
+    ensures { result ≡ lookup shared_words (98 ∷ 114 ∷ rest.now) }
+{
+    if rest == b"eak".as_slice() {
         Some(Token::Break)
-    } else if rest == b"reak_if".as_slice() {
-        Some(Token::BreakIf)
     } else {
-        token_if(rest, b"arrier".as_slice(), Token::Barrier)
+        token_if(rest, b"eak_if".as_slice(), Token::BreakIf)
     }
 }
 

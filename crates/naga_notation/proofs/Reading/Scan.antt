@@ -1,12 +1,14 @@
 -- The first word of a text, and what stands behind it.
 use Rattle.std.proofs.Common.{◌≡◌, ◌≤◌, ◌<◌, ◌+◌, ℕ, zero, suc, List, [], ◌∷◌, ◌++◌, Bool, true, false, refl, ap, sym, subst, ◌∙◌, arith, length, get_or, take, drop, cond, length-drop}
-use Rattle.std.specs.Prelude.{not, filter, ◌||◌}
+use Rattle.std.specs.Prelude.{not, filter, ◌||◌, ◌==◌}
 use Rattle.std.specs.List.{AllPass, prefix_len, slice_split, onto_first}
+use Rattle.std.proofs.Math.Seq.{drop-cons}
 use Rattle.std.proofs.lemmas.List.{take-append-drop}
 use Rattle.std.proofs.lemmas.List.Elements.{All-append, All-cons}
 use Rattle.std.proofs.lemmas.List.Sums.{prefix_len-le-length}
 use Rattle.std.proofs.lemmas.Bool.{ne_eqb}
-use Rattle.naga_notation.specs.Scanning.{FirstWord, NoWord, is_other}
+use Rattle.std.proofs.lemmas.Bool.Decides.{nat_tests}
+use Rattle.naga_notation.specs.Scanning.{CutAtSpace, FirstWord, NoWord, is_other}
 use Rattle.naga_notation.specs.Words.{is_space, is_visible, is_word, IsPrintable, words_of}
 
 one_more : (n : ℕ) → 1 + n ≡ suc n
@@ -122,4 +124,48 @@ some_word xs ys front end e cut_off f some =
       printable = λ visible after.
           shown_behind xs front e (subst IsPrintable (take-append-drop end ys ∙ cut_off) (shown_append (take end ys) (drop end ys) (all_shown (take end ys) visible) after));
       shorter = omega (arith, length-drop end ys, length-drop front xs, ap length cut_off);
+    }
+
+one_space : (b : ℕ) (after : List ℕ) → is_space b ≡ true → words_of (b ∷ after) ≡ words_of after
+one_space b after is = rw is refl
+
+one_on : (n : ℕ) → n + 1 ≡ suc n
+one_on n = omega arith
+
+pub is_zero : (n : ℕ) (b : Bool) → b ≡ (n == 0) → b ≡ true → n ≡ 0
+is_zero n b e is = grind (arith, nat_tests)
+
+pub is_some : (n : ℕ) (b : Bool) → b ≡ (n == 0) → b ≡ false → 0 < n
+is_some n b e is = grind (arith, nat_tests)
+
+-- the cut at a white space
+pub cut_there : (xs word after : List ℕ) (i : ℕ) → prefix_len is_other xs ≡ i → i < length xs → is_space (get_or xs i 0) ≡ true → word ≡ take i xs → length word ≡ i → after ≡ drop (i + 1) xs → CutAtSpace xs word after
+cut_there xs word after i n lt is front long back =
+    let behind : drop i xs ≡ get_or xs i 0 ∷ after = drop-cons xs i 0 lt ∙ ap (λ l. get_or xs i 0 ∷ l) (sym (back ∙ ap (λ k. drop k xs) (one_on i))) in
+    record {
+      long = long ∙ sym n;
+      front = front ∙ ap (λ k. take k xs) (sym n);
+      same = ap (λ k. words_of (drop k xs)) n ∙ ap words_of behind ∙ one_space (get_or xs i 0) after is;
+      printable = λ shown.
+          rw (n, behind) (All-cons (λ x. (is_space x || is_visible x) ≡ true) (get_or xs i 0) after (space_shown (get_or xs i 0) is) shown);
+      shorter = rw n (omega (arith, ap length behind));
+    }
+
+-- the cut of a text without white space
+pub cut_nowhere : (xs word after : List ℕ) → prefix_len is_other xs ≡ length xs → word ≡ take (length xs) xs → length word ≡ length xs → after ≡ drop (length xs) xs → CutAtSpace xs word after
+cut_nowhere xs word after n front long back = record {
+  long = long ∙ sym n;
+  front = front ∙ ap (λ k. take k xs) (sym n);
+  same = ap (λ k. words_of (drop k xs)) n ∙ ap words_of (sym back);
+  printable = λ shown. rw (n, ← back) shown;
+  shorter = rw n (omega (arith, ap length back));
+}
+
+pub cut_word : (xs ys word after : List ℕ) (front : ℕ) → front ≡ prefix_len is_space xs → ys ≡ drop front xs → CutAtSpace ys word after → 0 < length word → FirstWord xs word after
+cut_word xs ys word after front e cut_off cut some =
+    let first = some_word xs ys front (prefix_len is_other ys) e cut_off refl (omega (arith, cut.long)) in
+    record {
+      first = first.first ∙ (λ i. sym cut.front i ∷ cut.same i);
+      printable = λ visible shown. first.printable (subst (AllPass is_visible) cut.front visible) (cut.printable shown);
+      shorter = omega (arith, first.shorter, cut.shorter);
     }
