@@ -47,6 +47,17 @@ add_case (part.Cases selector cases outer ∷ opened) list c =
     wanting (part.Cases selector (cases ++ c ∷ []) outer ∷ opened) list wants.CaseValue
 add_case opened list c = None
 
+-- the first list of the If or of the Loop at hand is closed
+unfoldable pub close_accept : List Part → List Located → Option State
+close_accept (part.Accept c outer ∷ opened) list =
+    wanting (part.Reject c (block_from list) outer ∷ opened) [] wants.Between
+close_accept opened list = None
+
+unfoldable pub close_turn : List Part → List Located → Option State
+close_turn (part.Turn outer ∷ opened) list =
+    wanting (part.Continuing (block_from list) outer ∷ opened) [] wants.Between
+close_turn opened list = None
+
 -- the Block, the If or the case at hand is closed
 unfoldable pub close_block : List Part → List Located → Option State
 close_block (part.Block outer ∷ opened) list = ready opened (outer ++ placed (ir.Block (block_from list)) ∷ [])
@@ -64,10 +75,10 @@ close_case opened list = None
 -- the list at hand is closed
 unfoldable pub close : List Part → List Located → Option State
 close (part.Block outer ∷ opened) list = close_block (part.Block outer ∷ opened) list
-close (part.Accept c outer ∷ opened) list = wanting (part.Reject c (block_from list) outer ∷ opened) [] wants.Between
+close (part.Accept c outer ∷ opened) list = close_accept (part.Accept c outer ∷ opened) list
 close (part.Reject c accept outer ∷ opened) list = close_if (part.Reject c accept outer ∷ opened) list
 close (part.Case value falls ∷ opened) list = close_case (part.Case value falls ∷ opened) list
-close (part.Turn outer ∷ opened) list = wanting (part.Continuing (block_from list) outer ∷ opened) [] wants.Between
+close (part.Turn outer ∷ opened) list = close_turn (part.Turn outer ∷ opened) list
 close (part.Continuing turn outer ∷ opened) list =
     wanting (part.Continuing turn outer ∷ opened) list (wants.Statement tail.Loop)
 close opened list = None

@@ -21,7 +21,7 @@ use Rattle.naga_notation.specs.declared.reader.parts.Wants.TheVariants as wants
 use Rattle.naga_notation.specs.Feeding.{feeds}
 use Rattle.naga_notation.specs.Grammar.{Spells, SpellsStatement, SpellsCases, depth, statement_depth, cases_depth, emission, calling, storing, waiting, emitting, call_of, store_of, control_barrier, arrow_if_any, SpellsEmit, in_braces, fall_if, break_if_any}
 use Rattle.naga_notation.specs.Blocks.{block_from, block_of, placed, list_of, located_of, cases_of}
-use Rattle.naga_notation.specs.Reading.{State, begun, ready, wanting, enter, add_case, close_block, close_if, close_case, close, close_switch, end_loop, begin, put_alone, begin_at, settle, go_on, take_name, put_named, open_brace, next, step, whole, end_at, finish, reading_of}
+use Rattle.naga_notation.specs.Reading.{State, begun, ready, wanting, enter, add_case, close_block, close_accept, close_if, close_case, close_turn, close, close_switch, end_loop, begin, put_alone, begin_at, settle, go_on, take_name, put_named, open_brace, next, step, whole, end_at, finish, reading_of}
 
 abbrev feed : Option State → List Token → Option State
 feed = feeds step
@@ -151,31 +151,31 @@ module _ (o : Option State) (opened : List Part) (list : List Located) (h : Gets
 
 module _ (o : Option State) (opened : List Part) (list body : List Located) where
   block_out : Gets o (part.Block list ∷ opened) body → Gets (and_then o token.Close) opened (list ++ placed (ir.Block (block_from body)) ∷ [])
-  unfolding begin put_alone close close_block close_if close_case settle
+  unfolding begin put_alone close close_block close_accept close_if close_case close_turn settle
   block_out h = rw (key o (part.Block list ∷ opened) body h token.Close tt) refl
 
   if_else : (c : ℕ) → Gets o (part.Accept c list ∷ opened) body → Gets (and_then (and_then o token.Close) token.Open) (part.Reject c (block_from body) list ∷ opened) []
-  unfolding begin put_alone next close close_block close_if close_case open_brace settle
+  unfolding begin put_alone next close close_block close_accept close_if close_case close_turn open_brace settle
   if_else c h = rw (key o (part.Accept c list ∷ opened) body h token.Close tt) refl
 
   if_out : (c : ℕ) (accept : b.Block) → Gets o (part.Reject c accept list ∷ opened) body → Gets (and_then o token.Close) opened (list ++ placed (ir.If c accept (block_from body)) ∷ [])
-  unfolding begin put_alone close close_block close_if close_case settle
+  unfolding begin put_alone close close_block close_accept close_if close_case close_turn settle
   if_out c accept h = rw (key o (part.Reject c accept list ∷ opened) body h token.Close tt) refl
 
   loop_between : Gets o (part.Turn list ∷ opened) body → Gets (and_then (and_then o token.Close) token.Open) (part.Continuing (block_from body) list ∷ opened) []
-  unfolding begin put_alone next close close_block close_if close_case open_brace settle
+  unfolding begin put_alone next close close_block close_accept close_if close_case close_turn open_brace settle
   loop_between h = rw (key o (part.Turn list ∷ opened) body h token.Close tt) refl
 
   loop_out : (turn : b.Block) → Gets o (part.Continuing turn list ∷ opened) body → Gets (and_then o token.Close) opened (list ++ placed (ir.Loop turn (block_from body) None) ∷ [])
-  unfolding begin put_alone close close_block close_if close_case settle end_loop
+  unfolding begin put_alone close close_block close_accept close_if close_case close_turn settle end_loop
   loop_out turn h = rw (key o (part.Continuing turn list ∷ opened) body h token.Close tt) refl
 
   loop_out_if : (turn : b.Block) (c : ℕ) → Gets o (part.Continuing turn list ∷ opened) body → Gets (and_then (and_then (and_then o token.Close) token.BreakIf) (token.Name c)) opened (list ++ placed (ir.Loop turn (block_from body) (Some c)) ∷ [])
-  unfolding begin put_alone next close close_block close_if close_case settle end_loop go_on take_name put_named
+  unfolding begin put_alone next close close_block close_accept close_if close_case close_turn settle end_loop go_on take_name put_named
   loop_out_if turn c h = rw (key o (part.Continuing turn list ∷ opened) body h token.Close tt) refl
 
   case_out : (v : SwitchValue) (f : Bool) (h : ℕ) (cs : List SwitchCase) → Gets o (part.Case v f ∷ part.Cases h cs list ∷ opened) body → and_then o token.Close ≡ wanting (part.Cases h (cs ++ SwitchCase' v (block_from body) f ∷ []) list ∷ opened) [] wants.CaseValue
-  unfolding begin put_alone close close_block close_if close_case add_case
+  unfolding begin put_alone close close_block close_accept close_if close_case close_turn add_case
   case_out v f h cs g = rw (key o (part.Case v f ∷ part.Cases h cs list ∷ opened) body g token.Close tt) refl
 
 abbrev in_switch : List Part → ℕ → List SwitchCase → List Located → Option State

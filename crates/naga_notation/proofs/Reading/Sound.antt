@@ -23,7 +23,7 @@ use Rattle.naga_notation.specs.declared.reader.parts.Wants.TheVariants as wants
 use Rattle.naga_notation.specs.Feeding.{feeds}
 use Rattle.naga_notation.specs.Grammar.{Spells, SpellsStatement, SpellsCases, depth, statement_depth, cases_depth, emitting, call_of, store_of, control_barrier, in_braces, fall_if, break_if_any}
 use Rattle.naga_notation.specs.Blocks.{block_from, placed}
-use Rattle.naga_notation.specs.Reading.{State, begun, wanting, enter, add_case, close_block, close_if, close_case, close, close_switch, end_loop, begin, put_alone, begin_at, settle, go_on, take_name, put_named, open_brace, next, step, whole, end_at, finish, reading_of}
+use Rattle.naga_notation.specs.Reading.{State, begun, wanting, enter, add_case, close_block, close_accept, close_if, close_case, close_turn, close, close_switch, end_loop, begin, put_alone, begin_at, settle, go_on, take_name, put_named, open_brace, next, step, whole, end_at, finish, reading_of}
 use Rattle.naga_notation.proofs.Reading.Trees.{body_of, body_in, stmt_of, cases_in, block_tree, switch_tree}
 
 -- one statement more, and one case more
@@ -200,7 +200,7 @@ case_told opened v f list ts h s to = absurd (none_some _ to)
 
 -- the list at hand is closed
 close_told : (opened : List Part) (list : List Located) (ts : List Token) → Told opened list ts → (s : State) → close opened list ≡ Some s → LeadsTo s (ts ++ token.Close ∷ [])
-unfolding close close_block close_if close_case Told Spells depth
+unfolding close close_block close_accept close_if close_case close_turn Told Spells depth
 close_told [] list ts h s to = absurd (none_some _ to)
 close_told (part.Block outer ∷ opened) list ts (before, head, inner, told, at, here, shallow, e) s to =
     leads_to _ _ _ _ (rw (e, at, append_assoc) (Told-more opened outer before (placed (ir.Block (block_from list))) (token.Block ∷ in_braces inner) told (inner, closed list inner here, refl) (omega (arith, closed_depth list)))) s to

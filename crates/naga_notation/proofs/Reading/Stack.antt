@@ -16,7 +16,7 @@ use Rattle.naga_notation.specs.Blocks.{block_from}
 use Rattle.naga_notation.specs.Feeding.{Steps}
 use Rattle.naga_notation.specs.Parts.{Part, part_as}
 use Rattle.naga_notation.specs.Parts as part
-use Rattle.naga_notation.specs.Reading.{State, wanting, close, close_block, close_if, close_case, add_case}
+use Rattle.naga_notation.specs.Reading.{State, wanting, close, close_block, close_accept, close_if, close_case, close_turn, add_case}
 use Rattle.naga_notation.specs.Views.{newest_first, part_of}
 
 pub newest_none : (fs : List Frame) → fs ≡ [] → newest_first fs ≡ []
@@ -48,6 +48,27 @@ no_switch (kind.Case v f) outer list rest c other = refl
 no_switch kind.Turn outer list rest c other = refl
 no_switch (kind.Continuing turn) outer list rest c other = refl
 
+-- the brace of another part
+not_accept : (k : Kind) (outer list : List Located) (rest : List Part) → ((c : ℕ) → k ≡ kind.Accept c → ⊥) → close_accept (part_as k outer ∷ rest) list ≡ None
+unfolding close_accept
+not_accept kind.Block outer list rest other = refl
+not_accept (kind.Accept h) outer list rest other = absurd (other h refl)
+not_accept (kind.Reject h accept) outer list rest other = refl
+not_accept (kind.Cases h cases) outer list rest other = refl
+not_accept (kind.Case v f) outer list rest other = refl
+not_accept kind.Turn outer list rest other = refl
+not_accept (kind.Continuing turn) outer list rest other = refl
+
+not_turn : (k : Kind) (outer list : List Located) (rest : List Part) → (k ≡ kind.Turn → ⊥) → close_turn (part_as k outer ∷ rest) list ≡ None
+unfolding close_turn
+not_turn kind.Block outer list rest other = refl
+not_turn (kind.Accept h) outer list rest other = refl
+not_turn (kind.Reject h accept) outer list rest other = refl
+not_turn (kind.Cases h cases) outer list rest other = refl
+not_turn (kind.Case v f) outer list rest other = refl
+not_turn kind.Turn outer list rest other = absurd (other refl)
+not_turn (kind.Continuing turn) outer list rest other = refl
+
 -- the newest part, which is the last of the stack
 module _ (fs : List Frame) (i : ℕ) (f : Frame) (end : suc i ≡ length fs) (at : f ≡ get_or fs i f) where
   rest : List Part
@@ -75,15 +96,31 @@ module _ (fs : List Frame) (i : ℕ) (f : Frame) (end : suc i ≡ length fs) (at
   same_is : (k : Kind) → f.kind ≡ k → newest_first (set fs i f) ≡ part_as k f.outer ∷ rest
   same_is k is = top_set f ∙ sym top ∙ top_is k is
 
-  pub close_accept : (c : ℕ) (accept : Block) (list after : List Located) → f.kind ≡ kind.Accept c → accept ≡ block_from list → after ≡ [] → close (newest_first fs) list ≡ wanting (newest_first (set fs i (record { kind = kind.Reject c accept; outer = f.outer }))) after wants.Between
-  unfolding close
-  close_accept c accept list after is same none =
-      ap (λ ps. close ps list) (top_is (kind.Accept c) is) ∙ sym ((λ j. wanting (set_is (kind.Reject c accept) j) (none j) wants.Between) ∙ ap (λ x. wanting (part.Reject c x f.outer ∷ rest) [] wants.Between) same)
+  pub accept_closed : (c : ℕ) (accept : Block) (list after : List Located) → f.kind ≡ kind.Accept c → accept ≡ block_from list → after ≡ [] → close_accept (newest_first fs) list ≡ wanting (newest_first (set fs i (record { kind = kind.Reject c accept; outer = f.outer }))) after wants.Between
+  unfolding close_accept
+  accept_closed c accept list after is same none =
+      ap (λ ps. close_accept ps list) (top_is (kind.Accept c) is) ∙ sym ((λ j. wanting (set_is (kind.Reject c accept) j) (none j) wants.Between) ∙ ap (λ x. wanting (part.Reject c x f.outer ∷ rest) [] wants.Between) same)
 
-  pub close_turn : (turn : Block) (list after : List Located) → f.kind ≡ kind.Turn → turn ≡ block_from list → after ≡ [] → close (newest_first fs) list ≡ wanting (newest_first (set fs i (record { kind = kind.Continuing turn; outer = f.outer }))) after wants.Between
+  pub turn_closed : (turn : Block) (list after : List Located) → f.kind ≡ kind.Turn → turn ≡ block_from list → after ≡ [] → close_turn (newest_first fs) list ≡ wanting (newest_first (set fs i (record { kind = kind.Continuing turn; outer = f.outer }))) after wants.Between
+  unfolding close_turn
+  turn_closed turn list after is same none =
+      ap (λ ps. close_turn ps list) (top_is kind.Turn is) ∙ sym ((λ j. wanting (set_is (kind.Continuing turn) j) (none j) wants.Between) ∙ ap (λ x. wanting (part.Continuing x f.outer ∷ rest) [] wants.Between) same)
+
+  pub no_accept : (list : List Located) → ((c : ℕ) → f.kind ≡ kind.Accept c → ⊥) → close_accept (newest_first fs) list ≡ None
+  no_accept list other = ap (λ ps. close_accept ps list) top ∙ not_accept f.kind f.outer list rest other
+
+  pub no_turn : (list : List Located) → (f.kind ≡ kind.Turn → ⊥) → close_turn (newest_first fs) list ≡ None
+  no_turn list other = ap (λ ps. close_turn ps list) top ∙ not_turn f.kind f.outer list rest other
+
+  pub close_an_accept : (c : ℕ) (list : List Located) → f.kind ≡ kind.Accept c → close (newest_first fs) list ≡ close_accept (newest_first (set fs i f)) list
   unfolding close
-  close_turn turn list after is same none =
-      ap (λ ps. close ps list) (top_is kind.Turn is) ∙ sym ((λ j. wanting (set_is (kind.Continuing turn) j) (none j) wants.Between) ∙ ap (λ x. wanting (part.Continuing x f.outer ∷ rest) [] wants.Between) same)
+  close_an_accept c list is =
+      ap (λ ps. close ps list) (top_is (kind.Accept c) is) ∙ sym (ap (λ ps. close_accept ps list) (same_is (kind.Accept c) is))
+
+  pub close_a_turn : (list : List Located) → f.kind ≡ kind.Turn → close (newest_first fs) list ≡ close_turn (newest_first (set fs i f)) list
+  unfolding close
+  close_a_turn list is =
+      ap (λ ps. close ps list) (top_is kind.Turn is) ∙ sym (ap (λ ps. close_turn ps list) (same_is kind.Turn is))
 
   pub close_continuing : (turn : Block) (list : List Located) → f.kind ≡ kind.Continuing turn → close (newest_first fs) list ≡ wanting (newest_first (set fs i f)) list (wants.Statement tail.Loop)
   unfolding close

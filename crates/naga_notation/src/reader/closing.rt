@@ -10,14 +10,34 @@ use std::mem;
 
 impl Reader {
     ghost use Rattle.naga_notation.specs.Feeding.{Steps};
-    ghost use Rattle.naga_notation.specs.Reading.{State, close, close_block, close_if, close_case, add_case, close_switch, end_loop};
+    ghost use Rattle.naga_notation.specs.Reading.{State, close, close_block, close_accept, close_if, close_case, close_turn, add_case, close_switch, end_loop};
     ghost use Rattle.naga_notation.specs.Views.{Moves, state_of};
 
     /// Closes the list at hand.
-    #[inline(never)]
+    #[inline(always)]
     #[tactic(auto, using(crate::proofs::Reading::Stack::stacks), unfolding(crate::specs::Reading::close))]
     pub fn close(&mut self) -> Result<(), ReadError>
         ensures { Moves close self.old result self.new }
+    {
+        let Some(frame) = self.opened.last_mut() else {
+            return Err(ReadError::Unreadable);
+        };
+        match frame.kind {
+            Kind::Block => self.close_block(),
+            Kind::Accept(_) => self.close_accept(),
+            Kind::Reject { .. } => self.close_if(),
+            Kind::Case { .. } => self.close_case(),
+            Kind::Turn => self.close_turn(),
+            Kind::Continuing { .. } => self.want(Wants::Statement(Tail::Loop)),
+            Kind::Cases { .. } => Err(ReadError::Unreadable),
+        }
+    }
+
+    /// Closes the first list of the If at hand.
+    #[inline(never)]
+    #[tactic(auto, using(crate::proofs::Reading::Stack::stacks), unfolding(crate::specs::Reading::close_accept))]
+    fn close_accept(&mut self) -> Result<(), ReadError>
+        ensures { Moves close_accept self.old result self.new }
     {
         let Some(frame) = self.opened.last_mut() else {
             return Err(ReadError::Unreadable);
@@ -31,6 +51,20 @@ impl Reader {
                 };
                 self.want(Wants::Between)
             }
+            _ => Err(ReadError::Unreadable),
+        }
+    }
+
+    /// Closes the first list of the Loop at hand.
+    #[inline(never)]
+    #[tactic(auto, using(crate::proofs::Reading::Stack::stacks), unfolding(crate::specs::Reading::close_turn))]
+    fn close_turn(&mut self) -> Result<(), ReadError>
+        ensures { Moves close_turn self.old result self.new }
+    {
+        let Some(frame) = self.opened.last_mut() else {
+            return Err(ReadError::Unreadable);
+        };
+        match frame.kind {
             Kind::Turn => {
                 let list = mem::replace(&mut self.list, Sequence::new(self.alloc));
                 frame.kind = Kind::Continuing {
@@ -38,11 +72,7 @@ impl Reader {
                 };
                 self.want(Wants::Between)
             }
-            Kind::Continuing { .. } => self.want(Wants::Statement(Tail::Loop)),
-            Kind::Block => self.close_block(),
-            Kind::Reject { .. } => self.close_if(),
-            Kind::Case { .. } => self.close_case(),
-            Kind::Cases { .. } => Err(ReadError::Unreadable),
+            _ => Err(ReadError::Unreadable),
         }
     }
 

@@ -1,19 +1,18 @@
-use Rattle.std.proofs.Common.{ap, ◌∙◌, arith}
-use Rattle.naga_notation.specs.Blocks.{block_from}
-use Rattle.naga_notation.proofs.Reading.Stack.{moved, close_accept, close_turn, close_continuing, close_a_block, close_an_if, close_a_case, no_list}
+use Rattle.std.proofs.Common.{arith}
+use Rattle.naga_notation.proofs.Reading.Stack.{moved, close_an_accept, close_a_turn, close_continuing, close_a_block, close_an_if, close_a_case, no_list}
 use Rattle.naga_notation.proofs.reader.Reader.close.Goals as goal
 
 pub returns-in-Accept : goal.returns-in-Accept
 returns-in-Accept c =
-    moved _ _ _ _ (close_accept c.args.self.now.opened.items _ c.in-Some.frame.now (omega (arith, c.args.self.now.opened.ok.0, c.in-Some.ensures.item.3.0)) c.in-Some.ensures.value _ _ _ _ c.in-Accept.is (c.block_of.ensures ∙ ap block_from c.replace-list.ensures.value) (c.replace-list.ensures.after ∙ c.new.ensures)) c.want.ensures
+    moved _ _ _ _ (close_an_accept c.args.self.now.opened.items _ c.in-Some.frame.now (omega (arith, c.args.self.now.opened.ok.0, c.in-Some.ensures.item.3.0)) c.in-Some.ensures.value _ _ c.in-Accept.is) c.close_accept.ensures
 
 pub returns-in-Turn : goal.returns-in-Turn
 returns-in-Turn c =
-    moved _ _ _ _ (close_turn c.args.self.now.opened.items _ c.in-Some.frame.now (omega (arith, c.args.self.now.opened.ok.0, c.in-Some.ensures.item.3.0)) c.in-Some.ensures.value _ _ _ c.in-Turn.is (c.block_of-in-Turn.ensures ∙ ap block_from c.replace-list-in-Turn.ensures.value) (c.replace-list-in-Turn.ensures.after ∙ c.new-in-Turn.ensures)) c.want-in-Turn.ensures
+    moved _ _ _ _ (close_a_turn c.args.self.now.opened.items _ c.in-Some.frame.now (omega (arith, c.args.self.now.opened.ok.0, c.in-Some.ensures.item.3.0)) c.in-Some.ensures.value _ c.in-Turn.is) c.close_turn.ensures
 
 pub returns-in-Continuing : goal.returns-in-Continuing
 returns-in-Continuing c =
-    moved _ _ _ _ (close_continuing c.args.self.now.opened.items _ c.in-Some.frame.now (omega (arith, c.args.self.now.opened.ok.0, c.in-Some.ensures.item.3.0)) c.in-Some.ensures.value _ _ c.in-Continuing.is) c.want-in-Continuing.ensures
+    moved _ _ _ _ (close_continuing c.args.self.now.opened.items _ c.in-Some.frame.now (omega (arith, c.args.self.now.opened.ok.0, c.in-Some.ensures.item.3.0)) c.in-Some.ensures.value _ _ c.in-Continuing.is) c.want.ensures
 
 pub returns-in-Block : goal.returns-in-Block
 returns-in-Block c =
