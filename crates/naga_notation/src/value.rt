@@ -1,6 +1,6 @@
 //! The values of cases.
 
-ghost use Rattle.std.specs.Prelude.{◌≡◌, ◌<◌, ◌^◌, ℕ, ℤ, IfSome, IfNone, FitsSigned, decimal};
+ghost use Rattle.std.specs.Prelude.{◌≡◌, ◌<◌, ◌≤◌, ◌-◌, ◌^◌, MatchOption, ℕ, ℤ, IfSome, IfNone, FitsSigned, decimal};
 ghost use Rattle.std.specs.Fmt.{signed_decimal};
 ghost use Rattle.std.specs.Int.{w32};
 ghost use Rattle.naga_ir.specs.declared.statements.SwitchValue as value;
@@ -31,6 +31,17 @@ fn begins_signed(text: &[u8]) -> bool
     }
 }
 
+/// The value of a digit.
+#[inline]
+fn digit_of(byte: u8) -> Option<u8>
+    ensures { MatchOption result (48 ≤ byte → byte ≤ 57 → ⊥) (λ d. (48 ≤ byte) × (byte ≤ 57) × (d ≡ byte - 48)) }
+{
+    match byte {
+        b'0'..=b'9' => Some(byte - b'0'),
+        _ => None,
+    }
+}
+
 /// The number that this is the decimal text of.
 fn unsigned_of(text: &[u8]) -> Option<u32>
     ensures found { IfSome result (λ n. (n < 2 ^ 32) × (text.now ≡ decimal n)) }
@@ -39,10 +50,17 @@ fn unsigned_of(text: &[u8]) -> Option<u32>
     if !begins_number(text) {
         return None;
     }
-    match str::from_utf8(text) {
-        Ok(text) => text.parse().ok(),
-        Err(_) => None,
+    let mut number = 0;
+    for byte in text {
+        let Some(digit) = digit_of(*byte) else {
+            return None;
+        };
+        number = number * 10 + digit as u64;
+        if number > u32::MAX as u64 {
+            return None;
+        }
     }
+    Some(number as u32)
 }
 
 /// The same, with a `-` before a number below zero.

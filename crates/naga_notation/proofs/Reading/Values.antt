@@ -1,5 +1,5 @@
 -- The texts of numbers.
-use Rattle.std.proofs.Common.{◌≡◌, ◌≤◌, ◌<◌, ◌^◌, ℕ, zero, suc, List, [], ◌∷◌, ◌++◌, Bool, true, false, Ok, Err, Result, Option, Some, None, refl, inl, inr, ◌⊎◌, ap, sym, subst, ◌∙◌, arith, length, get_or, ℤ, pos, negsuc, decimal, codes, length-append, append-nil}
+use Rattle.std.proofs.Common.{◌-◌, take, ◌≡◌, ◌≤◌, ◌<◌, ◌^◌, ℕ, zero, suc, List, [], ◌∷◌, ◌++◌, Bool, true, false, Ok, Err, Result, Option, Some, None, refl, inl, inr, ◌⊎◌, ap, sym, subst, ◌∙◌, arith, length, get_or, ℤ, pos, negsuc, decimal, codes, length-append, append-nil}
 use Rattle.std.specs.Prelude.{FitsSigned, IfSome, IfNone, is_some, ◌||◌, ◌&&◌, ◌==◌, nat_le}
 use Rattle.std.proofs.Math.IntN.{neg_ℤ}
 use Rattle.std.proofs.lemmas.Bool.{leb-true}
@@ -10,11 +10,14 @@ use Rattle.std.specs.Int.{w32}
 use Rattle.std.specs.Int.Signed.{mag}
 use Rattle.std.specs.Fmt.{signed_decimal}
 use Rattle.std.specs.Str.{IsUtf8}
-use Rattle.std.specs.Str.Parse.{AllDigits, digits_value, ParsesUnsigned, ParsesSigned}
+use Rattle.std.specs.Str.Parse.{AllDigits, digits_value, ParsesSigned}
+use Rattle.std.specs.Char.{digit_value}
+use Rattle.std.proofs.lemmas.Str.{digit_value_digit}
+use Rattle.std.proofs.lemmas.List.{take_all}
 use Rattle.std.proofs.lemmas.Grind.{common_steps}
 use Rattle.std.proofs.lemmas.Str.{IsUtf8-from_ascii}
-use Rattle.std.proofs.lemmas.Str.Parse.{IsNumeralModel, numerals_by_value, tells_digits, digit_at, parse_plain, parse_signed_minus, parse_signed_plain}
-use Rattle.std.proofs.lemmas.Fmt.{decimal_nonempty, decimal_digit, first_decimal, digits_decimal, decimal-digits_value, parse-decimal, parse-signed_decimal, IsAscii-decimal, IsAscii-signed, decimal_injective, signed_decimal_injective}
+use Rattle.std.proofs.lemmas.Str.Parse.{digits_value-take-le, IsNumeralModel, numerals_by_value, tells_digits, digit_at, parse_signed_minus, parse_signed_plain}
+use Rattle.std.proofs.lemmas.Fmt.{digits_value-decimal, decimal_nonempty, decimal_digit, first_decimal, digits_decimal, decimal-digits_value, parse-signed_decimal, IsAscii-signed, decimal_injective, signed_decimal_injective}
 use Rattle.std.specs.Str.{bytes_eq}
 use Rattle.naga_ir.specs.declared.statements.SwitchValue.{SwitchValue}
 use Rattle.naga_ir.specs.declared.statements.SwitchValue.TheVariants.{I32, U32, Default}
@@ -44,31 +47,9 @@ decimal_begins (suc n) lt =
     let range = digit_at (decimal (suc n)) 0 digits some in
     number_from (decimal (suc n)) some (omega arith) (omega (arith, range)) (λ e. absurd (omega arith))
 
--- what is parsed as an unsigned number is its text
-pub unsigned_found : (E : Type 0) (bs : List ℕ) (n : ℕ) → begins_number bs ≡ true → (r : Result ℕ E) → ParsesUnsigned 32 10 bs r → r ≡ Ok n → (n < 2 ^ 32) × (bs ≡ decimal n)
-unsigned_found E bs n begins r parsed is =
-    let first = number_first bs begins in
-    let at = parse_plain own 32 bs r parsed (λ e. absurd (omega (arith, first.0))) in
-    let at_ok = rw is at at in
-    let e : decimal (digits_value 10 bs) ≡ bs = decimal-digits_value own bs at_ok.0.0 at_ok.0.1 first.2 (omega (arith, at_ok.0.2)) in
-    (rw at_ok.1 at_ok.0.2, sym e ∙ ap decimal (sym at_ok.1))
-
 -- what does not begin so is the text of no number
 pub unsigned_unlike : (bs : List ℕ) → begins_number bs ≡ false → (n : ℕ) → n < 2 ^ 32 → bs ≡ decimal n → ⊥
 unsigned_unlike bs other n lt e = let begins : begins_number bs ≡ true = rw e (decimal_begins n (omega arith)) in cc
-
-pub unsigned_bytes : (bs : List ℕ) → ¬ (IsUtf8 bs) → (n : ℕ) → n < 2 ^ 32 → bs ≡ decimal n → ⊥
-unsigned_bytes bs other n lt e = other (rw e (IsUtf8-from_ascii (decimal n) (IsAscii-decimal n (omega arith))))
-
--- what the parse of such a text tells
-pub unsigned_read : {E : Type 0} (bs : List ℕ) (r : Result ℕ E) (o : Option ℕ) → begins_number bs ≡ true → ParsesUnsigned 32 10 bs r → o ≡ result_ok r → IfSome o (λ n. (n < 2 ^ 32) × (bs ≡ decimal n))
-unsigned_read {E} bs (Ok n) o begins parsed e = rw e (unsigned_found E bs n begins (Ok n) parsed refl)
-unsigned_read bs (Err x) o begins parsed e = rw e tt
-
-pub unsigned_none : {E : Type 0} (bs : List ℕ) (r : Result ℕ E) (o : Option ℕ) → ParsesUnsigned 32 10 bs r → o ≡ result_ok r → IfNone o ((n : ℕ) → n < 2 ^ 32 → bs ≡ decimal n → ⊥)
-unsigned_none bs (Ok n) o parsed e = rw e tt
-unsigned_none {E} bs (Err x) o parsed e =
-    rw e (λ n lt same. let found : Err x ≡ Ok n = parse-decimal 32 n bs (Err x) lt (omega arith) same parsed in cc)
 
 or_cases : (a b : Bool) → a || b ≡ true → (a ≡ true) ⊎ (b ≡ true)
 or_cases true b e = inl refl
@@ -227,3 +208,30 @@ one_value (U32 n) Default w (lt, e) e' = absurd (number_not_default n [] lt (app
 one_value Default (I32 z) w e' (fits, e) = absurd (signed_not_default z fits.sfits (sym e ∙ e'))
 one_value Default (U32 n) w e' (lt, e) = absurd (number_not_default n [] lt (append-nil (decimal n) ∙ sym e ∙ e'))
 one_value Default Default w e e' = refl
+
+-- a number that is read digit by digit
+pub digit_worth : (c : ℕ) → 48 ≤ c → c ≤ 57 → (digit_value c < 10) × (digit_value c ≡ c - 48)
+digit_worth c low high =
+    let e = digit_value_digit c (low, high) in (omega (arith, e), omega (arith, e))
+
+some_digit : (bs : List ℕ) → begins_number bs ≡ true → 0 < length bs
+some_digit [] e = cc
+some_digit (d ∷ ds) e = omega arith
+
+pub digits_read : (bs : List ℕ) (i : ℕ) → length bs ≤ i → begins_number bs ≡ true → AllDigits 10 (take i bs) → digits_value 10 (take i bs) < 2 ^ 32 → bs ≡ decimal (digits_value 10 (take i bs))
+digits_read bs i le begins digits lt =
+    let whole : take i bs ≡ bs = take_all i bs le in
+    let first = number_first bs begins in
+    rw whole (sym (decimal-digits_value own bs (rw whole at digits) (some_digit bs begins) first.2 (omega (arith, rw whole at lt))))
+
+pub no_digit : (bs : List ℕ) (i : ℕ) → i < length bs → (48 ≤ get_or bs i 0 → get_or bs i 0 ≤ 57 → ⊥) → (n : ℕ) → n < 2 ^ 32 → bs ≡ decimal n → ⊥
+no_digit bs i lt other n low e =
+    let digits : AllDigits 10 bs = rw e (digits_decimal own n (omega arith)) in
+    let range = digit_at bs i digits lt in
+    other range.0 range.1
+
+pub too_great : (bs : List ℕ) (i : ℕ) → 2 ^ 32 ≤ digits_value 10 (take i bs) → (n : ℕ) → n < 2 ^ 32 → bs ≡ decimal n → ⊥
+too_great bs i great n low e =
+    let all : digits_value 10 bs ≡ n = ap (digits_value 10) e ∙ digits_value-decimal own n (omega arith) in
+    let part : digits_value 10 (take i bs) ≤ digits_value 10 bs = digits_value-take-le 10 bs i (omega arith) in
+    omega (arith, great, low, all, part)
