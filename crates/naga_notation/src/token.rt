@@ -149,7 +149,7 @@ fn behind_br(rest: &[u8]) -> Option<Token>
 }
 
 /// What a word means that is none of those, and no value, in a case of the bench.
-#[inline(never)]
+#[inline(always)]
 fn own_meaning_of(bench: Bench, word: &[u8]) -> Option<Token>
     ensures { result ≡ lookup (own_words bench) word.now }
 {
@@ -161,6 +161,7 @@ fn own_meaning_of(bench: Bench, word: &[u8]) -> Option<Token>
 }
 
 /// What a word means that only the bench with calls has.
+#[inline(never)]
 fn call_meaning_of(word: &[u8]) -> Option<Token>
     ensures { result ≡ lookup (own_words bench.C) word.now }
 {
