@@ -252,7 +252,7 @@ struct Item {
     binding: Option<Binding>,
 }
 
-fn item(ty: u32, binding: Option<Binding>) -> Item {
+fn make_item(ty: u32, binding: Option<Binding>) -> Item {
     Item { ty, binding }
 }
 
@@ -278,5 +278,12 @@ fn alone(
     expected: Option<VaryingError>,
 ) {
     let mut state = VaryingState::new(rt.alloc());
-    next(rt, bench, place, &mut state, item(ty, binding), expected);
+    next(
+        rt,
+        bench,
+        place,
+        &mut state,
+        make_item(ty, binding),
+        expected,
+    );
 }

@@ -1,7 +1,7 @@
 //! Items that are bound to built-ins.
 
 use crate::tests::built_ins::{ROWS, STAGES, at, is_listed};
-use crate::tests::varyings::{Bench, U32, VEC4_F32, alone, fault_of, item, make_bench, next};
+use crate::tests::varyings::{Bench, U32, VEC4_F32, alone, fault_of, make_bench, make_item, next};
 use bitflags::Flags;
 use naga_arena::handle::Handle;
 use naga_errors::interface::VaryingError;
@@ -130,10 +130,10 @@ fn twice(
     second: BuiltIn,
 ) {
     let mut state = VaryingState::new(rt.alloc());
-    let earlier = item(VEC4_F32, Some(Binding::BuiltIn(first)));
+    let earlier = make_item(VEC4_F32, Some(Binding::BuiltIn(first)));
     next(rt, bench, place, &mut state, earlier, None);
     let fault = Some(VaryingError::DuplicateBuiltIn(second));
-    let later = item(VEC4_F32, Some(Binding::BuiltIn(second)));
+    let later = make_item(VEC4_F32, Some(Binding::BuiltIn(second)));
     next(rt, bench, place, &mut state, later, fault);
 }
 
@@ -152,9 +152,23 @@ fn duplicates(rt: HostRuntime) -> Result<(), Fail> {
     }
     let view = Some(Binding::BuiltIn(BuiltIn::ViewIndex));
     let mut state = VaryingState::new(rt.alloc());
-    next(&rt, &bench, &fragment, &mut state, item(U32, view), None);
+    next(
+        &rt,
+        &bench,
+        &fragment,
+        &mut state,
+        make_item(U32, view),
+        None,
+    );
     fragment.capabilities = Capabilities::empty();
     let fault = VaryingError::DuplicateBuiltIn(BuiltIn::ViewIndex);
-    next(&rt, &bench, &fragment, &mut state, item(U32, view), Some(fault));
+    next(
+        &rt,
+        &bench,
+        &fragment,
+        &mut state,
+        make_item(U32, view),
+        Some(fault),
+    );
     Ok(())
 }

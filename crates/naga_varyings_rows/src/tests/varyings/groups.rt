@@ -2,8 +2,8 @@
 
 use crate::tests::built_ins::at;
 use crate::tests::varyings::{
-    BLEND, COLLIDING, POSITION, U32, UNBOUND, VEC4_F32, alone, item, location,
-    make_bench, next,
+    BLEND, COLLIDING, POSITION, U32, UNBOUND, VEC4_F32, alone, location, make_bench, make_item,
+    next,
 };
 use bitflags::Flags;
 use naga_errors::interface::VaryingError;
@@ -18,13 +18,34 @@ fn sources_of_a_blend(rt: HostRuntime) -> Result<(), Fail> {
     let bench = make_bench(&rt)?;
     let color = at(ShaderStage::Fragment, true);
     let mut state = VaryingState::new(rt.alloc());
-    next(&rt, &bench, &color, &mut state, item(BLEND, None), None);
+    next(
+        &rt,
+        &bench,
+        &color,
+        &mut state,
+        make_item(BLEND, None),
+        None,
+    );
     assert!(&rt; state.has_location(0));
     let fault = VaryingError::BindingCollision { location: 0 };
-    next(&rt, &bench, &color, &mut state, item(BLEND, None), Some(fault));
+    next(
+        &rt,
+        &bench,
+        &color,
+        &mut state,
+        make_item(BLEND, None),
+        Some(fault),
+    );
     let mut unbound = at(ShaderStage::Fragment, true);
     unbound.flags = ValidationFlags::empty();
-    next(&rt, &bench, &unbound, &mut state, item(BLEND, None), None);
+    next(
+        &rt,
+        &bench,
+        &unbound,
+        &mut state,
+        make_item(BLEND, None),
+        None,
+    );
     let stage = ShaderStage::Fragment;
     let fault = VaryingError::InvalidInputAttributeInStage("blend_src", stage);
     alone(&rt, &bench, &at(stage, false), BLEND, None, Some(fault));
@@ -40,24 +61,52 @@ fn members(rt: HostRuntime) -> Result<(), Fail> {
     let mut vertex = at(ShaderStage::Vertex, true);
     let mut state = VaryingState::new(rt.alloc());
     let fault = VaryingError::BindingCollision { location: 2 };
-    let colliding = item(COLLIDING, None);
+    let colliding = make_item(COLLIDING, None);
     next(&rt, &bench, &vertex, &mut state, colliding, Some(fault));
     assert!(&rt; !state.has_location(1) && !state.has_location(2));
     assert!(&rt; !state.has_built_in(BuiltIn::Position { invariant: false }));
     let fault = VaryingError::MemberMissingBinding(1);
-    next(&rt, &bench, &vertex, &mut state, item(UNBOUND, None), Some(fault));
+    next(
+        &rt,
+        &bench,
+        &vertex,
+        &mut state,
+        make_item(UNBOUND, None),
+        Some(fault),
+    );
     let fault = Some(VaryingError::MissingBinding);
-    next(&rt, &bench, &vertex, &mut state, item(U32, None), fault);
+    next(
+        &rt,
+        &bench,
+        &vertex,
+        &mut state,
+        make_item(U32, None),
+        fault,
+    );
     assert!(&rt; !state.has_location(3));
     vertex.flags = ValidationFlags::empty();
-    next(&rt, &bench, &vertex, &mut state, item(COLLIDING, None), None);
+    next(
+        &rt,
+        &bench,
+        &vertex,
+        &mut state,
+        make_item(COLLIDING, None),
+        None,
+    );
     assert!(&rt; state.has_location(1) && state.has_location(2));
     assert!(&rt; state.has_built_in(BuiltIn::Position { invariant: false }));
-    next(&rt, &bench, &vertex, &mut state, item(UNBOUND, None), None);
-    next(&rt, &bench, &vertex, &mut state, item(U32, None), None);
+    next(
+        &rt,
+        &bench,
+        &vertex,
+        &mut state,
+        make_item(UNBOUND, None),
+        None,
+    );
+    next(&rt, &bench, &vertex, &mut state, make_item(U32, None), None);
     state.clear_built_ins();
     assert!(&rt; state.has_location(3));
-    let position = item(VEC4_F32, Some(POSITION));
+    let position = make_item(VEC4_F32, Some(POSITION));
     next(&rt, &bench, &vertex, &mut state, position, None);
     Ok(())
 }

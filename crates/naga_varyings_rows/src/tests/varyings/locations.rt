@@ -3,7 +3,7 @@
 use crate::tests::built_ins::{STAGES, at};
 use crate::tests::varyings::{
     BOOL, Bench, F32, THREE_F32, THREE_U32, U32, VEC4_F32, alone, by_primitive, interpolated, item,
-    location, make_bench, next,
+    location, make_bench, make_item, next,
 };
 use bitflags::Flags;
 use naga_arena::handle::Handle;
@@ -214,7 +214,7 @@ fn location_twice(
     let mut fragment = at(ShaderStage::Fragment, false);
     fragment.flags = flags;
     let mut state = VaryingState::new(rt.alloc());
-    let located = item(VEC4_F32, Some(location(at_location)));
+    let located = make_item(VEC4_F32, Some(location(at_location)));
     next(rt, bench, &fragment, &mut state, located, None);
     next(rt, bench, &fragment, &mut state, located, expected);
     assert!(rt; state.has_location(at_location));
