@@ -2,7 +2,7 @@
 
 use crate::tests::built_ins::{STAGES, at};
 use crate::tests::varyings::{
-    BOOL, Bench, F32, THREE_F32, THREE_U32, U32, VEC4_F32, alone, by_primitive, interpolated, item,
+    BOOL, Bench, F32, THREE_F32, THREE_U32, U32, VEC4_F32, alone, by_primitive, interpolated,
     location, make_bench, make_item, next,
 };
 use bitflags::Flags;
