@@ -7,4 +7,5 @@ pub mod judge;
 pub mod line;
 pub mod run;
 
+pub use crate::run::run_case;
 pub use naga_module::check_module;

@@ -7,7 +7,7 @@ mod notation;
 mod rows;
 mod settings;
 
-use naga_case::run::run_case;
+use naga_case::run_case;
 use std::alloc::Global;
 use std::io::{Read, Write};
 

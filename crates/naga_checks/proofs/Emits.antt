@@ -2,12 +2,11 @@
 use Rattle.std.proofs.Common.{◌≡◌, ℕ, zero, suc, ◌+◌, ◌-◌, ◌<◌, ◌≤◌, ◌==◌, Bool, true, false, not, ◌&&◌, ◌||◌, nat_le, nat_lt, Option, Some, None, List, [], ◌∷◌, ◌++◌, refl, sym, ap, ◌∙◌, arith}
 use Rattle.std.proofs.lemmas.Bool.Decides.{nat_tests}
 use Rattle.std.specs.Option.{option_or}
-use Rattle.std.specs.Prelude.{◌↔◌, IsTrue, map, if◌then◌else◌}
+use Rattle.std.specs.Prelude.{◌↔◌, ◌≢◌, IsTrue, map, if◌then◌else◌}
 use Rattle.naga_below.proofs.Points.{first_holds, both_hold, first_of_both, not_holds}
 use Rattle.naga_below.specs.Points.{first_fault}
 use Rattle.naga_ir.specs.View.{emitted}
 use Rattle.naga_arena.specs.declared.span.Refusal.{Refusal}
-use Rattle.naga_arena.specs.declared.span.Refusal.TheVariants as refusal
 use Rattle.naga_below.specs.declared.valid.expression_error.ExpressionError.TheVariants.{NotInScope}
 use Rattle.naga_errors.specs.declared.function.FunctionError.{FunctionError}
 use Rattle.naga_errors.specs.declared.function.FunctionError.TheVariants.{EmitResult, ExpressionAlreadyInScope}
@@ -22,14 +21,14 @@ use Rattle.naga_context.specs.Points.{Points, use_point, put_point, is_in_scope}
 use Rattle.naga_checks.specs.checks.Control.{within_emit, emitted_points, emit_points_from}
 use Rattle.naga_context.specs.Results.{is_result}
 use Rattle.naga_context.specs.Types.{expression_at}
-use Rattle.naga_context.specs.walk.Answers.{AllHold, IsRefusalFor}
+use Rattle.naga_context.specs.walk.Answers.{AllHold}
 use Rattle.naga_errors.specs.Answers.{IsFirstFault}
 use Rattle.naga_context.specs.walk.Place.{Sets, place_at}
 use Rattle.naga_context.specs.walk.Table.{with_all, with_puts}
 use Rattle.naga_checks.specs.walk.Emitted.{handles_from, handles_between}
 use Rattle.naga_checks.proofs.Calls.{call_puts}
 use Rattle.naga_checks.proofs.Lists.{in_scope_before}
-use Rattle.naga_context.proofs.Refusals.{first_refused, refuses_fault}
+use Rattle.naga_context.proofs.Refusals.{first_refused}
 
 or_true : (b : Bool) → (b || true) ≡ true
 or_true true = refl
@@ -99,17 +98,12 @@ module _ (context : Context) (place : Place) (h : ℕ) where
       ∙ ap (λ b. if not b then first_fault (map (use_point place) (operands_if o) ++ puts) else Some (EmitResult h)) kind
       ∙ first_of_both (map (use_point place) (operands_if o)) puts
 
-  pub emitted_stops : (o : Option Expression) (given : Refusal FunctionError) → o ≡ expression_at context h → is_result o ≡ false → IsFirstFault (map (use_point place) (operands_if o)) given → IsFirstFault (emitted_points context place place h) given
-  emitted_stops o (refusal.Fault f) is kind e = by_operands o is kind ∙ ap (λ x. option_or x (first_fault puts)) e
-  emitted_stops o refusal.Memory is kind e = tt
+  pub emitted_stops : (o : Option Expression) (f : FunctionError) → o ≡ expression_at context h → is_result o ≡ false → Some f ≡ first_fault (map (use_point place) (operands_if o)) → Some f ≡ first_fault (emitted_points context place place h)
+  emitted_stops o f is kind e = sym (by_operands o is kind ∙ ap (λ x. option_or x (first_fault puts)) (sym e))
 
   -- the put, where no point before it fails
   pub emitted_last : (o : Option Expression) → o ≡ expression_at context h → is_result o ≡ false → first_fault (map (use_point place) (operands_if o)) ≡ None → first_fault (emitted_points context place place h) ≡ first_fault puts
   emitted_last o is kind e = by_operands o is kind ∙ ap (λ x. option_or x (first_fault puts)) e
-
-  pub emitted_twice : (o : Option Expression) (given : Refusal FunctionError) → o ≡ expression_at context h → is_result o ≡ false → first_fault (map (use_point place) (operands_if o)) ≡ None → is_in_scope place h ≡ true → IsRefusalFor (ExpressionAlreadyInScope h) given → IsFirstFault (emitted_points context place place h) given
-  emitted_twice o given is kind e in_scope for_it =
-      refuses_fault (ExpressionAlreadyInScope h) given (emitted_points context place place h) for_it (sym (emitted_last o is kind e ∙ ap (λ b. first_fault ((not b, ExpressionAlreadyInScope h) ∷ [])) in_scope))
 
   pub emitted_once : (o : Option Expression) → o ≡ expression_at context h → is_result o ≡ false → first_fault (map (use_point place) (operands_if o)) ≡ None → is_in_scope place h ≡ false → first_fault (emitted_points context place place h) ≡ None
   emitted_once o is kind e new =
@@ -153,6 +147,9 @@ module _ (context : Context) (place : Place) (start h end : ℕ) (lt : h < end) 
 
   pub emit_stops : (whole : Points) (refused : Refusal FunctionError) → first_fault (emit_points_from context place start h (end - h)) ≡ first_fault whole → IsFirstFault here refused → IsFirstFault whole refused
   emit_stops whole refused e first = first_refused refused here behind whole (sym (ap first_fault split) ∙ e) first
+
+  pub emit_stops_alone : (whole : Points) → first_fault (emit_points_from context place start h (end - h)) ≡ first_fault whole → first_fault here ≢ None → first_fault whole ≢ None
+  emit_stops_alone whole e fails = λ none. fails (both_hold here behind (sym (ap first_fault split) ∙ e ∙ none)).0
 
   pub emit_next : (whole : Points) → first_fault (emit_points_from context place start h (end - h)) ≡ first_fault whole → first_fault here ≡ None → first_fault behind ≡ first_fault whole
   emit_next whole e none =

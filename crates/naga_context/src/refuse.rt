@@ -2,7 +2,7 @@
 
 ghost use Rattle.std.specs.Prelude.{[], ◌∷◌};
 ghost use Rattle.naga_below.specs.declared.valid.expression_error.ExpressionError.TheVariants.{NotInScope};
-ghost use Rattle.naga_errors.specs.declared.function.FunctionError.TheVariants.{Expression, ExpressionAlreadyInScope};
+ghost use Rattle.naga_errors.specs.declared.function.FunctionError.TheVariants.{Expression};
 ghost use Rattle.naga_context.specs.walk.Answers.{Finds, IsRefusalFor, RefusesFaultsAlone};
 ghost use Rattle.naga_errors.specs.Answers.{AnswersPoints};
 ghost use Rattle.naga_context.specs.Points.{Points, use_point, put_point};
@@ -52,16 +52,6 @@ pub fn not_in_scope(alloc: Global, handle: Handle<tag::Expression>, span: Span) 
         handle,
         source: ExpressionError::NotInScope,
     };
-    Refused::placed(alloc, fault, span)
-}
-
-/// The refusal of a put.
-#[cold]
-#[inline(never)]
-pub fn already_in_scope(alloc: Global, handle: Handle<tag::Expression>, span: Span) -> Refused
-    ensures { IsRefusalFor (ExpressionAlreadyInScope handle) result }
-{
-    let fault = FunctionError::ExpressionAlreadyInScope(handle);
     Refused::placed(alloc, fault, span)
 }
 

@@ -116,7 +116,8 @@ fn begin_columns(scope: &mut ScopeColumn, filled: &mut FilledColumn, context: &B
     }
 }
 
-/// The parts of a statement; nothing is set up for them where a statement has none. Answers whether it holds a Continue for the Loop in whose body it stands.
+/// The parts of a statement, or nothing where it has none. Answers whether it holds a Continue for the Loop in whose body it
+/// stands.
 #[tactic(auto, using(crate::proofs::Walk::walking))]
 #[cycle(walk)]
 #[inline(never)]

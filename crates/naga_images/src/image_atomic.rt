@@ -3,7 +3,7 @@
 ghost use Rattle.std.specs.Prelude.{◌≡◌, ◌++◌};
 ghost use Rattle.std.specs.Option.{option_copied};
 ghost use Rattle.naga_types.specs.Types.{inner_at};
-ghost use Rattle.naga_context.specs.walk.Answers.{Finds};
+ghost use Rattle.naga_context.specs.walk.Answers.{Finds, RefusesFaultsAlone};
 ghost use Rattle.naga_errors.specs.Answers.{AnswersPoints};
 ghost use Rattle.naga_images.specs.walk.Image.{changed_points, changed_format_points, changed_value_points, changed_class_points};
 ghost use Rattle.naga_images.specs.ImageAtomic.{element_or_itself, is_done_on_texels, operation_points, format_points, image_atomic_points};
@@ -44,7 +44,10 @@ pub fn check_image_atomic(
     operation: TexelOperation,
     span: Span,
 ) -> Result<(), Refused>
-    ensures { AnswersPoints
+    ensures fault { AnswersPoints
+        (image_atomic_points (context_of context.now) (place_at (known scope.now)) image operation.texel.coordinate operation.texel.array_index operation.fun operation.value)
+        result }
+    ensures refused { RefusesFaultsAlone
         (image_atomic_points (context_of context.now) (place_at (known scope.now)) image operation.texel.coordinate operation.texel.array_index operation.fun operation.value)
         result }
 {

@@ -4,7 +4,7 @@ ghost use Rattle.std.specs.Prelude.{◌≡◌, ◌<◌, OnOk, IfSome, Some, is_s
 ghost use Rattle.std.specs.Option.{option_copied};
 ghost use Rattle.naga_ir.specs.View.{put_if};
 ghost use Rattle.naga_runs.specs.PutsAndUses.{puts_of};
-ghost use Rattle.naga_context.specs.walk.Answers.{Finds};
+ghost use Rattle.naga_context.specs.walk.Answers.{Finds, RefusesFaultsAlone};
 ghost use Rattle.naga_errors.specs.Answers.{AnswersPoints};
 ghost use Rattle.naga_memory.specs.Atomic.{atomic_scalar_at, is_int64, is_float32, is_min_or_max, is_plain_exchange, is_done_on_floats, int64_capability, scalar_points, is_atomic_result, is_comparison, result_type_at, atomic_result_points, atomic_points};
 ghost use Rattle.naga_rules.specs.Spaces.{is_storage};
@@ -49,6 +49,9 @@ pub fn validate_atomic(
     requires context { ContextFits (context_of context.now) }
     requires result { IfSome operation.now.named (λ r. r < count scope.old) }
     ensures fault { AnswersPoints
+        (atomic_points (context_of context.now) (filled_in filled.now) (place_at (known scope.old)) operation.now.pointer operation.now.fun operation.now.value operation.now.named)
+        result }
+    ensures refused { RefusesFaultsAlone
         (atomic_points (context_of context.now) (filled_in filled.now) (place_at (known scope.old)) operation.now.pointer operation.now.fun operation.now.value operation.now.named)
         result }
     ensures scope { OnOk result (HasPut scope.old scope.new (puts_of (put_if operation.now.named))) }

@@ -1,7 +1,7 @@
 //! The check list of CooperativeStore.
 
 ghost use Rattle.std.specs.Prelude.{◌≡◌};
-ghost use Rattle.naga_context.specs.walk.Answers.{Finds};
+ghost use Rattle.naga_context.specs.walk.Answers.{Finds, RefusesFaultsAlone};
 ghost use Rattle.naga_errors.specs.Answers.{AnswersPoints};
 ghost use Rattle.naga_context.specs.Context.{ContextFits};
 ghost use Rattle.naga_memory.specs.Cooperative.{matrix_scalar_at, base_scalar_at, cooperative_points};
@@ -29,7 +29,8 @@ pub fn check_cooperative_store(
     span: Span,
 ) -> Result<(), Refused>
     requires { ContextFits (context_of context.now) }
-    ensures { AnswersPoints (cooperative_points (context_of context.now) (place_at (known scope.now)) target pointer) result }
+    ensures fault { AnswersPoints (cooperative_points (context_of context.now) (place_at (known scope.now)) target pointer) result }
+    ensures refused { RefusesFaultsAlone (cooperative_points (context_of context.now) (place_at (known scope.now)) target pointer) result }
 {
     let checked = check_cooperative_store_points(scope, context, target, pointer);
     answer(scope.allocator(), checked, span)

@@ -2,7 +2,7 @@
 
 ghost use Rattle.std.specs.Prelude.{◌≡◌, ◌<◌, ◌↔◌, ◌∷◌, [], IsTrue, OnOk, IfSome, length};
 ghost use Rattle.std.specs.Option.{option_copied};
-ghost use Rattle.naga_context.specs.walk.Answers.{AllHold, Finds};
+ghost use Rattle.naga_context.specs.walk.Answers.{AllHold, Finds, RefusesFaultsAlone};
 ghost use Rattle.naga_errors.specs.Answers.{AnswersPoints};
 ghost use Rattle.naga_context.specs.Context.{ContextFits};
 ghost use Rattle.naga_memory.specs.Load.{is_work_group, is_loaded_as, loaded_type_at, points_to, load_points};
@@ -35,6 +35,7 @@ pub fn validate_load(
     requires context { ContextFits (context_of context.now) }
     requires result { loaded < count scope.old }
     ensures fault { AnswersPoints (load_points (context_of context.now) (place_at (known scope.old)) pointer loaded) result }
+    ensures refused { RefusesFaultsAlone (load_points (context_of context.now) (place_at (known scope.old)) pointer loaded) result }
     ensures scope { OnOk result (HasPut scope.old scope.new (loaded ∷ [])) }
 {
     check_load(scope, context, pointer, loaded, span)?;
@@ -51,7 +52,8 @@ fn check_load(
     span: Span,
 ) -> Result<(), Refused>
     requires { ContextFits (context_of context.now) }
-    ensures { AnswersPoints (load_points (context_of context.now) (place_at (known scope.now)) pointer loaded) result }
+    ensures fault { AnswersPoints (load_points (context_of context.now) (place_at (known scope.now)) pointer loaded) result }
+    ensures refused { RefusesFaultsAlone (load_points (context_of context.now) (place_at (known scope.now)) pointer loaded) result }
 {
     if load_holds(scope, context, pointer, loaded) {
         return Ok(());
@@ -86,7 +88,8 @@ fn refuse_load(
     span: Span,
 ) -> Result<(), Refused>
     requires { ContextFits (context_of context.now) }
-    ensures { AnswersPoints (load_points (context_of context.now) (place_at (known scope.now)) pointer loaded) result }
+    ensures fault { AnswersPoints (load_points (context_of context.now) (place_at (known scope.now)) pointer loaded) result }
+    ensures refused { RefusesFaultsAlone (load_points (context_of context.now) (place_at (known scope.now)) pointer loaded) result }
 {
     let checked = check_load_points(scope, context, pointer, loaded);
     answer(scope.allocator(), checked, span)

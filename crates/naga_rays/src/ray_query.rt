@@ -5,7 +5,7 @@ ghost use Rattle.std.specs.Option.{option_copied};
 ghost use Rattle.naga_below.specs.FitsBody.{QueryFits};
 ghost use Rattle.naga_ir.specs.View.{query_acts};
 ghost use Rattle.naga_runs.specs.PutsAndUses.{puts_of};
-ghost use Rattle.naga_context.specs.walk.Answers.{Finds};
+ghost use Rattle.naga_context.specs.walk.Answers.{Finds, RefusesFaultsAlone};
 ghost use Rattle.naga_errors.specs.Answers.{AnswersPoints};
 ghost use Rattle.naga_ir.specs.declared.operations.RayQueryFunction.TheVariants.{Initialize};
 ghost use Rattle.naga_rays.specs.RayQuery.{local_type_at, query_flag_of, structure_flag_at, descriptor_type, descriptor_points, is_float_scalar, query_function_points, ray_query_points};
@@ -38,6 +38,7 @@ pub fn validate_ray_query(
 ) -> Result<(), Refused>
     requires { QueryFits (count scope.old) fun.now }
     ensures fault { AnswersPoints (ray_query_points (context_of context.now) (place_at (known scope.old)) query fun.now) result }
+    ensures refused { RefusesFaultsAlone (ray_query_points (context_of context.now) (place_at (known scope.old)) query fun.now) result }
     ensures scope { OnOk result (HasPut scope.old scope.new (puts_of (query_acts fun.now))) }
 {
     let alloc = scope.allocator();

@@ -3,7 +3,7 @@
 ghost use Rattle.std.specs.Prelude.{◌≡◌, true};
 ghost use Rattle.std.specs.Option.{option_copied, option_or};
 ghost use Rattle.naga_runs.specs.Positions.{StatementNode};
-ghost use Rattle.naga_context.specs.walk.Answers.{Finds};
+ghost use Rattle.naga_context.specs.walk.Answers.{Finds, RefusesFaultsAlone};
 ghost use Rattle.naga_errors.specs.Answers.{AnswersPoints};
 ghost use Rattle.naga_context.specs.Blocks.{tree_of};
 ghost use Rattle.naga_rays.specs.RayTrace.{is_payload_space, is_global, trace_ray_points};
@@ -44,7 +44,10 @@ pub fn check_trace_ray(
     ray: Ray,
     span: Span,
 ) -> Result<(), Refused>
-    ensures { AnswersPoints
+    ensures fault { AnswersPoints
+        (trace_ray_points (context_of context.now) so_far.now (place_at (known scope.now)) ray.structure ray.descriptor ray.payload)
+        result }
+    ensures refused { RefusesFaultsAlone
         (trace_ray_points (context_of context.now) so_far.now (place_at (known scope.now)) ray.structure ray.descriptor ray.payload)
         result }
 {

@@ -1,4 +1,4 @@
-//! The check lists of the statements that are neither jumps nor hold others.
+//! The check lists of the statements that neither jump nor hold others, but for the kinds that bodies have most.
 
 ghost use Rattle.std.specs.Prelude.{◌≡◌, false, OnOk};
 ghost use Rattle.naga_errors.specs.Answers.{AnswersPoints};

@@ -34,7 +34,8 @@ use naga_memory::store::check_store;
 use naga_runs::Abilities;
 
 /// A statement itself: its check list, what it puts, which is in scope afterwards, and what it leaves; its parts are left out.
-/// Answers whether that is all of it: so it is of the kinds that bodies have most, which hold no others.
+/// Answers whether that is all of it: true for Emit, Store and Call, the kinds that bodies have most, and false for all others,
+/// whether they hold statements or not.
 pub fn validate_own(
     table: &mut Table,
     state: &mut BodyOutcome,
@@ -59,6 +60,7 @@ pub fn validate_own(
     match &located.statement {
         Statement::Emit(range) => {
             control::validate_emit(&mut table.scope, context, *range, span)?;
+            // it runs in every stage, and bits that stand for none go
             state.stages = state.stages.intersection(ShaderStages::ALL);
             Ok(true)
         }
@@ -147,6 +149,7 @@ fn validate_points(
         Statement::Switch { selector, cases } => {
             switch::check_switch(scope, context, *selector, cases.as_slice(), span)
         }
+        Statement::Block(_) | Statement::Loop { .. } | Statement::Kill => Ok(()),
         Statement::Break => control::check_break(alloc, *abilities, span),
         Statement::Continue => control::check_continue(alloc, *abilities, span),
         Statement::Return { value } => {

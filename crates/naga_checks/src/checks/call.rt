@@ -109,31 +109,6 @@ fn call_holds(
     call_result_holds(scope, filled, context, site, callee.result.is_some())
 }
 
-/// The list of a Call, with the fault of each point, where one fails.
-#[cold]
-#[inline(never)]
-fn refuse_call(
-    scope: &ScopeColumn,
-    filled: &FilledColumn,
-    context: &BlockContext,
-    site: &CallSite,
-    arguments: &[Handle<tag::Expression>],
-) -> Result<(), Refused>
-    requires context { ContextFits (context_of context.now) }
-    requires callee { CalleeFits (context_of context.now).program site.now.function }
-    ensures fault { AnswersPoints
-        (call_points (context_of context.now) (filled_in filled.now) (place_at (known scope.now)) site.now.function arguments.now site.now.named)
-        result }
-    ensures refused { RefusesFaultsAlone
-        (call_points (context_of context.now) (filled_in filled.now) (place_at (known scope.now)) site.now.function arguments.now site.now.named)
-        result }
-{
-    let callee = &context.program.functions[site.function];
-    check_arguments(scope, context, site, callee.arguments.as_slice(), arguments)?;
-    let returns = callee.result.is_some();
-    check_call_result(scope, filled, context, site, returns)
-}
-
 /// Whether no point of the arguments of a Call fails.
 fn arguments_hold(
     scope: &ScopeColumn,
@@ -183,6 +158,31 @@ fn call_result_holds(
     }
 }
 
+/// The list of a Call, with the fault of each point, where one fails.
+#[cold]
+#[inline(never)]
+fn refuse_call(
+    scope: &ScopeColumn,
+    filled: &FilledColumn,
+    context: &BlockContext,
+    site: &CallSite,
+    arguments: &[Handle<tag::Expression>],
+) -> Result<(), Refused>
+    requires context { ContextFits (context_of context.now) }
+    requires callee { CalleeFits (context_of context.now).program site.now.function }
+    ensures fault { AnswersPoints
+        (call_points (context_of context.now) (filled_in filled.now) (place_at (known scope.now)) site.now.function arguments.now site.now.named)
+        result }
+    ensures refused { RefusesFaultsAlone
+        (call_points (context_of context.now) (filled_in filled.now) (place_at (known scope.now)) site.now.function arguments.now site.now.named)
+        result }
+{
+    let callee = &context.program.functions[site.function];
+    check_arguments(scope, context, site, callee.arguments.as_slice(), arguments)?;
+    let returns = callee.result.is_some();
+    check_call_result(scope, filled, context, site, returns)
+}
+
 /// As many arguments as are declared, each put by every run and of its declared type.
 fn check_arguments(
     scope: &ScopeColumn,
@@ -205,7 +205,7 @@ fn check_arguments(
             required: declared.len(),
             seen: given.len(),
         };
-        return Err(refused(scope.allocator(), site, error));
+        return Err(refused_call(scope.allocator(), site, error));
     }
     for index in 0..given.len() {
         check_argument(
@@ -241,7 +241,7 @@ fn check_argument(
     if !scope.may_use(given) {
         let source = ExpressionError::NotInScope;
         let error = CallError::Argument { index, source };
-        return Err(refused(scope.allocator(), site, error));
+        return Err(refused_call(scope.allocator(), site, error));
     }
     if !is_passed_as(context, given, declared) {
         let error = CallError::ArgumentType {
@@ -249,29 +249,9 @@ fn check_argument(
             required: declared,
             seen_expression: given,
         };
-        return Err(refused(scope.allocator(), site, error));
+        return Err(refused_call(scope.allocator(), site, error));
     }
     Ok(())
-}
-
-/// Whether an expression is of the type that an argument is declared with.
-fn is_passed_as(
-    context: &BlockContext,
-    given: Handle<tag::Expression>,
-    declared: Handle<tag::Type>,
-) -> bool
-    requires context { ContextFits (context_of context.now) }
-    requires declared { declared < length (context_of context.now).program.types }
-    ensures { result ≡ is_passed_as (context_of context.now) given declared }
-{
-    match context.resolution(given) {
-        None => false,
-        Some(given) => compare_types(
-            &TypeResolution::Handle(declared),
-            given,
-            &context.program.types,
-        ),
-    }
 }
 
 /// The result that a call names: not in scope yet, of the called function, which returns one, and fresh. A call that
@@ -295,14 +275,14 @@ fn check_call_result(
         Some(handle) => {
             if scope.contains(*handle) {
                 let error = CallError::ResultAlreadyInScope(*handle);
-                return Err(refused(alloc, site, error));
+                return Err(refused_call(alloc, site, error));
             }
             if !is_call_result_of(site.function, context.expression(*handle)) || !returns {
                 return Err(expression_mismatch(alloc, site));
             }
             if !is_fresh(filled, context, *handle) {
                 let error = CallError::ResultAlreadyPopulated(*handle);
-                return Err(refused(alloc, site, error));
+                return Err(refused_call(alloc, site, error));
             }
             Ok(())
         }
@@ -312,6 +292,26 @@ fn check_call_result(
             }
             Ok(())
         }
+    }
+}
+
+/// Whether an expression is of the type that an argument is declared with.
+fn is_passed_as(
+    context: &BlockContext,
+    given: Handle<tag::Expression>,
+    declared: Handle<tag::Type>,
+) -> bool
+    requires context { ContextFits (context_of context.now) }
+    requires declared { declared < length (context_of context.now).program.types }
+    ensures { result ≡ is_passed_as (context_of context.now) given declared }
+{
+    match context.resolution(given) {
+        None => false,
+        Some(given) => compare_types(
+            &TypeResolution::Handle(declared),
+            given,
+            &context.program.types,
+        ),
     }
 }
 
@@ -326,7 +326,7 @@ fn is_call_result_of(function: Handle<tag::Function>, expression: Option<&Expres
 }
 
 /// The refusal of a call by this fault.
-fn refused(alloc: Global, site: &CallSite, error: CallError) -> Refused
+fn refused_call(alloc: Global, site: &CallSite, error: CallError) -> Refused
     ensures { IsRefusalFor (InvalidCall site.now.function error) result }
 {
     let function = site.function;
@@ -341,5 +341,5 @@ fn refused(alloc: Global, site: &CallSite, error: CallError) -> Refused
 fn expression_mismatch(alloc: Global, site: &CallSite) -> Refused
     ensures { IsRefusalFor (InvalidCall site.now.function (ExpressionMismatch site.now.named)) result }
 {
-    refused(alloc, site, CallError::ExpressionMismatch(site.named))
+    refused_call(alloc, site, CallError::ExpressionMismatch(site.named))
 }

@@ -1,19 +1,18 @@
 //! The check lists of Emit, If, Return, Break and Continue, and of a break condition.
 
-ghost use Rattle.std.specs.Prelude.{◌≡◌, ◌≤◌, ◌↔◌, [], ◌∷◌, IsTrue, OnOk, map};
+ghost use Rattle.std.specs.Prelude.{◌≡◌, ◌≤◌, ◌↔◌, IsTrue, OnOk, map};
 ghost use Rattle.std.specs.Option.{option_copied};
 ghost use Rattle.naga_checks.specs.checks.Control.{emit_points, emitted_points, is_bool_scalar, condition_points, declared_type, is_returned_as, return_points, break_points, continue_points};
 ghost use Rattle.naga_context.specs.Results.{is_result};
 ghost use Rattle.naga_context.specs.walk.Place.{no_sets, place_at};
 ghost use Rattle.naga_checks.specs.walk.Emitted.{handles_between, place};
 ghost use Rattle.naga_errors.specs.declared.function.FunctionError.TheVariants.{BreakOutsideOfLoopOrSwitch, ContinueOutsideOfLoop, InvalidReturnType};
-ghost use Rattle.naga_context.specs.walk.Answers.{AllHold, IsRefusalFor, RefusesFaultsAlone};
+ghost use Rattle.naga_context.specs.walk.Answers.{AllHold, Finds, IsRefusalFor, RefusesFaultsAlone};
 ghost use Rattle.naga_errors.specs.Answers.{AnswersPoints};
 ghost use Rattle.naga_context.specs.Context.{ContextFits};
 ghost use Rattle.naga_context.specs.walk.Seen.{context_of};
 ghost use Rattle.naga_context.specs.Blocks.{operands_if};
 ghost use Rattle.naga_context.specs.Points.{use_point};
-ghost use Rattle.naga_ir.specs.Operands.{operands_of};
 ghost use Rattle.naga_context.specs.walk.Table.{HasPut, count, known};
 
 use naga_arena::handle::Handle;
@@ -21,7 +20,7 @@ use naga_arena::range::Range;
 use naga_arena::span::Span;
 use naga_arena::tag;
 use naga_context::context::BlockContext;
-use naga_context::refuse::{already_in_scope, not_in_scope};
+use naga_context::refuse::{answer, check_put, check_use, not_in_scope};
 use naga_context::refused::Refused;
 use naga_context::table::ScopeColumn;
 use naga_errors::function::FunctionError;
@@ -42,6 +41,7 @@ pub fn validate_emit(
 ) -> Result<(), Refused>
     requires { range.end ≤ count scope.old }
     ensures fault { AnswersPoints (emit_points (context_of context.now) (place_at (known scope.old)) range.start range.end) result }
+    ensures refused { RefusesFaultsAlone (emit_points (context_of context.now) (place_at (known scope.old)) range.start range.end) result }
     ensures scope { OnOk result (HasPut scope.old scope.new (handles_between range.start range.end)) }
 {
     for index in range.start..range.end {
@@ -59,7 +59,10 @@ fn check_emitted(
     handle: Handle<tag::Expression>,
     span: Span,
 ) -> Result<(), Refused>
-    ensures { AnswersPoints
+    ensures fault { AnswersPoints
+        (emitted_points (context_of context.now) (place_at (known scope.now)) (place_at (known scope.now)) handle)
+        result }
+    ensures refused { RefusesFaultsAlone
         (emitted_points (context_of context.now) (place_at (known scope.now)) (place_at (known scope.now)) handle)
         result }
 {
@@ -105,15 +108,15 @@ fn operands_hold(scope: &ScopeColumn, expression: Option<&Expression>) -> bool
 fn listed_hold(scope: &ScopeColumn, operands: &[Handle<tag::Expression>]) -> bool
     ensures { IsTrue result ↔ AllHold (map (use_point (place_at (known scope.now))) operands.now) }
 {
-    for k in 0..operands.len() {
-        if !scope.may_use(operands[k]) {
+    for index in 0..operands.len() {
+        if !scope.may_use(operands[index]) {
             return false;
         }
     }
     true
 }
 
-/// The list of an expression that is emitted, with the fault of each point, where one fails.
+/// The refusal of an expression of which a point fails.
 #[cold]
 #[inline(never)]
 fn refuse_emitted(
@@ -122,78 +125,60 @@ fn refuse_emitted(
     handle: Handle<tag::Expression>,
     span: Span,
 ) -> Result<(), Refused>
-    ensures { AnswersPoints
+    ensures fault { AnswersPoints
+        (emitted_points (context_of context.now) (place_at (known scope.now)) (place_at (known scope.now)) handle)
+        result }
+    ensures refused { RefusesFaultsAlone
+        (emitted_points (context_of context.now) (place_at (known scope.now)) (place_at (known scope.now)) handle)
+        result }
+{
+    let checked = check_emitted_points(scope, context, handle);
+    answer(scope.allocator(), checked, span)
+}
+
+/// The list of an expression that is emitted, with the fault of each point.
+fn check_emitted_points(
+    scope: &ScopeColumn,
+    context: &BlockContext,
+    handle: Handle<tag::Expression>,
+) -> Result<(), FunctionError>
+    ensures { Finds
         (emitted_points (context_of context.now) (place_at (known scope.now)) (place_at (known scope.now)) handle)
         result }
 {
     let expression = context.expression(handle);
     if is_result(expression) {
-        let fault = FunctionError::EmitResult(handle);
-        return Err(Refused::placed(scope.allocator(), fault, span));
+        return Err(FunctionError::EmitResult(handle));
     }
-    check_operands(scope, expression, span)?;
-    if scope.contains(handle) {
-        return Err(already_in_scope(scope.allocator(), handle, span));
-    }
-    Ok(())
+    check_operands(scope, expression)?;
+    check_put(scope, handle)
 }
 
 /// The operands of an expression, each put by every run.
-fn check_operands(
-    scope: &ScopeColumn,
-    expression: Option<&Expression>,
-    span: Span,
-) -> Result<(), Refused>
-    ensures { AnswersPoints (map (use_point (place_at (known scope.now))) (operands_if (option_copied expression.entry))) result }
+fn check_operands(scope: &ScopeColumn, expression: Option<&Expression>) -> Result<(), FunctionError>
+    ensures { Finds (map (use_point (place_at (known scope.now))) (operands_if (option_copied expression.entry))) result }
 {
     match expression {
-        Some(expression) => check_each_operand(scope, expression, span),
+        Some(Expression::Load { pointer }) => check_use(scope, *pointer),
+        Some(Expression::AccessIndex { base, .. }) => check_use(scope, *base),
+        Some(Expression::Access { base, index }) => {
+            check_use(scope, *base)?;
+            check_use(scope, *index)
+        }
+        Some(expression) => check_listed(scope, listed_operands(expression)),
         None => Ok(()),
     }
-}
-
-fn check_each_operand(
-    scope: &ScopeColumn,
-    expression: &Expression,
-    span: Span,
-) -> Result<(), Refused>
-    ensures { AnswersPoints (map (use_point (place_at (known scope.now))) (operands_of expression.now)) result }
-{
-    match expression {
-        Expression::Load { pointer } => check_operand(scope, *pointer, span),
-        Expression::AccessIndex { base, .. } => check_operand(scope, *base, span),
-        Expression::Access { base, index } => {
-            check_operand(scope, *base, span)?;
-            check_operand(scope, *index, span)
-        }
-        _ => check_listed(scope, listed_operands(expression), span),
-    }
-}
-
-/// An operand that every run has put.
-fn check_operand(
-    scope: &ScopeColumn,
-    handle: Handle<tag::Expression>,
-    span: Span,
-) -> Result<(), Refused>
-    ensures { AnswersPoints (use_point (place_at (known scope.now)) handle ∷ []) result }
-{
-    if !scope.may_use(handle) {
-        return Err(not_in_scope(scope.allocator(), handle, span));
-    }
-    Ok(())
 }
 
 /// The operands of a list, in order.
 fn check_listed(
     scope: &ScopeColumn,
     operands: &[Handle<tag::Expression>],
-    span: Span,
-) -> Result<(), Refused>
-    ensures { AnswersPoints (map (use_point (place_at (known scope.now))) operands.now) result }
+) -> Result<(), FunctionError>
+    ensures { Finds (map (use_point (place_at (known scope.now))) operands.now) result }
 {
-    for k in 0..operands.len() {
-        check_operand(scope, operands[k], span)?;
+    for index in 0..operands.len() {
+        check_use(scope, operands[index])?;
     }
     Ok(())
 }

@@ -2,7 +2,7 @@
 
 ghost use Rattle.std.specs.Prelude.{◌≡◌, ◌<◌, ◌∷◌, [], OnOk};
 ghost use Rattle.std.specs.Option.{option_copied};
-ghost use Rattle.naga_context.specs.walk.Answers.{Finds};
+ghost use Rattle.naga_context.specs.walk.Answers.{Finds, RefusesFaultsAlone};
 ghost use Rattle.naga_errors.specs.Answers.{AnswersPoints};
 ghost use Rattle.naga_context.specs.walk.Place.{place_at};
 ghost use Rattle.naga_checks.specs.walk.Subgroup.{combined_points};
@@ -60,6 +60,7 @@ pub fn validate_ballot(
 ) -> Result<(), Refused>
     requires { ballot < count scope.old }
     ensures fault { AnswersPoints (ballot_points (context_of context.now) (place_at (known scope.old)) ballot predicate.now) result }
+    ensures refused { RefusesFaultsAlone (ballot_points (context_of context.now) (place_at (known scope.old)) ballot predicate.now) result }
     ensures scope { OnOk result (HasPut scope.old scope.new (ballot ∷ [])) }
 {
     let alloc = scope.allocator();

@@ -2,7 +2,7 @@
 
 ghost use Rattle.std.specs.Prelude.{◌≡◌, ◌<◌, ◌∷◌, [], OnOk};
 ghost use Rattle.std.specs.Option.{option_copied};
-ghost use Rattle.naga_context.specs.walk.Answers.{Finds};
+ghost use Rattle.naga_context.specs.walk.Answers.{Finds, RefusesFaultsAlone};
 ghost use Rattle.naga_errors.specs.Answers.{AnswersPoints};
 ghost use Rattle.naga_context.specs.walk.Place.{place_at};
 ghost use Rattle.naga_context.specs.walk.Seen.{context_of};
@@ -40,6 +40,9 @@ pub fn validate_collective(
 ) -> Result<(), Refused>
     requires { collective.now.combined < count scope.old }
     ensures fault { AnswersPoints
+        (collective_points (context_of context.now) (place_at (known scope.old)) collective.now.operation collective.now.part collective.now.argument collective.now.combined)
+        result }
+    ensures refused { RefusesFaultsAlone
         (collective_points (context_of context.now) (place_at (known scope.old)) collective.now.operation collective.now.part collective.now.argument collective.now.combined)
         result }
     ensures scope { OnOk result (HasPut scope.old scope.new (collective.now.combined ∷ [])) }

@@ -2,7 +2,7 @@
 
 ghost use Rattle.std.specs.Prelude.{◌≡◌, ◌<◌, ◌∷◌, [], OnOk, Some};
 ghost use Rattle.std.specs.Option.{option_copied};
-ghost use Rattle.naga_context.specs.walk.Answers.{Finds};
+ghost use Rattle.naga_context.specs.walk.Answers.{Finds, RefusesFaultsAlone};
 ghost use Rattle.naga_errors.specs.Answers.{AnswersPoints};
 ghost use Rattle.naga_context.specs.walk.Place.{place_at};
 ghost use Rattle.naga_checks.specs.walk.Subgroup.{indexed_points, gathered_points};
@@ -34,6 +34,9 @@ pub fn validate_gather(
 ) -> Result<(), Refused>
     requires { gathered < count scope.old }
     ensures fault { AnswersPoints
+        (gather_points (context_of context.now) (place_at (known scope.old)) mode.now argument gathered)
+        result }
+    ensures refused { RefusesFaultsAlone
         (gather_points (context_of context.now) (place_at (known scope.old)) mode.now argument gathered)
         result }
     ensures scope { OnOk result (HasPut scope.old scope.new (gathered ∷ [])) }

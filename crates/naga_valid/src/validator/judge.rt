@@ -62,13 +62,13 @@ impl<B: Below> Validator<B> {
         } = *subject;
         let info = below.process_function(alloc, fun, program, earlier, flags, capabilities)?;
         let kinds = below.kinds(alloc, &fun.expressions)?;
-        let info = self.check_known(alloc, subject, &kinds, info)?;
+        let info = self.validate_known(alloc, subject, &kinds, info)?;
         self.judge_body(alloc, table, subject, &kinds, info)
     }
 
     /// The declarations of a function, and its expressions where they are looked at: its info with the stages that they
     /// leave.
-    fn check_known(
+    fn validate_known(
         &self,
         alloc: Global,
         subject: &Subject,

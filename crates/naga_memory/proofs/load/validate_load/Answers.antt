@@ -6,4 +6,4 @@ use Rattle.naga_memory.proofs.load.validate_load.Goals as goal
 
 pub put-requires-clause-new : goal.put-requires-clause-new
 put-requires-clause-new c =
-    (load_holds (context_of c.args.context.now) (place_at (known c.args.scope.now)) c.args.pointer c.args.loaded c.in_ok-check_load.ensures).1
+    (load_holds (context_of c.args.context.now) (place_at (known c.args.scope.now)) c.args.pointer c.args.loaded c.in_ok-check_load.ensures.fault).1

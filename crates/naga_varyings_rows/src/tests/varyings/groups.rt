@@ -18,34 +18,14 @@ fn sources_of_a_blend(rt: HostRuntime) -> Result<(), Fail> {
     let bench = make_bench(&rt)?;
     let color = at(ShaderStage::Fragment, true);
     let mut state = VaryingState::new(rt.alloc());
-    next(
-        &rt,
-        &bench,
-        &color,
-        &mut state,
-        make_item(BLEND, None),
-        None,
-    );
+    let blend = make_item(BLEND, None);
+    next(&rt, &bench, &color, &mut state, blend, None);
     assert!(&rt; state.has_location(0));
     let fault = VaryingError::BindingCollision { location: 0 };
-    next(
-        &rt,
-        &bench,
-        &color,
-        &mut state,
-        make_item(BLEND, None),
-        Some(fault),
-    );
+    next(&rt, &bench, &color, &mut state, blend, Some(fault));
     let mut unbound = at(ShaderStage::Fragment, true);
     unbound.flags = ValidationFlags::empty();
-    next(
-        &rt,
-        &bench,
-        &unbound,
-        &mut state,
-        make_item(BLEND, None),
-        None,
-    );
+    next(&rt, &bench, &unbound, &mut state, blend, None);
     let stage = ShaderStage::Fragment;
     let fault = VaryingError::InvalidInputAttributeInStage("blend_src", stage);
     alone(&rt, &bench, &at(stage, false), BLEND, None, Some(fault));
@@ -66,44 +46,18 @@ fn members(rt: HostRuntime) -> Result<(), Fail> {
     assert!(&rt; !state.has_location(1) && !state.has_location(2));
     assert!(&rt; !state.has_built_in(BuiltIn::Position { invariant: false }));
     let fault = VaryingError::MemberMissingBinding(1);
-    next(
-        &rt,
-        &bench,
-        &vertex,
-        &mut state,
-        make_item(UNBOUND, None),
-        Some(fault),
-    );
+    let unbound = make_item(UNBOUND, None);
+    next(&rt, &bench, &vertex, &mut state, unbound, Some(fault));
     let fault = Some(VaryingError::MissingBinding);
-    next(
-        &rt,
-        &bench,
-        &vertex,
-        &mut state,
-        make_item(U32, None),
-        fault,
-    );
+    let number = make_item(U32, None);
+    next(&rt, &bench, &vertex, &mut state, number, fault);
     assert!(&rt; !state.has_location(3));
     vertex.flags = ValidationFlags::empty();
-    next(
-        &rt,
-        &bench,
-        &vertex,
-        &mut state,
-        make_item(COLLIDING, None),
-        None,
-    );
+    next(&rt, &bench, &vertex, &mut state, colliding, None);
     assert!(&rt; state.has_location(1) && state.has_location(2));
     assert!(&rt; state.has_built_in(BuiltIn::Position { invariant: false }));
-    next(
-        &rt,
-        &bench,
-        &vertex,
-        &mut state,
-        make_item(UNBOUND, None),
-        None,
-    );
-    next(&rt, &bench, &vertex, &mut state, make_item(U32, None), None);
+    next(&rt, &bench, &vertex, &mut state, unbound, None);
+    next(&rt, &bench, &vertex, &mut state, number, None);
     state.clear_built_ins();
     assert!(&rt; state.has_location(3));
     let position = make_item(VEC4_F32, Some(POSITION));

@@ -7,6 +7,6 @@ use Rattle.naga_context.specs.walk.Table.{known}
 use Rattle.naga_checks.proofs.checks.control.check_listed.Given as goal
 
 -- what is left decides
-abbrev pub invariant-loop-k : goal.invariant-loop-k
-invariant-loop-k l =
-    first_fault (map (use_point (place_at (known l.scope))) (drop l.k l.operands)) ≡ first_fault (map (use_point (place_at (known l.scope))) l.operands)
+abbrev pub invariant-loop-index : goal.invariant-loop-index
+invariant-loop-index l =
+    first_fault (map (use_point (place_at (known l.scope))) (drop l.index l.operands)) ≡ first_fault (map (use_point (place_at (known l.scope))) l.operands)

@@ -1,27 +1,15 @@
-use Rattle.std.proofs.Common.{rules, ◌≡◌, false, sym, ◌∙◌}
-use Rattle.std.specs.Option.{option_copied}
-use Rattle.naga_context.specs.Results.{is_result}
+use Rattle.naga_checks.specs.checks.Control.{emitted_points}
 use Rattle.naga_context.specs.walk.Place.{place_at}
 use Rattle.naga_context.specs.walk.Seen.{context_of}
 use Rattle.naga_context.specs.walk.Table.{known}
-use Rattle.naga_checks.proofs.Emits.{emitted_stops, emitted_twice, emitted_once}
 use Rattle.naga_checks.proofs.checks.control.refuse_emitted.Goals as goal
 
-pub returns-in_err-check_operands : goal.returns-in_err-check_operands
-returns-in_err-check_operands c =
-    let o = option_copied c.expression-expression.result in
-    let no : is_result o ≡ false = sym c.is_result.ensures ∙ c.if-is_result.false in
-    let stops = emitted_stops (context_of c.args.context.now) (place_at (known c.args.scope.now)) c.args.handle o c.in_err-check_operands.field-0.0 c.expression-expression.ensures no c.in_err-check_operands.ensures in
-    search (rules, stops)
+pub returns-clause-fault : goal.returns-clause-fault
+returns-clause-fault c =
+    let place = place_at (known c.args.scope.now) in
+    c.answer.ensures.fault (emitted_points (context_of c.args.context.now) place place c.args.handle) c.check_emitted_points-checked.ensures
 
-pub returns-then-contains : goal.returns-then-contains
-returns-then-contains c =
-    let o = option_copied c.expression-expression.result in
-    let no : is_result o ≡ false = sym c.is_result.ensures ∙ c.if-is_result.false in
-    emitted_twice (context_of c.args.context.now) (place_at (known c.args.scope.now)) c.args.handle o _ c.expression-expression.ensures no c.in_ok-check_operands.ensures (sym c.contains.ensures ∙ c.if-contains.true) c.already_in_scope.ensures
-
-pub returns : goal.returns
-returns c =
-    let o = option_copied c.expression-expression.result in
-    let no : is_result o ≡ false = sym c.is_result.ensures ∙ c.if-is_result.false in
-    emitted_once (context_of c.args.context.now) (place_at (known c.args.scope.now)) c.args.handle o c.expression-expression.ensures no c.in_ok-check_operands.ensures (sym c.contains.ensures ∙ c.if-contains.false)
+pub returns-clause-refused : goal.returns-clause-refused
+returns-clause-refused c =
+    let place = place_at (known c.args.scope.now) in
+    c.answer.ensures.refused (emitted_points (context_of c.args.context.now) place place c.args.handle) c.check_emitted_points-checked.ensures

@@ -12,6 +12,12 @@ returns-in_err-answer-clause-fault c =
     let first = c.in_err-answer.ensures.fault points c.check_ballot-checked.ensures in
     search (rules, first)
 
+pub returns-in_err-answer-clause-refused : goal.returns-in_err-answer-clause-refused
+returns-in_err-answer-clause-refused c =
+    let points = ballot_points (context_of c.args.context.now) (place_at (known c.args.scope.now)) c.args.ballot c.args.predicate.now in
+    let refused = c.in_err-answer.ensures.refused points c.check_ballot-checked.ensures in
+    search (rules, refused)
+
 pub put-requires-clause-new : goal.put-requires-clause-new
 put-requires-clause-new c =
     let context = context_of c.args.context.now in
