@@ -12,10 +12,10 @@ use Rattle.naga_context.proofs.Flat.{holds_at}
 
 -- its use is allowed, and its put is not in scope
 module _ (context : Context) (place : Place) (pointer r : ℕ) (e : first_fault (load_points context place pointer r) ≡ None) where
-  pub load_holds : (may_use place pointer ≡ true) × (is_in_scope place r ≡ false)
-  load_holds =
+  pub load_is_allowed : (may_use place pointer ≡ true) × (is_in_scope place r ≡ false)
+  load_is_allowed =
       let points = load_points context place pointer r in
       (holds_at 0 points e, not_holds (is_in_scope place r) (holds_at 2 points e))
 
   pub load_fits : Fit (may_use place) (is_in_scope place) (Use pointer ∷ Put r ∷ [])
-  load_fits = (load_holds.0, (load_holds.1, tt))
+  load_fits = (load_is_allowed.0, (load_is_allowed.1, tt))

@@ -1,6 +1,6 @@
 //! The check list of Store.
 
-ghost use Rattle.std.specs.Prelude.{◌≡◌, ◌↔◌, true, IsTrue, IfSome, length};
+ghost use Rattle.std.specs.Prelude.{◌≡◌, ◌<◌, ◌↔◌, true, IsTrue, IfSome, Some, length};
 ghost use Rattle.std.specs.Option.{option_copied};
 ghost use Rattle.naga_types.specs.Types.{ResolutionFits};
 ghost use Rattle.naga_errors.specs.declared.function.FunctionError.TheVariants.{InvalidStoreTexture};
@@ -10,7 +10,9 @@ ghost use Rattle.naga_context.specs.Context.{ContextFits};
 ghost use Rattle.naga_context.specs.walk.Place.{place_at};
 ghost use Rattle.naga_context.specs.walk.Seen.{context_of};
 ghost use Rattle.naga_memory.specs.Store.{access_base, root_at, is_variable, is_texture, is_stored_as, store_points};
+ghost use Rattle.naga_context.specs.Pointers.{base_type_at};
 ghost use Rattle.naga_context.specs.Types.{named_type};
+ghost use Rattle.naga_types.specs.declared.typifier.TypeResolution.TheVariants.{Handle as OfHandle};
 ghost use Rattle.naga_context.specs.walk.Table.{known};
 
 use naga_arena::handle::Handle;
@@ -61,7 +63,7 @@ fn store_holds(
     is_variable(context.expression(root_of(context, pointer)))
         && scope.may_use(value)
         && !is_texture(context.type_inner(value))
-        && is_stored_as(context, value, &base_type(context, pointer))
+        && is_stored_at(context, value, pointer)
         && is_writable(context, pointer)
 }
 
@@ -92,7 +94,7 @@ fn refuse_store(
     if is_texture(stored) {
         return Err(invalid_store_texture(alloc, value, stored, span));
     }
-    if !is_stored_as(context, value, &base_type(context, pointer)) {
+    if !is_stored_at(context, value, pointer) {
         let fault = FunctionError::InvalidStoreTypes { pointer, value };
         return Err(Refused::placed(alloc, fault, span));
     }
@@ -149,6 +151,40 @@ fn is_texture(inner: Option<&TypeInner>) -> bool
         inner,
         Some(TypeInner::Image { .. } | TypeInner::Sampler { .. })
     )
+}
+
+/// Whether a value is what a pointer's type holds. Most pointers point to a type of the module.
+fn is_stored_at(
+    context: &BlockContext,
+    value: Handle<tag::Expression>,
+    pointer: Handle<tag::Expression>,
+) -> bool
+    requires { ContextFits (context_of context.now) }
+    ensures { result ≡ is_stored_as (context_of context.now) value (base_type_at (context_of context.now) pointer) }
+{
+    if let Some(TypeInner::Pointer { base, .. }) = context.type_inner(pointer) {
+        return is_stored_as_type(context, value, *base);
+    }
+    is_stored_as(context, value, &base_type(context, pointer))
+}
+
+/// Whether a value is what a type of the module holds.
+fn is_stored_as_type(
+    context: &BlockContext,
+    value: Handle<tag::Expression>,
+    ty: Handle<tag::Type>,
+) -> bool
+    requires context { ContextFits (context_of context.now) }
+    requires ty { ty < length (context_of context.now).program.types }
+    ensures { result ≡ is_stored_as (context_of context.now) value (Some (OfHandle ty)) }
+{
+    match &context.program.types[ty].inner {
+        TypeInner::Atomic(scalar) => is_scalar(*scalar, context.type_inner(value)),
+        _ => match context.resolution(value) {
+            Some(given) => compare_types(given, &TypeResolution::Handle(ty), &context.program.types),
+            None => false,
+        },
+    }
 }
 
 /// Whether a value is what this type holds: an atomic its scalar, any other a value of the type.

@@ -33,7 +33,7 @@ impl Reader {
         }
     }
 
-    /// Closes the first list of the If at hand.
+    /// Closes the first list of the If at hand. Any other part is unreadable.
     #[inline(never)]
     #[tactic(auto, using(crate::proofs::Reading::Stack::stacks), unfolding(crate::specs::Reading::close_accept))]
     fn close_accept(&mut self) -> Result<(), ReadError>
@@ -55,7 +55,7 @@ impl Reader {
         }
     }
 
-    /// Closes the first list of the Loop at hand.
+    /// Closes the first list of the Loop at hand. Any other part is unreadable.
     #[inline(never)]
     #[tactic(auto, using(crate::proofs::Reading::Stack::stacks), unfolding(crate::specs::Reading::close_turn))]
     fn close_turn(&mut self) -> Result<(), ReadError>
@@ -76,7 +76,7 @@ impl Reader {
         }
     }
 
-    /// Closes the Block at hand.
+    /// Closes the Block at hand. Any other part is unreadable.
     #[inline(never)]
     #[tactic(auto, using(crate::proofs::Reading::Stack::stacks), unfolding(crate::specs::Reading::close_block))]
     fn close_block(&mut self) -> Result<(), ReadError>
@@ -94,7 +94,7 @@ impl Reader {
         }
     }
 
-    /// Closes the If at hand.
+    /// Closes the If at hand. Any other part is unreadable.
     #[inline(never)]
     #[tactic(auto, using(crate::proofs::Reading::Stack::stacks), unfolding(crate::specs::Reading::close_if))]
     fn close_if(&mut self) -> Result<(), ReadError>
@@ -112,7 +112,7 @@ impl Reader {
         }
     }
 
-    /// Closes the case at hand.
+    /// Closes the case at hand. Any other part is unreadable.
     #[inline(never)]
     #[tactic(auto, using(crate::proofs::Reading::Stack::stacks), unfolding(crate::specs::Reading::close_case))]
     fn close_case(&mut self) -> Result<(), ReadError>

@@ -1,0 +1,12 @@
+use Rattle.std.proofs.Common.{sym, ap, ◌∙◌}
+use Rattle.std.specs.Option.{option_copied}
+use Rattle.naga_context.specs.walk.Seen.{context_of}
+use Rattle.naga_context.proofs.InRange.{types_fit, resolution_fits}
+use Rattle.naga_memory.proofs.store.is_stored_as_type.Goals as goal
+
+pub compare_types-requires-clause-types : goal.compare_types-requires-clause-types
+compare_types-requires-clause-types c = types_fit (context_of c.args.context.now) c.requires.context
+
+pub compare_types-requires-clause-first : goal.compare_types-requires-clause-first
+compare_types-requires-clause-first c =
+    resolution_fits (context_of c.args.context.now) c.requires.context c.args.value c.in-Some.given.now (sym c.resolution.ensures ∙ ap option_copied c.in-Some.is)
