@@ -165,10 +165,24 @@ fn is_stored_at(
     if let Some(TypeInner::Pointer { base, .. }) = context.type_inner(pointer) {
         return is_stored_as_type(context, value, *base);
     }
+    is_stored_behind(context, value, pointer)
+}
+
+/// The same, whatever the pointer points to. It stands apart, so that nothing is set up for a type that isn't the module's.
+#[inline(never)]
+fn is_stored_behind(
+    context: &BlockContext,
+    value: Handle<tag::Expression>,
+    pointer: Handle<tag::Expression>,
+) -> bool
+    requires { ContextFits (context_of context.now) }
+    ensures { result ≡ is_stored_as (context_of context.now) value (base_type_at (context_of context.now) pointer) }
+{
     is_stored_as(context, value, &base_type(context, pointer))
 }
 
 /// Whether a value is what a type of the module holds.
+#[tactic(auto, unfolding(naga_types::specs::TypeTests::is_same_type))]
 fn is_stored_as_type(
     context: &BlockContext,
     value: Handle<tag::Expression>,
@@ -180,7 +194,8 @@ fn is_stored_as_type(
 {
     match &context.program.types[ty].inner {
         TypeInner::Atomic(scalar) => is_scalar(*scalar, context.type_inner(value)),
-        _ => match context.resolution(value) {
+        inner => match context.resolution(value) {
+            Some(TypeResolution::Value(given)) => given.equivalent(inner, &context.program.types),
             Some(given) => compare_types(given, &TypeResolution::Handle(ty), &context.program.types),
             None => false,
         },
