@@ -29,7 +29,7 @@ use Rattle.naga_context.specs.Context.{Context}
 use Rattle.naga_checks.specs.checks.Control.{break_if_points}
 use Rattle.naga_statements.specs.Rules.{statement_points}
 use Rattle.naga_context.specs.walk.Place.{Sets, place_at}
-use Rattle.naga_statements.specs.walk.Frequent.{is_frequent}
+use Rattle.naga_statements.specs.walk.Frequent.{is_whole}
 use Rattle.naga_context.specs.walk.Table.{with_all, with_puts}
 use Rattle.naga_statements.specs.walk.Walk.{puts, body_puts, puts_to_continue, behind_loop_body, own_answer, parts_answer, stmt_answer, body_answer, cases_answer, break_if_answer}
 use Rattle.naga_checks.specs.walk.Emitted.{place}
@@ -262,18 +262,20 @@ no_continue context (Switch' h shape row) span nb ni ns nc =
 no_continue context ir.Continue span nb ni ns nc = absurd (nc refl)
 no_continue context _ span nb ni ns nc = refl
 
--- a statement of a kind that bodies have most has no parts, and holds no Continue
-pub frequent_parts : (context : Context) (k : State) (a : Abilities) (s : Sets) (st : Statement) (span : Span) → is_frequent st ≡ true → parts_answer context k a s (view.tree_of (emitted_operands context.fun) st span) ≡ Ok k
+-- a statement that is done with its own check list has no parts, and holds no Continue
+pub whole_parts : (context : Context) (k : State) (a : Abilities) (s : Sets) (st : Statement) (span : Span) → is_whole st ≡ true → parts_answer context k a s (view.tree_of (emitted_operands context.fun) st span) ≡ Ok k
 unfolding parts_answer judge_parts judge_visits
-frequent_parts context k a s (ir.Emit r) span e = refl
-frequent_parts context k a s (ir.Store p v) span e = refl
-frequent_parts context k a s (ir.Call f arguments r) span e = refl
-frequent_parts context k a s _ span e = cc
+whole_parts context k a s (ir.Emit r) span e = refl
+whole_parts context k a s (ir.Store p v) span e = refl
+whole_parts context k a s (ir.Call f arguments r) span e = refl
+whole_parts context k a s ir.Kill span e = refl
+whole_parts context k a s _ span e = cc
 
-pub frequent_holds : (context : Context) (st : Statement) (span : Span) → is_frequent st ≡ true → false ≡ holds_continue (view.tree_of (emitted_operands context.fun) st span)
-frequent_holds context (ir.Emit r) span e = refl
-frequent_holds context (ir.Store p v) span e = refl
-frequent_holds context (ir.Call f arguments r) span e = refl
-frequent_holds context _ span e = cc
+pub whole_holds : (context : Context) (st : Statement) (span : Span) → is_whole st ≡ true → false ≡ holds_continue (view.tree_of (emitted_operands context.fun) st span)
+whole_holds context (ir.Emit r) span e = refl
+whole_holds context (ir.Store p v) span e = refl
+whole_holds context (ir.Call f arguments r) span e = refl
+whole_holds context ir.Kill span e = refl
+whole_holds context _ span e = cc
 
 pub ruleset walking = (parts_block, parts_branch, parts_switch, parts_loop, stmt_more, own_passes, own_refuses, break_if_passes, break_if_refuses, passes, stops_first, stops_next, answers_next)

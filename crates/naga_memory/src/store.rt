@@ -196,7 +196,11 @@ fn is_stored_as_type(
         TypeInner::Atomic(scalar) => is_scalar(*scalar, context.type_inner(value)),
         inner => match context.resolution(value) {
             Some(TypeResolution::Value(given)) => given.equivalent(inner, &context.program.types),
-            Some(given) => compare_types(given, &TypeResolution::Handle(ty), &context.program.types),
+            Some(given) => compare_types(
+                given,
+                &TypeResolution::Handle(ty),
+                &context.program.types,
+            ),
             None => false,
         },
     }

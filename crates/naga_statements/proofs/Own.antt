@@ -16,12 +16,19 @@ use Rattle.naga_statements.specs.Past.{Past}
 use Rattle.naga_statements.specs.Rules.{leaf_points, statement_points}
 use Rattle.naga_statements.specs.walk.Frequent.{is_frequent}
 
--- all kinds but three are judged apart
-pub others : (st : Statement) → ((r : Range) → st ≡ ir.Emit r → ⊥) → ((p v : ℕ) → st ≡ ir.Store p v → ⊥) → ((f : ℕ) (arguments : List ℕ) (r : Option ℕ) → st ≡ ir.Call f arguments r → ⊥) → is_frequent st ≡ false
-others (ir.Emit r) ne ns nc = absurd (ne r refl)
-others (ir.Store p v) ne ns nc = absurd (ns p v refl)
-others (ir.Call f arguments r) ne ns nc = absurd (nc f arguments r refl)
-others _ ne ns nc = refl
+-- all kinds but seven are judged apart
+pub others : (st : Statement) →
+    ((r : Range) → st ≡ ir.Emit r → ⊥) → ((p v : ℕ) → st ≡ ir.Store p v → ⊥) → ((f : ℕ) (arguments : List ℕ) (r : Option ℕ) → st ≡ ir.Call f arguments r → ⊥) →
+    ((h : ℕ) (p q : Block) → st ≡ ir.If h p q → ⊥) → ((b : Block) → st ≡ ir.Block b → ⊥) → ((b c : Block) (q : Option ℕ) → st ≡ ir.Loop b c q → ⊥) → (st ≡ ir.Kill → ⊥) →
+    is_frequent st ≡ false
+others (ir.Emit r) ne ns nc ni nb nl nk = absurd (ne r refl)
+others (ir.Store p v) ne ns nc ni nb nl nk = absurd (ns p v refl)
+others (ir.Call f arguments r) ne ns nc ni nb nl nk = absurd (nc f arguments r refl)
+others (ir.If h p q) ne ns nc ni nb nl nk = absurd (ni h p q refl)
+others (ir.Block b) ne ns nc ni nb nl nk = absurd (nb b refl)
+others (ir.Loop b c q) ne ns nc ni nb nl nk = absurd (nl b c q refl)
+others ir.Kill ne ns nc ni nb nl nk = absurd (nk refl)
+others _ ne ns nc ni nb nl nk = refl
 
 module _ (context : Context) (past : Past) (place : Place) (span : Span) where
   pub points_of_leaf : (st : Statement) →

@@ -10,7 +10,7 @@ ghost use Rattle.naga_statements.specs.Ready.{IsStatementReady};
 ghost use Rattle.naga_statements.specs.Rules.{statement_points};
 ghost use Rattle.naga_context.specs.walk.Place.{place_at};
 ghost use Rattle.naga_context.specs.walk.Seen.{context_of};
-ghost use Rattle.naga_statements.specs.walk.Frequent.{is_frequent};
+ghost use Rattle.naga_statements.specs.walk.Frequent.{is_frequent, is_whole};
 ghost use Rattle.naga_statements.specs.walk.State.{kept, seen, with_statement};
 ghost use Rattle.naga_statements.specs.walk.Walk.{puts};
 ghost use Rattle.naga_checks.specs.walk.Emitted.{place};
@@ -34,8 +34,8 @@ use naga_memory::store::check_store;
 use naga_runs::Abilities;
 
 /// A statement itself: its check list, what it puts, which is in scope afterwards, and what it leaves; its parts are left out.
-/// Answers whether that is all of it: true for Emit, Store and Call, the kinds that bodies have most, and false for all others,
-/// whether they hold statements or not.
+/// Answers whether that is all of it: true for Emit, Store, Call and Kill, false for all others, whether they hold statements
+/// or not.
 pub fn validate_own(
     table: &mut Table,
     state: &mut BodyOutcome,
@@ -54,7 +54,7 @@ pub fn validate_own(
     ensures state { OnOk result (kept table.new.filled state.new
         ≡ with_statement (context_of context.now) (kept table.old.filled state.old) (tree_of (context_of context.now) located.now)) }
     ensures table { OnOk result (IsTableOf (context_of context.now) table.new) }
-    ensures all { IfOk result (λ all. all ≡ is_frequent located.now.statement) }
+    ensures all { IfOk result (λ all. all ≡ is_whole located.now.statement) }
 {
     let span = located.span;
     match &located.statement {
@@ -85,6 +85,19 @@ pub fn validate_own(
             state.stages = state.stages.intersection(callee_stages(context, *function));
             Ok(true)
         }
+        Statement::If { condition, .. } => {
+            control::check_condition(&table.scope, context, *condition, span)?;
+            state.stages = state.stages.intersection(ShaderStages::ALL);
+            Ok(false)
+        }
+        Statement::Block(_) | Statement::Loop { .. } => {
+            state.stages = state.stages.intersection(ShaderStages::ALL);
+            Ok(false)
+        }
+        Statement::Kill => {
+            state.stages = state.stages.intersection(ShaderStages::FRAGMENT);
+            Ok(true)
+        }
         _ => {
             validate_rarer(table, state, context, abilities, located)?;
             Ok(false)
@@ -92,8 +105,8 @@ pub fn validate_own(
     }
 }
 
-/// The same of a statement of any other kind than those that bodies have most. It stands apart from these, so that nothing
-/// is set up for it where one of them is judged.
+/// The same of a statement of any other kind. It stands apart from these, so that nothing is set up for it where one of them is
+/// judged.
 #[inline(never)]
 fn validate_rarer(
     table: &mut Table,
@@ -143,18 +156,15 @@ fn validate_points(
     let scope = &table.scope;
     let alloc = scope.allocator();
     match &located.statement {
-        Statement::If { condition, .. } => {
-            control::check_condition(scope, context, *condition, span)
-        }
         Statement::Switch { selector, cases } => {
             switch::check_switch(scope, context, *selector, cases.as_slice(), span)
         }
-        Statement::Block(_) | Statement::Loop { .. } | Statement::Kill => Ok(()),
         Statement::Break => control::check_break(alloc, *abilities, span),
         Statement::Continue => control::check_continue(alloc, *abilities, span),
         Statement::Return { value } => {
             control::check_return(scope, context, *abilities, *value, span)
         }
+        Statement::If { .. } => unreachable!(),
         _ => validate_rarer_leaf(table, state, context, located),
     }
 }

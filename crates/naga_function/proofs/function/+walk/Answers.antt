@@ -15,7 +15,7 @@ use Rattle.naga_runs.specs.Must.{body_holds_continue, cases_hold_continue}
 use Rattle.naga_function.proofs.LoopBody.{PutsOfLoop, at_first, one_more, undivided, divided, may_part}
 use Rattle.naga_statements.proofs.Parts.{in_block, in_branch, in_switch, in_lists, in_list, in_cases}
 use Rattle.naga_context.proofs.Refusals.{next_is, passes, stops_first, stops_next, answers_next}
-use Rattle.naga_function.proofs.Walk.{holds_turn, rest_turn, rest_end, cases_hold_turn, leaving_err, no_continue, frequent_parts, frequent_holds, or_assoc, parts_continue, no_parts, own_passes, own_refuses, parts_later, parts_branch, parts_switch, stmt_more, body_turn, puts_turn, body_end, puts_end, cases_turn, cases_end}
+use Rattle.naga_function.proofs.Walk.{holds_turn, rest_turn, rest_end, cases_hold_turn, leaving_err, no_continue, whole_parts, whole_holds, or_assoc, parts_continue, no_parts, own_passes, own_refuses, parts_later, parts_branch, parts_switch, stmt_more, body_turn, puts_turn, body_end, puts_end, cases_turn, cases_end}
 use Rattle.naga_function.proofs.function.+walk.Goals as goal
 
 pub validate_parts-validate_block-requires : goal.validate_parts-validate_block-requires
@@ -69,7 +69,7 @@ validate_statement-returns-then-whole-clause-fault t c =
     let put = c.in_ok-whole.ensures.scope.inside in
     let later = kept c.validate_own.new.table.filled c.validate_own.new.state in
     let frequent = sym c.in_ok-whole.ensures.all ∙ c.if-whole.true in
-    let none = frequent_parts context later c.args.abilities.now (known c.validate_own.new.table.scope) c.args.located.now.statement c.args.located.now.span frequent in
+    let none = whole_parts context later c.args.abilities.now (known c.validate_own.new.table.scope) c.args.located.now.statement c.args.located.now.span frequent in
     rw (stmt_more context k c.args.abilities.now s x) (
     passes _ _ (with_statement context k x) later (own_passes context k c.args.abilities.now s x c.in_ok-whole.ensures.fault) (rw (next, ← parts_later context later c.args.abilities.now s x, ← put) none)
     )
@@ -77,7 +77,7 @@ validate_statement-returns-then-whole-clause-fault t c =
 pub validate_statement-returns-then-whole-clause-held :
     goal.validate_statement-returns-then-whole-clause-held
 validate_statement-returns-then-whole-clause-held t c =
-    frequent_holds (context_of c.args.context.now) c.args.located.now.statement c.args.located.now.span (sym c.in_ok-whole.ensures.all ∙ c.if-whole.true)
+    whole_holds (context_of c.args.context.now) c.args.located.now.statement c.args.located.now.span (sym c.in_ok-whole.ensures.all ∙ c.if-whole.true)
 
 pub validate_statements-validate_statement-requires :
     goal.validate_statements-validate_statement-requires

@@ -59,7 +59,7 @@ returns-in_ok-validate_call-in-Call-clause-scope c =
 
 pub validate_rarer-requires-clause-kind : goal.validate_rarer-requires-clause-kind
 validate_rarer-requires-clause-kind c =
-    others c.args.located.now.statement c.in_default.not-Emit c.in_default.not-Store c.in_default.not-Call
+    others c.args.located.now.statement c.in_default.not-Emit c.in_default.not-Store c.in_default.not-Call c.in_default.not-If c.in_default.not-Block c.in_default.not-Loop c.in_default.not-Kill
 
 pub returns-in_ok-validate_call-in-Call-clause-table :
     goal.returns-in_ok-validate_call-in-Call-clause-table
