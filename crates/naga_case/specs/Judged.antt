@@ -1,6 +1,7 @@
 -- The judgement of a case: that of the bench's module with the case's body, over the plain lower layer.
 use Rattle.std.specs.Prelude.{◌+◌, ℕ, Bool, List, [], ◌∷◌, Ok, if◌then◌else◌}
-use Rattle.naga_flags.specs.Bits.{STRUCT_LAYOUTS, BINDINGS, EXPRESSIONS, BLOCKS, ALL_STAGES, ALL_OPERATIONS, ALL_CAPABILITIES, ALL_TYPE_FLAGS, NO_STAGE}
+use Rattle.naga_flags.specs.Bits.{STRUCT_LAYOUTS, BINDINGS, EXPRESSIONS, BLOCKS, ALL_STAGES, ALL_OPERATIONS, ALL_TYPE_FLAGS, NO_STAGE}
+use Rattle.naga_flags.specs.Capabilities.{ALL_CAPABILITIES}
 use Rattle.naga_ir.specs.declared.module.Module.{Module}
 use Rattle.naga_flags.specs.declared.valid.ShaderStages.{ShaderStages}
 use Rattle.naga_flags.specs.declared.valid.ValidationFlags.{ValidationFlags}

@@ -1,9 +1,11 @@
 -- The expressions of a function and their types, as the check lists ask for them.
-use Rattle.std.specs.Prelude.{ℕ, Bool, true, false, Option, Some, slice_get, option_and_then, unwrap_or}
+use Rattle.std.specs.Prelude.{ℕ, Bool, true, false, List, Option, None, Some, slice_get, option_and_then, unwrap_or}
 use Rattle.naga_types.specs.Types.{bool_scalar, resolved, scalar_kind_of}
+use Rattle.naga_types.specs.TypeTests.{is_same_type}
 use Rattle.naga_ir.specs.declared.expressions.Expression.{Expression}
 use Rattle.naga_types.specs.declared.types.ScalarKind.{ScalarKind}
 use Rattle.naga_types.specs.declared.types.ScalarKind.TheVariants as kind
+use Rattle.naga_types.specs.declared.types.Type.{«Type» as IrType}
 use Rattle.naga_types.specs.declared.types.TypeInner.{TypeInner}
 use Rattle.naga_types.specs.declared.types.TypeInner.TheVariants.{Scalar}
 use Rattle.naga_types.specs.declared.typifier.TypeResolution.{TypeResolution}
@@ -18,6 +20,14 @@ resolution_at context h = slice_get context.info.expression_types h
 
 abbrev pub type_at : Context → ℕ → Option TypeInner
 type_at context h = option_and_then (resolved context.program.types) (resolution_at context h)
+
+-- whether an expression is of this type
+abbrev pub is_given_as : List IrType → Option TypeResolution → TypeResolution → Bool
+is_given_as types None ty = false
+is_given_as types (Some given) ty = is_same_type types given ty
+
+abbrev pub is_of_type : Context → ℕ → TypeResolution → Bool
+is_of_type context h ty = is_given_as context.program.types (resolution_at context h) ty
 
 -- a type as a fault names it; the conditions of a validation say that there is one
 abbrev pub named_type : Option TypeInner → TypeInner

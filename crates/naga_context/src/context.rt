@@ -13,7 +13,6 @@ use naga_below::valid::settings::Settings;
 use naga_ir::expressions::Expression;
 use naga_ir::functions::Function;
 use naga_ir::module::Module;
-use naga_types::type_methods::compare_types;
 use naga_types::types::{ScalarKind, TypeInner};
 use naga_types::typifier::TypeResolution;
 

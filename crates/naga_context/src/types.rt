@@ -2,16 +2,19 @@
 
 ghost use Rattle.std.specs.Prelude.{◌≡◌, IfSome, length};
 ghost use Rattle.std.specs.Option.{option_copied};
-ghost use Rattle.naga_types.specs.Types.{NamesTypesBelow, inner_at};
+ghost use Rattle.naga_types.specs.Types.{NamesTypesBelow, ResolutionFits, inner_at};
 ghost use Rattle.naga_context.specs.walk.Seen.{context_of};
-ghost use Rattle.naga_context.specs.Types.{is_integer};
+ghost use Rattle.naga_context.specs.Context.{ContextFits};
+ghost use Rattle.naga_context.specs.Types.{is_integer, is_of_type};
 ghost use Rattle.naga_types.specs.TypeTests.{both_are, is_same_inner, is_scalar, is_equivalent, it_is, is_exchange_struct};
 
 use crate::context::BlockContext;
 use naga_arena::handle::Handle;
 use naga_arena::tag;
 use naga_ir::module::Module;
+use naga_types::type_methods::compare_types;
 use naga_types::types::{Scalar, ScalarKind, TypeInner};
+use naga_types::typifier::TypeResolution;
 
 /// Whether a type is this scalar.
 pub fn is_scalar(scalar: Scalar, inner: Option<&TypeInner>) -> bool
@@ -62,6 +65,22 @@ pub fn are_same_inners(first: Option<&TypeInner>, second: Option<&TypeInner>) ->
             Some(second) => *first == *second,
             None => false,
         },
+        None => false,
+    }
+}
+
+/// Whether an expression is of this type.
+pub fn is_of_type(
+    context: &BlockContext,
+    handle: Handle<tag::Expression>,
+    ty: &TypeResolution,
+) -> bool
+    requires context { ContextFits (context_of context.now) }
+    requires ty { ResolutionFits (length (context_of context.now).program.types) ty.now }
+    ensures { result ≡ is_of_type (context_of context.now) handle ty.now }
+{
+    match context.resolution(handle) {
+        Some(given) => compare_types(given, ty, &context.program.types),
         None => false,
     }
 }

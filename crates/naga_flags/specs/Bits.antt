@@ -1,10 +1,10 @@
--- The bits of the nine sets, each named once. A set is seen as the number whose bits are its members.
+-- The bits of the sets, each named once; those of Capabilities stand in Capabilities. A set is seen as the number whose bits
+-- are its members.
 use Rattle.std.specs.Int.RustNames.{bit_and}
 use Rattle.std.specs.Prelude.{ℕ, Bool, ◌==◌}
 use Rattle.naga_flags.specs.declared.ir.Barrier.{Barrier}
 use Rattle.naga_flags.specs.declared.ir.MemoryDecorations.{MemoryDecorations}
 use Rattle.naga_flags.specs.declared.ir.StorageAccess.{StorageAccess}
-use Rattle.naga_flags.specs.declared.capabilities.Capabilities.{Capabilities}
 use Rattle.naga_flags.specs.declared.valid.GlobalUse.{GlobalUse}
 use Rattle.naga_flags.specs.declared.valid.ShaderStages.{ShaderStages}
 use Rattle.naga_flags.specs.declared.valid.SubgroupOperationSet.{SubgroupOperationSet}
@@ -14,10 +14,6 @@ use Rattle.naga_flags.specs.declared.valid.ValidationFlags.{ValidationFlags}
 -- whether every bit of the second set is one of the first
 abbrev pub contains : ℕ → ℕ → Bool
 contains set some = bit_and set some == some
-
--- whether a target has all of these
-abbrev pub has_capability : Capabilities → Capabilities → Bool
-has_capability capabilities some = contains capabilities.0 some.0
 
 -- ValidationFlags: which checks are made
 abbrev pub EXPRESSIONS : ValidationFlags
@@ -153,107 +149,19 @@ SHUFFLE_RELATIVE = record { 0 = 0x20 }
 abbrev pub QUAD : SubgroupOperationSet
 QUAD = record { 0 = 0x40 }
 
--- Capabilities: what a target can do beyond the common ground
-abbrev pub ACCELERATION_STRUCTURE_BINDING_ARRAY : Capabilities
-ACCELERATION_STRUCTURE_BINDING_ARRAY = record { 0 = 0x1 }
-
-abbrev pub BUFFER_BINDING_ARRAY : Capabilities
-BUFFER_BINDING_ARRAY = record { 0 = 0x2 }
-
-abbrev pub CLIP_DISTANCES : Capabilities
-CLIP_DISTANCES = record { 0 = 0x4 }
-
-abbrev pub CULL_DISTANCE : Capabilities
-CULL_DISTANCE = record { 0 = 0x8 }
-
-abbrev pub DRAW_INDEX : Capabilities
-DRAW_INDEX = record { 0 = 0x10 }
-
-abbrev pub EARLY_DEPTH_TEST : Capabilities
-EARLY_DEPTH_TEST = record { 0 = 0x20 }
-
-abbrev pub IMMEDIATES : Capabilities
-IMMEDIATES = record { 0 = 0x40 }
-
-abbrev pub MEMORY_DECORATION_COHERENT : Capabilities
-MEMORY_DECORATION_COHERENT = record { 0 = 0x80 }
-
-abbrev pub MEMORY_DECORATION_VOLATILE : Capabilities
-MEMORY_DECORATION_VOLATILE = record { 0 = 0x100 }
-
-abbrev pub MESH_SHADER : Capabilities
-MESH_SHADER = record { 0 = 0x200 }
-
-abbrev pub MESH_SHADER_POINT_TOPOLOGY : Capabilities
-MESH_SHADER_POINT_TOPOLOGY = record { 0 = 0x400 }
-
-abbrev pub MULTISAMPLED_SHADING : Capabilities
-MULTISAMPLED_SHADING = record { 0 = 0x800 }
-
-abbrev pub MULTIVIEW : Capabilities
-MULTIVIEW = record { 0 = 0x1000 }
-
-abbrev pub PER_VERTEX : Capabilities
-PER_VERTEX = record { 0 = 0x2000 }
-
-abbrev pub PRIMITIVE_INDEX : Capabilities
-PRIMITIVE_INDEX = record { 0 = 0x4000 }
-
-abbrev pub RAY_TRACING_PIPELINE : Capabilities
-RAY_TRACING_PIPELINE = record { 0 = 0x8000 }
-
-abbrev pub SHADER_BARYCENTRICS : Capabilities
-SHADER_BARYCENTRICS = record { 0 = 0x10000 }
-
-abbrev pub SHADER_FLOAT32_ATOMIC : Capabilities
-SHADER_FLOAT32_ATOMIC = record { 0 = 0x20000 }
-
-abbrev pub SHADER_INT64_ATOMIC_ALL_OPS : Capabilities
-SHADER_INT64_ATOMIC_ALL_OPS = record { 0 = 0x40000 }
-
-abbrev pub SHADER_INT64_ATOMIC_MIN_MAX : Capabilities
-SHADER_INT64_ATOMIC_MIN_MAX = record { 0 = 0x80000 }
-
-abbrev pub STORAGE_BUFFER_BINDING_ARRAY : Capabilities
-STORAGE_BUFFER_BINDING_ARRAY = record { 0 = 0x100000 }
-
-abbrev pub STORAGE_TEXTURE_16BIT_NORM_FORMATS : Capabilities
-STORAGE_TEXTURE_16BIT_NORM_FORMATS = record { 0 = 0x200000 }
-
-abbrev pub STORAGE_TEXTURE_BINDING_ARRAY : Capabilities
-STORAGE_TEXTURE_BINDING_ARRAY = record { 0 = 0x400000 }
-
-abbrev pub SUBGROUP : Capabilities
-SUBGROUP = record { 0 = 0x800000 }
-
-abbrev pub SUBGROUP_BARRIER : Capabilities
-SUBGROUP_BARRIER = record { 0 = 0x1000000 }
-
-abbrev pub TEXTURE_AND_SAMPLER_BINDING_ARRAY : Capabilities
-TEXTURE_AND_SAMPLER_BINDING_ARRAY = record { 0 = 0x2000000 }
-
-abbrev pub TEXTURE_ATOMIC : Capabilities
-TEXTURE_ATOMIC = record { 0 = 0x4000000 }
-
-abbrev pub TEXTURE_INT64_ATOMIC : Capabilities
-TEXTURE_INT64_ATOMIC = record { 0 = 0x8000000 }
-
--- every stage, every group of subgroup operations, every capability
+-- every stage, every group of subgroup operations
 abbrev pub ALL_STAGES : ShaderStages
 ALL_STAGES = record { 0 = 0x1ff }
 
 abbrev pub ALL_OPERATIONS : SubgroupOperationSet
 ALL_OPERATIONS = record { 0 = 0x7f }
 
-abbrev pub ALL_CAPABILITIES : Capabilities
-ALL_CAPABILITIES = record { 0 = 0xfffffff }
-
 -- every flag of a type
 abbrev pub ALL_TYPE_FLAGS : TypeFlags
 ALL_TYPE_FLAGS = record { 0 = 0xff }
 
 -- no stage, no use of a global, no memory that a barrier orders, no access to a storage image, no group of subgroup
--- operations, no capability, no flag of a type
+-- operations, no flag of a type
 abbrev pub NO_STAGE : ShaderStages
 NO_STAGE = record { 0 = 0 }
 
@@ -268,9 +176,6 @@ NO_ACCESS = record { 0 = 0 }
 
 abbrev pub NO_OPERATION : SubgroupOperationSet
 NO_OPERATION = record { 0 = 0 }
-
-abbrev pub NO_CAPABILITY : Capabilities
-NO_CAPABILITY = record { 0 = 0 }
 
 abbrev pub NO_TYPE_FLAG : TypeFlags
 NO_TYPE_FLAG = record { 0 = 0 }

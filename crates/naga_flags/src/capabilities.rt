@@ -50,40 +50,40 @@ impl fmt::Debug for Capabilities {
 }
 
 impl Flags for Capabilities {
-    ghost use Rattle.naga_flags.specs.Bits as bit;
+    ghost use Rattle.naga_flags.specs.Capabilities as capability;
 
     type Bits = u32;
 
     ghost exact = { ⊤ };
 
-    ghost table = { (codes "ACCELERATION_STRUCTURE_BINDING_ARRAY", bit.ACCELERATION_STRUCTURE_BINDING_ARRAY.0) ∷
-        (codes "BUFFER_BINDING_ARRAY", bit.BUFFER_BINDING_ARRAY.0) ∷
-        (codes "CLIP_DISTANCES", bit.CLIP_DISTANCES.0) ∷
-        (codes "CULL_DISTANCE", bit.CULL_DISTANCE.0) ∷
-        (codes "DRAW_INDEX", bit.DRAW_INDEX.0) ∷
-        (codes "EARLY_DEPTH_TEST", bit.EARLY_DEPTH_TEST.0) ∷
-        (codes "IMMEDIATES", bit.IMMEDIATES.0) ∷
-        (codes "MEMORY_DECORATION_COHERENT", bit.MEMORY_DECORATION_COHERENT.0) ∷
-        (codes "MEMORY_DECORATION_VOLATILE", bit.MEMORY_DECORATION_VOLATILE.0) ∷
-        (codes "MESH_SHADER", bit.MESH_SHADER.0) ∷
-        (codes "MESH_SHADER_POINT_TOPOLOGY", bit.MESH_SHADER_POINT_TOPOLOGY.0) ∷
-        (codes "MULTISAMPLED_SHADING", bit.MULTISAMPLED_SHADING.0) ∷
-        (codes "MULTIVIEW", bit.MULTIVIEW.0) ∷
-        (codes "PER_VERTEX", bit.PER_VERTEX.0) ∷
-        (codes "PRIMITIVE_INDEX", bit.PRIMITIVE_INDEX.0) ∷
-        (codes "RAY_TRACING_PIPELINE", bit.RAY_TRACING_PIPELINE.0) ∷
-        (codes "SHADER_BARYCENTRICS", bit.SHADER_BARYCENTRICS.0) ∷
-        (codes "SHADER_FLOAT32_ATOMIC", bit.SHADER_FLOAT32_ATOMIC.0) ∷
-        (codes "SHADER_INT64_ATOMIC_ALL_OPS", bit.SHADER_INT64_ATOMIC_ALL_OPS.0) ∷
-        (codes "SHADER_INT64_ATOMIC_MIN_MAX", bit.SHADER_INT64_ATOMIC_MIN_MAX.0) ∷
-        (codes "STORAGE_BUFFER_BINDING_ARRAY", bit.STORAGE_BUFFER_BINDING_ARRAY.0) ∷
-        (codes "STORAGE_TEXTURE_16BIT_NORM_FORMATS", bit.STORAGE_TEXTURE_16BIT_NORM_FORMATS.0) ∷
-        (codes "STORAGE_TEXTURE_BINDING_ARRAY", bit.STORAGE_TEXTURE_BINDING_ARRAY.0) ∷
-        (codes "SUBGROUP", bit.SUBGROUP.0) ∷
-        (codes "SUBGROUP_BARRIER", bit.SUBGROUP_BARRIER.0) ∷
-        (codes "TEXTURE_AND_SAMPLER_BINDING_ARRAY", bit.TEXTURE_AND_SAMPLER_BINDING_ARRAY.0) ∷
-        (codes "TEXTURE_ATOMIC", bit.TEXTURE_ATOMIC.0) ∷
-        (codes "TEXTURE_INT64_ATOMIC", bit.TEXTURE_INT64_ATOMIC.0) ∷ [] };
+    ghost table = { (codes "ACCELERATION_STRUCTURE_BINDING_ARRAY", capability.ACCELERATION_STRUCTURE_BINDING_ARRAY.0) ∷
+        (codes "BUFFER_BINDING_ARRAY", capability.BUFFER_BINDING_ARRAY.0) ∷
+        (codes "CLIP_DISTANCES", capability.CLIP_DISTANCES.0) ∷
+        (codes "CULL_DISTANCE", capability.CULL_DISTANCE.0) ∷
+        (codes "DRAW_INDEX", capability.DRAW_INDEX.0) ∷
+        (codes "EARLY_DEPTH_TEST", capability.EARLY_DEPTH_TEST.0) ∷
+        (codes "IMMEDIATES", capability.IMMEDIATES.0) ∷
+        (codes "MEMORY_DECORATION_COHERENT", capability.MEMORY_DECORATION_COHERENT.0) ∷
+        (codes "MEMORY_DECORATION_VOLATILE", capability.MEMORY_DECORATION_VOLATILE.0) ∷
+        (codes "MESH_SHADER", capability.MESH_SHADER.0) ∷
+        (codes "MESH_SHADER_POINT_TOPOLOGY", capability.MESH_SHADER_POINT_TOPOLOGY.0) ∷
+        (codes "MULTISAMPLED_SHADING", capability.MULTISAMPLED_SHADING.0) ∷
+        (codes "MULTIVIEW", capability.MULTIVIEW.0) ∷
+        (codes "PER_VERTEX", capability.PER_VERTEX.0) ∷
+        (codes "PRIMITIVE_INDEX", capability.PRIMITIVE_INDEX.0) ∷
+        (codes "RAY_TRACING_PIPELINE", capability.RAY_TRACING_PIPELINE.0) ∷
+        (codes "SHADER_BARYCENTRICS", capability.SHADER_BARYCENTRICS.0) ∷
+        (codes "SHADER_FLOAT32_ATOMIC", capability.SHADER_FLOAT32_ATOMIC.0) ∷
+        (codes "SHADER_INT64_ATOMIC_ALL_OPS", capability.SHADER_INT64_ATOMIC_ALL_OPS.0) ∷
+        (codes "SHADER_INT64_ATOMIC_MIN_MAX", capability.SHADER_INT64_ATOMIC_MIN_MAX.0) ∷
+        (codes "STORAGE_BUFFER_BINDING_ARRAY", capability.STORAGE_BUFFER_BINDING_ARRAY.0) ∷
+        (codes "STORAGE_TEXTURE_16BIT_NORM_FORMATS", capability.STORAGE_TEXTURE_16BIT_NORM_FORMATS.0) ∷
+        (codes "STORAGE_TEXTURE_BINDING_ARRAY", capability.STORAGE_TEXTURE_BINDING_ARRAY.0) ∷
+        (codes "SUBGROUP", capability.SUBGROUP.0) ∷
+        (codes "SUBGROUP_BARRIER", capability.SUBGROUP_BARRIER.0) ∷
+        (codes "TEXTURE_AND_SAMPLER_BINDING_ARRAY", capability.TEXTURE_AND_SAMPLER_BINDING_ARRAY.0) ∷
+        (codes "TEXTURE_ATOMIC", capability.TEXTURE_ATOMIC.0) ∷
+        (codes "TEXTURE_INT64_ATOMIC", capability.TEXTURE_INT64_ATOMIC.0) ∷ [] };
 
     ghost set_of = { λ p. p.0 };
 

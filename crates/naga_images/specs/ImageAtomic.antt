@@ -1,7 +1,9 @@
 -- The check list of ImageAtomic.
 use Rattle.std.specs.Prelude.{ℕ, Bool, true, false, List, [], ◌∷◌, ◌++◌, Option, Some, is_some}
 use Rattle.naga_flags.specs.Bits as bit
-use Rattle.naga_flags.specs.Bits.{contains, has_capability}
+use Rattle.naga_flags.specs.Bits.{contains}
+use Rattle.naga_flags.specs.Capabilities as capability
+use Rattle.naga_flags.specs.Capabilities.{has_capability}
 use Rattle.naga_types.specs.Formats.{format_scalar}
 use Rattle.naga_below.specs.Points.{Point}
 use Rattle.naga_types.specs.TypeTests.{is_scalar}
@@ -63,9 +65,9 @@ operation_points capabilities needed is_done fun =
 
 -- what the format asks for
 abbrev pub format_points : Capabilities → StorageFormat → AtomicFunction → Points
-format_points capabilities formats.R64Uint fun = operation_points capabilities bit.TEXTURE_INT64_ATOMIC (is_min_or_max fun) fun
-format_points capabilities formats.R32Sint fun = operation_points capabilities bit.TEXTURE_ATOMIC (is_done_on_texels fun) fun
-format_points capabilities formats.R32Uint fun = operation_points capabilities bit.TEXTURE_ATOMIC (is_done_on_texels fun) fun
+format_points capabilities formats.R64Uint fun = operation_points capabilities capability.TEXTURE_INT64_ATOMIC (is_min_or_max fun) fun
+format_points capabilities formats.R32Sint fun = operation_points capabilities capability.TEXTURE_ATOMIC (is_done_on_texels fun) fun
+format_points capabilities formats.R32Uint fun = operation_points capabilities capability.TEXTURE_ATOMIC (is_done_on_texels fun) fun
 format_points capabilities other fun = change_point false (wrong.InvalidImageFormat other) ∷ []
 
 -- ImageAtomic: its image, the texel, which comes before the class, the operation, and the value

@@ -1,6 +1,6 @@
 -- The step of the mesh: its output variable, what the type of that implies, and the outputs of its vertices and primitives.
 use Rattle.std.specs.Prelude.{ℕ, Bool, true, false, not, ◌||◌, List, [], ◌∷◌, ◌++◌, Option, None, Some, get_or, slice_get}
-use Rattle.naga_flags.specs.Bits.{MESH_SHADER_POINT_TOPOLOGY, has_capability}
+use Rattle.naga_flags.specs.Capabilities.{MESH_SHADER_POINT_TOPOLOGY, has_capability}
 use Rattle.naga_below.specs.Points.{Point, within}
 use Rattle.naga_types.specs.TypeTests.{is_handle}
 use Rattle.naga_ir.specs.contracts.module.MeshStageInfoPartialEq.TheImpl as mesh_info

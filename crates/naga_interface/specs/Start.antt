@@ -2,7 +2,7 @@
 -- and whether something is said of a mesh. These are answered without memory.
 use Rattle.std.specs.Prelude.{ℕ, Bool, true, false, ◌&&◌, ◌==◌, nat_le, List, [], ◌∷◌, ◌++◌, Option, None, Some, is_none, is_some, if◌then◌else◌}
 use Rattle.std.specs.List.{list_all}
-use Rattle.naga_flags.specs.Bits.{MESH_SHADER, RAY_TRACING_PIPELINE, EARLY_DEPTH_TEST, has_capability}
+use Rattle.naga_flags.specs.Capabilities.{MESH_SHADER, RAY_TRACING_PIPELINE, EARLY_DEPTH_TEST, has_capability}
 use Rattle.naga_ir.specs.declared.module.EarlyDepthTest.{EarlyDepthTest}
 use Rattle.naga_ir.specs.declared.module.EntryPoint.{EntryPoint}
 use Rattle.naga_ir.specs.declared.module.MeshStageInfo.{MeshStageInfo}

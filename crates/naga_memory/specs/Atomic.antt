@@ -1,7 +1,7 @@
 -- The check list of Atomic.
 use Rattle.std.specs.Prelude.{ℕ, Bool, true, false, not, ◌&&◌, ◌||◌, ◌==◌, List, [], ◌∷◌, ◌++◌, Option, None, Some, is_some, if◌then◌else◌, unwrap_or}
-use Rattle.naga_flags.specs.Bits as bit
-use Rattle.naga_flags.specs.Bits.{has_capability}
+use Rattle.naga_flags.specs.Capabilities as capability
+use Rattle.naga_flags.specs.Capabilities.{has_capability}
 use Rattle.naga_types.specs.Types.{bool_scalar, inner_at}
 use Rattle.naga_ir.specs.declared.expressions.Expression.{Expression}
 use Rattle.naga_ir.specs.declared.expressions.Expression.TheVariants as e
@@ -88,19 +88,19 @@ is_done_on_floats fun = is_plain_exchange fun
 abbrev pub int64_capability : AtomicFunction → AddressSpace → Bool → Capabilities
 int64_capability fun p has_result =
     if is_min_or_max fun && (is_storage p && not has_result)
-    then bit.SHADER_INT64_ATOMIC_MIN_MAX
-    else bit.SHADER_INT64_ATOMIC_ALL_OPS
+    then capability.SHADER_INT64_ATOMIC_MIN_MAX
+    else capability.SHADER_INT64_ATOMIC_ALL_OPS
 
 -- whether there is this capability, or that for all operations on an integer of 64 bits
 abbrev pub has_int64_capability : Capabilities → Capabilities → Bool
 has_int64_capability capabilities needed =
-    has_capability capabilities bit.SHADER_INT64_ATOMIC_ALL_OPS || has_capability capabilities needed
+    has_capability capabilities capability.SHADER_INT64_ATOMIC_ALL_OPS || has_capability capabilities needed
 
 -- what the atomic's scalar asks for
 abbrev pub scalar_points : Capabilities → Scalar → AddressSpace → AtomicFunction → Bool → Points
 scalar_points capabilities s p fun has_result =
     let int64 = int64_capability fun p has_result in
-    let float32 = bit.SHADER_FLOAT32_ATOMIC in
+    let float32 = capability.SHADER_FLOAT32_ATOMIC in
     if is_int64 s
     then atomic_point (has_int64_capability capabilities int64) (wrong.MissingCapability int64) ∷ []
     else if is_float32 s

@@ -4,7 +4,6 @@ use Rattle.std.specs.Option.{option_map}
 use Rattle.naga_types.specs.Types.{resolved}
 use Rattle.naga_ir.specs.declared.expressions.Expression.{Expression}
 use Rattle.naga_ir.specs.declared.expressions.Expression.TheVariants as e
-use Rattle.naga_types.specs.declared.types.Type.{«Type» as IrType}
 use Rattle.naga_types.specs.declared.types.TypeInner.{TypeInner}
 use Rattle.naga_types.specs.declared.types.TypeInner.TheVariants as inner
 use Rattle.naga_types.specs.declared.typifier.TypeResolution.{TypeResolution}
@@ -15,8 +14,8 @@ use Rattle.naga_context.specs.Context.{Context}
 use Rattle.naga_context.specs.Pointers.{base_type_at, is_writable}
 use Rattle.naga_context.specs.Points.{Points, use_point}
 use Rattle.naga_below.specs.Points.{Point}
-use Rattle.naga_types.specs.TypeTests.{is_scalar, is_same_type}
-use Rattle.naga_context.specs.Types.{expression_at, resolution_at, type_at, named_type}
+use Rattle.naga_types.specs.TypeTests.{is_scalar}
+use Rattle.naga_context.specs.Types.{expression_at, is_of_type, type_at, named_type}
 
 -- the expression of which an access takes a part
 abbrev pub access_base : Option Expression → Option ℕ
@@ -51,14 +50,10 @@ is_texture _ = false
 abbrev pub texture_point : ℕ → Option TypeInner → Point FunctionError
 texture_point value ty = (not (is_texture ty), InvalidStoreTexture value (named_type ty))
 
-abbrev pub is_given_in : List IrType → Option TypeResolution → TypeResolution → Bool
-is_given_in types None base = false
-is_given_in types (Some given) base = is_same_type types given base
-
 -- whether a value is what this type holds: an atomic its scalar, any other a value of the type
 abbrev pub is_held_by : Context → ℕ → TypeResolution → Option TypeInner → Bool
 is_held_by context value base (Some (inner.Atomic s)) = is_scalar s (type_at context value)
-is_held_by context value base _ = is_given_in context.program.types (resolution_at context value) base
+is_held_by context value base _ = is_of_type context value base
 
 abbrev pub is_stored_as : Context → ℕ → Option TypeResolution → Bool
 is_stored_as context value None = false

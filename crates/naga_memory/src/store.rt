@@ -1,8 +1,7 @@
 //! The check list of Store.
 
-ghost use Rattle.std.specs.Prelude.{◌≡◌, ◌<◌, ◌↔◌, true, IsTrue, IfSome, Some, length};
+ghost use Rattle.std.specs.Prelude.{◌≡◌, ◌<◌, ◌↔◌, true, IsTrue, Some, length};
 ghost use Rattle.std.specs.Option.{option_copied};
-ghost use Rattle.naga_types.specs.Types.{ResolutionFits};
 ghost use Rattle.naga_errors.specs.declared.function.FunctionError.TheVariants.{InvalidStoreTexture};
 ghost use Rattle.naga_context.specs.walk.Answers.{AllHold, IsRefusalFor, RefusesFaultsAlone};
 ghost use Rattle.naga_errors.specs.Answers.{AnswersPoints};
@@ -23,10 +22,9 @@ use naga_context::pointers::{base_type, is_writable};
 use naga_context::refuse::not_in_scope;
 use naga_context::refused::Refused;
 use naga_context::table::ScopeColumn;
-use naga_context::types::is_scalar;
+use naga_context::types::{is_of_type, is_scalar};
 use naga_errors::function::FunctionError;
 use naga_ir::expressions::Expression;
-use naga_types::type_methods::compare_types;
 use naga_types::types::TypeInner;
 use naga_types::typifier::TypeResolution;
 use std::alloc::Global;
@@ -178,11 +176,16 @@ fn is_stored_behind(
     requires { ContextFits (context_of context.now) }
     ensures { result ≡ is_stored_as (context_of context.now) value (base_type_at (context_of context.now) pointer) }
 {
-    is_stored_as(context, value, &base_type(context, pointer))
+    let Some(base) = base_type(context, pointer) else {
+        return false;
+    };
+    match base.inner_with(&context.program.types) {
+        TypeInner::Atomic(scalar) => is_scalar(*scalar, context.type_inner(value)),
+        _ => is_of_type(context, value, &base),
+    }
 }
 
-/// Whether a value is what a type of the module holds.
-#[tactic(auto, unfolding(naga_types::specs::TypeTests::is_same_type))]
+/// Whether a value is what a type of the module holds: an atomic its scalar, any other a value of the type.
 fn is_stored_as_type(
     context: &BlockContext,
     value: Handle<tag::Expression>,
@@ -194,37 +197,7 @@ fn is_stored_as_type(
 {
     match &context.program.types[ty].inner {
         TypeInner::Atomic(scalar) => is_scalar(*scalar, context.type_inner(value)),
-        inner => match context.resolution(value) {
-            Some(TypeResolution::Value(given)) => given.equivalent(inner, &context.program.types),
-            Some(given) => compare_types(
-                given,
-                &TypeResolution::Handle(ty),
-                &context.program.types,
-            ),
-            None => false,
-        },
-    }
-}
-
-/// Whether a value is what this type holds: an atomic its scalar, any other a value of the type.
-fn is_stored_as(
-    context: &BlockContext,
-    value: Handle<tag::Expression>,
-    base: &Option<TypeResolution>,
-) -> bool
-    requires context { ContextFits (context_of context.now) }
-    requires base { IfSome base.now (ResolutionFits (length (context_of context.now).program.types)) }
-    ensures { result ≡ is_stored_as (context_of context.now) value base.now }
-{
-    let Some(base) = base else {
-        return false;
-    };
-    match base.inner_with(&context.program.types) {
-        TypeInner::Atomic(scalar) => is_scalar(*scalar, context.type_inner(value)),
-        _ => match context.resolution(value) {
-            Some(given) => compare_types(given, base, &context.program.types),
-            None => false,
-        },
+        _ => is_of_type(context, value, &TypeResolution::Handle(ty)),
     }
 }
 

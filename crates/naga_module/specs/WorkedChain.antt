@@ -1,7 +1,8 @@
 -- A chain of two calls, worked by hand over the plain layer: its infos are vetted, and its last function reaches its first.
 use Rattle.std.specs.Int.RustNames.{bit_or}
 use Rattle.std.specs.Prelude.{false, [], ◌∷◌, None}
-use Rattle.naga_flags.specs.Bits.{EXPRESSIONS, BLOCKS, FRAGMENT, NO_CAPABILITY, NO_OPERATION, NO_STAGE}
+use Rattle.naga_flags.specs.Bits.{EXPRESSIONS, BLOCKS, FRAGMENT, NO_OPERATION, NO_STAGE}
+use Rattle.naga_flags.specs.Capabilities.{NO_CAPABILITY}
 use Rattle.naga_ir.specs.declared.functions.Function.{Function}
 use Rattle.naga_ir.specs.declared.module.Module.{Module}
 use Rattle.naga_ir.specs.declared.statements.Block.{Block, roll-Block}

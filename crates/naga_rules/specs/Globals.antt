@@ -1,6 +1,7 @@
 -- The check list of a global variable.
 use Rattle.std.specs.Prelude.{ℕ, Bool, true, false, not, ◌||◌, ◌==◌, List, [], ◌∷◌, ◌++◌, Option, None, Some, Result, Ok, Err, is_none, is_some, slice_get, unwrap_or}
-use Rattle.naga_flags.specs.Bits.{contains, has_capability, STORE, COHERENT, VOLATILE, MEMORY_DECORATION_COHERENT, MEMORY_DECORATION_VOLATILE}
+use Rattle.naga_flags.specs.Bits.{contains, STORE, COHERENT, VOLATILE}
+use Rattle.naga_flags.specs.Capabilities.{has_capability, MEMORY_DECORATION_COHERENT, MEMORY_DECORATION_VOLATILE}
 use Rattle.naga_below.specs.Points.{Point}
 use Rattle.naga_types.specs.Types.{inner_at}
 use Rattle.naga_flags.specs.declared.ir.MemoryDecorations.{MemoryDecorations}

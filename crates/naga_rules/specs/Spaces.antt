@@ -1,7 +1,8 @@
 -- What an address space asks for of a global that lies in it: a table of one row a space, and what binding arrays need.
 use Rattle.std.specs.Int.RustNames.{bit_or}
 use Rattle.std.specs.Prelude.{Bool, true, false, List, [], ◌∷◌, Option, None, Some, if◌then◌else◌}
-use Rattle.naga_flags.specs.Bits.{NO_TYPE_FLAG, DATA, SIZED, COPY, HOST_SHAREABLE, CREATION_RESOLVED, CONSTRUCTIBLE, ACCELERATION_STRUCTURE_BINDING_ARRAY, BUFFER_BINDING_ARRAY, IMMEDIATES, MESH_SHADER, RAY_TRACING_PIPELINE, STORAGE_BUFFER_BINDING_ARRAY, STORAGE_TEXTURE_16BIT_NORM_FORMATS, STORAGE_TEXTURE_BINDING_ARRAY, TEXTURE_AND_SAMPLER_BINDING_ARRAY}
+use Rattle.naga_flags.specs.Bits.{NO_TYPE_FLAG, DATA, SIZED, COPY, HOST_SHAREABLE, CREATION_RESOLVED, CONSTRUCTIBLE}
+use Rattle.naga_flags.specs.Capabilities.{ACCELERATION_STRUCTURE_BINDING_ARRAY, BUFFER_BINDING_ARRAY, IMMEDIATES, MESH_SHADER, RAY_TRACING_PIPELINE, STORAGE_BUFFER_BINDING_ARRAY, STORAGE_TEXTURE_16BIT_NORM_FORMATS, STORAGE_TEXTURE_BINDING_ARRAY, TEXTURE_AND_SAMPLER_BINDING_ARRAY}
 use Rattle.naga_types.specs.declared.types.AddressSpace.{AddressSpace}
 use Rattle.naga_types.specs.declared.types.AddressSpace.TheVariants as space
 use Rattle.naga_types.specs.declared.types.ImageClass.{ImageClass}

@@ -203,17 +203,17 @@ pub fn compare_types(
     requires types { NameEachOther types.now }
     ensures { result ≡ is_same_type types.now first.now second.now }
 {
-    if let TypeResolution::Handle(handle) = first {
-        if let TypeInner::Struct { .. } = types[*handle].inner {
-            return match second {
+    let inner = match first {
+        TypeResolution::Value(inner) => inner,
+        TypeResolution::Handle(handle) => match &types[*handle].inner {
+            TypeInner::Struct { .. } => return match second {
                 TypeResolution::Handle(other) => handle == other,
                 TypeResolution::Value(_) => false,
-            };
-        }
-    }
-    first
-        .inner_with(types)
-        .equivalent(second.inner_with(types), types)
+            },
+            inner => inner,
+        },
+    };
+    inner.equivalent(second.inner_with(types), types)
 }
 
 /// The tests of types that compute say what the words for them say.

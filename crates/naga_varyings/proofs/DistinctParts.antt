@@ -1,7 +1,8 @@
 -- Of an accepted group, no location and no built-in stands twice.
 use Rattle.std.proofs.Common.{◌≡◌, ℕ, suc, Bool, true, false, not, ◌||◌, List, [], ◌∷◌, ◌++◌, Option, None, Some, refl, sym, ap, ◌∙◌, arith}
 use Rattle.std.specs.Prelude.{codes, is_none, unwrap_or}
-use Rattle.naga_flags.specs.Bits.{IO_SHAREABLE, MESH_SHADER, NO_CAPABILITY, has_capability}
+use Rattle.naga_flags.specs.Bits.{IO_SHAREABLE}
+use Rattle.naga_flags.specs.Capabilities.{MESH_SHADER, NO_CAPABILITY, has_capability}
 use Rattle.naga_ir.specs.declared.module.ShaderStage.TheVariants.{Fragment}
 use Rattle.naga_errors.specs.TypeInfos.{type_has}
 use Rattle.naga_errors.specs.declared.interface.VaryingError.TheVariants.{BindingCollision, BlendSrcNotOnStructMember, DuplicateBuiltIn, InvalidBuiltInStage, InvalidBuiltInType, InvalidMultiDimensionalSubgroupBuiltIn, InvalidPerPrimitive, MissingPerPrimitive, NotIOShareableType, UnsupportedCapability}

@@ -1,7 +1,7 @@
 -- The table of built-ins: of each group where it is visible, of which type it is, and what the target has to have.
 use Rattle.std.specs.Prelude.{Bool, true, false, not, ◌&&◌, List, [], ◌∷◌, Option, None, Some, if◌then◌else◌}
 use Rattle.std.specs.List.{list_any, find}
-use Rattle.naga_flags.specs.Bits.{CLIP_DISTANCES, CULL_DISTANCE, DRAW_INDEX, MULTISAMPLED_SHADING, MULTIVIEW, PRIMITIVE_INDEX, SHADER_BARYCENTRICS, SUBGROUP}
+use Rattle.naga_flags.specs.Capabilities.{CLIP_DISTANCES, CULL_DISTANCE, DRAW_INDEX, MULTISAMPLED_SHADING, MULTIVIEW, PRIMITIVE_INDEX, SHADER_BARYCENTRICS, SUBGROUP}
 use Rattle.naga_types.specs.contracts.built_in.BuiltInPartialEq.TheImpl as built_in
 use Rattle.naga_ir.specs.contracts.module.ShaderStagePartialEq.TheImpl as shader_stage
 use Rattle.naga_types.specs.declared.built_in.BuiltIn.{BuiltIn}

@@ -1,7 +1,7 @@
 -- The columns of the table of built-ins, built-in by built-in, as the code reads them.
 use Rattle.std.specs.Prelude.{Bool, true, false, List, [], ◌∷◌, Option}
 use Rattle.std.specs.List.{list_any}
-use Rattle.naga_flags.specs.Bits.{CLIP_DISTANCES, CULL_DISTANCE, DRAW_INDEX, MULTISAMPLED_SHADING, MULTIVIEW, PRIMITIVE_INDEX, SHADER_BARYCENTRICS, SUBGROUP}
+use Rattle.naga_flags.specs.Capabilities.{CLIP_DISTANCES, CULL_DISTANCE, DRAW_INDEX, MULTISAMPLED_SHADING, MULTIVIEW, PRIMITIVE_INDEX, SHADER_BARYCENTRICS, SUBGROUP}
 use Rattle.naga_types.specs.declared.built_in.BuiltIn.{BuiltIn}
 use Rattle.naga_types.specs.declared.built_in.BuiltIn.TheVariants.{BaseInstance, BaseVertex, VertexIndex, InstanceIndex, DrawIndex, ClipDistances, CullDistance, PointSize, PointCoord, Position, ViewIndex, FragDepth, FrontFacing, PrimitiveIndex, Barycentric, SampleIndex, SampleMask, LocalInvocationIndex, GlobalInvocationId, LocalInvocationId, WorkGroupId, WorkGroupSize, NumWorkGroups, NumSubgroups, SubgroupId, SubgroupSize, SubgroupInvocationId, CullPrimitive, PointIndex, LineIndices, TriangleIndices, MeshTaskSize, RayInvocationId, NumRayInvocations, InstanceCustomData, GeometryIndex, HitKind, WorldRayOrigin, WorldRayDirection, ObjectRayOrigin, ObjectRayDirection, RayTmin, RayTCurrentMax, ObjectToWorld, WorldToObject, VertexCount, PrimitiveCount, Vertices, Primitives}
 use Rattle.naga_ir.specs.declared.module.ShaderStage.{ShaderStage}

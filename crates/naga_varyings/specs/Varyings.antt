@@ -20,7 +20,8 @@ use Rattle.std.specs.Prelude.{◌≡◌, ℕ, suc, Bool, true, false, not, ◌&&
 use Rattle.std.specs.BTreeSet.{contains as set_contains}
 use Rattle.std.specs.List.{list_any}
 use Rattle.std.specs.Ordering.{nat_cmp}
-use Rattle.naga_flags.specs.Bits.{IO_SHAREABLE, MESH_SHADER, NO_CAPABILITY, has_capability}
+use Rattle.naga_flags.specs.Bits.{IO_SHAREABLE}
+use Rattle.naga_flags.specs.Capabilities.{MESH_SHADER, NO_CAPABILITY, has_capability}
 use Rattle.naga_below.specs.Points.{Point, within}
 use Rattle.naga_types.specs.TypeTests.{is_same_inner, is_scalar}
 use Rattle.naga_types.specs.Types.{inner_at}

@@ -1,7 +1,7 @@
 //! The check list of a built-in.
 
 ghost use Rattle.std.specs.Prelude.{◌≡◌, ◌<◌, ◌||◌, not, None, length, if◌then◌else◌};
-ghost use Rattle.naga_flags.specs.Bits.{MESH_SHADER, has_capability};
+ghost use Rattle.naga_flags.specs.Capabilities.{MESH_SHADER, has_capability};
 ghost use Rattle.naga_types.specs.Types.{NamesTypesBelow, NameEachOther, inner_at};
 ghost use Rattle.naga_errors.specs.Answers.{AnswersPoints};
 ghost use Rattle.naga_varyings.specs.Varyings.{built_in_points, has_built_in_type, has_one_dimension, has_required, is_distances, is_of_one_dimension, seen_in};

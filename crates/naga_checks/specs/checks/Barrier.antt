@@ -2,7 +2,9 @@
 use Rattle.std.specs.Prelude.{Bool, [], ◌∷◌, if◌then◌else◌}
 use Rattle.std.specs.Int.RustNames.{bit_or}
 use Rattle.naga_flags.specs.Bits as bit
-use Rattle.naga_flags.specs.Bits.{contains, has_capability}
+use Rattle.naga_flags.specs.Bits.{contains}
+use Rattle.naga_flags.specs.Capabilities as capability
+use Rattle.naga_flags.specs.Capabilities.{has_capability}
 use Rattle.naga_flags.specs.declared.ir.Barrier.{Barrier}
 use Rattle.naga_flags.specs.declared.capabilities.Capabilities.{Capabilities}
 use Rattle.naga_below.specs.declared.valid.settings.Settings.{Settings}
@@ -16,7 +18,7 @@ is_of_subgroup barrier = contains barrier.0 bit.SUB_GROUP.0
 
 -- subgroups and their barriers, both
 abbrev pub barrier_capabilities : Capabilities
-barrier_capabilities = record { 0 = bit_or bit.SUBGROUP.0 bit.SUBGROUP_BARRIER.0 }
+barrier_capabilities = record { 0 = bit_or capability.SUBGROUP.0 capability.SUBGROUP_BARRIER.0 }
 
 -- ControlBarrier and MemoryBarrier: one of a subgroup needs what the target has; any other needs nothing
 abbrev pub barrier_points : Settings → Barrier → Points

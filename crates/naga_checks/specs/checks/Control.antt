@@ -3,10 +3,8 @@ use Rattle.std.specs.Prelude.{ℕ, zero, suc, Bool, true, false, not, ◌&&◌, 
 use Rattle.std.specs.Option.{option_map}
 use Rattle.naga_types.specs.declared.types.ScalarKind.{ScalarKind}
 use Rattle.naga_types.specs.declared.types.ScalarKind.TheVariants as kind
-use Rattle.naga_types.specs.declared.types.Type.{«Type» as IrType}
 use Rattle.naga_types.specs.declared.types.TypeInner.{TypeInner}
 use Rattle.naga_types.specs.declared.types.TypeInner.TheVariants as inner
-use Rattle.naga_types.specs.declared.typifier.TypeResolution.{TypeResolution}
 use Rattle.naga_types.specs.declared.typifier.TypeResolution.TheVariants.{Handle}
 use Rattle.naga_errors.specs.declared.function.FunctionError.TheVariants.{EmitResult, BreakOutsideOfLoopOrSwitch, ContinueOutsideOfLoop, InvalidReturnSpot, InvalidReturnType, InvalidIfType}
 use Rattle.naga_runs.specs.Visits.{Place}
@@ -14,8 +12,7 @@ use Rattle.naga_context.specs.Blocks.{emitted_operands}
 use Rattle.naga_context.specs.Context.{Context}
 use Rattle.naga_context.specs.Points.{Points, use_point, put_point}
 use Rattle.naga_context.specs.Results.{is_result}
-use Rattle.naga_types.specs.TypeTests.{is_same_type}
-use Rattle.naga_context.specs.Types.{expression_at, resolution_at, type_at}
+use Rattle.naga_context.specs.Types.{expression_at, is_of_type, type_at}
 
 -- a place within an Emit whose range begins at `start`: in front of the handle h the earlier handles of the range count too
 abbrev pub within_emit : Place → ℕ → ℕ → Place
@@ -67,14 +64,10 @@ break_if_points context place (Some h) = condition_points context place h
 abbrev pub declared_type : Context → Option ℕ
 declared_type context = option_map (λ r. r.ty) context.fun.result
 
-abbrev pub is_given_as : List IrType → Option TypeResolution → ℕ → Bool
-is_given_as types None declared = false
-is_given_as types (Some given) declared = is_same_type types given (Handle declared)
-
 -- whether a value is of the type that is declared
 abbrev pub is_returned_as : Context → ℕ → Option ℕ → Bool
 is_returned_as context h None = false
-is_returned_as context h (Some declared) = is_given_as context.program.types (resolution_at context h) declared
+is_returned_as context h (Some declared) = is_of_type context h (Handle declared)
 
 -- Return: allowed here; the value, if there is one, put by every run and of the declared type; and none where none is
 -- declared

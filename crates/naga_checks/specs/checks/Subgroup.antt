@@ -1,7 +1,9 @@
 -- What the check lists of subgroup statements share; then the list of SubgroupBallot.
 use Rattle.std.specs.Prelude.{ℕ, Bool, true, false, List, [], ◌∷◌, ◌++◌, Option, None, Some}
 use Rattle.naga_flags.specs.Bits as bit
-use Rattle.naga_flags.specs.Bits.{contains, has_capability}
+use Rattle.naga_flags.specs.Bits.{contains}
+use Rattle.naga_flags.specs.Capabilities as capability
+use Rattle.naga_flags.specs.Capabilities.{has_capability}
 use Rattle.naga_types.specs.Types.{inner_at, bool_scalar}
 use Rattle.naga_ir.specs.declared.expressions.Expression.{Expression}
 use Rattle.naga_ir.specs.declared.expressions.Expression.TheVariants as e
@@ -37,7 +39,7 @@ operations_point settings these =
 
 -- subgroups at all
 abbrev pub subgroups_point : Settings → Point FunctionError
-subgroups_point settings = (has_capability settings.capabilities bit.SUBGROUP, MissingCapability bit.SUBGROUP)
+subgroups_point settings = (has_capability settings.capabilities capability.SUBGROUP, MissingCapability capability.SUBGROUP)
 
 -- the predicate, if there is one: put by every run, and a bool of one byte
 abbrev pub predicate_points : Context → Place → Option ℕ → Points

@@ -23,11 +23,11 @@ use naga_context::context::BlockContext;
 use naga_context::refuse::{answer, check_put, check_use, not_in_scope};
 use naga_context::refused::Refused;
 use naga_context::table::ScopeColumn;
+use naga_context::types::is_of_type;
 use naga_errors::function::FunctionError;
 use naga_ir::expressions::Expression;
 use naga_ir::operands::listed_operands;
 use naga_runs::Abilities;
-use naga_types::type_methods::compare_types;
 use naga_types::types::{Scalar, ScalarKind, TypeInner};
 use naga_types::typifier::TypeResolution;
 use std::alloc::Global;
@@ -360,14 +360,7 @@ fn is_returned_as(
 {
     match declared {
         None => false,
-        Some(declared) => match context.resolution(value) {
-            None => false,
-            Some(given) => compare_types(
-                given,
-                &TypeResolution::Handle(declared),
-                &context.program.types,
-            ),
-        },
+        Some(declared) => is_of_type(context, value, &TypeResolution::Handle(declared)),
     }
 }
 

@@ -40,7 +40,7 @@ fn settings() -> Settings {
 #[derive(Clone, Copy)]
 struct Subject<'a> {
     fun: &'a Function,
-    module: &'a Module,
+    program: &'a Module,
     mod_info: &'a ModuleInfo,
 }
 
@@ -54,11 +54,11 @@ fn with_query<B: Below>(
     global: Handle<tag::GlobalVariable>,
 ) -> Result<(FunctionInfo, bool), Refusal<FunctionError>>
     requires expression { handle < length subject.now.fun.now.expressions }
-    requires global { global < length subject.now.module.now.global_variables }
+    requires global { global < length subject.now.program.now.global_variables }
 {
     let Subject {
         fun,
-        module,
+        program,
         mod_info,
     } = *subject;
     let Settings {
@@ -66,14 +66,14 @@ fn with_query<B: Below>(
         capabilities,
         ..
     } = settings();
-    let mut info = below.process_function(alloc, fun, module, mod_info, flags, capabilities)?;
+    let mut info = below.process_function(alloc, fun, program, mod_info, flags, capabilities)?;
     info.insert_global_use(GlobalUse::QUERY, global);
     let resolution = &info.expression_types[handle.index()];
     if let TypeResolution::Value(inner) = resolution {
         prove!(!matches!(inner, TypeInner::Struct { .. }));
     }
     let is_struct = matches!(
-        resolution.inner_with(&module.types),
+        resolution.inner_with(&program.types),
         TypeInner::Struct { .. }
     );
     Ok((info, is_struct))
@@ -106,7 +106,7 @@ fn stages<B: Below>(
         settings(),
         handle,
         subject.fun,
-        subject.module,
+        subject.program,
         info,
         subject.mod_info,
         &kinds,
@@ -171,7 +171,7 @@ fn assert_answers(
     assert_eq!(rt; module.global_variables.len(), 1);
     let subject = Subject {
         fun,
-        module,
+        program: module,
         mod_info,
     };
     let (info, is_struct) = with_query(&Bools, alloc, &subject, handle, global)?;

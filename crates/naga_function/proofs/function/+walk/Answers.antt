@@ -68,8 +68,8 @@ validate_statement-returns-then-whole-clause-fault t c =
     let next = sym c.in_ok-whole.ensures.state in
     let put = c.in_ok-whole.ensures.scope.inside in
     let later = kept c.validate_own.new.table.filled c.validate_own.new.state in
-    let frequent = sym c.in_ok-whole.ensures.all ∙ c.if-whole.true in
-    let none = whole_parts context later c.args.abilities.now (known c.validate_own.new.table.scope) c.args.located.now.statement c.args.located.now.span frequent in
+    let whole = sym c.in_ok-whole.ensures.all ∙ c.if-whole.true in
+    let none = whole_parts context later c.args.abilities.now (known c.validate_own.new.table.scope) c.args.located.now.statement c.args.located.now.span whole in
     rw (stmt_more context k c.args.abilities.now s x) (
     passes _ _ (with_statement context k x) later (own_passes context k c.args.abilities.now s x c.in_ok-whole.ensures.fault) (rw (next, ← parts_later context later c.args.abilities.now s x, ← put) none)
     )

@@ -1,5 +1,5 @@
 use Rattle.std.proofs.Common.{rules, not, ◌||◌, ◌++◌}
-use Rattle.naga_flags.specs.Bits.{MESH_SHADER, has_capability}
+use Rattle.naga_flags.specs.Capabilities.{MESH_SHADER, has_capability}
 use Rattle.naga_errors.specs.declared.interface.VaryingError.TheVariants.{UnsupportedCapability}
 use Rattle.naga_varyings.specs.Locations.{carried_type, interpolation_points, per_vertex_points, sharing_points}
 use Rattle.naga_varyings.specs.Varyings.{seen_in}

@@ -2,11 +2,11 @@ use Rattle.std.proofs.Common.{sym, ap, ◌∙◌}
 use Rattle.std.specs.Option.{option_copied}
 use Rattle.naga_context.specs.walk.Seen.{context_of}
 use Rattle.naga_context.proofs.InRange.{types_fit, resolution_fits}
-use Rattle.naga_checks.proofs.checks.control.is_returned_as.Goals as goal
+use Rattle.naga_context.proofs.types.is_of_type.Goals as goal
 
 pub compare_types-requires-clause-types : goal.compare_types-requires-clause-types
-compare_types-requires-clause-types c = types_fit (context_of c.args.context.now) c.requires.fits
+compare_types-requires-clause-types c = types_fit (context_of c.args.context.now) c.requires.context
 
 pub compare_types-requires-clause-first : goal.compare_types-requires-clause-first
 compare_types-requires-clause-first c =
-    resolution_fits (context_of c.args.context.now) c.requires.fits c.args.value c.in-Some-resolution.given.now (sym c.resolution.ensures ∙ ap option_copied c.in-Some-resolution.is)
+    resolution_fits (context_of c.args.context.now) c.requires.context c.args.handle c.in-Some.given.now (sym c.resolution.ensures ∙ ap option_copied c.in-Some.is)
