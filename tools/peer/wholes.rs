@@ -1,7 +1,7 @@
-//! Times naga's own code over the cases of group `d` of crates/naga_bench: whole functions, entry points and modules. With an argument,
-//! only those whose names begin so. A line has the name, the statements (an entry point counts as one), the expressions, the median and the
+//! Times naga's own code over cases of crates/naga_bench: whole functions, entry points and modules (group `d`), and the sizes of bodies
+//! (groups `a` to `c`) that the benchmark of naga's code leaves out. With an argument, only those whose names begin so. A line has the name, the statements (an entry point counts as one), the expressions, the median and the
 //! fastest judgement, the same of the lower layer alone, the judgement's own share for each statement by both, and the repetitions, in
-//! nanoseconds: what `sh tools/bench d` reads of its second argument.
+//! nanoseconds: what `sh tools/bench` reads of its second argument.
 //!
 //! A judgement is the whole public call, on one validator that is kept between the calls of a case. What it answers is dropped behind the
 //! clock. Every answer must be a good one.
@@ -74,6 +74,16 @@ fn emits(count: usize) -> Function {
     fun
 }
 
+/// So many Calls with a result.
+fn calls(count: usize) -> Function {
+    let mut fun = begun();
+    for _ in 0..count {
+        let result = Some(fun.e(Expression::CallResult(at(0))));
+        fun.body.push(Statement::Call { function: at(0), arguments: vec![], result }, NO);
+    }
+    fun
+}
+
 /// So many statements, by turns an Emit of two, a Store, a Call and a Store.
 fn mix(count: usize) -> Function {
     let mut fun = begun();
@@ -88,6 +98,77 @@ fn mix(count: usize) -> Function {
         fun.body.push(store(result), NO);
     }
     fun
+}
+
+/// What holds a list: one kind of statement, or the three by turns.
+#[derive(Clone, Copy)]
+enum Holder {
+    Block,
+    If,
+    Loop,
+    Mix,
+}
+
+fn hold(holder: Holder, level: usize, list: Vec<Statement>) -> Statement {
+    let body = Block::from(list);
+    match (holder, level % 3) {
+        (Holder::Block, _) | (Holder::Mix, 0) => Statement::Block(body),
+        (Holder::If, _) | (Holder::Mix, 1) => Statement::If { condition: at(0), accept: body, reject: Block::new() },
+        _ => Statement::Loop { body, continuing: Block::new(), break_if: None },
+    }
+}
+
+/// Lists in one another, so deep: each has so many Emits of one Load before what it holds, and so many Stores behind it.
+fn nest(holder: Holder, depth: usize, width: usize) -> Function {
+    let mut fun = begun();
+    for _ in 0..(depth + 1) * width {
+        fun.e(Expression::Load { pointer: at(2) });
+    }
+    let emits = |level: usize| (0..width).map(move |index| emit(at(3 + level * width + index)));
+    let stores = || (0..width).map(|_| store(at(1)));
+    let mut list: Vec<_> = emits(depth).chain(stores()).collect();
+    for level in (0..depth).rev() {
+        let inner = hold(holder, level, list);
+        list = emits(level).chain([inner]).chain(stores()).collect();
+    }
+    fun.body = list.into();
+    fun
+}
+
+/// So many Blocks of an Emit of ten Loads and a Store.
+fn own_blocks(count: usize) -> Function {
+    let mut fun = begun();
+    for _ in 0..count {
+        let loads: Vec<_> = (0..10).map(|_| fun.e(Expression::Load { pointer: at(2) })).collect();
+        let list = vec![Statement::Emit(Range::new_from_bounds(loads[0], loads[9])), store(loads[0])];
+        fun.body.push(Statement::Block(list.into()), NO);
+    }
+    fun
+}
+
+/// A Switch with so many cases of one Store, whose values are multiples of a factor, and a default case.
+fn switch(count: u32, factor: u32) -> Function {
+    let mut fun = begun();
+    let case = |value| SwitchCase { value, body: vec![store(at(1))].into(), fall_through: false };
+    let mut cases: Vec<_> = (0..count).map(|index| case(SwitchValue::U32(index.wrapping_mul(factor)))).collect();
+    cases.push(case(SwitchValue::Default));
+    fun.body.push(Statement::Switch { selector: at(1), cases }, NO);
+    fun
+}
+
+/// A factor that puts the values in no order: odd, so that no two are the same.
+const SCATTER: u32 = 2654435761;
+
+/// How many statements a list has, those within them too.
+fn statements_of(list: &Block) -> usize {
+    let within = |statement: &Statement| match statement {
+        Statement::Block(body) => statements_of(body),
+        Statement::If { accept, reject, .. } => statements_of(accept) + statements_of(reject),
+        Statement::Switch { cases, .. } => cases.iter().map(|case| statements_of(&case.body)).sum(),
+        Statement::Loop { body, continuing, .. } => statements_of(body) + statements_of(continuing),
+        _ => 0,
+    };
+    list.span_iter().map(|(statement, _)| 1 + within(statement)).sum()
 }
 
 /// The statements of `mix` and a Return, in a function with sixteen arguments and locals and a result.
@@ -154,6 +235,30 @@ fn lower(fun: &Function, module: &Module, infos: &ModuleInfo) -> u128 {
     black_box(&kinds);
     assert!(black_box(&info).is_ok());
     time.as_nanos()
+}
+
+/// What takes so long, at least this often, for 0.4 seconds, and at most 2000 times.
+fn repeated(least: usize, mut one: impl FnMut() -> u128) -> Vec<u128> {
+    let start = Instant::now();
+    let mut times = vec![];
+    while times.len() < least || (start.elapsed().as_secs_f64() < 0.4 && times.len() < 2000) {
+        times.push(one());
+    }
+    times
+}
+
+/// A function by a validator that judged no other but the callee: as often as the benchmark of naga's code repeats its cases.
+fn body(make: impl Fn() -> Function) -> Timed {
+    let mut validator = types().good_validator();
+    let module = module_of(make, 1);
+    let infos = infos_of_callee(&mut validator, &module);
+    let fun = &module.functions[at(1)];
+    Timed {
+        statements: statements_of(&fun.body),
+        expressions: fun.expressions.len(),
+        whole: repeated(15, || judge(&mut validator, fun, &module, &infos)),
+        lower: repeated(15, || lower(fun, &module, &infos)),
+    }
 }
 
 /// One function, by this validator, so many times in a row.
@@ -260,7 +365,35 @@ fn entry(first: u32, varyings: u32, globals: usize, count: usize) -> Timed {
 
 /// The cases by name. At the last location the set of locations takes 512 MiB, which each judgement clears twice, so it is
 /// repeated less often than ours, which is timed 2000 times.
-const CASES: [(&str, fn() -> Timed); 8] = [
+const CASES: [(&str, fn() -> Timed); 36] = [
+    ("a call 1000000", || body(|| calls(1_000_000))),
+    ("a mix 1000000", || body(|| mix(1_000_000))),
+    ("b block depth 200 width 2", || body(|| nest(Holder::Block, 200, 2))),
+    ("b block depth 200 width 25", || body(|| nest(Holder::Block, 200, 25))),
+    ("b block depth 200 width 250", || body(|| nest(Holder::Block, 200, 250))),
+    ("b block depth 200 width 2500", || body(|| nest(Holder::Block, 200, 2500))),
+    ("b if depth 200 width 2", || body(|| nest(Holder::If, 200, 2))),
+    ("b if depth 200 width 25", || body(|| nest(Holder::If, 200, 25))),
+    ("b if depth 200 width 250", || body(|| nest(Holder::If, 200, 250))),
+    ("b if depth 200 width 2500", || body(|| nest(Holder::If, 200, 2500))),
+    ("b loop depth 200 width 2", || body(|| nest(Holder::Loop, 200, 2))),
+    ("b loop depth 200 width 25", || body(|| nest(Holder::Loop, 200, 25))),
+    ("b loop depth 200 width 250", || body(|| nest(Holder::Loop, 200, 250))),
+    ("b loop depth 200 width 2500", || body(|| nest(Holder::Loop, 200, 2500))),
+    ("b mix depth 200 width 2", || body(|| nest(Holder::Mix, 200, 2))),
+    ("b mix depth 200 width 25", || body(|| nest(Holder::Mix, 200, 25))),
+    ("b mix depth 200 width 250", || body(|| nest(Holder::Mix, 200, 250))),
+    ("b mix depth 200 width 2500", || body(|| nest(Holder::Mix, 200, 2500))),
+    ("c own 333 blocks of 10", || body(|| own_blocks(333))),
+    ("c own 3333 blocks of 10", || body(|| own_blocks(3333))),
+    ("c own 33333 blocks of 10", || body(|| own_blocks(33333))),
+    ("c own 333333 blocks of 10", || body(|| own_blocks(333333))),
+    ("c switch 10000", || body(|| switch(10_000, 1))),
+    ("c switch 1000000", || body(|| switch(1_000_000, 1))),
+    ("c scattered switch 1000", || body(|| switch(1_000, SCATTER))),
+    ("c scattered switch 10000", || body(|| switch(10_000, SCATTER))),
+    ("c scattered switch 100000", || body(|| switch(100_000, SCATTER))),
+    ("c scattered switch 1000000", || body(|| switch(1_000_000, SCATTER))),
     ("d whole function", || alone(|| whole(1000))),
     ("d small after large", || after_large(|| mix(1000))),
     ("d first after large", || first_after_large(|| mix(1000))),

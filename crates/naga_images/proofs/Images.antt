@@ -1,5 +1,10 @@
 -- The uses of a texel, and what the check list of ImageStore says of uses.
-use Rattle.std.proofs.Common.{◌≡◌, ℕ, Bool, List, [], ◌∷◌, ◌++◌, Option, None, Some}
+use Rattle.std.proofs.Common.{◌≡◌, ℕ, Bool, true, List, [], ◌∷◌, ◌++◌, Option, None, Some, sym, subst}
+use Rattle.std.specs.Prelude.{IfSome}
+use Rattle.naga_types.specs.EqualTypes.{inner_iff}
+use Rattle.naga_types.specs.Members.{HasNoMembers}
+use Rattle.naga_types.specs.declared.types.StorageFormat.{StorageFormat}
+use Rattle.naga_types.specs.declared.types.TypeInner.{TypeInner}
 use Rattle.naga_below.proofs.Points.{both_hold}
 use Rattle.naga_below.specs.Points.{first_fault}
 use Rattle.naga_ir.specs.Tree.{Act, Use}
@@ -12,9 +17,16 @@ use Rattle.naga_runs.specs.Visits.{Place}
 use Rattle.naga_images.specs.walk.Image.{texel_value_points}
 use Rattle.naga_context.specs.Context.{Context}
 use Rattle.naga_images.specs.Image.{array_index_points, stored_format}
-use Rattle.naga_images.specs.ImageStore.{stored_shape, image_store_points}
+use Rattle.naga_images.specs.ImageStore.{stored_shape, texel_type, is_of_type, image_store_points}
 use Rattle.naga_context.specs.Points.{may_use, is_in_scope}
+use Rattle.naga_context.specs.Types.{type_at}
 use Rattle.naga_context.proofs.Flat.{holds_at, holds_behind}
+
+texel_has_no_members : (given : Option TypeInner) (format : StorageFormat) → is_of_type (texel_type format) given ≡ true → IfSome given HasNoMembers
+texel_has_no_members None format e = tt
+texel_has_no_members (Some given) format e =
+    let same : given ≡ texel_type format = (inner_iff given (texel_type format)).0 e in
+    subst HasNoMembers (sym same) tt
 
 module _ (context : Context) (place : Place) where
   -- the use of an array index is allowed
@@ -31,3 +43,13 @@ module _ (context : Context) (place : Place) where
       let values = texel_value_points context place (stored_format shape.class) value in
       let both = both_hold (array_index_points InvalidImageStore context place shape.arrayed index) values (holds_behind 6 points e) in
       (holds_at 4 points e, index_fits InvalidImageStore shape.arrayed index (Use value ∷ []) both.0 (holds_at 0 values both.1, tt))
+
+  -- of what is stored the type holds no members, so that its copy takes no memory
+  pub stored_has_no_members : (image coordinate : ℕ) (index : Option ℕ) (value : ℕ) → first_fault (image_store_points context place image coordinate index value) ≡ None → IfSome (type_at context value) HasNoMembers
+  stored_has_no_members image coordinate index value e =
+      let points = image_store_points context place image coordinate index value in
+      let shape = stored_shape context image in
+      let format = stored_format shape.class in
+      let values = texel_value_points context place format value in
+      let both = both_hold (array_index_points InvalidImageStore context place shape.arrayed index) values (holds_behind 6 points e) in
+      texel_has_no_members (type_at context value) format (holds_at 1 values both.1)

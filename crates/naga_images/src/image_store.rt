@@ -3,7 +3,7 @@
 ghost use Rattle.std.specs.Prelude.{◌≡◌, ◌++◌, IfOk, IfSome, IsOk};
 ghost use Rattle.std.specs.Option.{option_copied};
 ghost use Rattle.naga_types.specs.Members.{HasNoMembers};
-ghost use Rattle.naga_context.specs.walk.Answers.{Finds};
+ghost use Rattle.naga_context.specs.walk.Answers.{Finds, RefusesFaultsAlone};
 ghost use Rattle.naga_errors.specs.Answers.{AnswersPoints};
 ghost use Rattle.naga_images.specs.walk.Image.{stored_points, texel_value_points};
 ghost use Rattle.naga_images.specs.ImageStore.{stored_type, image_store_points};
@@ -43,13 +43,16 @@ pub fn check_image_store(
     value: Handle<tag::Expression>,
     span: Span,
 ) -> Result<(), Refused>
-    ensures { AnswersPoints
+    ensures fault { AnswersPoints
+        (image_store_points (context_of context.now) (place_at (known scope.now)) image texel.coordinate texel.array_index value)
+        result }
+    ensures refused { RefusesFaultsAlone
         (image_store_points (context_of context.now) (place_at (known scope.now)) image texel.coordinate texel.array_index value)
         result }
 {
     let alloc = scope.allocator();
     let given = type_of(alloc, context, value)?;
-    let checked = check_store_of_type(scope, context, image, texel, value, given);
+    let checked = check_image_store_points(scope, context, image, texel, value, given);
     answer(alloc, checked, span)
 }
 
@@ -69,7 +72,7 @@ fn type_of(
 }
 
 /// All that is checked of an image store.
-fn check_store_of_type(
+fn check_image_store_points(
     scope: &ScopeColumn,
     context: &BlockContext,
     image: Handle<tag::Expression>,

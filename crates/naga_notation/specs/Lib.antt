@@ -12,3 +12,5 @@ pub mod Feeding
 pub mod Parts
 pub mod Reading
 pub mod Views
+pub use Rattle.naga_notation.specs.Case.{HoldsBlock, Reads, case_of}
+pub use Rattle.naga_notation.specs.Sayable.{IsSayable}

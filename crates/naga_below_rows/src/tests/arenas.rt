@@ -53,9 +53,9 @@ fn types_are_stored_once(rt: HostRuntime) -> Result<(), Fail> {
             types.insert(scalar_type(Scalar::U32), FIRST)?
         }
     };
-    assert!(rt; types.len() < 10);
+    assert!(rt; !types.is_full());
     let other = types.insert(scalar_type(Scalar::I32), SECOND)?;
-    assert!(rt; types.len() < 10);
+    assert!(rt; !types.is_full());
     let again = types.insert(scalar_type(Scalar::U32), SECOND)?;
     assert_eq!(rt; (first.index(), other.index(), again.index()), (0, 1, 0));
     assert_eq!(rt; types.len(), 2);

@@ -162,16 +162,16 @@ fn function_of_each(alloc: Global) -> Result<Function, AllocError> {
         ty: Handle::new(3),
         init: None,
     };
-    Ok(Function {
-        arguments,
-        result: Some(FunctionResult {
-            ty: Handle::new(2),
-            binding: None,
-        }),
-        local_variables: arena_of(alloc, SPAN, local)?,
-        expressions: arena_of(alloc, SPAN, Expression::FunctionArgument(4))?,
-        body: block_of(alloc, Statement::Kill)?,
-    })
+    let mut fun = Function::new(alloc);
+    fun.arguments = arguments;
+    fun.result = Some(FunctionResult {
+        ty: Handle::new(2),
+        binding: None,
+    });
+    fun.local_variables = arena_of(alloc, SPAN, local)?;
+    fun.expressions = arena_of(alloc, SPAN, Expression::FunctionArgument(4))?;
+    fun.body = block_of(alloc, Statement::Kill)?;
+    Ok(fun)
 }
 
 /// Whether the function is that of `function_of_each`, whose body is given.

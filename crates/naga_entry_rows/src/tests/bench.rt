@@ -147,7 +147,7 @@ fn add_type(
     types: &mut UniqueArena<Type>,
     inner: TypeInner,
 ) -> Result<(), AllocError> {
-    assert!(rt; types.len() < TYPES);
+    assert!(rt; !types.is_full());
     types.insert(Type { name: None, inner }, NOWHERE)?;
     Ok(())
 }
@@ -211,7 +211,7 @@ fn global(space: AddressSpace, ty: u32, binding: Option<u32>) -> GlobalVariable 
 fn globals_of(rt: &(impl Abort + AllocGlobal)) -> Result<Arena<GlobalVariable>, AllocError> {
     let mut arena = Arena::new(rt.alloc());
     for (space, ty, binding) in globals() {
-        assert!(rt; arena.len() < 16);
+        assert!(rt; !arena.is_full());
         arena.append(global(space, ty, binding), NOWHERE)?;
     }
     Ok(arena)
@@ -233,7 +233,7 @@ fn functions_of(rt: &(impl Abort + AllocGlobal)) -> Result<Arena<Function>, Allo
     let mut functions = Arena::new(rt.alloc());
     for statement in [Some(Statement::Kill), None] {
         let fun = callee(rt.alloc(), statement)?;
-        assert!(rt; functions.len() < 16);
+        assert!(rt; !functions.is_full());
         functions.append(fun, NOWHERE)?;
     }
     Ok(functions)

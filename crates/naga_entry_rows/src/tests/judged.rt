@@ -37,11 +37,11 @@ fn expressions_of(
     let mut expressions = Arena::new(rt.alloc());
     for global in globals {
         if let Some(global) = global {
-            assert!(rt; expressions.len() < 16);
+            assert!(rt; !expressions.is_full());
             expressions.append(Expression::GlobalVariable(Handle::new(global)), NOWHERE)?;
         }
     }
-    assert!(rt; expressions.len() < 16);
+    assert!(rt; !expressions.is_full());
     expressions.append(Expression::ZeroValue(Handle::new(COLOR)), NOWHERE)?;
     Ok(expressions)
 }

@@ -78,7 +78,7 @@ fn add_type(
     types: &mut UniqueArena<Type>,
     inner: TypeInner,
 ) -> Result<(), AllocError> {
-    assert!(rt; types.len() < COUNT);
+    assert!(rt; !types.is_full());
     types.insert(Type { name: None, inner }, NOWHERE)?;
     Ok(())
 }

@@ -55,7 +55,7 @@ pub fn add_type(
     types: &mut UniqueArena<Type>,
     inner: TypeInner,
 ) -> Result<(), AllocError> {
-    assert!(rt; types.len() < 16);
+    assert!(rt; !types.is_full());
     types.insert(Type { name: None, inner }, NOWHERE)?;
     Ok(())
 }

@@ -141,7 +141,7 @@ fn module(rt: &(impl Abort + AllocGlobal), rows: &[Row]) -> Result<Module, Alloc
     }
     let mut globals = Arena::new(alloc);
     for row in rows {
-        assert!(rt; globals.len() < 16);
+        assert!(rt; !globals.is_full());
         globals.append(row.var, NOWHERE)?;
     }
     let mut expressions = Arena::new(alloc);

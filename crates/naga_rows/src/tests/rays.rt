@@ -50,7 +50,7 @@ fn add_global(
     space: AddressSpace,
     ty: u32,
 ) -> Result<(), AllocError> {
-    assert!(rt; globals.len() < 16);
+    assert!(rt; !globals.is_full());
     let global = GlobalVariable {
         space,
         binding: None,

@@ -100,7 +100,7 @@ fn member(ty: u32, binding: Option<Binding>) -> StructMember {
 
 /// Puts a type without a name last.
 fn add(rt: &impl Abort, types: &mut UniqueArena<Type>, inner: TypeInner) -> Result<(), AllocError> {
-    assert!(rt; types.len() < 32);
+    assert!(rt; !types.is_full());
     types.insert(Type { name: None, inner }, Span::UNDEFINED)?;
     Ok(())
 }
