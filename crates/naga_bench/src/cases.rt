@@ -150,7 +150,7 @@ pub static BODIES: [Case; 50] = [
     },
     Case {
         name: "b block depth 200 width 2",
-        statements: 1200,
+        statements: 1004,
         subject: Subject::Body(Shape::Nest {
             holder: Holder::Block,
             depth: 200,
@@ -159,7 +159,7 @@ pub static BODIES: [Case; 50] = [
     },
     Case {
         name: "b block depth 200 width 25",
-        statements: 10400,
+        statements: 10250,
         subject: Subject::Body(Shape::Nest {
             holder: Holder::Block,
             depth: 200,
@@ -168,7 +168,7 @@ pub static BODIES: [Case; 50] = [
     },
     Case {
         name: "b block depth 200 width 250",
-        statements: 100400,
+        statements: 100700,
         subject: Subject::Body(Shape::Nest {
             holder: Holder::Block,
             depth: 200,
@@ -177,7 +177,7 @@ pub static BODIES: [Case; 50] = [
     },
     Case {
         name: "b block depth 200 width 2500",
-        statements: 1000400,
+        statements: 1005200,
         subject: Subject::Body(Shape::Nest {
             holder: Holder::Block,
             depth: 200,
@@ -186,7 +186,7 @@ pub static BODIES: [Case; 50] = [
     },
     Case {
         name: "b if depth 200 width 2",
-        statements: 1200,
+        statements: 1004,
         subject: Subject::Body(Shape::Nest {
             holder: Holder::If,
             depth: 200,
@@ -195,7 +195,7 @@ pub static BODIES: [Case; 50] = [
     },
     Case {
         name: "b if depth 200 width 25",
-        statements: 10400,
+        statements: 10250,
         subject: Subject::Body(Shape::Nest {
             holder: Holder::If,
             depth: 200,
@@ -204,7 +204,7 @@ pub static BODIES: [Case; 50] = [
     },
     Case {
         name: "b if depth 200 width 250",
-        statements: 100400,
+        statements: 100700,
         subject: Subject::Body(Shape::Nest {
             holder: Holder::If,
             depth: 200,
@@ -213,7 +213,7 @@ pub static BODIES: [Case; 50] = [
     },
     Case {
         name: "b if depth 200 width 2500",
-        statements: 1000400,
+        statements: 1005200,
         subject: Subject::Body(Shape::Nest {
             holder: Holder::If,
             depth: 200,
@@ -222,7 +222,7 @@ pub static BODIES: [Case; 50] = [
     },
     Case {
         name: "b loop depth 200 width 2",
-        statements: 1200,
+        statements: 1004,
         subject: Subject::Body(Shape::Nest {
             holder: Holder::Loop,
             depth: 200,
@@ -231,7 +231,7 @@ pub static BODIES: [Case; 50] = [
     },
     Case {
         name: "b loop depth 200 width 25",
-        statements: 10400,
+        statements: 10250,
         subject: Subject::Body(Shape::Nest {
             holder: Holder::Loop,
             depth: 200,
@@ -240,7 +240,7 @@ pub static BODIES: [Case; 50] = [
     },
     Case {
         name: "b loop depth 200 width 250",
-        statements: 100400,
+        statements: 100700,
         subject: Subject::Body(Shape::Nest {
             holder: Holder::Loop,
             depth: 200,
@@ -249,7 +249,7 @@ pub static BODIES: [Case; 50] = [
     },
     Case {
         name: "b loop depth 200 width 2500",
-        statements: 1000400,
+        statements: 1005200,
         subject: Subject::Body(Shape::Nest {
             holder: Holder::Loop,
             depth: 200,
@@ -258,7 +258,7 @@ pub static BODIES: [Case; 50] = [
     },
     Case {
         name: "b mix depth 200 width 2",
-        statements: 1200,
+        statements: 1004,
         subject: Subject::Body(Shape::Nest {
             holder: Holder::Mix,
             depth: 200,
@@ -267,7 +267,7 @@ pub static BODIES: [Case; 50] = [
     },
     Case {
         name: "b mix depth 200 width 25",
-        statements: 10400,
+        statements: 10250,
         subject: Subject::Body(Shape::Nest {
             holder: Holder::Mix,
             depth: 200,
@@ -276,7 +276,7 @@ pub static BODIES: [Case; 50] = [
     },
     Case {
         name: "b mix depth 200 width 250",
-        statements: 100400,
+        statements: 100700,
         subject: Subject::Body(Shape::Nest {
             holder: Holder::Mix,
             depth: 200,
@@ -285,7 +285,7 @@ pub static BODIES: [Case; 50] = [
     },
     Case {
         name: "b mix depth 200 width 2500",
-        statements: 1000400,
+        statements: 1005200,
         subject: Subject::Body(Shape::Nest {
             holder: Holder::Mix,
             depth: 200,
