@@ -70,6 +70,7 @@ pub fn are_same_inners(first: Option<&TypeInner>, second: Option<&TypeInner>) ->
 }
 
 /// Whether an expression is of this type.
+#[inline]
 pub fn is_of_type(
     context: &BlockContext,
     handle: Handle<tag::Expression>,

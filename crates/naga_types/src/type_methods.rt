@@ -192,6 +192,7 @@ fn is_scalar_member(
 
 /// Whether two resolved types are the same: where the first is the handle of a struct the handles are equal, else
 /// the canonical forms.
+#[inline]
 #[tactic(auto, unfolding(crate::specs::TypeTests::is_same_type))]
 pub fn compare_types(
     first: &TypeResolution,
