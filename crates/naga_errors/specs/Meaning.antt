@@ -20,7 +20,8 @@ pub record Meaning : Type 0 where
   -- what is known of a function, or what is wrong with it
   pub function_info : Function → Module → ModuleInfo → ValidationFlags → Capabilities → Result FunctionInfo FunctionError
   -- the stages that an expression of a function may run in, or what is wrong with it
-  pub expression_stages : Settings → ℕ → Function → Module → FunctionInfo → ModuleInfo → List ExpressionKind → Result ShaderStages ExpressionError
+  pub expression_stages : Settings → ℕ → Function → Module → FunctionInfo → ModuleInfo → List ExpressionKind →
+      Result ShaderStages ExpressionError
   -- what the global with this handle implies as the output variable of a mesh shader
   pub mesh_analysis : Module → ℕ → MeshAnalysis
   -- the kind of each expression

@@ -56,7 +56,8 @@ pub trait Below {
         mod_info: &ModuleInfo,
         kinds: &ExpressionKindTracker,
     ) -> Result<ShaderStages, Refusal<ExpressionError>>
-        ensures { Answers ((meaning self.now).expression_stages settings handle fun.now «module».now info.now mod_info.now kinds.now) result };
+        ensures { Answers ((meaning self.now).expression_stages settings handle fun.now «module».now info.now mod_info.now
+            kinds.now) result };
 
     /// Reads off the type of a mesh shader's output variable what the shader puts out (naga's
     /// `Module::analyze_mesh_shader_info`).

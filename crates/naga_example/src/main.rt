@@ -195,7 +195,8 @@ fn given(alloc: Global) -> Result<Given, AllocError> {
 /// Judges a module over these facts: its infos, or its first fault. All runs of the body of each entry point that is accepted
 /// are sure: what they use is live.
 fn judge(alloc: Global, module: &Module) -> Result<ModuleInfo, ModuleFault>
-    ensures { OnOk result ((k : ℕ) (ep : EntryPoint) → slice_get «module».now.entry_points k ≡ Some ep → RunsAreSure (pre_emitted_of ep.function) (body_of ep.function)) }
+    ensures { OnOk result ((k : ℕ) (ep : EntryPoint) → slice_get «module».now.entry_points k ≡ Some ep →
+        RunsAreSure (pre_emitted_of ep.function) (body_of ep.function)) }
 {
     let below = Recorded {
         facts: facts(alloc)?,

@@ -21,7 +21,8 @@ u32_of = below 4294967296
 
 -- an integer of 32 bits and a sign: from -2147483648, that is negsuc 2147483647, to 2147483647
 abbrev pub i32_of : Data → Option ℤ
-i32_of d = given (given (as_number d) as_i64) (λ n. if int_lt n (negsuc 2147483647) then None else (if int_lt (pos 2147483647) n then None else Some n))
+i32_of d = given (given (as_number d) as_i64)
+    (λ n. if int_lt n (negsuc 2147483647) then None else (if int_lt (pos 2147483647) n then None else Some n))
 
 pub above_zero : (n : ℕ) → 0 < suc n
 above_zero n = omega arith

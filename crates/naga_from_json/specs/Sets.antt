@@ -40,7 +40,8 @@ with_bit bits bit = if contains bits bit then None else Some (bit_or bits bit)
 -- these bits and those that the items name, of which none is there before
 abbrev pub bits_with : List Row → List ℕ → ℕ → Items → Option ℕ
 bits_with table joined bits no_items = Some bits
-bits_with table joined bits (item d ds) = given (bit_of table joined d) (λ bit. given (with_bit bits bit) (λ more. bits_with table joined more ds))
+bits_with table joined bits (item d ds) =
+    given (bit_of table joined d) (λ bit. given (with_bit bits bit) (λ more. bits_with table joined more ds))
 
 -- the bits of a list of names
 abbrev pub bits_of : List Row → List ℕ → Data → Option ℕ

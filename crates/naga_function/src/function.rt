@@ -187,7 +187,9 @@ fn validate_loop_body(
         (block_of (context_of context.now) block.now))
         (kept table.new.filled state.new) result }
     ensures table { OnOk result (IsTableOf (context_of context.now) table.new) }
-    ensures scope { IfOk result (λ skipped. HasLooped table.old.scope table.new.scope skipped (puts_to_continue (block_of (context_of context.now) block.now)) (body_puts (block_of (context_of context.now) block.now))) }
+    ensures scope { IfOk result (λ skipped. HasLooped table.old.scope table.new.scope skipped
+        (puts_to_continue (block_of (context_of context.now) block.now))
+        (body_puts (block_of (context_of context.now) block.now))) }
 {
     let mut home = None;
     for located in block.list.as_slice() {
@@ -217,7 +219,8 @@ fn validate_statements(
         (block_of (context_of context.now) block.now))
         (kept table.new.filled state.new) result }
     ensures table { OnOk result (IsTableOf (context_of context.now) table.new) }
-    ensures scope { OnOk result (HasPut table.old.scope table.new.scope (body_puts (block_of (context_of context.now) block.now))) }
+    ensures scope { OnOk result
+        (HasPut table.old.scope table.new.scope (body_puts (block_of (context_of context.now) block.now))) }
     ensures held { IfOk result (λ held. held ≡ body_holds_continue (block_of (context_of context.now) block.now)) }
 {
     let mut held = false;

@@ -65,9 +65,12 @@ operation_points capabilities needed is_done fun =
 
 -- what the format asks for
 abbrev pub format_points : Capabilities → StorageFormat → AtomicFunction → Points
-format_points capabilities formats.R64Uint fun = operation_points capabilities capability.TEXTURE_INT64_ATOMIC (is_min_or_max fun) fun
-format_points capabilities formats.R32Sint fun = operation_points capabilities capability.TEXTURE_ATOMIC (is_done_on_texels fun) fun
-format_points capabilities formats.R32Uint fun = operation_points capabilities capability.TEXTURE_ATOMIC (is_done_on_texels fun) fun
+format_points capabilities formats.R64Uint fun =
+    operation_points capabilities capability.TEXTURE_INT64_ATOMIC (is_min_or_max fun) fun
+format_points capabilities formats.R32Sint fun =
+    operation_points capabilities capability.TEXTURE_ATOMIC (is_done_on_texels fun) fun
+format_points capabilities formats.R32Uint fun =
+    operation_points capabilities capability.TEXTURE_ATOMIC (is_done_on_texels fun) fun
 format_points capabilities other fun = change_point false (wrong.InvalidImageFormat other) ∷ []
 
 -- ImageAtomic: its image, the texel, which comes before the class, the operation, and the value

@@ -104,7 +104,8 @@ pub fn check_texel(
     texel: Texel,
 ) -> Result<(), FunctionError>
     ensures { Finds
-        (texel_points statement (context_of context.now) (place_at (known scope.now)) shape.dim shape.arrayed texel.coordinate texel.array_index)
+        (texel_points statement (context_of context.now) (place_at (known scope.now)) shape.dim shape.arrayed
+        texel.coordinate texel.array_index)
         result }
 {
     check_coordinate(statement, scope, context, shape.dim, texel.coordinate)?;

@@ -45,10 +45,12 @@ pub fn check_image_atomic(
     span: Span,
 ) -> Result<(), Refused>
     ensures fault { AnswersPoints
-        (image_atomic_points (context_of context.now) (place_at (known scope.now)) image operation.texel.coordinate operation.texel.array_index operation.fun operation.value)
+        (image_atomic_points (context_of context.now) (place_at (known scope.now)) image operation.texel.coordinate
+        operation.texel.array_index operation.fun operation.value)
         result }
     ensures refused { RefusesFaultsAlone
-        (image_atomic_points (context_of context.now) (place_at (known scope.now)) image operation.texel.coordinate operation.texel.array_index operation.fun operation.value)
+        (image_atomic_points (context_of context.now) (place_at (known scope.now)) image operation.texel.coordinate
+        operation.texel.array_index operation.fun operation.value)
         result }
 {
     let checked = check_image_atomic_points(scope, context, image, operation);
@@ -64,7 +66,8 @@ fn check_image_atomic_points(
     operation: TexelOperation,
 ) -> Result<(), FunctionError>
     ensures { Finds
-        (image_atomic_points (context_of context.now) (place_at (known scope.now)) image operation.texel.coordinate operation.texel.array_index operation.fun operation.value)
+        (image_atomic_points (context_of context.now) (place_at (known scope.now)) image operation.texel.coordinate
+        operation.texel.array_index operation.fun operation.value)
         result }
 {
     let Some(ty) = image_global(context, image) else {

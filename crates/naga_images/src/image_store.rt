@@ -149,7 +149,8 @@ fn check_stored(
 ) -> Result<(), FunctionError>
     requires { given ≡ type_at (context_of context.now) value }
     ensures { Finds
-        (stored_points (context_of context.now) (place_at (known scope.now)) image.shape.dim image.shape.arrayed texel.coordinate texel.array_index image.format value)
+        (stored_points (context_of context.now) (place_at (known scope.now)) image.shape.dim image.shape.arrayed
+        texel.coordinate texel.array_index image.format value)
         result }
 {
     check_texel(ImageStatement::Store, scope, context, image.shape, texel)?;

@@ -11,7 +11,8 @@ use Rattle.naga_errors.specs.Meaning.{Meaning}
 
 -- the points of a global, where the infos are those of the module's types, the kinds those of its global expressions, and
 -- the size of the variable's type is what the lower layer knows of it
-abbrev pub module_global_points : Meaning → Settings → List TypeInfo → Module → ModuleInfo → List ExpressionKind → GlobalVariable → GlobalPoints
+abbrev pub module_global_points : Meaning → Settings → List TypeInfo → Module → ModuleInfo → List ExpressionKind →
+    GlobalVariable → GlobalPoints
 module_global_points below settings infos program mod_info kinds var =
     let size = below.size_of program var.ty in
     global_points program.types infos settings.flags settings.capabilities size kinds mod_info.global_types var

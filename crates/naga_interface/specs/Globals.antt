@@ -66,12 +66,14 @@ binding_at globals h = option_and_then (λ g. g.binding) (slice_get globals h)
 -- a global before this handle is used and has this binding
 abbrev pub is_taken_before : List GlobalUse → List GlobalVariable → ResourceBinding → ℕ → Bool
 is_taken_before uses globals b zero = false
-is_taken_before uses globals b (suc h) = is_taken_before uses globals b h || (is_used uses h && is_bound_to b (binding_at globals h))
+is_taken_before uses globals b (suc h) =
+    is_taken_before uses globals b h || (is_used uses h && is_bound_to b (binding_at globals h))
 
 -- the binding of a global, if it has one: where bindings are looked at, no earlier global that is used has it
 abbrev pub binding_points : ValidationFlags → List GlobalUse → List GlobalVariable → ℕ → Option ResourceBinding → EntryPoints
 binding_points flags uses globals h None = []
-binding_points flags uses globals h (Some b) = (not (checks_bindings flags && is_taken_before uses globals b h), fault.BindingCollision h) ∷ []
+binding_points flags uses globals h (Some b) =
+    (not (checks_bindings flags && is_taken_before uses globals b h), fault.BindingCollision h) ∷ []
 
 -- Each global that is used.
 
@@ -120,7 +122,10 @@ is_within None uses = false
 is_within (Some allowed) uses = contains allowed.0 uses.0
 
 abbrev pub allowed_points : List IrType → ShaderStage → ℕ → GlobalVariable → GlobalUse → EntryPoints
-allowed_points types at h g uses = (is_within (allowed_use g.space (access_in types (inner_at types g.ty)) at) uses, fault.InvalidGlobalUsage h uses) ∷ []
+allowed_points types at h g uses = (
+  is_within (allowed_use g.space (access_in types (inner_at types g.ty)) at) uses,
+  fault.InvalidGlobalUsage h uses,
+) ∷ []
 
 -- of a lower layer that means this
 module _ (below : Meaning) (flags : ValidationFlags) (program : Module) (ep : EntryPoint) (uses : List GlobalUse) where

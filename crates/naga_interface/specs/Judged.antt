@@ -62,7 +62,8 @@ module _ (below : Meaning) (settings : Settings) (infos : List TypeInfo) (progra
 -- module's types, and ray traces left this: the steps up to its function, the function, the steps behind it. It is the first
 -- fault; else the function's info, with what the entry point itself does with globals and whether it puts out two sources of a
 -- blend, and what ray traces leave.
-unfoldable pub entry_judgement : Meaning → Settings → List TypeInfo → TraceState → Module → ModuleInfo → EntryPoint → Result FunctionOutcome EntryFault
+unfoldable pub entry_judgement : Meaning → Settings → List TypeInfo → TraceState → Module → ModuleInfo → EntryPoint →
+    Result FunctionOutcome EntryFault
 entry_judgement below settings infos trace program earlier ep =
     and_then (answer (first_fault (within fault_of (start_points settings.capabilities ep))) ep) (λ _.
     and_then (of_function (function_judgement below settings infos trace program earlier ep.function true)) (λ outcome.
@@ -79,6 +80,7 @@ AnswersOutcome first right (Ok outcome) = right ≡ Ok outcome
 AnswersOutcome first right (Err refused) = RefusesEntry first right refused
 
 -- an answer with what is left of ray traces: the judgement; or there was no memory, and no point up to the function fails
-abbrev pub AnswersEntry : EntryPoints → Result FunctionOutcome EntryFault → TraceState → Result FunctionInfo (Refusal EntryPointError) → Type 0
+abbrev pub AnswersEntry : EntryPoints → Result FunctionOutcome EntryFault → TraceState →
+    Result FunctionInfo (Refusal EntryPointError) → Type 0
 AnswersEntry first right trace (Ok info) = right ≡ Ok (record { info = info; trace = trace })
 AnswersEntry first right trace (Err refused) = RefusesEntry first right refused

@@ -68,11 +68,20 @@ variable_points program mesh =
 -- what is said of the mesh, where this is implied, with these overrides of its two numbers: just that; and where it is one of
 -- points, the target has these
 abbrev pub stated_points : Capabilities → Module → List (Option ℕ) → MeshStageInfo → MeshStageInfo → EntryPoints
-stated_points capabilities program overrides implied mesh =
-    (is_implied (get_or overrides 0 None) (override_at program.global_expressions mesh.max_vertices_override), fault.BadMeshOutputVariableType)
-    ∷ (is_implied (get_or overrides 1 None) (override_at program.global_expressions mesh.max_primitives_override), fault.BadMeshOutputVariableType)
+stated_points capabilities program overrides implied mesh = (
+  is_implied (get_or overrides 0 None) (override_at program.global_expressions mesh.max_vertices_override),
+  fault.BadMeshOutputVariableType,
+)
+    ∷ (
+      is_implied (get_or overrides 1 None) (override_at program.global_expressions mesh.max_primitives_override),
+      fault.BadMeshOutputVariableType,
+    )
     ∷ (is_same_mesh (with_overrides_of mesh implied) mesh, fault.BadMeshOutputVariableType)
-    ∷ (not (is_points mesh.topology) || has_capability capabilities MESH_SHADER_POINT_TOPOLOGY, fault.UnsupportedCapability MESH_SHADER_POINT_TOPOLOGY)
+    ∷ (
+      not (is_points mesh.topology)
+          || has_capability capabilities MESH_SHADER_POINT_TOPOLOGY,
+      fault.UnsupportedCapability MESH_SHADER_POINT_TOPOLOGY,
+    )
     ∷ []
 
 -- what is said of the mesh, where the lower layer finds this out about its output variable

@@ -128,7 +128,8 @@ module _ (settings : Settings) (types : List IrType) (infos : List TypeInfo) (ep
   abbrev pub result_points : List (Point EntryFault)
   result_points =
       declared_points ep.function.result
-      ++ within fault_of (returned_points types ep.stage (has_built_in (Position false) (result_parts types infos ep.function.result)) ep.function.result)
+      ++ within fault_of (returned_points types ep.stage
+      (has_built_in (Position false) (result_parts types infos ep.function.result)) ep.function.result)
 
   -- an output of a mesh, behind these parts of its group: a struct, whose members may be put out
   abbrev pub output_points : MeshOutputType → List Placed → ℕ → List (Point EntryFault)

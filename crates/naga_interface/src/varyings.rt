@@ -96,7 +96,8 @@ pub fn argument_refused(
     index: u32,
     refused: Refusal<VaryingError>,
 ) -> Refusal<EntryPointError>
-    ensures { (points : List (Point Given)) → IsFirstVaryingFault points refused → IsForFirstFault (within (OfArgument index) points) result }
+    ensures { (points : List (Point Given)) → IsFirstVaryingFault points refused →
+        IsForFirstFault (within (OfArgument index) points) result }
 {
     match refused {
         Refusal::Fault(fault) => refusal(
@@ -109,7 +110,8 @@ pub fn argument_refused(
 
 /// The refusal of the result, or of an output of a mesh.
 pub fn result_refused(refused: Refusal<VaryingError>) -> Refusal<EntryPointError>
-    ensures { (points : List (Point Given)) → IsFirstVaryingFault points refused → IsForFirstFault (within OfResult points) result }
+    ensures { (points : List (Point Given)) → IsFirstVaryingFault points refused →
+        IsForFirstFault (within OfResult points) result }
 {
     match refused {
         Refusal::Fault(fault) => Refusal::Fault(fault.into_other()),
@@ -119,7 +121,8 @@ pub fn result_refused(refused: Refusal<VaryingError>) -> Refusal<EntryPointError
 
 /// Whether exactly one of the three built-ins of indices is there.
 pub fn has_one_of_indices(state: &VaryingState) -> bool
-    ensures { result ≡ is_one_of_three ((seen_in state.now).built_ins PointIndex) ((seen_in state.now).built_ins LineIndices) ((seen_in state.now).built_ins TriangleIndices) }
+    ensures { result ≡ is_one_of_three ((seen_in state.now).built_ins PointIndex)
+        ((seen_in state.now).built_ins LineIndices) ((seen_in state.now).built_ins TriangleIndices) }
 {
     let points = state.has_built_in(BuiltIn::PointIndex);
     let lines = state.has_built_in(BuiltIn::LineIndices);

@@ -49,10 +49,12 @@ pub fn validate_atomic(
     requires context { ContextFits (context_of context.now) }
     requires result { IfSome operation.now.named (λ r. r < count scope.old) }
     ensures fault { AnswersPoints
-        (atomic_points (context_of context.now) (filled_in filled.now) (place_at (known scope.old)) operation.now.pointer operation.now.fun operation.now.value operation.now.named)
+        (atomic_points (context_of context.now) (filled_in filled.now) (place_at (known scope.old)) operation.now.pointer
+        operation.now.fun operation.now.value operation.now.named)
         result }
     ensures refused { RefusesFaultsAlone
-        (atomic_points (context_of context.now) (filled_in filled.now) (place_at (known scope.old)) operation.now.pointer operation.now.fun operation.now.value operation.now.named)
+        (atomic_points (context_of context.now) (filled_in filled.now) (place_at (known scope.old)) operation.now.pointer
+        operation.now.fun operation.now.value operation.now.named)
         result }
     ensures scope { OnOk result (HasPut scope.old scope.new (puts_of (put_if operation.now.named))) }
 {
@@ -74,7 +76,8 @@ fn check_atomic(
 ) -> Result<(), FunctionError>
     requires { ContextFits (context_of context.now) }
     ensures { Finds
-        (atomic_points (context_of context.now) (filled_in filled.now) (place_at (known scope.now)) operation.now.pointer operation.now.fun operation.now.value operation.now.named)
+        (atomic_points (context_of context.now) (filled_in filled.now) (place_at (known scope.now)) operation.now.pointer
+        operation.now.fun operation.now.value operation.now.named)
         result }
 {
     let AtomicOperation { pointer, value, .. } = *operation;
@@ -117,7 +120,8 @@ fn check_operation(
 ) -> Result<(), FunctionError>
     requires { ContextFits (context_of context.now) }
     ensures { Finds
-        (operated_points (context_of context.now) (filled_in filled.now) (place_at (known scope.now)) scalar space operation.now.fun operation.now.value operation.now.named)
+        (operated_points (context_of context.now) (filled_in filled.now) (place_at (known scope.now)) scalar space
+        operation.now.fun operation.now.value operation.now.named)
         result }
 {
     check_scalar(
@@ -215,7 +219,8 @@ fn check_atomic_result(
 ) -> Result<(), FunctionError>
     requires { ContextFits (context_of context.now) }
     ensures { Finds
-        (atomic_result_points (context_of context.now) (filled_in filled.now) (place_at (known scope.now)) scalar operation.now.fun operation.now.value operation.now.named)
+        (atomic_result_points (context_of context.now) (filled_in filled.now) (place_at (known scope.now)) scalar
+        operation.now.fun operation.now.value operation.now.named)
         result }
 {
     match operation.named {
@@ -247,7 +252,8 @@ fn check_named(
 ) -> Result<(), FunctionError>
     requires { ContextFits (context_of context.now) }
     ensures { Finds
-        (atomic_result_points (context_of context.now) (filled_in filled.now) (place_at (known scope.now)) scalar operation.now.fun operation.now.value (Some handle))
+        (atomic_result_points (context_of context.now) (filled_in filled.now) (place_at (known scope.now)) scalar
+        operation.now.fun operation.now.value (Some handle))
         result }
 {
     if !is_atomic_result(context.expression(handle)) {

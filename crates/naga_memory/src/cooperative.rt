@@ -29,8 +29,10 @@ pub fn check_cooperative_store(
     span: Span,
 ) -> Result<(), Refused>
     requires { ContextFits (context_of context.now) }
-    ensures fault { AnswersPoints (cooperative_points (context_of context.now) (place_at (known scope.now)) target pointer) result }
-    ensures refused { RefusesFaultsAlone (cooperative_points (context_of context.now) (place_at (known scope.now)) target pointer) result }
+    ensures fault { AnswersPoints
+        (cooperative_points (context_of context.now) (place_at (known scope.now)) target pointer) result }
+    ensures refused { RefusesFaultsAlone
+        (cooperative_points (context_of context.now) (place_at (known scope.now)) target pointer) result }
 {
     let checked = check_cooperative_store_points(scope, context, target, pointer);
     answer(scope.allocator(), checked, span)

@@ -35,7 +35,8 @@ pub fn validate_load(
     requires context { ContextFits (context_of context.now) }
     requires result { loaded < count scope.old }
     ensures fault { AnswersPoints (load_points (context_of context.now) (place_at (known scope.old)) pointer loaded) result }
-    ensures refused { RefusesFaultsAlone (load_points (context_of context.now) (place_at (known scope.old)) pointer loaded) result }
+    ensures refused { RefusesFaultsAlone
+        (load_points (context_of context.now) (place_at (known scope.old)) pointer loaded) result }
     ensures scope { OnOk result (HasPut scope.old scope.new (loaded ∷ [])) }
 {
     check_load(scope, context, pointer, loaded, span)?;
@@ -53,7 +54,8 @@ fn check_load(
 ) -> Result<(), Refused>
     requires { ContextFits (context_of context.now) }
     ensures fault { AnswersPoints (load_points (context_of context.now) (place_at (known scope.now)) pointer loaded) result }
-    ensures refused { RefusesFaultsAlone (load_points (context_of context.now) (place_at (known scope.now)) pointer loaded) result }
+    ensures refused { RefusesFaultsAlone
+        (load_points (context_of context.now) (place_at (known scope.now)) pointer loaded) result }
 {
     if load_holds(scope, context, pointer, loaded) {
         return Ok(());
@@ -89,7 +91,8 @@ fn refuse_load(
 ) -> Result<(), Refused>
     requires { ContextFits (context_of context.now) }
     ensures fault { AnswersPoints (load_points (context_of context.now) (place_at (known scope.now)) pointer loaded) result }
-    ensures refused { RefusesFaultsAlone (load_points (context_of context.now) (place_at (known scope.now)) pointer loaded) result }
+    ensures refused { RefusesFaultsAlone
+        (load_points (context_of context.now) (place_at (known scope.now)) pointer loaded) result }
 {
     let checked = check_load_points(scope, context, pointer, loaded);
     answer(scope.allocator(), checked, span)

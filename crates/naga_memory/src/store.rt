@@ -40,7 +40,8 @@ pub fn check_store(
 ) -> Result<(), Refused>
     requires { ContextFits (context_of context.now) }
     ensures fault { AnswersPoints (store_points (context_of context.now) (place_at (known scope.now)) pointer value) result }
-    ensures refused { RefusesFaultsAlone (store_points (context_of context.now) (place_at (known scope.now)) pointer value) result }
+    ensures refused { RefusesFaultsAlone
+        (store_points (context_of context.now) (place_at (known scope.now)) pointer value) result }
 {
     if store_holds(scope, context, pointer, value) {
         return Ok(());
@@ -77,7 +78,8 @@ fn refuse_store(
 ) -> Result<(), Refused>
     requires { ContextFits (context_of context.now) }
     ensures fault { AnswersPoints (store_points (context_of context.now) (place_at (known scope.now)) pointer value) result }
-    ensures refused { RefusesFaultsAlone (store_points (context_of context.now) (place_at (known scope.now)) pointer value) result }
+    ensures refused { RefusesFaultsAlone
+        (store_points (context_of context.now) (place_at (known scope.now)) pointer value) result }
 {
     let alloc = scope.allocator();
     let root = root_of(context, pointer);

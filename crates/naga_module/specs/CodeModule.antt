@@ -16,7 +16,8 @@ module _ (below : Meaning) (settings : Settings) (types : List TypeInfo) (m : Mo
   -- what is right behind these functions, infos and traces is right of those
   abbrev pub Leads : TraceState → ModuleInfo → List Function → TraceState → ModuleInfo → List Function → Type 0
   Leads trace infos fs left more rest =
-      (r : Answer) → FunctionsAnswer below settings types m left more rest r → FunctionsAnswer below settings types m trace infos fs r
+      (r : Answer) → FunctionsAnswer below settings types m left more rest r →
+      FunctionsAnswer below settings types m trace infos fs r
 
   -- a fault is right of these functions, or there was no memory
   abbrev pub Stops : TraceState → ModuleInfo → List Function → ModuleFault → Type 0

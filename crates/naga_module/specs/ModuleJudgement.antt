@@ -85,7 +85,8 @@ module _ (below : Meaning) (settings : Settings) (types : List TypeInfo) (m : Mo
   FunctionsAnswer trace infos [] r = BehindFunctions trace infos r
   FunctionsAnswer trace infos (f ∷ fs) r =
       Tested (FitsFunction f m (length infos.functions))
-      (Step (function_judgement below settings types trace m infos f false) (IsOfFunction (fault.Function (length infos.functions)))
+      (Step (function_judgement below settings types trace m infos f false)
+      (IsOfFunction (fault.Function (length infos.functions)))
       (λ left. FunctionsAnswer left.trace (with_info infos left.info) fs)) r
 
   -- behind the tests: the globals, then the functions

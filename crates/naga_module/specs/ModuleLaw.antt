@@ -30,7 +30,8 @@ infos_before k infos = record infos { entry_points = take k infos.entry_points }
 
 -- Of a module that was accepted with these infos: all runs of the body of each function and of each entry point are sound; and
 -- each entry point keeps to its stage through all chains of calls.
-pub record ModuleHolds (below : Meaning) (settings : Settings) (types : List TypeInfo) (m : Module) (infos : ModuleInfo) : Type 0 where
+pub record ModuleHolds (below : Meaning) (settings : Settings) (types : List TypeInfo) (m : Module) (infos : ModuleInfo)
+    : Type 0 where
   pub functions : (k : ℕ) (f : Function) → slice_get m.functions k ≡ Some f → IsSoundFunction f
   pub entry_points : (k : ℕ) (p : EntryPoint) → slice_get m.entry_points k ≡ Some p → IsSoundFunction p.function
   pub stages : (k : ℕ) (p : EntryPoint) → slice_get m.entry_points k ≡ Some p →
@@ -39,7 +40,8 @@ pub record ModuleHolds (below : Meaning) (settings : Settings) (types : List Typ
 -- what holds of a module that the judgement accepts where bodies are looked at
 abbrev pub AcceptedModuleHolds : Type 0
 AcceptedModuleHolds =
-    (below : Meaning) (settings : Settings) (types : List TypeInfo) (global_types : List TypeResolution) (m : Module) (infos : ModuleInfo) →
+    (below : Meaning) (settings : Settings) (types : List TypeInfo) (global_types : List TypeResolution) (m : Module)
+    (infos : ModuleInfo) →
     IsJudgement below settings types m global_types (Ok infos) → checks_blocks settings.flags ≡ true →
     ModuleHolds below settings types m infos
 
@@ -54,7 +56,8 @@ IsToldOfFunctions (fault.EntryPoint index error) = ⊥
 -- Of a module without globals and entry points in which everything fits nothing else can be told.
 abbrev pub FunctionsAloneAreTold : Type 0
 FunctionsAloneAreTold =
-    (below : Meaning) (settings : Settings) (types : List TypeInfo) (global_types : List TypeResolution) (m : Module) (told : ModuleFault) →
+    (below : Meaning) (settings : Settings) (types : List TypeInfo) (global_types : List TypeResolution) (m : Module)
+    (told : ModuleFault) →
     Fits below settings types m global_types → m.global_variables ≡ [] → m.entry_points ≡ [] →
     EachAt (λ k f. FitsFunction f m k) m.functions →
     IsAnswered below settings types m global_types (Err told) → IsToldOfFunctions told

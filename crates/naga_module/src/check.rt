@@ -97,7 +97,8 @@ fn first_infos(alloc: Global, global_types: Vec<TypeResolution>) -> ModuleInfo
 
 /// Whether what a module's types and globals name is there, and the infos are those of its types and global expressions.
 fn fits<B: Below>(validator: &Validator<B>, module: &Module, infos: &ModuleInfo) -> bool
-    ensures { IsTrue result ↔ (AreInfosOf «module».now validator.now.types × FitsTypes «module».now × FitsGlobals «module».now infos.now) }
+    ensures { IsTrue result ↔
+        (AreInfosOf «module».now validator.now.types × FitsTypes «module».now × FitsGlobals «module».now infos.now) }
 {
     validator.has_types_of(module) && fits_types(module) && fits_globals(module, infos)
 }
@@ -114,9 +115,11 @@ fn judge_parts<B: Below>(
     requires globals { FitsGlobals «module».now infos.old }
     requires functions { infos.old.functions ≡ [] }
     requires entries { infos.old.entry_points ≡ [] }
-    ensures judged { OnOk result (BehindTests (B.meaning validator.old.below) validator.old.settings validator.old.types «module».now
+    ensures judged { OnOk result
+        (BehindTests (B.meaning validator.old.below) validator.old.settings validator.old.types «module».now
         validator.old.trace infos.old (Ok infos.new)) }
-    ensures refused { IfErr result (λ told. (told ≡ fault.Memory) ⊎ BehindTests (B.meaning validator.old.below) validator.old.settings validator.old.types «module».now
+    ensures refused { IfErr result (λ told. (told ≡ fault.Memory)
+        ⊎ BehindTests (B.meaning validator.old.below) validator.old.settings validator.old.types «module».now
         validator.old.trace infos.old (Err told)) }
 {
     check_globals(alloc, validator, module, infos)?;
@@ -142,11 +145,13 @@ pub fn check_module<B: Below + Drop>(
     ensures judged { IsAnswered (B.meaning below) settings given.types.items «module».now given.global_types.items result }
 
     // What doesn't fit is always answered, for which no memory is taken.
-    ensures fits { (Fits (B.meaning below) settings given.types.items «module».now given.global_types.items → ⊥) → result ≡ Err fault.NotFit }
+    ensures fits { (Fits (B.meaning below) settings given.types.items «module».now given.global_types.items → ⊥) →
+        result ≡ Err fault.NotFit }
 
     // Where bodies are looked at: all runs of the bodies of an accepted module are sound, and each entry point keeps to its
     // stage through all chains of calls.
-    ensures holds { IfOk result (λ infos. checks_blocks settings.flags ≡ true → ModuleHolds (B.meaning below) settings given.types.items «module».now infos) }
+    ensures holds { IfOk result (λ infos. checks_blocks settings.flags ≡ true →
+        ModuleHolds (B.meaning below) settings given.types.items «module».now infos) }
 {
     let Given {
         types,

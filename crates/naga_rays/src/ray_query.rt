@@ -38,7 +38,8 @@ pub fn validate_ray_query(
 ) -> Result<(), Refused>
     requires { QueryFits (count scope.old) fun.now }
     ensures fault { AnswersPoints (ray_query_points (context_of context.now) (place_at (known scope.old)) query fun.now) result }
-    ensures refused { RefusesFaultsAlone (ray_query_points (context_of context.now) (place_at (known scope.old)) query fun.now) result }
+    ensures refused { RefusesFaultsAlone
+        (ray_query_points (context_of context.now) (place_at (known scope.old)) query fun.now) result }
     ensures scope { OnOk result (HasPut scope.old scope.new (puts_of (query_acts fun.now))) }
 {
     let alloc = scope.allocator();
@@ -104,7 +105,8 @@ fn check_query_function(
     vertex_return: bool,
     fun: &RayQueryFunction,
 ) -> Result<(), FunctionError>
-    ensures { Finds (query_function_points (context_of context.now) (place_at (known scope.now)) query vertex_return fun.now) result }
+    ensures { Finds
+        (query_function_points (context_of context.now) (place_at (known scope.now)) query vertex_return fun.now) result }
 {
     match fun {
         RayQueryFunction::Initialize {

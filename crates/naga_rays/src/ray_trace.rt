@@ -45,10 +45,12 @@ pub fn check_trace_ray(
     span: Span,
 ) -> Result<(), Refused>
     ensures fault { AnswersPoints
-        (trace_ray_points (context_of context.now) so_far.now (place_at (known scope.now)) ray.structure ray.descriptor ray.payload)
+        (trace_ray_points (context_of context.now) so_far.now (place_at (known scope.now)) ray.structure ray.descriptor
+        ray.payload)
         result }
     ensures refused { RefusesFaultsAlone
-        (trace_ray_points (context_of context.now) so_far.now (place_at (known scope.now)) ray.structure ray.descriptor ray.payload)
+        (trace_ray_points (context_of context.now) so_far.now (place_at (known scope.now)) ray.structure ray.descriptor
+        ray.payload)
         result }
 {
     let checked = check_trace_ray_points(scope, context, so_far, ray);
@@ -63,7 +65,8 @@ fn check_trace_ray_points(
     ray: Ray,
 ) -> Result<(), FunctionError>
     ensures { Finds
-        (trace_ray_points (context_of context.now) so_far.now (place_at (known scope.now)) ray.structure ray.descriptor ray.payload)
+        (trace_ray_points (context_of context.now) so_far.now (place_at (known scope.now)) ray.structure ray.descriptor
+        ray.payload)
         result }
 {
     check_use(scope, ray.structure)?;

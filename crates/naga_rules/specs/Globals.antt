@@ -75,7 +75,8 @@ resource_points capabilities ty = (is_resource ty, InvalidType space.Handle) ∷
 -- what a space asks for beside its row of the table
 abbrev pub extra_points : Capabilities → AddressSpace → Option TypeInner → Option TypeInfo → GlobalPoints
 extra_points capabilities space.Function ty info = (false, InvalidUsage space.Function) ∷ []
-extra_points capabilities (space.Storage access) ty info = (not (access.0 == STORE.0), StorageAddressSpaceWriteOnlyNotSupported) ∷ []
+extra_points capabilities (space.Storage access) ty info =
+    (not (access.0 == STORE.0), StorageAddressSpaceWriteOnlyNotSupported) ∷ []
 extra_points capabilities space.Handle ty info = resource_points capabilities ty
 extra_points capabilities space.Immediate ty (Some info) = immediate_points info.immediates_compatibility
 extra_points capabilities _ ty info = []
@@ -134,7 +135,8 @@ variable_points flags capabilities size var =
     ∷ decoration_points capabilities var.space var.memory_decorations
 
 -- an initializer, if there is one: the space, when its value is known, its type
-abbrev pub global_initializer_points : List IrType → List ExpressionKind → List TypeResolution → AddressSpace → ℕ → Option ℕ → GlobalPoints
+abbrev pub global_initializer_points : List IrType → List ExpressionKind → List TypeResolution → AddressSpace → ℕ →
+    Option ℕ → GlobalPoints
 global_initializer_points types kinds given space declared None = []
 global_initializer_points types kinds given space declared (Some init) =
     (takes_initializers space, InitializerNotAllowed space)
@@ -144,7 +146,8 @@ global_initializer_points types kinds given space declared (Some init) =
 
 -- a global: its type in its space; the variable itself; its initializer. The infos are indexed by the types, kinds and
 -- given types by the module's global expressions; the size is that of the variable's type in bytes, where it is known
-abbrev pub global_points : List IrType → List TypeInfo → ValidationFlags → Capabilities → Option ℕ → List ExpressionKind → List TypeResolution → GlobalVariable → GlobalPoints
+abbrev pub global_points : List IrType → List TypeInfo → ValidationFlags → Capabilities → Option ℕ → List ExpressionKind →
+    List TypeResolution → GlobalVariable → GlobalPoints
 global_points types infos flags capabilities size kinds given var =
     type_points types infos flags capabilities var.space var.ty
     ++ (variable_points flags capabilities size var

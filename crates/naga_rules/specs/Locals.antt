@@ -26,7 +26,8 @@ is_declared_as types declared None = false
 is_declared_as types declared (Some given) = is_same_type types (Handle declared) given
 
 -- an initializer, if there is one: of the declared type, and known before the pipeline runs
-abbrev pub initializer_points : List IrType → List TypeResolution → List ExpressionKind → ℕ → Option ℕ → List (Point LocalVariableError)
+abbrev pub initializer_points : List IrType → List TypeResolution → List ExpressionKind → ℕ → Option ℕ →
+    List (Point LocalVariableError)
 initializer_points types given kinds declared None = []
 initializer_points types given kinds declared (Some init) =
     (is_declared_as types declared (slice_get given init), InitializerType)
@@ -35,7 +36,8 @@ initializer_points types given kinds declared (Some init) =
 
 -- a local variable: its type can be constructed; then its initializer. The infos are indexed by the types, types and
 -- kinds of expressions by the function's expressions
-abbrev pub local_points : List IrType → List TypeInfo → List TypeResolution → List ExpressionKind → LocalVariable → List (Point LocalVariableError)
+abbrev pub local_points : List IrType → List TypeInfo → List TypeResolution → List ExpressionKind → LocalVariable →
+    List (Point LocalVariableError)
 local_points types infos given kinds var =
     (type_has infos var.ty CONSTRUCTIBLE, InvalidType var.ty)
     ∷ initializer_points types given kinds var.ty var.init

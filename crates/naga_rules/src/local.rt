@@ -62,7 +62,8 @@ fn check_initializer(
     requires one_type_each { length fun_info.now.expression_types ≡ length kinds.now }
     requires types { NameEachOther types.now }
     requires resolved { All (ResolutionFits (length types.now)) fun_info.now.expression_types }
-    ensures { result_err result ≡ first_fault (initializer_points types.now fun_info.now.expression_types kinds.now declared (Some init)) }
+    ensures { result_err result
+        ≡ first_fault (initializer_points types.now fun_info.now.expression_types kinds.now declared (Some init)) }
 {
     let given = &fun_info.expression_types[init.index()];
     if !compare_types(&TypeResolution::Handle(declared), given, types) {

@@ -52,7 +52,8 @@ pub fn validate_own(
         result }
     ensures scope { OnOk result (HasPut table.old.scope table.new.scope (puts (tree_of (context_of context.now) located.now))) }
     ensures state { OnOk result (kept table.new.filled state.new
-        ≡ with_statement (context_of context.now) (kept table.old.filled state.old) (tree_of (context_of context.now) located.now)) }
+        ≡ with_statement (context_of context.now) (kept table.old.filled state.old)
+        (tree_of (context_of context.now) located.now)) }
     ensures table { OnOk result (IsTableOf (context_of context.now) table.new) }
     ensures all { IfOk result (λ all. all ≡ is_whole located.now.statement) }
 {
@@ -125,7 +126,8 @@ fn validate_rarer(
         result }
     ensures scope { OnOk result (HasPut table.old.scope table.new.scope (puts (tree_of (context_of context.now) located.now))) }
     ensures state { OnOk result (kept table.new.filled state.new
-        ≡ with_statement (context_of context.now) (kept table.old.filled state.old) (tree_of (context_of context.now) located.now)) }
+        ≡ with_statement (context_of context.now) (kept table.old.filled state.old)
+        (tree_of (context_of context.now) located.now)) }
     ensures table { OnOk result (IsTableOf (context_of context.now) table.new) }
 {
     validate_points(table, state, context, abilities, located)?;

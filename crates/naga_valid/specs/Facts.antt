@@ -55,7 +55,8 @@ TakesLocation l _ = ⊥
 -- no two of these parts take one location
 abbrev pub LocationsAreDistinct : List Placed → Type 0
 LocationsAreDistinct parts =
-    (l i j : ℕ) (p q : Placed) → slice_get parts i ≡ Some p → slice_get parts j ≡ Some q → TakesLocation l p.part → TakesLocation l q.part → i ≡ j
+    (l i j : ℕ) (p q : Placed) → slice_get parts i ≡ Some p → slice_get parts j ≡ Some q → TakesLocation l p.part →
+    TakesLocation l q.part → i ≡ j
 
 -- a part is this built-in, once `invariant` and `perspective` are cleared
 abbrev pub IsBuiltIn : BuiltIn → Part → Type 0
@@ -65,7 +66,8 @@ IsBuiltIn b _ = ⊥
 -- no two of these parts are one built-in
 abbrev pub BuiltInsAreDistinct : List Placed → Type 0
 BuiltInsAreDistinct parts =
-    (b : BuiltIn) (i j : ℕ) (p q : Placed) → slice_get parts i ≡ Some p → slice_get parts j ≡ Some q → IsBuiltIn b p.part → IsBuiltIn b q.part → i ≡ j
+    (b : BuiltIn) (i j : ℕ) (p q : Placed) → slice_get parts i ≡ Some p → slice_get parts j ≡ Some q →
+    IsBuiltIn b p.part → IsBuiltIn b q.part → i ≡ j
 
 -- what is bound is a position
 abbrev pub IsPosition : Option Binding → Type 0
@@ -97,7 +99,8 @@ returned_parts settings types infos ep = group_parts types infos (result_items s
 abbrev pub mesh_items : Settings → EntryPoint → Option MeshStageInfo → List Item
 mesh_items settings ep None = []
 mesh_items settings ep (Some mesh) =
-    output_item settings ep VertexOutput mesh.vertex_output_type ∷ output_item settings ep PrimitiveOutput mesh.primitive_output_type ∷ []
+    output_item settings ep VertexOutput mesh.vertex_output_type
+    ∷ output_item settings ep PrimitiveOutput mesh.primitive_output_type ∷ []
 
 abbrev pub mesh_parts : Settings → List IrType → List TypeInfo → EntryPoint → List Placed
 mesh_parts settings types infos ep = group_parts types infos (mesh_items settings ep ep.mesh_info)
@@ -111,23 +114,27 @@ pub record GroupsAreDistinct (settings : Settings) (types : List IrType) (infos 
 -- something holds of every entry point that the judgement accepts, and of what is known of it
 abbrev pub OfAcceptedEntry : (Settings → List TypeInfo → Module → EntryPoint → FunctionOutcome → Type 0) → Type 0
 OfAcceptedEntry Holds =
-    (below : Meaning) (settings : Settings) (infos : List TypeInfo) (trace : TraceState) (program : Module) (earlier : ModuleInfo) (ep : EntryPoint) (outcome : FunctionOutcome) →
+    (below : Meaning) (settings : Settings) (infos : List TypeInfo) (trace : TraceState) (program : Module)
+    (earlier : ModuleInfo) (ep : EntryPoint) (outcome : FunctionOutcome) →
     entry_judgement below settings infos trace program earlier ep ≡ Ok outcome → Holds settings infos program ep outcome
 
 -- Where bindings are looked at, the globals that are used and bound are bound at distinct places.
 abbrev pub AcceptedBindingsAreDistinct : Type 0
 AcceptedBindingsAreDistinct =
-    OfAcceptedEntry (λ settings infos program ep outcome. checks_bindings settings.flags ≡ true → BindingsAreDistinct program.global_variables outcome.info.global_uses)
+    OfAcceptedEntry (λ settings infos program ep outcome. checks_bindings settings.flags ≡ true →
+    BindingsAreDistinct program.global_variables outcome.info.global_uses)
 
 -- Where bindings are looked at, the locations of each group are distinct.
 abbrev pub AcceptedLocationsAreDistinct : Type 0
 AcceptedLocationsAreDistinct =
-    OfAcceptedEntry (λ settings infos program ep outcome. checks_bindings settings.flags ≡ true → GroupsAreDistinct settings program.types infos ep)
+    OfAcceptedEntry (λ settings infos program ep outcome. checks_bindings settings.flags ≡ true →
+    GroupsAreDistinct settings program.types infos ep)
 
 -- Where the types of the module and of its function's signature are there, the built-ins of its arguments are distinct.
 abbrev pub AcceptedBuiltInsAreDistinct : Type 0
 AcceptedBuiltInsAreDistinct =
-    OfAcceptedEntry (λ settings infos program ep outcome. FitsTypes program → SignatureFits program ep.function → BuiltInsAreDistinct (argument_parts settings program.types infos ep))
+    OfAcceptedEntry (λ settings infos program ep outcome. FitsTypes program → SignatureFits program ep.function →
+    BuiltInsAreDistinct (argument_parts settings program.types infos ep))
 
 -- At the vertex stage it returns a position.
 abbrev pub AcceptedVertexHasPosition : Type 0
@@ -137,7 +144,8 @@ AcceptedVertexHasPosition =
 -- Its function is accepted as an entry point's, and leaves what it leaves of ray traces.
 abbrev pub AcceptedHasAcceptedFunction : Type 0
 AcceptedHasAcceptedFunction =
-    (below : Meaning) (settings : Settings) (infos : List TypeInfo) (trace : TraceState) (program : Module) (earlier : ModuleInfo) (ep : EntryPoint) (outcome : FunctionOutcome) →
+    (below : Meaning) (settings : Settings) (infos : List TypeInfo) (trace : TraceState) (program : Module)
+    (earlier : ModuleInfo) (ep : EntryPoint) (outcome : FunctionOutcome) →
     entry_judgement below settings infos trace program earlier ep ≡ Ok outcome →
     (function : FunctionOutcome) × (function_judgement below settings infos trace program earlier ep.function true ≡ Ok function)
     × (outcome.trace ≡ function.trace) × (outcome.info.available_stages ≡ function.info.available_stages)

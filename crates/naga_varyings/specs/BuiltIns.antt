@@ -48,7 +48,13 @@ pub record Row : Type 0 where
   pub mesh_shader : Bool
 
 abbrev row : List BuiltIn → List Visible → BuiltInType → Needed → Row
-row built_ins visible ty needed = record { built_ins = built_ins; visible = visible; ty = ty; needed = needed; mesh_shader = false }
+row built_ins visible ty needed = record {
+  built_ins = built_ins;
+  visible = visible;
+  ty = ty;
+  needed = needed;
+  mesh_shader = false;
+}
 
 -- a row of built-ins that need mesh shaders
 abbrev mesh_row : List BuiltIn → List Visible → BuiltInType → Row
@@ -135,7 +141,8 @@ table =
     ∷ row (SampleIndex ∷ []) (Into (F ∷ []) ∷ []) uint (Needs MULTISAMPLED_SHADING)
     ∷ row (SampleMask ∷ []) (InAndOutOf (F ∷ []) ∷ []) uint Nothing
     ∷ row (LocalInvocationIndex ∷ []) (Into (C ∷ T ∷ M ∷ []) ∷ []) uint Nothing
-    ∷ row (GlobalInvocationId ∷ LocalInvocationId ∷ WorkGroupId ∷ WorkGroupSize ∷ NumWorkGroups ∷ []) (Into (C ∷ T ∷ M ∷ []) ∷ []) uint3 Nothing
+    ∷ row (GlobalInvocationId ∷ LocalInvocationId ∷ WorkGroupId ∷ WorkGroupSize ∷ NumWorkGroups ∷ [])
+    (Into (C ∷ T ∷ M ∷ []) ∷ []) uint3 Nothing
     ∷ row (NumSubgroups ∷ SubgroupId ∷ []) (Into (C ∷ T ∷ M ∷ []) ∷ []) uint (Needs SUBGROUP)
     ∷ row (SubgroupSize ∷ SubgroupInvocationId ∷ []) (IntoAllBut V ∷ []) uint (Needs SUBGROUP)
     ∷ mesh_row (CullPrimitive ∷ []) (OfPrimitives ∷ []) bool

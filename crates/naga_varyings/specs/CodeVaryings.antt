@@ -14,7 +14,8 @@ is_taken seen (binding.Location location interpolation sampling blend_src per_pr
 
 -- with a location
 abbrev pub with_location : Seen → ℕ → Seen
-with_location seen taken = record { locations = λ location. seen.locations location || (location == taken); built_ins = seen.built_ins }
+with_location seen taken =
+    record { locations = λ location. seen.locations location || (location == taken); built_ins = seen.built_ins }
 
 -- with what is bound
 abbrev pub seen_more : Seen → Binding → Seen

@@ -109,21 +109,30 @@ is_interpolated _ output per_primitive = false
 -- the kind of the carried type: a float is interpolated in some way, an integer flat, where it has to be; nothing else goes
 abbrev pub kind_points : Bool → Option Interpolation → ℕ → Option ScalarKind → List (Point VaryingError)
 kind_points interpolated interpolation ty (Some Float) = (not interpolated || is_some interpolation, MissingInterpolation) ∷ []
-kind_points interpolated interpolation ty (Some Sint) = (not interpolated || is_flat interpolation, InvalidInterpolationForInteger) ∷ []
-kind_points interpolated interpolation ty (Some Uint) = (not interpolated || is_flat interpolation, InvalidInterpolationForInteger) ∷ []
+kind_points interpolated interpolation ty (Some Sint) =
+    (not interpolated || is_flat interpolation, InvalidInterpolationForInteger) ∷ []
+kind_points interpolated interpolation ty (Some Uint) =
+    (not interpolated || is_flat interpolation, InvalidInterpolationForInteger) ∷ []
 kind_points interpolated interpolation ty _ = (false, InvalidType ty) ∷ []
 
 -- how the carried type is interpolated: whether the sampling goes with it and can be had; and, but for what is given for
 -- each vertex, as the kind of the type asks
-abbrev pub interpolation_points : VaryingPlace → List IrType → ℕ → Option Interpolation → Option Sampling → Bool → List (Point VaryingError)
+abbrev pub interpolation_points : VaryingPlace → List IrType → ℕ → Option Interpolation → Option Sampling → Bool →
+    List (Point VaryingError)
 interpolation_points place types ty interpolation sampling per_primitive =
     combination_points interpolation sampling
-    ++ ((not (is_sample sampling) || has_capability place.capabilities MULTISAMPLED_SHADING, UnsupportedCapability MULTISAMPLED_SHADING)
+    ++ ((
+      not (is_sample sampling)
+          || has_capability place.capabilities MULTISAMPLED_SHADING,
+      UnsupportedCapability MULTISAMPLED_SHADING,
+    )
     ∷ (if is_per_vertex interpolation then []
-    else kind_points (is_interpolated place.stage place.output per_primitive) interpolation ty (option_and_then scalar_kind_of (inner_at types ty))))
+    else kind_points (is_interpolated place.stage place.output per_primitive) interpolation ty
+    (option_and_then scalar_kind_of (inner_at types ty))))
 
 -- what is bound to a location, where this was seen before
-abbrev pub location_points : VaryingPlace → List IrType → List TypeInfo → Seen → ℕ → ℕ → Option Interpolation → Option Sampling → Option ℕ → Bool → List (Point VaryingError)
+abbrev pub location_points : VaryingPlace → List IrType → List TypeInfo → Seen → ℕ → ℕ → Option Interpolation →
+    Option Sampling → Option ℕ → Bool → List (Point VaryingError)
 location_points place types infos seen ty location interpolation sampling blend_src per_primitive =
     (not per_primitive || has_capability place.capabilities MESH_SHADER, UnsupportedCapability MESH_SHADER)
     ∷ (per_vertex_points place types ty interpolation sampling

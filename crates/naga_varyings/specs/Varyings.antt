@@ -163,7 +163,8 @@ blend_points place seen =
 -- a part, where this was seen before
 abbrev pub part_points : VaryingPlace → List IrType → List TypeInfo → Seen → Part → List (Point VaryingFault)
 part_points place types infos seen (Bound ty given) = within Itself (bound_points place types infos seen ty given)
-part_points place types infos seen (UnboundMember index) = (not (checks_bindings place.flags), Itself (MemberMissingBinding index)) ∷ []
+part_points place types infos seen (UnboundMember index) =
+    (not (checks_bindings place.flags), Itself (MemberMissingBinding index)) ∷ []
 part_points place types infos seen Unbound = (not (checks_bindings place.flags), Itself MissingBinding) ∷ []
 part_points place types infos seen BlendSources = blend_points place seen
 

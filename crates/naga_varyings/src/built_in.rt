@@ -28,7 +28,8 @@ pub(crate) fn check_built_in(
     requires ty { ty < length context.now.types.now }
     requires types { NameEachOther context.now.types.now }
     ensures { AnswersPoints
-        (built_in_points context.now.place.now context.now.types.now (seen_in state.now) (inner_at context.now.types.now ty) built_in)
+        (built_in_points context.now.place.now context.now.types.now (seen_in state.now)
+        (inner_at context.now.types.now ty) built_in)
         result }
 {
     let place = context.place;

@@ -79,7 +79,8 @@ fn check_bound_item(
     requires ty { ty < length context.now.types.now }
     requires infos { length context.now.infos.now ≡ length context.now.types.now }
     requires types { NameEachOther context.now.types.now }
-    ensures fault { AnswersVaryings (part_points context.now.place.now context.now.types.now context.now.infos.now (seen_in state.old)
+    ensures fault { AnswersVaryings
+        (part_points context.now.place.now context.now.types.now context.now.infos.now (seen_in state.old)
         (Bound ty binding)) result }
     ensures seen { OnOk result (seen_in state.new ≡ seen_more (seen_in state.old) binding) }
     ensures refused { OnErr result (seen_in state.new ≡ seen_in state.old) }
@@ -99,7 +100,8 @@ fn check_unbound_item(
     requires infos { length context.now.infos.now ≡ length context.now.types.now }
     requires types { NameEachOther context.now.types.now }
     requires counts { All (λ t. MemberCountFits t.inner) context.now.types.now }
-    ensures fault { AnswersVaryings (points_from context.now.place.now context.now.types.now context.now.infos.now (seen_in state.old)
+    ensures fault { AnswersVaryings
+        (points_from context.now.place.now context.now.types.now context.now.infos.now (seen_in state.old)
         ty None) result }
     ensures seen { OnOk result
         (seen_in state.new ≡ seen_with (seen_in state.old) (parts_of context.now.types.now context.now.infos.now ty None)) }
@@ -175,7 +177,8 @@ fn check_member(
     requires ty { member.now.ty < length context.now.types.now }
     requires infos { length context.now.infos.now ≡ length context.now.types.now }
     requires types { NameEachOther context.now.types.now }
-    ensures fault { AnswersVaryings (part_points context.now.place.now context.now.types.now context.now.infos.now (seen_in state.old)
+    ensures fault { AnswersVaryings
+        (part_points context.now.place.now context.now.types.now context.now.infos.now (seen_in state.old)
         (member_part index member.now.ty member.now.binding)) result }
     ensures seen { OnOk result
         (seen_in state.new ≡ seen_with (seen_in state.old) (member_part index member.now.ty member.now.binding ∷ [])) }
@@ -219,7 +222,8 @@ fn check_members(
     requires count { FitsCount (length members.now) }
     requires infos { length context.now.infos.now ≡ length context.now.types.now }
     requires types { NameEachOther context.now.types.now }
-    ensures fault { AnswersVaryings (points_behind context.now.place.now context.now.types.now context.now.infos.now (seen_in state.old)
+    ensures fault { AnswersVaryings
+        (points_behind context.now.place.now context.now.types.now context.now.infos.now (seen_in state.old)
         [] (member_parts 0 members.now)) result }
     ensures seen { OnOk result (seen_in state.new ≡ seen_with (seen_in state.old) (member_parts 0 members.now)) }
     ensures added { seen_less (seen_in state.new) added.new.items ≡ seen_less (seen_in state.old) added.old.items }
@@ -240,7 +244,8 @@ fn check_struct(
     requires count { FitsCount (length members.now) }
     requires infos { length context.now.infos.now ≡ length context.now.types.now }
     requires types { NameEachOther context.now.types.now }
-    ensures fault { AnswersVaryings (points_behind context.now.place.now context.now.types.now context.now.infos.now (seen_in state.old)
+    ensures fault { AnswersVaryings
+        (points_behind context.now.place.now context.now.types.now context.now.infos.now (seen_in state.old)
         [] (member_parts 0 members.now)) result }
     ensures seen { OnOk result (seen_in state.new ≡ seen_with (seen_in state.old) (member_parts 0 members.now)) }
     ensures refused { OnErr result (seen_in state.new ≡ seen_in state.old) }

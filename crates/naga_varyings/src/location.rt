@@ -64,7 +64,8 @@ fn check_per_vertex(
 ) -> Result<(), VaryingError>
     requires ty { ty < length context.now.types.now }
     requires types { NameEachOther context.now.types.now }
-    ensures { result_err result ≡ first_fault (per_vertex_points context.now.place.now context.now.types.now ty interpolation sampling) }
+    ensures { result_err result
+        ≡ first_fault (per_vertex_points context.now.place.now context.now.types.now ty interpolation sampling) }
 {
     let place = context.place;
     if interpolation != Some(Interpolation::PerVertex) {
@@ -133,7 +134,8 @@ fn check_carried(
     requires infos { length context.now.infos.now ≡ length context.now.types.now }
     requires types { NameEachOther context.now.types.now }
     ensures { result_err result ≡ first_fault (
-        sharing_points context.now.place.now context.now.infos.now (seen_in state.now) ty at.location at.blend_src at.per_primitive
+        sharing_points context.now.place.now context.now.infos.now (seen_in state.now) ty at.location at.blend_src
+        at.per_primitive
         ++ interpolation_points context.now.place.now context.now.types.now ty at.interpolation at.sampling at.per_primitive) }
 {
     check_sharing(context, state, ty, at)?;
@@ -150,7 +152,8 @@ fn check_sharing(
     requires ty { ty < length context.now.types.now }
     requires infos { length context.now.infos.now ≡ length context.now.types.now }
     ensures { result_err result ≡ first_fault
-        (sharing_points context.now.place.now context.now.infos.now (seen_in state.now) ty at.location at.blend_src at.per_primitive) }
+        (sharing_points context.now.place.now context.now.infos.now (seen_in state.now) ty at.location at.blend_src
+        at.per_primitive) }
 {
     let place = context.place;
     if !context.is_shareable(ty) {

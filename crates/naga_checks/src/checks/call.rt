@@ -52,10 +52,12 @@ pub fn validate_call(
     requires callee { CalleeFits (context_of context.now).program site.now.function }
     requires result { IfSome site.now.named (λ r. r < count scope.old) }
     ensures fault { AnswersPoints
-        (call_points (context_of context.now) (filled_in filled.now) (place_at (known scope.old)) site.now.function arguments.now site.now.named)
+        (call_points (context_of context.now) (filled_in filled.now) (place_at (known scope.old)) site.now.function
+        arguments.now site.now.named)
         result }
     ensures refused { RefusesFaultsAlone
-        (call_points (context_of context.now) (filled_in filled.now) (place_at (known scope.old)) site.now.function arguments.now site.now.named)
+        (call_points (context_of context.now) (filled_in filled.now) (place_at (known scope.old)) site.now.function
+        arguments.now site.now.named)
         result }
     ensures scope { OnOk result (HasPut scope.old scope.new (puts_of (put_if site.now.named))) }
 {
@@ -77,10 +79,12 @@ fn check_call(
     requires context { ContextFits (context_of context.now) }
     requires callee { CalleeFits (context_of context.now).program site.now.function }
     ensures fault { AnswersPoints
-        (call_points (context_of context.now) (filled_in filled.now) (place_at (known scope.now)) site.now.function arguments.now site.now.named)
+        (call_points (context_of context.now) (filled_in filled.now) (place_at (known scope.now)) site.now.function
+        arguments.now site.now.named)
         result }
     ensures refused { RefusesFaultsAlone
-        (call_points (context_of context.now) (filled_in filled.now) (place_at (known scope.now)) site.now.function arguments.now site.now.named)
+        (call_points (context_of context.now) (filled_in filled.now) (place_at (known scope.now)) site.now.function
+        arguments.now site.now.named)
         result }
 {
     if call_holds(scope, filled, context, site, arguments) {
@@ -100,7 +104,8 @@ fn call_holds(
     requires context { ContextFits (context_of context.now) }
     requires callee { CalleeFits (context_of context.now).program site.now.function }
     ensures { IsTrue result ↔ AllHold
-        (call_points (context_of context.now) (filled_in filled.now) (place_at (known scope.now)) site.now.function arguments.now site.now.named) }
+        (call_points (context_of context.now) (filled_in filled.now) (place_at (known scope.now)) site.now.function
+        arguments.now site.now.named) }
 {
     let callee = &context.program.functions[site.function];
     if !arguments_hold(scope, context, site, callee.arguments.as_slice(), arguments) {
@@ -120,7 +125,8 @@ fn arguments_hold(
     requires context { ContextFits (context_of context.now) }
     requires types { All (λ argument. argument.ty < length (context_of context.now).program.types) declared.now }
     ensures { IsTrue result ↔ AllHold
-        (within (InvalidCall site.now.function) (all_passed_points (context_of context.now) (place_at (known scope.now)) declared.now given.now)) }
+        (within (InvalidCall site.now.function)
+        (all_passed_points (context_of context.now) (place_at (known scope.now)) declared.now given.now)) }
 {
     if given.len() != declared.len() {
         return false;
@@ -145,7 +151,8 @@ fn call_result_holds(
     returns: bool,
 ) -> bool
     ensures { IsTrue result ↔ AllHold
-        (within (InvalidCall site.now.function) (call_result_points (context_of context.now) (filled_in filled.now) (place_at (known scope.now)) site.now.function returns site.now.named)) }
+        (within (InvalidCall site.now.function) (call_result_points (context_of context.now) (filled_in filled.now)
+        (place_at (known scope.now)) site.now.function returns site.now.named)) }
 {
     match &site.named {
         Some(handle) => {
@@ -171,10 +178,12 @@ fn refuse_call(
     requires context { ContextFits (context_of context.now) }
     requires callee { CalleeFits (context_of context.now).program site.now.function }
     ensures fault { AnswersPoints
-        (call_points (context_of context.now) (filled_in filled.now) (place_at (known scope.now)) site.now.function arguments.now site.now.named)
+        (call_points (context_of context.now) (filled_in filled.now) (place_at (known scope.now)) site.now.function
+        arguments.now site.now.named)
         result }
     ensures refused { RefusesFaultsAlone
-        (call_points (context_of context.now) (filled_in filled.now) (place_at (known scope.now)) site.now.function arguments.now site.now.named)
+        (call_points (context_of context.now) (filled_in filled.now) (place_at (known scope.now)) site.now.function
+        arguments.now site.now.named)
         result }
 {
     let callee = &context.program.functions[site.function];
@@ -194,10 +203,12 @@ fn check_arguments(
     requires context { ContextFits (context_of context.now) }
     requires types { All (λ argument. argument.ty < length (context_of context.now).program.types) declared.now }
     ensures fault { AnswersPoints
-        (within (InvalidCall site.now.function) (all_passed_points (context_of context.now) (place_at (known scope.now)) declared.now given.now))
+        (within (InvalidCall site.now.function)
+        (all_passed_points (context_of context.now) (place_at (known scope.now)) declared.now given.now))
         result }
     ensures refused { RefusesFaultsAlone
-        (within (InvalidCall site.now.function) (all_passed_points (context_of context.now) (place_at (known scope.now)) declared.now given.now))
+        (within (InvalidCall site.now.function)
+        (all_passed_points (context_of context.now) (place_at (known scope.now)) declared.now given.now))
         result }
 {
     if declared.len() != given.len() {
@@ -232,10 +243,12 @@ fn check_argument(
     requires context { ContextFits (context_of context.now) }
     requires declared { declared < length (context_of context.now).program.types }
     ensures fault { AnswersPoints
-        (within (InvalidCall site.now.function) (passed_points (context_of context.now) (place_at (known scope.now)) index declared given))
+        (within (InvalidCall site.now.function)
+        (passed_points (context_of context.now) (place_at (known scope.now)) index declared given))
         result }
     ensures refused { RefusesFaultsAlone
-        (within (InvalidCall site.now.function) (passed_points (context_of context.now) (place_at (known scope.now)) index declared given))
+        (within (InvalidCall site.now.function)
+        (passed_points (context_of context.now) (place_at (known scope.now)) index declared given))
         result }
 {
     if !scope.may_use(given) {
@@ -264,10 +277,12 @@ fn check_call_result(
     returns: bool,
 ) -> Result<(), Refused>
     ensures fault { AnswersPoints
-        (within (InvalidCall site.now.function) (call_result_points (context_of context.now) (filled_in filled.now) (place_at (known scope.now)) site.now.function returns site.now.named))
+        (within (InvalidCall site.now.function) (call_result_points (context_of context.now) (filled_in filled.now)
+        (place_at (known scope.now)) site.now.function returns site.now.named))
         result }
     ensures refused { RefusesFaultsAlone
-        (within (InvalidCall site.now.function) (call_result_points (context_of context.now) (filled_in filled.now) (place_at (known scope.now)) site.now.function returns site.now.named))
+        (within (InvalidCall site.now.function) (call_result_points (context_of context.now) (filled_in filled.now)
+        (place_at (known scope.now)) site.now.function returns site.now.named))
         result }
 {
     let alloc = scope.allocator();

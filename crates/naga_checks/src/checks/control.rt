@@ -40,8 +40,10 @@ pub fn validate_emit(
     span: Span,
 ) -> Result<(), Refused>
     requires { range.end ≤ count scope.old }
-    ensures fault { AnswersPoints (emit_points (context_of context.now) (place_at (known scope.old)) range.start range.end) result }
-    ensures refused { RefusesFaultsAlone (emit_points (context_of context.now) (place_at (known scope.old)) range.start range.end) result }
+    ensures fault { AnswersPoints
+        (emit_points (context_of context.now) (place_at (known scope.old)) range.start range.end) result }
+    ensures refused { RefusesFaultsAlone
+        (emit_points (context_of context.now) (place_at (known scope.old)) range.start range.end) result }
     ensures scope { OnOk result (HasPut scope.old scope.new (handles_between range.start range.end)) }
 {
     for index in range.start..range.end {
@@ -93,7 +95,8 @@ fn emitted_holds(
 
 /// Whether every run has put the operands of an expression.
 fn operands_hold(scope: &ScopeColumn, expression: Option<&Expression>) -> bool
-    ensures { IsTrue result ↔ AllHold (map (use_point (place_at (known scope.now))) (operands_if (option_copied expression.entry))) }
+    ensures { IsTrue result ↔ AllHold
+        (map (use_point (place_at (known scope.now))) (operands_if (option_copied expression.entry))) }
 {
     match expression {
         Some(Expression::Load { pointer }) => scope.may_use(*pointer),
@@ -208,7 +211,8 @@ pub fn check_condition(
     span: Span,
 ) -> Result<(), Refused>
     ensures fault { AnswersPoints (condition_points (context_of context.now) (place_at (known scope.now)) condition) result }
-    ensures refused { RefusesFaultsAlone (condition_points (context_of context.now) (place_at (known scope.now)) condition) result }
+    ensures refused { RefusesFaultsAlone
+        (condition_points (context_of context.now) (place_at (known scope.now)) condition) result }
 {
     if condition_holds(scope, context, condition) {
         return Ok(());
@@ -237,7 +241,8 @@ fn refuse_condition(
     span: Span,
 ) -> Result<(), Refused>
     ensures fault { AnswersPoints (condition_points (context_of context.now) (place_at (known scope.now)) condition) result }
-    ensures refused { RefusesFaultsAlone (condition_points (context_of context.now) (place_at (known scope.now)) condition) result }
+    ensures refused { RefusesFaultsAlone
+        (condition_points (context_of context.now) (place_at (known scope.now)) condition) result }
 {
     if !scope.may_use(condition) {
         return Err(not_in_scope(scope.allocator(), condition, span));
@@ -271,7 +276,8 @@ pub fn check_return(
 ) -> Result<(), Refused>
     requires { ContextFits (context_of context.now) }
     ensures fault { AnswersPoints (return_points (context_of context.now) (place abilities (known scope.now)) value) result }
-    ensures refused { RefusesFaultsAlone (return_points (context_of context.now) (place abilities (known scope.now)) value) result }
+    ensures refused { RefusesFaultsAlone
+        (return_points (context_of context.now) (place abilities (known scope.now)) value) result }
 {
     if return_holds(scope, context, abilities, &value) {
         return Ok(());
@@ -312,7 +318,8 @@ fn refuse_return(
 ) -> Result<(), Refused>
     requires { ContextFits (context_of context.now) }
     ensures fault { AnswersPoints (return_points (context_of context.now) (place abilities (known scope.now)) value.now) result }
-    ensures refused { RefusesFaultsAlone (return_points (context_of context.now) (place abilities (known scope.now)) value.now) result }
+    ensures refused { RefusesFaultsAlone
+        (return_points (context_of context.now) (place abilities (known scope.now)) value.now) result }
 {
     let alloc = scope.allocator();
     if !abilities.can_return {

@@ -59,8 +59,10 @@ pub fn validate_ballot(
     span: Span,
 ) -> Result<(), Refused>
     requires { ballot < count scope.old }
-    ensures fault { AnswersPoints (ballot_points (context_of context.now) (place_at (known scope.old)) ballot predicate.now) result }
-    ensures refused { RefusesFaultsAlone (ballot_points (context_of context.now) (place_at (known scope.old)) ballot predicate.now) result }
+    ensures fault { AnswersPoints
+        (ballot_points (context_of context.now) (place_at (known scope.old)) ballot predicate.now) result }
+    ensures refused { RefusesFaultsAlone
+        (ballot_points (context_of context.now) (place_at (known scope.old)) ballot predicate.now) result }
     ensures scope { OnOk result (HasPut scope.old scope.new (ballot ∷ [])) }
 {
     let alloc = scope.allocator();

@@ -40,10 +40,12 @@ pub fn validate_collective(
 ) -> Result<(), Refused>
     requires { collective.now.combined < count scope.old }
     ensures fault { AnswersPoints
-        (collective_points (context_of context.now) (place_at (known scope.old)) collective.now.operation collective.now.part collective.now.argument collective.now.combined)
+        (collective_points (context_of context.now) (place_at (known scope.old)) collective.now.operation
+        collective.now.part collective.now.argument collective.now.combined)
         result }
     ensures refused { RefusesFaultsAlone
-        (collective_points (context_of context.now) (place_at (known scope.old)) collective.now.operation collective.now.part collective.now.argument collective.now.combined)
+        (collective_points (context_of context.now) (place_at (known scope.old)) collective.now.operation
+        collective.now.part collective.now.argument collective.now.combined)
         result }
     ensures scope { OnOk result (HasPut scope.old scope.new (collective.now.combined ∷ [])) }
 {
@@ -61,7 +63,8 @@ fn check_collective(
     collective: &Collective,
 ) -> Result<(), FunctionError>
     ensures { Finds
-        (collective_points (context_of context.now) (place_at (known scope.now)) collective.now.operation collective.now.part collective.now.argument collective.now.combined)
+        (collective_points (context_of context.now) (place_at (known scope.now)) collective.now.operation
+        collective.now.part collective.now.argument collective.now.combined)
         result }
 {
     let Collective {

@@ -36,7 +36,8 @@ pub fn check_switch(
     cases: &[SwitchCase],
     span: Span,
 ) -> Result<(), Refused>
-    ensures { AnswersPoints (switch_points (context_of context.now) (place_at (known scope.now)) selector (case_list cases.now)) result }
+    ensures { AnswersPoints
+        (switch_points (context_of context.now) (place_at (known scope.now)) selector (case_list cases.now)) result }
 {
     let alloc = scope.allocator();
     answer(alloc, check_selector(scope, context, selector), span)?;

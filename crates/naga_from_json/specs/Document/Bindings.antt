@@ -91,7 +91,8 @@ bindings =
     (codes "BuiltIn", binding_name.BuiltIn) ∷ (codes "Location", binding_name.Location) ∷ []
 
 abbrev pub location_of : Data → Option Binding
-location_of = fielded (codes "location" ∷ codes "interpolation" ∷ codes "sampling" ∷ codes "blend_src" ∷ codes "per_primitive" ∷ []) (λ d.
+location_of = fielded
+    (codes "location" ∷ codes "interpolation" ∷ codes "sampling" ∷ codes "blend_src" ∷ codes "per_primitive" ∷ []) (λ d.
     given (field_of u32_of (codes "location") d) (λ location.
     given (field_of (optional interpolation_of) (codes "interpolation") d) (λ interpolation.
     given (field_of (optional sampling_of) (codes "sampling") d) (λ sampling.

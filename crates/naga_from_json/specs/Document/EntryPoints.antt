@@ -41,7 +41,9 @@ mesh_output_topology_of = named mesh_output_topologies
 
 -- what a mesh entry point puts out
 abbrev pub mesh_stage_info_of : Data → Option MeshStageInfo
-mesh_stage_info_of = fielded (codes "topology" ∷ codes "max_vertices" ∷ codes "max_vertices_override" ∷ codes "max_primitives" ∷ codes "max_primitives_override" ∷ codes "vertex_output_type" ∷ codes "primitive_output_type" ∷ codes "output_variable" ∷ []) (λ d.
+mesh_stage_info_of = fielded (codes "topology" ∷ codes "max_vertices" ∷ codes "max_vertices_override"
+    ∷ codes "max_primitives" ∷ codes "max_primitives_override" ∷ codes "vertex_output_type"
+    ∷ codes "primitive_output_type" ∷ codes "output_variable" ∷ []) (λ d.
     given (field_of mesh_output_topology_of (codes "topology") d) (λ topology.
     given (field_of u32_of (codes "max_vertices") d) (λ max_vertices.
     given (field_of (optional u32_of) (codes "max_vertices_override") d) (λ max_vertices_override.
@@ -50,7 +52,16 @@ mesh_stage_info_of = fielded (codes "topology" ∷ codes "max_vertices" ∷ code
     given (field_of u32_of (codes "vertex_output_type") d) (λ vertex_output_type.
     given (field_of u32_of (codes "primitive_output_type") d) (λ primitive_output_type.
     given (field_of u32_of (codes "output_variable") d) (λ output_variable.
-    Some (record { topology = topology; max_vertices = max_vertices; max_vertices_override = max_vertices_override; max_primitives = max_primitives; max_primitives_override = max_primitives_override; vertex_output_type = vertex_output_type; primitive_output_type = primitive_output_type; output_variable = output_variable }))))))))))
+    Some (record {
+      topology = topology;
+      max_vertices = max_vertices;
+      max_vertices_override = max_vertices_override;
+      max_primitives = max_primitives;
+      max_primitives_override = max_primitives_override;
+      vertex_output_type = vertex_output_type;
+      primitive_output_type = primitive_output_type;
+      output_variable = output_variable;
+    }))))))))))
 
 -- a constant
 abbrev pub constant_of : Data → Option Constant
@@ -93,11 +104,19 @@ workgroup_size_of d = option_map size_from (three_of u32_of u32_of u32_of d)
 
 -- an entry point
 abbrev pub entry_point_of : Data → Option EntryPoint
-entry_point_of = fielded (codes "stage" ∷ codes "early_depth_test" ∷ codes "workgroup_size" ∷ codes "function" ∷ codes "mesh_info" ∷ codes "task_payload" ∷ []) (λ d.
+entry_point_of = fielded (codes "stage" ∷ codes "early_depth_test" ∷ codes "workgroup_size" ∷ codes "function"
+    ∷ codes "mesh_info" ∷ codes "task_payload" ∷ []) (λ d.
     given (field_of shader_stage_of (codes "stage") d) (λ stage.
     given (field_of (optional early_depth_test_of) (codes "early_depth_test") d) (λ early_depth_test.
     given (field_of workgroup_size_of (codes "workgroup_size") d) (λ workgroup_size.
     given (field_of function_of (codes "function") d) (λ function.
     given (field_of (optional mesh_stage_info_of) (codes "mesh_info") d) (λ mesh_info.
     given (field_of (optional u32_of) (codes "task_payload") d) (λ task_payload.
-    Some (record { stage = stage; early_depth_test = early_depth_test; workgroup_size = workgroup_size; function = function; mesh_info = mesh_info; task_payload = task_payload }))))))))
+    Some (record {
+      stage = stage;
+      early_depth_test = early_depth_test;
+      workgroup_size = workgroup_size;
+      function = function;
+      mesh_info = mesh_info;
+      task_payload = task_payload;
+    }))))))))

@@ -42,13 +42,19 @@ coordinate_of d = option_map (λ p. expression_error.InvalidImageCoordinateType 
 -- what a variant stands for
 abbrev pub expression_error_from : Variant ExpressionError ExpressionErrorName → Option ExpressionError
 expression_error_from (plain x) = Some x
-expression_error_from (holding expression_error_name.ExpectedBindingArrayType d) = option_map expression_error.ExpectedBindingArrayType (u32_of d)
-expression_error_from (holding expression_error_name.ExpectedImageType d) = option_map expression_error.ExpectedImageType (u32_of d)
-expression_error_from (holding expression_error_name.InvalidImageClass d) = option_map expression_error.InvalidImageClass (image_class_of d)
+expression_error_from (holding expression_error_name.ExpectedBindingArrayType d) =
+    option_map expression_error.ExpectedBindingArrayType (u32_of d)
+expression_error_from (holding expression_error_name.ExpectedImageType d) =
+    option_map expression_error.ExpectedImageType (u32_of d)
+expression_error_from (holding expression_error_name.InvalidImageClass d) =
+    option_map expression_error.InvalidImageClass (image_class_of d)
 expression_error_from (holding expression_error_name.InvalidImageCoordinateType d) = coordinate_of d
-expression_error_from (holding expression_error_name.InvalidImageArrayIndexType d) = option_map expression_error.InvalidImageArrayIndexType (u32_of d)
-expression_error_from (holding expression_error_name.InvalidImageStorageAccess d) = option_map expression_error.InvalidImageStorageAccess (storage_access_of d)
-expression_error_from (holding expression_error_name.InvalidImageFormat d) = option_map expression_error.InvalidImageFormat (storage_format_of d)
+expression_error_from (holding expression_error_name.InvalidImageArrayIndexType d) =
+    option_map expression_error.InvalidImageArrayIndexType (u32_of d)
+expression_error_from (holding expression_error_name.InvalidImageStorageAccess d) =
+    option_map expression_error.InvalidImageStorageAccess (storage_access_of d)
+expression_error_from (holding expression_error_name.InvalidImageFormat d) =
+    option_map expression_error.InvalidImageFormat (storage_format_of d)
 expression_error_from (holding expression_error_name.Lower d) = option_map expression_error.Lower (u32_of d)
 
 abbrev pub expression_error_of : Data → Option ExpressionError
@@ -73,7 +79,8 @@ error_in_expression_of = fielded (codes "handle" ∷ codes "source" ∷ []) (λ 
     Some (lower_function_error.Expression handle source))))
 
 abbrev pub control_flow_of : Data → Option LowerFunctionError
-control_flow_of d = option_map (λ p. lower_function_error.NonUniformControlFlow (record { 0 = p.0 }) p.1 (record { 0 = p.2 })) (three_of u32_of u32_of u32_of d)
+control_flow_of d = option_map (λ p. lower_function_error.NonUniformControlFlow (record { 0 = p.0 }) p.1
+    (record { 0 = p.2 })) (three_of u32_of u32_of u32_of d)
 
 abbrev pub uniform_load_of : Data → Option LowerFunctionError
 uniform_load_of d = option_map (λ n. lower_function_error.NonUniformWorkgroupUniformLoad (record { 0 = n })) (u32_of d)
@@ -88,13 +95,16 @@ payloads_of d = option_map (λ p. lower_function_error.ConflictingTaskPayloadVar
 abbrev pub lower_function_error_from : Variant ⊤ LowerErrorName → Option LowerFunctionError
 lower_function_error_from (plain x) = None
 lower_function_error_from (holding lower_error_name.Expression d) = error_in_expression_of d
-lower_function_error_from (holding lower_error_name.MissingRayQueryVertexReturn d) = option_map lower_function_error.MissingRayQueryVertexReturn (u32_of d)
+lower_function_error_from (holding lower_error_name.MissingRayQueryVertexReturn d) =
+    option_map lower_function_error.MissingRayQueryVertexReturn (u32_of d)
 lower_function_error_from (holding lower_error_name.NonUniformControlFlow d) = control_flow_of d
 lower_function_error_from (holding lower_error_name.NonUniformWorkgroupUniformLoad d) = uniform_load_of d
-lower_function_error_from (holding lower_error_name.InvalidMeshFunctionCall d) = option_map lower_function_error.InvalidMeshFunctionCall (u32_of d)
+lower_function_error_from (holding lower_error_name.InvalidMeshFunctionCall d) =
+    option_map lower_function_error.InvalidMeshFunctionCall (u32_of d)
 lower_function_error_from (holding lower_error_name.ConflictingMeshOutputTypes d) = output_types_of d
 lower_function_error_from (holding lower_error_name.ConflictingTaskPayloadVariables d) = payloads_of d
-lower_function_error_from (holding lower_error_name.InvalidMeshShaderOutputType d) = option_map lower_function_error.InvalidMeshShaderOutputType (u32_of d)
+lower_function_error_from (holding lower_error_name.InvalidMeshShaderOutputType d) =
+    option_map lower_function_error.InvalidMeshShaderOutputType (u32_of d)
 
 abbrev pub lower_function_error_of : Data → Option LowerFunctionError
 lower_function_error_of d = given (variant_of [] lower_errors d) lower_function_error_from

@@ -53,7 +53,8 @@ with_parts parts_name.CooperativeMultiplyAdd parts = expression.CooperativeMulti
 
 -- the expressions that hold nothing
 abbrev pub bare_expressions : List (List ℕ × BareName)
-bare_expressions = (codes "RayQueryProceedResult", bare.RayQueryProceedResult) ∷ (codes "SubgroupBallotResult", bare.SubgroupBallotResult) ∷ []
+bare_expressions = (codes "RayQueryProceedResult", bare.RayQueryProceedResult)
+    ∷ (codes "SubgroupBallotResult", bare.SubgroupBallotResult) ∷ []
 
 -- the expressions that hold something
 abbrev pub expressions : List (List ℕ × ExpressionName)

@@ -60,12 +60,18 @@ immediates_of d = given (variant_of [] outcomes d) immediates_from
 
 -- what is known of a type
 abbrev pub type_info_of : Data → Option TypeInfo
-type_info_of = fielded (codes "flags" ∷ codes "storage_layout" ∷ codes "uniform_layout" ∷ codes "immediates_compatibility" ∷ []) (λ d.
+type_info_of = fielded
+    (codes "flags" ∷ codes "storage_layout" ∷ codes "uniform_layout" ∷ codes "immediates_compatibility" ∷ []) (λ d.
     given (field_of type_flags_of (codes "flags") d) (λ flags.
     given (field_of layout_of (codes "storage_layout") d) (λ storage_layout.
     given (field_of layout_of (codes "uniform_layout") d) (λ uniform_layout.
     given (field_of immediates_of (codes "immediates_compatibility") d) (λ immediates_compatibility.
-    Some (record { flags = flags; storage_layout = storage_layout; uniform_layout = uniform_layout; immediates_compatibility = immediates_compatibility }))))))
+    Some (record {
+      flags = flags;
+      storage_layout = storage_layout;
+      uniform_layout = uniform_layout;
+      immediates_compatibility = immediates_compatibility;
+    }))))))
 
 -- two overrides, each of which may be missing
 abbrev pub overrides_of : Data → Option (List (Option ℕ))
@@ -95,13 +101,20 @@ expression_fact_of d = given (variant_of [] expression_facts d) expression_fact_
 
 -- what is known of a function
 abbrev pub info_fact_of : Data → Option InfoFact
-info_fact_of = fielded (codes "types" ∷ codes "uses" ∷ codes "stages" ∷ codes "dual_source_blending" ∷ codes "expressions" ∷ []) (λ d.
+info_fact_of = fielded
+    (codes "types" ∷ codes "uses" ∷ codes "stages" ∷ codes "dual_source_blending" ∷ codes "expressions" ∷ []) (λ d.
     given (field_of (list_of type_resolution_of) (codes "types") d) (λ types.
     given (field_of (list_of global_use_of) (codes "uses") d) (λ uses.
     given (field_of stages_of (codes "stages") d) (λ stages.
     given (field_of as_bool (codes "dual_source_blending") d) (λ dual_source_blending.
     given (field_of (list_of expression_fact_of) (codes "expressions") d) (λ expressions.
-    Some (record { types = types; uses = uses; stages = stages; dual_source_blending = dual_source_blending; expressions = expressions })))))))
+    Some (record {
+      types = types;
+      uses = uses;
+      stages = stages;
+      dual_source_blending = dual_source_blending;
+      expressions = expressions;
+    })))))))
 
 -- what is known of a function, or what is wrong with it
 abbrev pub function_facts : List (List ℕ × FunctionFactName)

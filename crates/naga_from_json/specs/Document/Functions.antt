@@ -37,10 +37,17 @@ function_result_of = fielded (codes "ty" ∷ codes "binding" ∷ []) (λ d.
 
 -- a function
 abbrev pub function_of : Data → Option Function
-function_of = fielded (codes "arguments" ∷ codes "result" ∷ codes "local_variables" ∷ codes "expressions" ∷ codes "body" ∷ []) (λ d.
+function_of =
+    fielded (codes "arguments" ∷ codes "result" ∷ codes "local_variables" ∷ codes "expressions" ∷ codes "body" ∷ []) (λ d.
     given (field_of (list_of function_argument_of) (codes "arguments") d) (λ arguments.
     given (field_of (optional function_result_of) (codes "result") d) (λ result.
     given (field_of (list_of local_variable_of) (codes "local_variables") d) (λ local_variables.
     given (field_of (list_of expression_of) (codes "expressions") d) (λ expressions.
     given (field_of block_of (codes "body") d) (λ body.
-    Some (record { arguments = arguments; result = result; local_variables = local_variables; expressions = expressions; body = body })))))))
+    Some (record {
+      arguments = arguments;
+      result = result;
+      local_variables = local_variables;
+      expressions = expressions;
+      body = body;
+    })))))))

@@ -26,7 +26,8 @@ types_of d = given (list_of type_of d) (types_behind [])
 
 -- a module
 abbrev pub module_of : Data → Option Module
-module_of = fielded (codes "types" ∷ codes "special_types" ∷ codes "constants" ∷ codes "overrides" ∷ codes "global_variables" ∷ codes "global_expressions" ∷ codes "functions" ∷ codes "entry_points" ∷ []) (λ d.
+module_of = fielded (codes "types" ∷ codes "special_types" ∷ codes "constants" ∷ codes "overrides"
+    ∷ codes "global_variables" ∷ codes "global_expressions" ∷ codes "functions" ∷ codes "entry_points" ∷ []) (λ d.
     given (field_of types_of (codes "types") d) (λ types.
     given (field_of special_types_of (codes "special_types") d) (λ special_types.
     given (field_of (list_of constant_of) (codes "constants") d) (λ constants.
@@ -35,4 +36,13 @@ module_of = fielded (codes "types" ∷ codes "special_types" ∷ codes "constant
     given (field_of (list_of expression_of) (codes "global_expressions") d) (λ global_expressions.
     given (field_of (list_of function_of) (codes "functions") d) (λ functions.
     given (field_of (list_of entry_point_of) (codes "entry_points") d) (λ entry_points.
-    Some (record { types = types; special_types = special_types; constants = constants; overrides = overrides; global_variables = global_variables; global_expressions = global_expressions; functions = functions; entry_points = entry_points }))))))))))
+    Some (record {
+      types = types;
+      special_types = special_types;
+      constants = constants;
+      overrides = overrides;
+      global_variables = global_variables;
+      global_expressions = global_expressions;
+      functions = functions;
+      entry_points = entry_points;
+    }))))))))))

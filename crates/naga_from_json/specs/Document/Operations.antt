@@ -112,7 +112,8 @@ ray_queries =
 -- what a variant stands for
 abbrev pub ray_query_function_from : Variant RayQueryFunction RayQueryName → Option RayQueryFunction
 ray_query_function_from (plain x) = Some x
-ray_query_function_from (holding ray_query_name.Initialize d) = (fielded (codes "acceleration_structure" ∷ codes "descriptor" ∷ []) (λ d.
+ray_query_function_from (holding ray_query_name.Initialize d) =
+    (fielded (codes "acceleration_structure" ∷ codes "descriptor" ∷ []) (λ d.
     given (field_of u32_of (codes "acceleration_structure") d) (λ acceleration_structure.
     given (field_of u32_of (codes "descriptor") d) (λ descriptor.
     Some (ray_query_function.Initialize acceleration_structure descriptor))))) d
@@ -133,7 +134,8 @@ ray_pipelines = (codes "TraceRay", tt) ∷ []
 -- what a variant stands for
 abbrev pub ray_pipeline_function_from : Variant ⊤ ⊤ → Option RayPipelineFunction
 ray_pipeline_function_from (plain x) = None
-ray_pipeline_function_from (holding x d) = (fielded (codes "acceleration_structure" ∷ codes "descriptor" ∷ codes "payload" ∷ []) (λ d.
+ray_pipeline_function_from (holding x d) =
+    (fielded (codes "acceleration_structure" ∷ codes "descriptor" ∷ codes "payload" ∷ []) (λ d.
     given (field_of u32_of (codes "acceleration_structure") d) (λ acceleration_structure.
     given (field_of u32_of (codes "descriptor") d) (λ descriptor.
     given (field_of u32_of (codes "payload") d) (λ payload.

@@ -24,7 +24,16 @@ abbrev pub plain_layer : Plain
 plain_layer =
     record {
       analysis = record {
-        implied = record { topology = Points; max_vertices = 0; max_vertices_override = None; max_primitives = 0; max_primitives_override = None; vertex_output_type = 0; primitive_output_type = 0; output_variable = 0 };
+        implied = record {
+          topology = Points;
+          max_vertices = 0;
+          max_vertices_override = None;
+          max_primitives = 0;
+          max_primitives_override = None;
+          vertex_output_type = 0;
+          primitive_output_type = 0;
+          output_variable = 0;
+        };
         overrides = None ∷ None ∷ [];
         fault = None;
       };

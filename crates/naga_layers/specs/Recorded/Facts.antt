@@ -46,7 +46,16 @@ analysis_of a = record { implied = a.implied; overrides = a.overrides; fault = a
 abbrev pub unknown_analysis : MeshAnalysisFact
 unknown_analysis =
     record {
-      implied = record { topology = Points; max_vertices = 0; max_vertices_override = None; max_primitives = 0; max_primitives_override = None; vertex_output_type = 0; primitive_output_type = 0; output_variable = 0 };
+      implied = record {
+        topology = Points;
+        max_vertices = 0;
+        max_vertices_override = None;
+        max_primitives = 0;
+        max_primitives_override = None;
+        vertex_output_type = 0;
+        primitive_output_type = 0;
+        output_variable = 0;
+      };
       overrides = None ∷ None ∷ [];
       fault = Some OutputType;
     }

@@ -62,7 +62,8 @@ by_lawful P f m info (Some (Info i)) p e = where_true P (is_lawful_info i f m) (
 by_lawful P f m info (Some (FunctionRefused error)) p e = absurd cc
 by_lawful P f m info None p e = absurd cc
 
-module _ (recorded : Recorded) (f : Function) (m : Module) (infos : ModuleInfo) (info : FunctionInfo) (answered : recorded_info (fact_asked recorded.facts m infos) f m ≡ Ok info) where
+module _ (recorded : Recorded) (f : Function) (m : Module) (infos : ModuleInfo) (info : FunctionInfo)
+    (answered : recorded_info (fact_asked recorded.facts m infos) f m ≡ Ok info) where
   pub one_type_each : length info.expression_types ≡ length f.expressions
   one_type_each =
       by_lawful (λ i. length i.expression_types ≡ length f.expressions) f m info (fact_asked recorded.facts m infos)

@@ -38,11 +38,13 @@ fn judge_entry_point<B: Below>(
     requires sizes { HasPayloadSizes (B.meaning validator.old.below) «module».now }
     requires next { index ≡ length infos.old.entry_points }
     requires there { index < length «module».now.entry_points }
-    ensures judged { OnOk result (EntriesLead (B.meaning validator.old.below) validator.old.settings validator.old.types «module».now
+    ensures judged { OnOk result
+        (EntriesLead (B.meaning validator.old.below) validator.old.settings validator.old.types «module».now
         validator.old.trace infos.old (drop index «module».now.entry_points)
         validator.new.trace infos.new (drop (index + 1) «module».now.entry_points)) }
     ensures place { OnOk result (length infos.new.entry_points ≡ index + 1) }
-    ensures refused { IfErr result (λ told. EntriesStop (B.meaning validator.old.below) validator.old.settings validator.old.types «module».now
+    ensures refused { IfErr result
+        (λ told. EntriesStop (B.meaning validator.old.below) validator.old.settings validator.old.types «module».now
         validator.old.trace infos.old (drop index «module».now.entry_points) told) }
     ensures kept { validator.new ≡ record validator.old { trace = validator.new.trace } }
 {
@@ -72,9 +74,11 @@ fn judge_entry_points<B: Below>(
     requires types { FitsTypes «module».now }
     requires sizes { HasPayloadSizes (B.meaning validator.old.below) «module».now }
     requires first { infos.old.entry_points ≡ [] }
-    ensures judged { OnOk result (EntriesAnswer (B.meaning validator.old.below) validator.old.settings validator.old.types «module».now
+    ensures judged { OnOk result
+        (EntriesAnswer (B.meaning validator.old.below) validator.old.settings validator.old.types «module».now
         validator.old.trace infos.old «module».now.entry_points (Ok infos.new)) }
-    ensures refused { IfErr result (λ told. EntriesStop (B.meaning validator.old.below) validator.old.settings validator.old.types «module».now
+    ensures refused { IfErr result
+        (λ told. EntriesStop (B.meaning validator.old.below) validator.old.settings validator.old.types «module».now
         validator.old.trace infos.old «module».now.entry_points told) }
 {
     for index in 0..module.entry_points.len() {
@@ -93,9 +97,11 @@ pub fn judge_behind_functions<B: Below>(
     requires infos { AreInfosOf «module».now validator.old.types }
     requires types { FitsTypes «module».now }
     requires first { infos.old.entry_points ≡ [] }
-    ensures judged { OnOk result (BehindFunctions (B.meaning validator.old.below) validator.old.settings validator.old.types «module».now
+    ensures judged { OnOk result
+        (BehindFunctions (B.meaning validator.old.below) validator.old.settings validator.old.types «module».now
         validator.old.trace infos.old (Ok infos.new)) }
-    ensures refused { IfErr result (λ told. (told ≡ fault.Memory) ⊎ BehindFunctions (B.meaning validator.old.below) validator.old.settings validator.old.types «module».now
+    ensures refused { IfErr result (λ told. (told ≡ fault.Memory)
+        ⊎ BehindFunctions (B.meaning validator.old.below) validator.old.settings validator.old.types «module».now
         validator.old.trace infos.old (Err told)) }
 {
     if !validator.has_payload_sizes(module) {

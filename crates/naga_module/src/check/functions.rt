@@ -33,7 +33,8 @@ fn judge_function<B: Below>(
         validator.new.trace infos.new (drop (handle + 1) «module».now.functions)) }
     ensures place { OnOk result (length infos.new.functions ≡ handle + 1) }
     ensures entries { OnOk result (infos.new.entry_points ≡ infos.old.entry_points) }
-    ensures refused { IfErr result (λ told. Stops (B.meaning validator.old.below) validator.old.settings validator.old.types «module».now
+    ensures refused { IfErr result
+        (λ told. Stops (B.meaning validator.old.below) validator.old.settings validator.old.types «module».now
         validator.old.trace infos.old (drop handle «module».now.functions) told) }
     ensures kept { validator.new ≡ record validator.old { trace = validator.new.trace } }
 {
@@ -66,7 +67,8 @@ pub fn judge_functions<B: Below>(
         validator.old.trace infos.old «module».now.functions
         validator.new.trace infos.new []) }
     ensures entries { OnOk result (infos.new.entry_points ≡ infos.old.entry_points) }
-    ensures refused { IfErr result (λ told. Stops (B.meaning validator.old.below) validator.old.settings validator.old.types «module».now
+    ensures refused { IfErr result
+        (λ told. Stops (B.meaning validator.old.below) validator.old.settings validator.old.types «module».now
         validator.old.trace infos.old «module».now.functions told) }
     ensures kept { validator.new ≡ record validator.old { trace = validator.new.trace } }
 {

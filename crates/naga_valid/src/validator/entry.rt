@@ -38,7 +38,9 @@ impl<B: Below> Validator<B> {
         requires function { FitsFunction ep.now.function «module».now (length mod_info.now.functions) }
         requires entry { FitsEntry ep.now «module».now }
         requires sizes { HasPayloadSizes (B.meaning self.now.below) «module».now }
-        ensures { AnswersOutcome (start_points self.now.settings.capabilities ep.now) (entry_judgement (B.meaning self.now.below) self.now.settings self.now.types self.now.trace «module».now mod_info.now ep.now) result }
+        ensures { AnswersOutcome (start_points self.now.settings.capabilities ep.now)
+            (entry_judgement (B.meaning self.now.below) self.now.settings self.now.types self.now.trace «module».now
+            mod_info.now ep.now) result }
     {
         if let Err(fault) = check_start(self.settings.capabilities, ep) {
             return Err(refusal(alloc, fault));
@@ -69,7 +71,8 @@ impl<B: Below> Validator<B> {
         requires entry { FitsEntry ep.now «module».now }
         requires sizes { HasPayloadSizes (B.meaning self.now.below) «module».now }
         requires uses { length outcome.info.global_uses ≡ length «module».now.global_variables }
-        ensures { AnswersFault (interface_step (B.meaning self.now.below) self.now.settings self.now.types «module».now ep.now outcome) result }
+        ensures { AnswersFault (interface_step (B.meaning self.now.below) self.now.settings self.now.types «module».now
+            ep.now outcome) result }
     {
         judged(answer(alloc, check_payload(module, ep)))?;
         let FunctionOutcome { mut info, trace } = outcome;
@@ -93,7 +96,8 @@ impl<B: Below> Validator<B> {
         requires signature { SignatureFits «module».now ep.now.function }
         requires entry { FitsEntry ep.now «module».now }
         requires sizes { HasPayloadSizes (B.meaning self.now.below) «module».now }
-        ensures { Judges (used_points (B.meaning self.now.below) self.now.settings self.now.types «module».now ep.now info.now) result }
+        ensures { Judges (used_points (B.meaning self.now.below) self.now.settings self.now.types «module».now ep.now
+            info.now) result }
     {
         judged(answer(alloc, check_stage(ep.stage, info.available_stages)))?;
         self.check_arguments(alloc, ep, module)?;

@@ -48,36 +48,48 @@ impl<B: Below> Validator<B> {
         requires sizes { HasPayloadSizes (B.meaning self.old.below) «module».now }
 
         // The answer is the judgement's; or there was no memory, and nothing up to the function is wrong.
-        ensures judged { AnswersEntry (start_points self.old.settings.capabilities ep.now) (entry_judgement (B.meaning self.old.below) self.old.settings self.old.types self.old.trace «module».now mod_info.now ep.now) self.new.trace result }
+        ensures judged { AnswersEntry (start_points self.old.settings.capabilities ep.now)
+            (entry_judgement (B.meaning self.old.below) self.old.settings self.old.types self.old.trace «module».now
+            mod_info.now ep.now) self.new.trace result }
 
         // In every run of an accepted body that was looked at, what every run has put is live, and so is what is used, no
         // live handle is put, and jumps have targets.
-        ensures sound { OnOk result (checks_blocks self.old.settings.flags ≡ true → RunsAreSure (pre_emitted_of ep.now.function) (body_of ep.now.function)) }
+        ensures sound { OnOk result (checks_blocks self.old.settings.flags ≡ true →
+            RunsAreSure (pre_emitted_of ep.now.function) (body_of ep.now.function)) }
 
         // Where bodies and expressions were looked at, each CallResult of an accepted body is filled by one Call, which
         // is of its function, and by no Atomic; each AtomicResult by one Atomic and by no Call.
-        ensures filled { OnOk result (checks_blocks self.old.settings.flags ≡ true → checks_expressions self.old.settings.flags ≡ true → ResultsAreFilledOnce ep.now.function) }
+        ensures filled { OnOk result (checks_blocks self.old.settings.flags ≡ true →
+            checks_expressions self.old.settings.flags ≡ true → ResultsAreFilledOnce ep.now.function) }
 
         // Where bodies were looked at, the stages of an accepted one are stages of each of its statements and of each
         // function that it calls.
-        ensures stages { IfOk result (λ info. checks_blocks self.old.settings.flags ≡ true → StagesAreOfAll self.old.settings.subgroup_stages mod_info.now (body_of ep.now.function) info.available_stages) }
+        ensures stages { IfOk result (λ info. checks_blocks self.old.settings.flags ≡ true →
+            StagesAreOfAll self.old.settings.subgroup_stages mod_info.now (body_of ep.now.function)
+            info.available_stages) }
 
         // Where bindings were looked at, no two globals that are used have one binding.
-        ensures bindings { IfOk result (λ info. checks_bindings self.old.settings.flags ≡ true → BindingsAreDistinct «module».now.global_variables info.global_uses) }
+        ensures bindings { IfOk result (λ info. checks_bindings self.old.settings.flags ≡ true →
+            BindingsAreDistinct «module».now.global_variables info.global_uses) }
 
         // Where bindings were looked at, no two parts of a group take one location: of the arguments, of the result, of the
         // outputs of a mesh together.
-        ensures locations { OnOk result (checks_bindings self.old.settings.flags ≡ true → GroupsAreDistinct self.old.settings «module».now.types self.old.types ep.now) }
+        ensures locations { OnOk result (checks_bindings self.old.settings.flags ≡ true →
+            GroupsAreDistinct self.old.settings «module».now.types self.old.types ep.now) }
 
         // No two parts of the arguments are one built-in, once `invariant` and `perspective` are cleared.
-        ensures built_ins { OnOk result (BuiltInsAreDistinct (argument_parts self.old.settings «module».now.types self.old.types ep.now)) }
+        ensures built_ins { OnOk result
+            (BuiltInsAreDistinct (argument_parts self.old.settings «module».now.types self.old.types ep.now)) }
 
         // At the vertex stage a position is returned.
         ensures position { OnOk result (ep.now.stage ≡ Vertex → ReturnsPosition «module».now.types ep.now.function.result) }
 
         // Where bodies were looked at and the infos of the functions are vetted, the entry point keeps to its stage through
         // all chains of calls.
-        ensures chains { OnOk result (checks_blocks self.old.settings.flags ≡ true → AreVetted (B.meaning self.old.below) self.old.settings self.old.types «module».now mod_info.now → ChainsKeepTo (B.meaning self.old.below) self.old.settings self.old.types «module».now mod_info.now ep.now.function (only ep.now.stage)) }
+        ensures chains { OnOk result (checks_blocks self.old.settings.flags ≡ true →
+            AreVetted (B.meaning self.old.below) self.old.settings self.old.types «module».now mod_info.now →
+            ChainsKeepTo (B.meaning self.old.below) self.old.settings self.old.types «module».now mod_info.now
+            ep.now.function (only ep.now.stage)) }
 
         // Nothing but what ray traces leave may differ, and that only where the entry point is accepted.
         ensures kept { self.new ≡ record self.old { trace = self.new.trace } }
@@ -101,7 +113,9 @@ impl<B: Below> Validator<B> {
         requires function { FitsFunction ep.now.function «module».now (length mod_info.now.functions) }
         requires entry { FitsEntry ep.now «module».now }
         requires sizes { HasPayloadSizes (B.meaning self.old.below) «module».now }
-        ensures judged { AnswersOutcome (start_points self.old.settings.capabilities ep.now) (entry_judgement (B.meaning self.old.below) self.old.settings self.old.types self.old.trace «module».now mod_info.now ep.now) result }
+        ensures judged { AnswersOutcome (start_points self.old.settings.capabilities ep.now)
+            (entry_judgement (B.meaning self.old.below) self.old.settings self.old.types self.old.trace «module».now
+            mod_info.now ep.now) result }
         ensures kept { self.new ≡ self.old }
     {
         let mut table = self.table.take();

@@ -51,7 +51,8 @@ impl<B: Below> Validator<B> {
         info: &mut FunctionInfo,
     ) -> Result<(), Refusal<FunctionError>>
         ensures fault { AnswersLeaving
-            (stages_of_all (B.meaning self.now.below) (asked_by self.now subject.now.program.now subject.now.earlier.now subject.now.fun.now kinds.now info.old))
+            (stages_of_all (B.meaning self.now.below) (asked_by self.now subject.now.program.now subject.now.earlier.now
+            subject.now.fun.now kinds.now info.old))
             info.new.available_stages result }
         ensures kept { info.new ≡ with_stages info.old info.new.available_stages }
     {

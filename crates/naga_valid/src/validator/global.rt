@@ -34,7 +34,8 @@ impl<B: Below> Validator<B> {
         requires var { Contains «module».now.global_variables var.now }
         requires one_kind_each { length kinds.now ≡ length «module».now.global_expressions }
         ensures { result_err result
-            ≡ first_fault (module_global_points (B.meaning self.now.below) self.now.settings self.now.types «module».now mod_info.now kinds.now var.now) }
+            ≡ first_fault (module_global_points (B.meaning self.now.below) self.now.settings self.now.types «module».now
+            mod_info.now kinds.now var.now) }
     {
         let Settings {
             flags,

@@ -45,7 +45,8 @@ impl<B: Below> Validator<B> {
     }
 
     fn has_payload_size(&self, module: &Module, global: &GlobalVariable) -> bool
-        ensures { IsTrue result ↔ (global.now.space ≡ space.TaskPayload → IsSome ((B.meaning self.now.below).size_of «module».now global.now.ty)) }
+        ensures { IsTrue result ↔ (global.now.space ≡ space.TaskPayload →
+            IsSome ((B.meaning self.now.below).size_of «module».now global.now.ty)) }
     {
         !matches!(global.space, AddressSpace::TaskPayload)
             || self.below.type_size(module, global.ty).is_some()
@@ -58,8 +59,10 @@ impl<B: Below> Validator<B> {
         ep: &EntryPoint,
         global: &ModuleGlobal,
     ) -> Result<(), EntryPointError>
-        requires { global.now.var.now.space ≡ space.TaskPayload → IsSome ((B.meaning self.now.below).size_of «module».now global.now.var.now.ty) }
-        ensures { Finds (used_payload_points ep.now.task_payload ((B.meaning self.now.below).size_of «module».now global.now.var.now.ty) global.now.handle global.now.var.now.space) result }
+        requires { global.now.var.now.space ≡ space.TaskPayload →
+            IsSome ((B.meaning self.now.below).size_of «module».now global.now.var.now.ty) }
+        ensures { Finds (used_payload_points ep.now.task_payload ((B.meaning self.now.below).size_of «module».now
+            global.now.var.now.ty) global.now.handle global.now.var.now.space) result }
     {
         let ModuleGlobal { handle, var } = *global;
         if !is_task_payload(var.space) {
@@ -84,8 +87,10 @@ impl<B: Below> Validator<B> {
         global: &ModuleGlobal,
         uses: GlobalUse,
     ) -> Result<(), EntryPointError>
-        requires { global.now.var.now.space ≡ space.TaskPayload → IsSome ((B.meaning self.now.below).size_of «module».now global.now.var.now.ty) }
-        ensures { Finds (use_points (B.meaning self.now.below) self.now.settings.flags «module».now ep.now [] global.now.handle global.now.var.now uses) result }
+        requires { global.now.var.now.space ≡ space.TaskPayload →
+            IsSome ((B.meaning self.now.below).size_of «module».now global.now.var.now.ty) }
+        ensures { Finds (use_points (B.meaning self.now.below) self.now.settings.flags «module».now ep.now []
+            global.now.handle global.now.var.now uses) result }
     {
         self.check_used_payload(module, ep, global)?;
         check_allowed(module, ep.stage, global.handle, global.var, uses)
@@ -101,9 +106,11 @@ impl<B: Below> Validator<B> {
         taken: &BTreeSet<ResourceBinding>,
         global: &ModuleGlobal,
     ) -> Result<(), EntryPointError>
-        requires size { global.now.var.now.space ≡ space.TaskPayload → IsSome ((B.meaning self.now.below).size_of «module».now global.now.var.now.ty) }
+        requires size { global.now.var.now.space ≡ space.TaskPayload →
+            IsSome ((B.meaning self.now.below).size_of «module».now global.now.var.now.ty) }
         requires taken { AreTaken taken.now info.now.global_uses «module».now.global_variables global.now.handle }
-        ensures { Finds (global_points (B.meaning self.now.below) self.now.settings.flags «module».now ep.now info.now.global_uses global.now.handle global.now.var.now) result }
+        ensures { Finds (global_points (B.meaning self.now.below) self.now.settings.flags «module».now ep.now
+            info.now.global_uses global.now.handle global.now.var.now) result }
     {
         let Some(uses) = uses_of(info, global.handle.index()) else {
             return Ok(());
@@ -131,7 +138,8 @@ impl<B: Below> Validator<B> {
         info: &FunctionInfo,
     ) -> Result<(), Refusal<EntryPointError>>
         requires { HasPayloadSizes (B.meaning self.now.below) «module».now }
-        ensures { Meets (points_of_each (global_points (B.meaning self.now.below) self.now.settings.flags «module».now ep.now info.now.global_uses) «module».now.global_variables) result }
+        ensures { Meets (points_of_each (global_points (B.meaning self.now.below) self.now.settings.flags «module».now
+            ep.now info.now.global_uses) «module».now.global_variables) result }
     {
         let mut taken = BTreeSet::new(alloc);
         let globals = module.global_variables.as_slice();
@@ -158,7 +166,8 @@ impl<B: Below> Validator<B> {
         info: &FunctionInfo,
     ) -> Result<(), Refusal<EntryPointError>>
         requires { HasPayloadSizes (B.meaning self.now.below) «module».now }
-        ensures { Meets (globals_points (B.meaning self.now.below) self.now.settings.flags «module».now ep.now info.now.global_uses) result }
+        ensures { Meets (globals_points (B.meaning self.now.below) self.now.settings.flags «module».now ep.now
+            info.now.global_uses) result }
     {
         answer(alloc, check_immediates(module, info))?;
         self.check_each_global(alloc, module, ep, info)

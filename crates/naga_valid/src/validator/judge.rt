@@ -48,7 +48,8 @@ impl<B: Below> Validator<B> {
         requires types { FitsTypes subject.now.program.now }
         requires function { FitsFunction subject.now.fun.now subject.now.program.now (length subject.now.earlier.now.functions) }
         ensures { Answers
-            (judgement_by self.now (B.meaning self.now.below) subject.now.program.now subject.now.earlier.now subject.now.fun.now subject.now.entry_point)
+            (judgement_by self.now (B.meaning self.now.below) subject.now.program.now subject.now.earlier.now
+            subject.now.fun.now subject.now.entry_point)
             result }
     {
         let flags = self.settings.flags;
@@ -76,7 +77,8 @@ impl<B: Below> Validator<B> {
         info: FunctionInfo,
     ) -> Result<FunctionInfo, Refusal<FunctionError>>
         requires infos { AreInfosOf subject.now.program.now self.now.types }
-        requires context { ContextFits (asked_by self.now subject.now.program.now subject.now.earlier.now subject.now.fun.now kinds.now info) }
+        requires context { ContextFits
+            (asked_by self.now subject.now.program.now subject.now.earlier.now subject.now.fun.now kinds.now info) }
         ensures { Answers
             (known_by self.now (B.meaning self.now.below) subject.now.entry_point
             (asked_by self.now subject.now.program.now subject.now.earlier.now subject.now.fun.now kinds.now info))
@@ -108,8 +110,10 @@ impl<B: Below> Validator<B> {
         kinds: &ExpressionKindTracker,
         info: FunctionInfo,
     ) -> Result<FunctionOutcome, Refusal<FunctionError>>
-        requires context { ContextFits (asked_by self.now subject.now.program.now subject.now.earlier.now subject.now.fun.now kinds.now info) }
-        ensures { Answers (judged_with (asked_by self.now subject.now.program.now subject.now.earlier.now subject.now.fun.now kinds.now info)) result }
+        requires context { ContextFits
+            (asked_by self.now subject.now.program.now subject.now.earlier.now subject.now.fun.now kinds.now info) }
+        ensures { Answers (judged_with (asked_by self.now subject.now.program.now subject.now.earlier.now
+            subject.now.fun.now kinds.now info)) result }
     {
         let mut info = info;
         let mut trace = self.trace;

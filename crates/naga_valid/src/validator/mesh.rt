@@ -25,7 +25,8 @@ impl<B: Below> Validator<B> {
         module: &Module,
         mesh: &MeshStageInfo,
     ) -> Result<(), Refusal<EntryPointError>>
-        ensures { Meets (said_points self.now.settings.capabilities «module».now ((B.meaning self.now.below).mesh_analysis «module».now mesh.now.output_variable) mesh.now) result }
+        ensures { Meets (said_points self.now.settings.capabilities «module».now
+            ((B.meaning self.now.below).mesh_analysis «module».now mesh.now.output_variable) mesh.now) result }
     {
         let below = &self.below;
         let analysis = below.analyze_mesh_shader_info(alloc, module, mesh.output_variable)?;

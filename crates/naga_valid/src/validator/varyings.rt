@@ -84,8 +84,11 @@ impl<B: Below> Validator<B> {
         requires infos { AreInfosOf «module».now self.now.types }
         requires types { FitsTypes «module».now }
         requires ty { argument.now.argument.now.ty < length «module».now.types }
-        ensures fault { Judges (within (OfArgument argument.now.index) (points_from place.now «module».now.types self.now.types (seen_in state.old) argument.now.argument.now.ty argument.now.argument.now.binding)) result }
-        ensures seen { OnOk result (seen_in state.new ≡ seen_with (seen_in state.old) (parts_of «module».now.types self.now.types argument.now.argument.now.ty argument.now.argument.now.binding)) }
+        ensures fault { Judges (within (OfArgument argument.now.index)
+            (points_from place.now «module».now.types self.now.types (seen_in state.old) argument.now.argument.now.ty
+            argument.now.argument.now.binding)) result }
+        ensures seen { OnOk result (seen_in state.new ≡ seen_with (seen_in state.old)
+            (parts_of «module».now.types self.now.types argument.now.argument.now.ty argument.now.argument.now.binding)) }
     {
         let IndexedArgument { index, argument } = *argument;
         let infos = self.infos();
@@ -141,8 +144,10 @@ impl<B: Below> Validator<B> {
         requires infos { AreInfosOf «module».now self.now.types }
         requires types { FitsTypes «module».now }
         requires ty { item.ty < length «module».now.types }
-        ensures fault { Judges (within OfResult (points_from place.now «module».now.types self.now.types (seen_in state.old) item.ty item.binding)) result }
-        ensures seen { OnOk result (seen_in state.new ≡ seen_with (seen_in state.old) (parts_of «module».now.types self.now.types item.ty item.binding)) }
+        ensures fault { Judges (within OfResult
+            (points_from place.now «module».now.types self.now.types (seen_in state.old) item.ty item.binding)) result }
+        ensures seen { OnOk result (seen_in state.new
+            ≡ seen_with (seen_in state.old) (parts_of «module».now.types self.now.types item.ty item.binding)) }
     {
         let OutputItem { ty, binding } = item;
         let infos = self.infos();
@@ -164,8 +169,10 @@ impl<B: Below> Validator<B> {
         requires types { FitsTypes «module».now }
         requires signature { SignatureFits «module».now ep.now.function }
         requires seen { seen_in state.old ≡ nothing_seen }
-        ensures fault { Judges (declared_points self.now.settings «module».now.types self.now.types ep.now ep.now.function.result) result }
-        ensures seen { OnOk result ((seen_in state.new).built_ins (Position false) ≡ has_built_in (Position false) (result_parts «module».now.types self.now.types ep.now.function.result)) }
+        ensures fault { Judges
+            (declared_points self.now.settings «module».now.types self.now.types ep.now ep.now.function.result) result }
+        ensures seen { OnOk result ((seen_in state.new).built_ins (Position false)
+            ≡ has_built_in (Position false) (result_parts «module».now.types self.now.types ep.now.function.result)) }
     {
         let Some(declared) = ep.function.result else {
             return Ok(());
@@ -209,8 +216,11 @@ impl<B: Below> Validator<B> {
         requires infos { AreInfosOf «module».now self.now.types }
         requires types { FitsTypes «module».now }
         requires ty { output.ty < length «module».now.types }
-        ensures fault { Judges ((it_is is_struct (inner_at «module».now.types output.ty), Other fault.InvalidMeshOutputType) ∷ within OfResult (points_from (place_of self.now.settings ep.now true output.which) «module».now.types self.now.types (seen_in state.old) output.ty None)) result }
-        ensures seen { OnOk result (seen_in state.new ≡ seen_with (seen_in state.old) (parts_of «module».now.types self.now.types output.ty None)) }
+        ensures fault { Judges ((it_is is_struct (inner_at «module».now.types output.ty), Other fault.InvalidMeshOutputType)
+            ∷ within OfResult (points_from (place_of self.now.settings ep.now true output.which) «module».now.types
+            self.now.types (seen_in state.old) output.ty None)) result }
+        ensures seen { OnOk result (seen_in state.new
+            ≡ seen_with (seen_in state.old) (parts_of «module».now.types self.now.types output.ty None)) }
     {
         if !is_struct(inner_at(module, output.ty)) {
             return Err(refusal(alloc, EntryPointError::InvalidMeshOutputType));
@@ -237,7 +247,9 @@ impl<B: Below> Validator<B> {
         requires ty { ty < length «module».now.types }
         requires seen { seen_in state.old ≡ nothing_seen }
         ensures fault { Judges (vertex_points self.now.settings «module».now.types self.now.types ep.now ty) result }
-        ensures seen { OnOk result (seen_in state.new ≡ seen_at (place_of self.now.settings ep.now true which.VertexOutput) (placed_parts «module».now.types self.now.types (output_item self.now.settings ep.now which.VertexOutput ty))) }
+        ensures seen { OnOk result (seen_in state.new ≡ seen_at
+            (place_of self.now.settings ep.now true which.VertexOutput)
+            (placed_parts «module».now.types self.now.types (output_item self.now.settings ep.now which.VertexOutput ty))) }
     {
         let output = MeshOutput {
             which: MeshOutputType::VertexOutput,
@@ -264,8 +276,13 @@ impl<B: Below> Validator<B> {
         requires infos { AreInfosOf «module».now self.now.types }
         requires types { FitsTypes «module».now }
         requires ty { mesh.now.primitive_output_type < length «module».now.types }
-        requires seen { seen_in state.old ≡ seen_at (place_of self.now.settings ep.now true which.PrimitiveOutput) (placed_parts «module».now.types self.now.types (output_item self.now.settings ep.now which.VertexOutput mesh.now.vertex_output_type)) }
-        ensures { Judges (primitive_points self.now.settings «module».now.types self.now.types ep.now (placed_parts «module».now.types self.now.types (output_item self.now.settings ep.now which.VertexOutput mesh.now.vertex_output_type)) mesh.now.primitive_output_type) result }
+        requires seen { seen_in state.old ≡ seen_at (place_of self.now.settings ep.now true which.PrimitiveOutput)
+            (placed_parts «module».now.types self.now.types
+            (output_item self.now.settings ep.now which.VertexOutput mesh.now.vertex_output_type)) }
+        ensures { Judges (primitive_points self.now.settings «module».now.types self.now.types ep.now
+            (placed_parts «module».now.types self.now.types
+            (output_item self.now.settings ep.now which.VertexOutput mesh.now.vertex_output_type))
+            mesh.now.primitive_output_type) result }
     {
         let output = MeshOutput {
             which: MeshOutputType::PrimitiveOutput,
@@ -291,7 +308,8 @@ impl<B: Below> Validator<B> {
         requires types { FitsTypes «module».now }
         requires vertex { mesh.now.vertex_output_type < length «module».now.types }
         requires primitive { mesh.now.primitive_output_type < length «module».now.types }
-        ensures { Judges (outputs_points self.now.settings «module».now.types self.now.types ep.now mesh.now.vertex_output_type mesh.now.primitive_output_type) result }
+        ensures { Judges (outputs_points self.now.settings «module».now.types self.now.types ep.now
+            mesh.now.vertex_output_type mesh.now.primitive_output_type) result }
     {
         let mut state = VaryingState::new(alloc);
         self.check_vertex_output(alloc, ep, module, &mut state, mesh.vertex_output_type)?;
@@ -309,7 +327,8 @@ impl<B: Below> Validator<B> {
         requires infos { AreInfosOf «module».now self.now.types }
         requires types { FitsTypes «module».now }
         requires entry { FitsEntry ep.now «module».now }
-        ensures { Judges (mesh_points (B.meaning self.now.below) self.now.settings self.now.types «module».now ep.now ep.now.mesh_info) result }
+        ensures { Judges (mesh_points (B.meaning self.now.below) self.now.settings self.now.types «module».now ep.now
+            ep.now.mesh_info) result }
     {
         let Some(mesh) = &ep.mesh_info else {
             return Ok(());
