@@ -4,3 +4,5 @@ pub mod Calls
 pub mod Values
 pub mod Subgroups
 pub mod Rising
+pub mod Once
+pub mod Distinct

@@ -1,6 +1,7 @@
 -- Parts of the check list of Switch, as the code checks them: work of lemmas, cited by functions that the validator alone calls.
-use Rattle.std.specs.Prelude.{ℕ, ℤ, pos, int_le, true, not, Option, None, Some, [], ◌∷◌, if◌then◌else◌}
-use Rattle.std.specs.List.{list_any}
+use Rattle.std.specs.Prelude.{◌≤◌, ◌+◌, ◌==◌, ℕ, ℤ, List, pos, int_le, true, not, Option, None, Some, [], ◌∷◌, if◌then◌else◌}
+use Rattle.std.specs.Int.{cast_unsigned, w32}
+use Rattle.std.specs.List.{list_any, count_by}
 use Rattle.naga_ir.specs.Tree.{Cases}
 use Rattle.naga_ir.specs.declared.statements.SwitchValue.{SwitchValue}
 use Rattle.naga_ir.specs.declared.statements.SwitchValue.TheVariants.{I32, U32, Default}
@@ -34,3 +35,13 @@ risen so_far (I32 n) = risen_to so_far n
 risen so_far (U32 n) = risen_to so_far (pos n)
 risen so_far Default =
     if so_far.has_default then None else Some (record { last = so_far.last; has_default = true })
+
+-- the number, from 1 on, that tells a value from others of its sign
+abbrev pub number_of : SwitchValue → ℕ
+number_of (I32 n) = cast_unsigned w32 n + 1
+number_of (U32 n) = n + 1
+number_of Default = 18446744073709551615
+
+-- no number stands twice
+abbrev pub StandOnce : List ℕ → Type 0
+StandOnce numbers = (n : ℕ) → count_by (λ m. n == m) numbers ≤ 1

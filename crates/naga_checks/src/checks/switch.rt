@@ -1,6 +1,6 @@
 //! The check list of Switch.
 
-ghost use Rattle.std.specs.Prelude.{◌≡◌, [], None, IsTrue};
+ghost use Rattle.std.specs.Prelude.{◌≡◌, [], None, IsTrue, IfOk};
 ghost use Rattle.std.specs.List.{list_any};
 ghost use Rattle.naga_below.specs.Points.{first_fault};
 ghost use Rattle.naga_ir.specs.declared.statements.SwitchCase.{out-SwitchCase};
@@ -10,7 +10,7 @@ ghost use Rattle.naga_context.specs.walk.Answers.{Finds};
 ghost use Rattle.naga_errors.specs.Answers.{AnswersPoints};
 ghost use Rattle.naga_context.specs.walk.Place.{place_at};
 ghost use Rattle.naga_context.specs.walk.Seen.{context_of};
-ghost use Rattle.naga_checks.specs.walk.Switch.{selector_points, cases_points, risen, risen_to};
+ghost use Rattle.naga_checks.specs.walk.Switch.{StandOnce, selector_points, cases_points, number_of, risen, risen_to};
 ghost use Rattle.naga_context.specs.walk.Table.{known};
 
 use naga_arena::handle::Handle;
@@ -24,7 +24,7 @@ use naga_context::types::is_integer;
 use naga_errors::function::FunctionError;
 use naga_ir::statements::{SwitchCase, SwitchValue};
 use naga_types::types::ScalarKind;
-use std::alloc::Global;
+use std::alloc::{AllocError, Global};
 use std::collections::BTreeSet;
 
 /// Switch: its selector, each case value, and the cases as a whole.
@@ -68,7 +68,7 @@ fn check_values(
 ) -> Result<(), Refused>
     ensures { AnswersPoints (value_points selector [] (values_of (case_list cases.now))) result }
 {
-    if are_rising(selector, cases) {
+    if are_rising(selector, cases) || are_distinct(alloc, selector, cases)? {
         return Ok(());
     }
     check_each_value(alloc, selector, cases, span)
@@ -133,7 +133,54 @@ fn risen_to(so_far: Rising, number: i64) -> Option<Rising>
     })
 }
 
-/// The case values in order, those of the earlier cases kept in a set.
+/// Whether all values have the selector's signedness and no two of them have one number: then no value stands twice.
+fn are_distinct(
+    alloc: Global,
+    selector: Option<ScalarKind>,
+    cases: &[SwitchCase],
+) -> Result<bool, AllocError>
+    ensures { IfOk result (λ distinct. IsTrue distinct →
+        first_fault (value_points selector [] (values_of (case_list cases.now))) ≡ None) }
+{
+    let mut numbers = Vec::with_capacity(alloc, cases.len())?;
+    for case in cases {
+        if !has_signedness_of(selector, case.value) {
+            return Ok(false);
+        }
+        numbers.push(number_of(case.value))?;
+    }
+    numbers.sort_unstable();
+    Ok(rise(numbers.as_slice()))
+}
+
+/// The number, from 1 on, that tells a value from others of its sign.
+fn number_of(value: SwitchValue) -> u64
+    ensures { result ≡ number_of value }
+{
+    match value {
+        SwitchValue::I32(number) => u64::from(number.cast_unsigned()) + 1,
+        SwitchValue::U32(number) => u64::from(number) + 1,
+        SwitchValue::Default => u64::MAX,
+    }
+}
+
+/// Whether the first number is above 0, and each other above the one before it: then none stands twice.
+fn rise(numbers: &[u64]) -> bool
+    ensures { IsTrue result → StandOnce numbers.now }
+{
+    let mut last = 0;
+    for number in numbers {
+        if *number <= last {
+            return false;
+        }
+        last = *number;
+    }
+    true
+}
+
+/// The case values in order, those of the earlier cases kept in a set, for the fault of the first that has one.
+#[cold]
+#[inline(never)]
 fn check_each_value(
     alloc: Global,
     selector: Option<ScalarKind>,
