@@ -1,5 +1,6 @@
-//! Reads one case of naga_check's notation from standard input and judges it by naga's own code: `ok` and the stages, `fault`, or
-//! `unreadable`. For timings alone (docs/SPEED.md): options are read, and the judgement is with all flags.
+//! Reads one case of naga_check's notation from standard input and judges it by naga's own code: `ok` and the stages, `fault` and
+//! the fault as naga's `Debug` has it, or `unreadable`. For timings (docs/SPEED.md) and comparisons (`bodies`): options are read, and
+//! the judgement is with all flags.
 //!
 //! It is no crate of this repository: it is built as a binary beside naga 30.0.1's `function.rs` and `interface.rs` in a stub of the rest of
 //! naga (`naga`), whose short ways to build modules are `harness::sink`.
@@ -135,7 +136,7 @@ impl<'a> Reader<'a> {
     }
 }
 
-fn judged(input: &[u8]) -> Option<Result<u32, ()>> {
+fn judged(input: &[u8]) -> Option<Result<u32, String>> {
     if input.len() > 65536 || !input.iter().all(|it| it.is_ascii_graphic() || b" \t\r\n".contains(it)) {
         return None;
     }
@@ -185,7 +186,7 @@ fn judged(input: &[u8]) -> Option<Result<u32, ()>> {
     for (_, f) in m.functions.iter() {
         match v.function(f, &m, &infos, false) {
             Ok(info) => infos.functions.push(info),
-            Err(_) => return Some(Err(())),
+            Err(e) => return Some(Err(format!("{:?}", e.as_inner()))),
         }
     }
     Some(Ok(infos.functions.last().map_or(0, |it| it.available_stages.bits() as u32)))
@@ -196,7 +197,7 @@ fn main() -> ExitCode {
     std::io::stdin().lock().take(65537).read_to_end(&mut input).unwrap();
     let (line, status) = match judged(&input) {
         Some(Ok(stages)) => (format!("ok {stages:03x}\n"), 0),
-        Some(Err(())) => ("fault\n".into(), 1),
+        Some(Err(e)) => (format!("fault {e}\n"), 1),
         None => ("unreadable\n".into(), 2),
     };
     std::io::stdout().write_all(line.as_bytes()).unwrap();
