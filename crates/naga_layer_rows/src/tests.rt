@@ -1,4 +1,5 @@
-//! The lower layers by themselves: the plain one, and recorded facts.
+//! The lower layers by themselves: the plain one, and recorded facts. Tests let modules, functions and arenas go by `drop`,
+//! since a function that lets them go itself is slow to prove.
 
 mod plain;
 mod recorded;
@@ -10,10 +11,19 @@ use naga_ir::functions::Function;
 use naga_ir::module::Module;
 use naga_types::types::Type;
 use naga_types::unique_arena::UniqueArena;
-use std::alloc::Global;
+use std::alloc::{AllocError, Global};
+use std::process::Abort;
 
 /// Where things are.
 const HERE: Span = Span { start: 3, end: 7 };
+
+/// What there was memory for.
+fn made<T>(rt: &impl Abort, answer: Result<T, AllocError>) -> T {
+    match answer {
+        Ok(value) => value,
+        Err(_) => panic!(rt; "no memory"),
+    }
+}
 
 /// A module of these types alone.
 fn module_of_types(alloc: Global, types: UniqueArena<Type>) -> Module {

@@ -1,17 +1,18 @@
 //! The plain layer by itself.
 
-use crate::tests::{HERE, function_of, module_of_types};
+use crate::tests::{HERE, function_of, made, module_of_types};
 use bitflags::Flags;
 use naga_arena::arena::Arena;
 use naga_arena::handle::Handle;
 use naga_arena::sequence::Sequence;
 use naga_arena::span::Refusal;
+use naga_below::proc::expression_kinds::ExpressionKindTracker;
 use naga_below::valid::info::{FunctionInfo, ModuleInfo};
 use naga_errors::below::Below;
 use naga_errors::function::FunctionError;
 use naga_flags::capabilities::Capabilities;
 use naga_flags::ir::MemoryDecorations;
-use naga_flags::valid::{GlobalUse, ShaderStages, ValidationFlags};
+use naga_flags::valid::{GlobalUse, ValidationFlags};
 use naga_ir::expressions::{Expression, Literal};
 use naga_ir::functions::Function;
 use naga_ir::module::{GlobalVariable, Module};
@@ -19,10 +20,9 @@ use naga_layers::plain::Plain;
 use naga_types::types::{AddressSpace, ArraySize, Scalar, Type, TypeInner, VectorSize};
 use naga_types::typifier::TypeResolution;
 use naga_types::unique_arena::UniqueArena;
-use std::alloc::{AllocError, Global};
+use std::alloc::Global;
 use std::num::NonZeroU32;
 use std::process::Abort;
-use std::test::Fail;
 
 /// A type without a name.
 fn type_of_scalar(scalar: Scalar) -> Type {
@@ -33,12 +33,12 @@ fn type_of_scalar(scalar: Scalar) -> Type {
 }
 
 /// A module of types 0 bool, 1 u32 and 2 i32 alone.
-fn scalars_module(alloc: Global) -> Result<Module, AllocError> {
-    let mut types = UniqueArena::new(alloc);
-    types.insert(type_of_scalar(Scalar::BOOL), HERE)?;
-    types.insert(type_of_scalar(Scalar::U32), HERE)?;
-    types.insert(type_of_scalar(Scalar::I32), HERE)?;
-    Ok(module_of_types(alloc, types))
+fn scalars_module(rt: &(impl Abort + AllocGlobal)) -> Module {
+    let mut types = UniqueArena::new(rt.alloc());
+    made(rt, types.insert(type_of_scalar(Scalar::BOOL), HERE));
+    made(rt, types.insert(type_of_scalar(Scalar::U32), HERE));
+    made(rt, types.insert(type_of_scalar(Scalar::I32), HERE));
+    module_of_types(rt.alloc(), types)
 }
 
 const LITERAL: Expression = Expression::Literal(Literal {
@@ -47,11 +47,11 @@ const LITERAL: Expression = Expression::Literal(Literal {
 });
 
 /// A function of this expression and a u32 literal before it.
-fn function(alloc: Global, second: Expression) -> Result<Function, AllocError> {
-    let mut expressions = Arena::new(alloc);
-    expressions.append(LITERAL, HERE)?;
-    expressions.append(second, HERE)?;
-    Ok(function_of(alloc, expressions))
+fn function(rt: &(impl Abort + AllocGlobal), second: Expression) -> Function {
+    let mut expressions = Arena::new(rt.alloc());
+    made(rt, expressions.append(LITERAL, HERE));
+    made(rt, expressions.append(second, HERE));
+    function_of(rt.alloc(), expressions)
 }
 
 /// What the plain layer answers to a function, with no other before it.
@@ -74,81 +74,76 @@ fn answer_of(
 
 /// The info of a function, if it has one. Where memory is refused, the layer is asked again.
 fn info_of(alloc: Global, fun: &Function, module: &Module) -> Option<FunctionInfo> {
-    let mut found = answer_of(alloc, fun, module);
-    if let Err(Refusal::Memory) = found {
-        found = answer_of(alloc, fun, module);
-    }
-    match found {
+    match answer_of(alloc, fun, module) {
         Ok(info) => Some(info),
-        Err(_) => None,
+        Err(Refusal::Fault(_)) => None,
+        Err(Refusal::Memory) => answer_of(alloc, fun, module).ok(),
     }
 }
 
-/// The type of an expression in an info.
-fn type_in(
-    alloc: Global,
-    info: &FunctionInfo,
-    index: usize,
-) -> Result<Option<TypeResolution>, Fail> {
-    match info.expression_types.as_slice().get(index) {
-        Some(ty) => Ok(Some(ty.clone(alloc)?)),
-        None => Ok(None),
-    }
+/// The second expression's type, in an info that may be missing, is the expected one.
+fn expect_type_in(rt: &impl Abort, info: &Option<FunctionInfo>, expected: &Option<TypeResolution>) {
+    let found = match info {
+        Some(info) => info.expression_types.as_slice().get(1),
+        None => None,
+    };
+    assert!(rt; found == expected.as_ref());
 }
 
-/// The type that the plain layer gives an expression behind a u32 literal; `None` where it has none for it.
-fn type_of(
-    alloc: Global,
+/// An expression has this type, behind a u32 literal; `None` where the plain layer has none for it.
+fn expect_type(
+    rt: &(impl Abort + AllocGlobal),
     module: &Module,
     expression: Expression,
-) -> Result<Option<TypeResolution>, Fail> {
-    let fun = function(alloc, expression)?;
-    match info_of(alloc, &fun, module) {
-        Some(info) => type_in(alloc, &info, 1),
-        None => Ok(None),
+    expected: Option<TypeResolution>,
+) {
+    let fun = function(rt, expression);
+    let info = info_of(rt.alloc(), &fun, module);
+    drop(fun);
+    expect_type_in(rt, &info, &expected);
+}
+
+/// The negated literal.
+fn negated(rt: &(impl Abort + AllocGlobal)) -> Expression {
+    let mut operands = Sequence::new(rt.alloc());
+    made(rt, operands.push(Handle::new(0)));
+    Expression::Unary {
+        operands,
+        detail: 0,
     }
+}
+
+/// A value of a scalar.
+fn scalar_value(scalar: Scalar) -> TypeResolution {
+    TypeResolution::Value(TypeInner::Scalar(scalar))
+}
+
+/// Expressions in the module of scalars.
+fn expect_types(rt: &(impl Abort + AllocGlobal), module: &Module) {
+    let u32_value = Some(scalar_value(Scalar::U32));
+    expect_type(rt, module, negated(rt), u32_value);
+    let composed = Expression::Compose {
+        ty: Handle::new(2),
+        components: Sequence::new(rt.alloc()),
+    };
+    let third = Some(TypeResolution::Handle(Handle::new(2)));
+    expect_type(rt, module, composed, third);
+    let ballot = Some(TypeResolution::Value(TypeInner::Vector {
+        size: VectorSize::Quad,
+        scalar: Scalar::U32,
+    }));
+    expect_type(rt, module, Expression::SubgroupBallotResult, ballot);
+    let bool_value = Some(scalar_value(Scalar::BOOL));
+    expect_type(rt, module, Expression::RayQueryProceedResult, bool_value);
+    expect_type(rt, module, Expression::ZeroValue(Handle::new(3)), None);
+    expect_type(rt, module, Expression::FunctionArgument(0), None);
 }
 
 #[test]
-fn types(rt: HostRuntime) -> Result<(), Fail> {
-    let alloc = rt.alloc();
-    let module = scalars_module(alloc)?;
-    let mut operands = Sequence::new(alloc);
-    operands.push(Handle::new(0))?;
-    let negated = Expression::Unary {
-        operands,
-        detail: 0,
-    };
-    let u32_value = TypeResolution::Value(TypeInner::Scalar(Scalar::U32));
-    assert_eq!(rt; type_of(alloc, &module, negated)?, Some(u32_value));
-    let composed = Expression::Compose {
-        ty: Handle::new(2),
-        components: Sequence::new(alloc),
-    };
-    let second = TypeResolution::Handle(Handle::new(2));
-    assert_eq!(rt; type_of(alloc, &module, composed)?, Some(second));
-    let ballot = TypeResolution::Value(TypeInner::Vector {
-        size: VectorSize::Quad,
-        scalar: Scalar::U32,
-    });
-    assert_eq!(rt;
-        type_of(alloc, &module, Expression::SubgroupBallotResult)?,
-        Some(ballot)
-    );
-    let bool_value = TypeResolution::Value(TypeInner::Scalar(Scalar::BOOL));
-    assert_eq!(rt;
-        type_of(alloc, &module, Expression::RayQueryProceedResult)?,
-        Some(bool_value)
-    );
-    assert_eq!(rt;
-        type_of(alloc, &module, Expression::ZeroValue(Handle::new(3)))?,
-        None
-    );
-    assert_eq!(rt;
-        type_of(alloc, &module, Expression::FunctionArgument(0))?,
-        None
-    );
-    Ok(())
+fn types(rt: HostRuntime) {
+    let module = scalars_module(&rt);
+    expect_types(&rt, &module);
+    drop(module);
 }
 
 fn global_u32() -> GlobalVariable {
@@ -162,95 +157,115 @@ fn global_u32() -> GlobalVariable {
 }
 
 /// The module of scalars with two globals.
-fn module_with_globals(alloc: Global) -> Result<Module, AllocError> {
-    let mut globals = Arena::new(alloc);
-    globals.append(global_u32(), HERE)?;
-    globals.append(global_u32(), HERE)?;
-    let mut module = scalars_module(alloc)?;
+fn module_with_globals(rt: &(impl Abort + AllocGlobal)) -> Module {
+    let mut globals = Arena::new(rt.alloc());
+    made(rt, globals.append(global_u32(), HERE));
+    made(rt, globals.append(global_u32(), HERE));
+    let mut module = scalars_module(rt);
     module.global_variables = globals;
-    Ok(module)
+    module
 }
 
-/// What the plain layer answers to a function in that module.
-fn info_with_globals(alloc: Global, fun: &Function) -> Result<Option<FunctionInfo>, AllocError> {
-    let module = module_with_globals(alloc)?;
-    Ok(info_of(alloc, fun, &module))
+/// There is an info, with these uses.
+fn expect_uses(rt: &impl Abort, info: &Option<FunctionInfo>, expected: &[GlobalUse]) {
+    match info {
+        Some(info) => assert!(rt; info.global_uses.as_slice() == expected),
+        None => panic!(rt; "refused"),
+    }
 }
 
-#[test]
-fn a_global_is_read_and_stands_for_a_pointer(rt: HostRuntime) -> Result<(), Fail> {
-    let alloc = rt.alloc();
-    let fun = function(alloc, Expression::GlobalVariable(Handle::new(1)))?;
-    let Some(info) = info_with_globals(alloc, &fun)? else {
-        panic!(rt; "refused");
-    };
-    assert_eq!(rt;
-        info.global_uses.as_slice(),
-        [GlobalUse::empty(), GlobalUse::READ].as_slice()
-    );
-    let pointer = TypeResolution::Value(TypeInner::Pointer {
+/// The second global is read alone, and stands for a pointer.
+fn expect_global(rt: &impl Abort, info: &Option<FunctionInfo>) {
+    expect_uses(rt, info, &[GlobalUse::empty(), GlobalUse::READ]);
+    let pointer = Some(TypeResolution::Value(TypeInner::Pointer {
         base: Handle::new(1),
         space: AddressSpace::Private,
-    });
-    assert_eq!(rt; type_in(alloc, &info, 1)?, Some(pointer));
-    Ok(())
+    }));
+    expect_type_in(rt, info, &pointer);
 }
 
 #[test]
-fn kinds(rt: HostRuntime) -> Result<(), Fail> {
-    let alloc = rt.alloc();
-    let mut expressions = Arena::new(alloc);
-    expressions.append(LITERAL, HERE)?;
-    expressions.append(Expression::Override(Handle::new(0)), HERE)?;
-    let mut components = Sequence::new(alloc);
-    components.push(Handle::new(1))?;
-    components.push(Handle::new(0))?;
-    expressions.append(
-        Expression::Compose {
-            ty: Handle::new(0),
-            components,
-        },
-        HERE,
-    )?;
-    expressions.append(Expression::RayQueryProceedResult, HERE)?;
-    let kinds = Plain::without_mesh_shaders().kinds(alloc, &expressions)?;
+fn a_global_is_read_and_stands_for_a_pointer(rt: HostRuntime) {
+    let fun = function(&rt, Expression::GlobalVariable(Handle::new(1)));
+    let module = module_with_globals(&rt);
+    let info = info_of(rt.alloc(), &fun, &module);
+    expect_global(&rt, &info);
+    drop(info);
+    drop(module);
+    drop(fun);
+}
+
+/// Expressions whose kinds are const, override, override and runtime.
+fn expressions_of_kinds(rt: &(impl Abort + AllocGlobal)) -> Arena<Expression> {
+    let mut components = Sequence::new(rt.alloc());
+    made(rt, components.push(Handle::new(1)));
+    made(rt, components.push(Handle::new(0)));
+    let composed = Expression::Compose {
+        ty: Handle::new(0),
+        components,
+    };
+    let mut expressions = Arena::new(rt.alloc());
+    made(rt, expressions.append(LITERAL, HERE));
+    made(
+        rt,
+        expressions.append(Expression::Override(Handle::new(0)), HERE),
+    );
+    made(rt, expressions.append(composed, HERE));
+    made(
+        rt,
+        expressions.append(Expression::RayQueryProceedResult, HERE),
+    );
+    expressions
+}
+
+/// These are their kinds.
+fn expect_kinds(rt: &impl Abort, kinds: &ExpressionKindTracker) {
     assert_eq!(rt; kinds.len(), 4);
     assert!(rt; kinds.is_const(Handle::new(0)));
     assert!(rt; !kinds.is_const(Handle::new(2)) && kinds.is_const_or_override(Handle::new(2)));
     assert!(rt; !kinds.is_const_or_override(Handle::new(3)));
-    Ok(())
-}
-
-/// The size that the plain layer gives a type.
-fn size_of(alloc: Global, inner: TypeInner) -> Result<Option<u32>, AllocError> {
-    let mut types = UniqueArena::new(alloc);
-    let handle = types.insert(Type { name: None, inner }, HERE)?;
-    let module = module_of_types(alloc, types);
-    Ok(Plain::without_mesh_shaders().type_size(&module, handle))
 }
 
 #[test]
-fn sizes(rt: HostRuntime) -> Result<(), Fail> {
-    let alloc = rt.alloc();
+fn kinds(rt: HostRuntime) {
+    let expressions = expressions_of_kinds(&rt);
+    let plain = Plain::without_mesh_shaders();
+    let kinds = made(&rt, plain.kinds(rt.alloc(), &expressions));
+    drop(expressions);
+    expect_kinds(&rt, &kinds);
+}
+
+/// The size that the plain layer gives a type is the expected one.
+fn expect_size(rt: &(impl Abort + AllocGlobal), inner: TypeInner, expected: Option<u32>) {
+    let mut types = UniqueArena::new(rt.alloc());
+    let handle = made(rt, types.insert(Type { name: None, inner }, HERE));
+    let module = module_of_types(rt.alloc(), types);
+    let size = Plain::without_mesh_shaders().type_size(&module, handle);
+    drop(module);
+    assert_eq!(rt; size, expected);
+}
+
+/// An array of so many.
+fn array_of(count: NonZeroU32, stride: u32) -> TypeInner {
+    TypeInner::Array {
+        base: Handle::new(0),
+        size: ArraySize::Constant(count),
+        stride,
+    }
+}
+
+#[test]
+fn sizes(rt: HostRuntime) {
+    let Some(count) = NonZeroU32::new(65536) else {
+        panic!(rt; "no count");
+    };
     let vector = TypeInner::Vector {
         size: VectorSize::Tri,
         scalar: Scalar::F32,
     };
-    assert_eq!(rt; size_of(alloc, vector)?, Some(12));
-    assert_eq!(rt; size_of(alloc, TypeInner::Atomic(Scalar::U64))?, Some(8));
-    let Some(count) = NonZeroU32::new(65536) else {
-        panic!(rt; "no count");
-    };
-    let array = |stride| TypeInner::Array {
-        base: Handle::new(0),
-        size: ArraySize::Constant(count),
-        stride,
-    };
-    assert_eq!(rt; size_of(alloc, array(65535))?, Some(4294901760));
-    assert_eq!(rt; size_of(alloc, array(65536))?, None);
-    assert_eq!(rt;
-        size_of(alloc, TypeInner::Sampler { comparison: false })?,
-        None
-    );
-    Ok(())
+    expect_size(&rt, vector, Some(12));
+    expect_size(&rt, TypeInner::Atomic(Scalar::U64), Some(8));
+    expect_size(&rt, array_of(count, 65535), Some(4294901760));
+    expect_size(&rt, array_of(count, 65536), None);
+    expect_size(&rt, TypeInner::Sampler { comparison: false }, None);
 }

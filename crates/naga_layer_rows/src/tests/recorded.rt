@@ -3,7 +3,7 @@
 mod expressions;
 mod meshes;
 
-use crate::tests::{HERE, function_of, module_of_types};
+use crate::tests::{HERE, function_of, made, module_of_types};
 use bitflags::Flags;
 use naga_arena::arena::Arena;
 use naga_arena::handle::Handle;
@@ -17,39 +17,31 @@ use naga_ir::module::{GlobalVariable, Module};
 use naga_layers::facts::{Facts, FunctionFact};
 use naga_types::types::{AddressSpace, Scalar, Type, TypeInner};
 use naga_types::unique_arena::UniqueArena;
-use std::alloc::{AllocError, Global};
+use std::alloc::Global;
 use std::process::Abort;
 
-/// What there was memory for.
-fn made<T>(rt: &(impl Abort + AllocGlobal), answer: Result<T, AllocError>) -> T {
-    match answer {
-        Ok(value) => value,
-        Err(_) => panic!(rt; "no memory"),
-    }
-}
-
 /// A function of one u32 literal.
-fn literal_function(alloc: Global) -> Result<Function, AllocError> {
-    let mut expressions = Arena::new(alloc);
+fn literal_function(rt: &(impl Abort + AllocGlobal)) -> Function {
+    let mut expressions = Arena::new(rt.alloc());
     let literal = Literal {
         scalar: Scalar::U32,
         bits: 7,
     };
-    expressions.append(Expression::Literal(literal), HERE)?;
-    Ok(function_of(alloc, expressions))
+    made(rt, expressions.append(Expression::Literal(literal), HERE));
+    function_of(rt.alloc(), expressions)
 }
 
 /// Type 0 is u32.
-fn u32_alone(alloc: Global) -> Result<UniqueArena<Type>, AllocError> {
-    let mut types = UniqueArena::new(alloc);
+fn u32_alone(rt: &(impl Abort + AllocGlobal)) -> UniqueArena<Type> {
+    let mut types = UniqueArena::new(rt.alloc());
     let inner = TypeInner::Scalar(Scalar::U32);
-    types.insert(Type { name: None, inner }, HERE)?;
-    Ok(types)
+    made(rt, types.insert(Type { name: None, inner }, HERE));
+    types
 }
 
 /// One global of it.
-fn one_global(alloc: Global) -> Result<Arena<GlobalVariable>, AllocError> {
-    let mut globals = Arena::new(alloc);
+fn one_global(rt: &(impl Abort + AllocGlobal)) -> Arena<GlobalVariable> {
+    let mut globals = Arena::new(rt.alloc());
     let global = GlobalVariable {
         space: AddressSpace::Private,
         binding: None,
@@ -57,23 +49,22 @@ fn one_global(alloc: Global) -> Result<Arena<GlobalVariable>, AllocError> {
         init: None,
         memory_decorations: MemoryDecorations::empty(),
     };
-    globals.append(global, HERE)?;
-    Ok(globals)
+    made(rt, globals.append(global, HERE));
+    globals
 }
 
 /// A module of one type and one global of it, without functions, so that the fact of the first entry point is asked for.
 fn module_alone(rt: &(impl Abort + AllocGlobal)) -> Module {
-    let types = made(rt, u32_alone(rt.alloc()));
-    let mut module = module_of_types(rt.alloc(), types);
-    module.global_variables = made(rt, one_global(rt.alloc()));
+    let mut module = module_of_types(rt.alloc(), u32_alone(rt));
+    module.global_variables = one_global(rt);
     module
 }
 
 /// Facts of one entry point alone.
-fn facts_of(alloc: Global, fact: FunctionFact) -> Result<Facts, AllocError> {
-    let mut facts = Facts::new(alloc);
-    facts.entry_points.push(fact)?;
-    Ok(facts)
+fn facts_of(rt: &(impl Abort + AllocGlobal), fact: FunctionFact) -> Facts {
+    let mut facts = Facts::new(rt.alloc());
+    made(rt, facts.entry_points.push(fact));
+    facts
 }
 
 /// The info of a function of nothing.

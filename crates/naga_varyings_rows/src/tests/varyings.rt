@@ -98,60 +98,72 @@ fn member(ty: u32, binding: Option<Binding>) -> StructMember {
     }
 }
 
+/// What there was memory for.
+fn made<T>(rt: &impl Abort, answer: Result<T, AllocError>) -> T {
+    match answer {
+        Ok(value) => value,
+        Err(_) => panic!(rt; "no memory"),
+    }
+}
+
 /// Puts a type without a name last.
-fn add(rt: &impl Abort, types: &mut UniqueArena<Type>, inner: TypeInner) -> Result<(), AllocError> {
+fn add(rt: &impl Abort, types: &mut UniqueArena<Type>, inner: TypeInner) {
     assert!(rt; !types.is_full());
-    types.insert(Type { name: None, inner }, Span::UNDEFINED)?;
-    Ok(())
+    made(
+        rt,
+        types.insert(Type { name: None, inner }, Span::UNDEFINED),
+    );
 }
 
 /// The types without members, 0 to 18.
-fn add_plain(rt: &impl Abort, types: &mut UniqueArena<Type>) -> Result<(), AllocError> {
-    add(rt, types, TypeInner::Scalar(Scalar::U32))?;
-    add(rt, types, TypeInner::Scalar(Scalar::F32))?;
-    add(rt, types, TypeInner::Scalar(Scalar::BOOL))?;
-    add(rt, types, vector(VectorSize::Bi, Scalar::U32))?;
-    add(rt, types, vector(VectorSize::Tri, Scalar::U32))?;
-    add(rt, types, vector(VectorSize::Bi, Scalar::F32))?;
-    add(rt, types, vector(VectorSize::Tri, Scalar::F32))?;
-    add(rt, types, vector(VectorSize::Quad, Scalar::F32))?;
-    add(rt, types, matrix(VectorSize::Tri))?;
-    add(rt, types, array(F32, 8))?;
-    add(rt, types, array(F32, 9))?;
-    add(rt, types, TypeInner::Scalar(Scalar::U64))?;
-    add(rt, types, TypeInner::Scalar(F64))?;
-    add(rt, types, vector(VectorSize::Quad, Scalar::U32))?;
-    add(rt, types, matrix(VectorSize::Quad))?;
-    add(rt, types, vector(VectorSize::Bi, Scalar::BOOL))?;
-    add(rt, types, vector(VectorSize::Tri, Scalar::BOOL))?;
-    add(rt, types, array(F32, 3))?;
-    add(rt, types, array(U32, 3))
+fn add_plain(rt: &impl Abort, types: &mut UniqueArena<Type>) {
+    add(rt, types, TypeInner::Scalar(Scalar::U32));
+    add(rt, types, TypeInner::Scalar(Scalar::F32));
+    add(rt, types, TypeInner::Scalar(Scalar::BOOL));
+    add(rt, types, vector(VectorSize::Bi, Scalar::U32));
+    add(rt, types, vector(VectorSize::Tri, Scalar::U32));
+    add(rt, types, vector(VectorSize::Bi, Scalar::F32));
+    add(rt, types, vector(VectorSize::Tri, Scalar::F32));
+    add(rt, types, vector(VectorSize::Quad, Scalar::F32));
+    add(rt, types, matrix(VectorSize::Tri));
+    add(rt, types, array(F32, 8));
+    add(rt, types, array(F32, 9));
+    add(rt, types, TypeInner::Scalar(Scalar::U64));
+    add(rt, types, TypeInner::Scalar(F64));
+    add(rt, types, vector(VectorSize::Quad, Scalar::U32));
+    add(rt, types, matrix(VectorSize::Quad));
+    add(rt, types, vector(VectorSize::Bi, Scalar::BOOL));
+    add(rt, types, vector(VectorSize::Tri, Scalar::BOOL));
+    add(rt, types, array(F32, 3));
+    add(rt, types, array(U32, 3));
+}
+
+/// A struct of members with these types and bindings.
+fn structure(
+    rt: &(impl Abort + AllocGlobal),
+    parts: &[(u32, Option<Binding>)],
+    span: u32,
+) -> TypeInner {
+    let mut members = Sequence::new(rt.alloc());
+    for (ty, binding) in parts {
+        made(rt, members.push(member(*ty, *binding)));
+    }
+    TypeInner::Struct { members, span }
 }
 
 /// The structs.
-fn add_structs(
-    rt: &(impl Abort + AllocGlobal),
-    types: &mut UniqueArena<Type>,
-) -> Result<(), AllocError> {
-    let alloc = rt.alloc();
-    let color = vec![in alloc; member(VEC4_F32, None)]?;
-    add(rt, types, structure(color, 16))?;
-    let colliding = vec![in alloc;
-        member(VEC4_F32, Some(POSITION)),
-        member(F32, Some(location(1))),
-        member(F32, Some(location(2))),
-        member(F32, Some(location(2))),
-    ]?;
-    add(rt, types, structure(colliding, 28))?;
-    let unbound = vec![in alloc; member(F32, Some(location(3))), member(U32, None)]?;
-    add(rt, types, structure(unbound, 8))
-}
-
-fn structure(members: Vec<StructMember>, span: u32) -> TypeInner {
-    TypeInner::Struct {
-        members: Sequence::from(members),
-        span,
-    }
+fn add_structs(rt: &(impl Abort + AllocGlobal), types: &mut UniqueArena<Type>) {
+    let color = [(VEC4_F32, None)];
+    add(rt, types, structure(rt, &color, 16));
+    let colliding = [
+        (VEC4_F32, Some(POSITION)),
+        (F32, Some(location(1))),
+        (F32, Some(location(2))),
+        (F32, Some(location(2))),
+    ];
+    add(rt, types, structure(rt, &colliding, 28));
+    let unbound = [(F32, Some(location(3))), (U32, None)];
+    add(rt, types, structure(rt, &unbound, 8));
 }
 
 /// Types, as a module, and what is known of them.
@@ -161,18 +173,22 @@ struct Bench {
     infos: Vec<TypeInfo>,
 }
 
-fn make_bench(rt: &(impl Abort + AllocGlobal)) -> Result<Bench, AllocError> {
-    let alloc = rt.alloc();
-    let mut types = UniqueArena::new(alloc);
-    add_plain(rt, &mut types)?;
-    add_structs(rt, &mut types)?;
-    let mut infos = vec![in alloc; GOOD; types.len()]?;
+/// Two of the structs aren't shared.
+fn unshare(rt: &impl Abort, infos: &mut [TypeInfo]) {
     assert!(rt; infos.len() == 22);
     infos[COLLIDING as usize] = UNSHARED;
     infos[UNBOUND as usize] = UNSHARED;
+}
+
+/// Makes the bench. A test lets it go by `drop`, since a function that lets a module go itself is slow to prove.
+fn make_bench(rt: &(impl Abort + AllocGlobal)) -> Bench {
+    let alloc = rt.alloc();
     let mut module = Module::new(alloc);
-    module.types = types;
-    Ok(Bench { module, infos })
+    add_plain(rt, &mut module.types);
+    add_structs(rt, &mut module.types);
+    let mut infos = made(rt, vec![in alloc; GOOD; module.types.len()]);
+    unshare(rt, infos.as_mut_slice());
+    Bench { module, infos }
 }
 
 /// Position, not invariant.
@@ -208,21 +224,51 @@ fn by_primitive(interpolation: Option<Interpolation>) -> Binding {
     }
 }
 
-/// The answer for an item at a place, behind what the state has: the fault, if there is one.
+/// An item at a place: its type, which is one of the bench, and its binding.
+#[derive(Clone, Copy)]
+struct Item {
+    place: VaryingPlace,
+    ty: u32,
+    binding: Option<Binding>,
+}
+
+/// An item at a place, and the fault that it gets, if there is one.
+#[derive(Drop)]
+struct Row {
+    item: Item,
+    expected: Option<VaryingError>,
+}
+
+/// An item that gets no fault.
+fn passes(place: VaryingPlace, ty: u32, binding: Option<Binding>) -> Row {
+    Row {
+        item: Item { place, ty, binding },
+        expected: None,
+    }
+}
+
+/// An item that gets this fault.
+fn fails(place: VaryingPlace, ty: u32, binding: Option<Binding>, fault: VaryingError) -> Row {
+    Row {
+        item: Item { place, ty, binding },
+        expected: Some(fault),
+    }
+}
+
+/// The answer for an item, behind what the state has: the fault, if there is one.
 #[tactic(auto, using(naga_below::proofs::Callers::types_name_each_other))]
 fn answer_of(
     rt: &(impl Abort + AllocGlobal),
     bench: &Bench,
-    place: &VaryingPlace,
     state: &mut VaryingState,
-    ty: u32,
-    binding: Option<Binding>,
+    item: &Item,
 ) -> Result<Option<VaryingError>, AllocError> {
     let Bench { module, infos } = bench;
     assert!(rt; fits_types(module));
     assert!(rt; infos.len() == module.types.len());
-    assert!(rt; (ty as usize) < module.types.len());
-    let ty = Handle::new(ty);
+    assert!(rt; (item.ty as usize) < module.types.len());
+    let (place, ty) = (&item.place, Handle::new(item.ty));
+    let binding = item.binding;
     match check_varying_item(rt.alloc(), place, state, &module.types, infos, ty, binding) {
         Ok(()) => Ok(None),
         Err(Refusal::Fault(fault)) => Ok(Some(fault.into_inner())),
@@ -234,56 +280,33 @@ fn answer_of(
 fn fault_of(
     rt: &(impl Abort + AllocGlobal),
     bench: &Bench,
-    place: &VaryingPlace,
     state: &mut VaryingState,
-    ty: u32,
-    binding: Option<Binding>,
+    item: &Item,
 ) -> Option<VaryingError> {
-    match answer_of(rt, bench, place, state, ty, binding) {
+    match answer_of(rt, bench, state, item) {
         Ok(fault) => fault,
-        Err(_) => answer_of(rt, bench, place, state, ty, binding).expect(rt, "memory"),
+        Err(_) => made(rt, answer_of(rt, bench, state, item)),
     }
 }
 
-/// An item: its type, which is one of the bench, and its binding.
-#[derive(Clone, Copy)]
-struct Item {
-    ty: u32,
-    binding: Option<Binding>,
+/// A fault is the expected one.
+fn expect_fault(rt: &impl Abort, fault: &Option<VaryingError>, expected: &Option<VaryingError>) {
+    assert!(rt; fault == expected);
 }
 
-fn make_item(ty: u32, binding: Option<Binding>) -> Item {
-    Item { ty, binding }
+/// An item behind what the state has gets its answer.
+fn next(rt: &(impl Abort + AllocGlobal), bench: &Bench, state: &mut VaryingState, row: Row) {
+    let fault = fault_of(rt, bench, state, &row.item);
+    expect_fault(rt, &fault, &row.expected);
 }
 
-/// An item behind what the state has gets this answer.
-fn next(
-    rt: &(impl Abort + AllocGlobal),
-    bench: &Bench,
-    place: &VaryingPlace,
-    state: &mut VaryingState,
-    item: Item,
-    expected: Option<VaryingError>,
-) {
-    assert!(rt; fault_of(rt, bench, place, state, item.ty, item.binding) == expected);
-}
-
-/// An item alone gets this answer.
-fn alone(
-    rt: &(impl Abort + AllocGlobal),
-    bench: &Bench,
-    place: &VaryingPlace,
-    ty: u32,
-    binding: Option<Binding>,
-    expected: Option<VaryingError>,
-) {
+/// An item alone gets its answer.
+fn alone(rt: &(impl Abort + AllocGlobal), bench: &Bench, row: Row) {
     let mut state = VaryingState::new(rt.alloc());
-    next(
-        rt,
-        bench,
-        place,
-        &mut state,
-        make_item(ty, binding),
-        expected,
-    );
+    next(rt, bench, &mut state, row);
+}
+
+/// A location is taken, or isn't.
+fn expect_location(rt: &impl Abort, state: &VaryingState, location: u32, is_taken: bool) {
+    assert!(rt; state.has_location(location) == is_taken);
 }

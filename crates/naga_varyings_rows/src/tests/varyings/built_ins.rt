@@ -1,7 +1,9 @@
 //! Items that are bound to built-ins.
 
 use crate::tests::built_ins::{ROWS, STAGES, at, is_listed};
-use crate::tests::varyings::{Bench, U32, VEC4_F32, alone, fault_of, make_bench, make_item, next};
+use crate::tests::varyings::{
+    Bench, Item, U32, VEC4_F32, alone, fails, fault_of, make_bench, next, passes,
+};
 use bitflags::Flags;
 use naga_arena::handle::Handle;
 use naga_errors::interface::VaryingError;
@@ -12,63 +14,43 @@ use naga_types::built_in::BuiltIn;
 use naga_types::types::Binding;
 use naga_varyings::varying::{MeshOutputType, VaryingPlace, VaryingState};
 use std::process::Abort;
-use std::test::Fail;
 
-/// A built-in alone gets this answer.
-fn built_in(
-    rt: &(impl Abort + AllocGlobal),
-    bench: &Bench,
-    place: &VaryingPlace,
-    ty: u32,
-    built_in: BuiltIn,
-    expected: Option<VaryingError>,
-) {
-    alone(
-        rt,
-        bench,
-        place,
-        ty,
-        Some(Binding::BuiltIn(built_in)),
-        expected,
-    );
+/// A built-in, as a binding.
+fn bound(built_in: BuiltIn) -> Option<Binding> {
+    Some(Binding::BuiltIn(built_in))
+}
+
+/// Built-ins alone, at places where they are visible and where they aren't.
+fn expect_built_ins(rt: &(impl Abort + AllocGlobal), bench: &Bench) {
+    let mut compute = at(ShaderStage::Compute, false);
+    compute.workgroup_size = [8, 1, 1];
+    let subgroup = bound(BuiltIn::SubgroupId);
+    alone(rt, bench, passes(compute, U32, subgroup));
+    compute.workgroup_size = [8, 2, 1];
+    let fault = VaryingError::InvalidMultiDimensionalSubgroupBuiltIn;
+    alone(rt, bench, fails(compute, U32, subgroup, fault));
+    let mut mesh = at(ShaderStage::Mesh, false);
+    mesh.has_task_payload = true;
+    let draw = bound(BuiltIn::DrawIndex);
+    let fault = VaryingError::InvalidBuiltInStage(BuiltIn::DrawIndex);
+    alone(rt, bench, fails(mesh, U32, draw, fault));
+    let mut poor = at(ShaderStage::AnyHit, false);
+    poor.capabilities = Capabilities::empty();
+    let primitive = bound(BuiltIn::PrimitiveIndex);
+    alone(rt, bench, passes(poor, U32, primitive));
+    poor.stage = ShaderStage::Fragment;
+    let fault = VaryingError::UnsupportedCapability(Capabilities::PRIMITIVE_INDEX);
+    alone(rt, bench, fails(poor, U32, primitive, fault));
+    let size = bound(BuiltIn::MeshTaskSize);
+    let fault = VaryingError::UnsupportedCapability(Capabilities::MESH_SHADER);
+    alone(rt, bench, fails(poor, VEC4_F32, size, fault));
 }
 
 #[test]
-fn built_ins(rt: HostRuntime) -> Result<(), Fail> {
-    let bench = make_bench(&rt)?;
-    let mut compute = at(ShaderStage::Compute, false);
-    compute.workgroup_size = [8, 1, 1];
-    built_in(&rt, &bench, &compute, U32, BuiltIn::SubgroupId, None);
-    compute.workgroup_size = [8, 2, 1];
-    let fault = VaryingError::InvalidMultiDimensionalSubgroupBuiltIn;
-    built_in(&rt, &bench, &compute, U32, BuiltIn::SubgroupId, Some(fault));
-    let mut mesh = at(ShaderStage::Mesh, false);
-    mesh.has_task_payload = true;
-    let fault = VaryingError::InvalidBuiltInStage(BuiltIn::DrawIndex);
-    built_in(&rt, &bench, &mesh, U32, BuiltIn::DrawIndex, Some(fault));
-    let mut poor = at(ShaderStage::AnyHit, false);
-    poor.capabilities = Capabilities::empty();
-    built_in(&rt, &bench, &poor, U32, BuiltIn::PrimitiveIndex, None);
-    poor.stage = ShaderStage::Fragment;
-    let fault = VaryingError::UnsupportedCapability(Capabilities::PRIMITIVE_INDEX);
-    built_in(
-        &rt,
-        &bench,
-        &poor,
-        U32,
-        BuiltIn::PrimitiveIndex,
-        Some(fault),
-    );
-    let fault = VaryingError::UnsupportedCapability(Capabilities::MESH_SHADER);
-    built_in(
-        &rt,
-        &bench,
-        &poor,
-        VEC4_F32,
-        BuiltIn::MeshTaskSize,
-        Some(fault),
-    );
-    Ok(())
+fn built_ins(rt: HostRuntime) {
+    let bench = make_bench(&rt);
+    expect_built_ins(&rt, &bench);
+    drop(bench);
 }
 
 /// The first place where a built-in is visible, in the order of stages, in before out.
@@ -87,22 +69,17 @@ fn first_place(places: &str) -> Option<VaryingPlace> {
     None
 }
 
-/// A built-in has its type, and not a neighbor of it, which the fault carries.
-fn has_type(
-    rt: &(impl Abort + AllocGlobal),
+/// A built-in is refused for the type of the bench that it has, which the fault carries.
+fn expect_wrong_type(
+    rt: &impl Abort,
     bench: &Bench,
-    place: &VaryingPlace,
+    fault: &Option<VaryingError>,
     built_in: BuiltIn,
     ty: u32,
-    neighbor: u32,
 ) {
-    let binding = Some(Binding::BuiltIn(built_in));
-    alone(rt, bench, place, ty, binding, None);
-    let mut state = VaryingState::new(rt.alloc());
-    let fault = fault_of(rt, bench, place, &mut state, neighbor, binding);
-    assert!(rt; (neighbor as usize) < bench.module.types.len());
-    let given = &bench.module.types[Handle::new(neighbor)].inner;
-    let is_expected = match &fault {
+    assert!(rt; (ty as usize) < bench.module.types.len());
+    let given = &bench.module.types[Handle::new(ty)].inner;
+    let is_expected = match fault {
         Some(VaryingError::InvalidBuiltInType(refused, inner)) => *refused == built_in
             && inner == given,
         _ => false,
@@ -110,36 +87,59 @@ fn has_type(
     assert!(rt; is_expected);
 }
 
-#[test]
-fn types_of_built_ins(rt: HostRuntime) -> Result<(), Fail> {
-    let bench = make_bench(&rt)?;
-    for (built_in, places, ty, neighbor) in ROWS {
+/// A built-in doesn't have a neighbor of its type.
+fn has_no_neighbor(
+    rt: &(impl Abort + AllocGlobal),
+    bench: &Bench,
+    place: VaryingPlace,
+    built_in: BuiltIn,
+    neighbor: u32,
+) {
+    let item = Item {
+        place,
+        ty: neighbor,
+        binding: bound(built_in),
+    };
+    let mut state = VaryingState::new(rt.alloc());
+    let fault = fault_of(rt, bench, &mut state, &item);
+    expect_wrong_type(rt, bench, &fault, built_in, neighbor);
+}
+
+/// Each built-in, at the first place where it is visible, has its type, and not a neighbor of it.
+fn compare_types(rt: &(impl Abort + AllocGlobal), bench: &Bench) {
+    for (built_in, places, ty, neighbor) in &ROWS {
         if let Some(place) = first_place(places) {
-            has_type(&rt, &bench, &place, built_in, ty, neighbor);
+            alone(rt, bench, passes(place, *ty, bound(*built_in)));
+            has_no_neighbor(rt, bench, place, *built_in, *neighbor);
         }
     }
-    Ok(())
+}
+
+#[test]
+fn types_of_built_ins(rt: HostRuntime) {
+    let bench = make_bench(&rt);
+    compare_types(&rt, &bench);
+    drop(bench);
 }
 
 /// A second vector is refused as the same built-in again, and the fault has its own flags.
 fn twice(
     rt: &(impl Abort + AllocGlobal),
     bench: &Bench,
-    place: &VaryingPlace,
+    place: VaryingPlace,
     first: BuiltIn,
     second: BuiltIn,
 ) {
     let mut state = VaryingState::new(rt.alloc());
-    let earlier = make_item(VEC4_F32, Some(Binding::BuiltIn(first)));
-    next(rt, bench, place, &mut state, earlier, None);
-    let fault = Some(VaryingError::DuplicateBuiltIn(second));
-    let later = make_item(VEC4_F32, Some(Binding::BuiltIn(second)));
-    next(rt, bench, place, &mut state, later, fault);
+    let earlier = passes(place, VEC4_F32, bound(first));
+    next(rt, bench, &mut state, earlier);
+    let fault = VaryingError::DuplicateBuiltIn(second);
+    let later = fails(place, VEC4_F32, bound(second), fault);
+    next(rt, bench, &mut state, later);
 }
 
-#[test]
-fn duplicates(rt: HostRuntime) -> Result<(), Fail> {
-    let bench = make_bench(&rt)?;
+/// Position is there twice, whether it is invariant or not.
+fn positions_twice(rt: &(impl Abort + AllocGlobal), bench: &Bench) {
     let (variant, invariant) = (
         BuiltIn::Position { invariant: false },
         BuiltIn::Position { invariant: true },
@@ -147,28 +147,27 @@ fn duplicates(rt: HostRuntime) -> Result<(), Fail> {
     let mut fragment = at(ShaderStage::Fragment, false);
     for flags in [ValidationFlags::BINDINGS, ValidationFlags::empty()] {
         fragment.flags = flags;
-        twice(&rt, &bench, &fragment, invariant, variant);
-        twice(&rt, &bench, &fragment, variant, invariant);
+        twice(rt, bench, fragment, invariant, variant);
+        twice(rt, bench, fragment, variant, invariant);
     }
-    let view = Some(Binding::BuiltIn(BuiltIn::ViewIndex));
+}
+
+/// ViewIndex is there twice, the second time where the target has nothing.
+fn view_twice(rt: &(impl Abort + AllocGlobal), bench: &Bench) {
+    let mut fragment = at(ShaderStage::Fragment, false);
+    fragment.flags = ValidationFlags::empty();
+    let view = bound(BuiltIn::ViewIndex);
     let mut state = VaryingState::new(rt.alloc());
-    next(
-        &rt,
-        &bench,
-        &fragment,
-        &mut state,
-        make_item(U32, view),
-        None,
-    );
+    next(rt, bench, &mut state, passes(fragment, U32, view));
     fragment.capabilities = Capabilities::empty();
     let fault = VaryingError::DuplicateBuiltIn(BuiltIn::ViewIndex);
-    next(
-        &rt,
-        &bench,
-        &fragment,
-        &mut state,
-        make_item(U32, view),
-        Some(fault),
-    );
-    Ok(())
+    next(rt, bench, &mut state, fails(fragment, U32, view, fault));
+}
+
+#[test]
+fn duplicates(rt: HostRuntime) {
+    let bench = make_bench(&rt);
+    positions_twice(&rt, &bench);
+    view_twice(&rt, &bench);
+    drop(bench);
 }

@@ -2,8 +2,8 @@
 
 use crate::tests::built_ins::{STAGES, at};
 use crate::tests::varyings::{
-    BOOL, Bench, F32, THREE_F32, THREE_U32, U32, VEC4_F32, alone, by_primitive, interpolated,
-    location, make_bench, make_item, next,
+    BOOL, Bench, F32, Item, Row, THREE_F32, THREE_U32, U32, VEC4_F32, alone, by_primitive,
+    expect_location, fails, interpolated, location, make_bench, next, passes,
 };
 use bitflags::Flags;
 use naga_arena::handle::Handle;
@@ -14,7 +14,6 @@ use naga_ir::module::ShaderStage;
 use naga_types::types::{Interpolation, Sampling};
 use naga_varyings::varying::{MeshOutputType, VaryingPlace, VaryingState};
 use std::process::Abort;
-use std::test::Fail;
 
 /// The interpolations, and the samplings, and none.
 const INTERPOLATIONS: [Option<Interpolation>; 5] = [
@@ -96,111 +95,116 @@ fn interpolation_fault(
     None
 }
 
-/// A float and an integer, or an array of 3 for each vertex, at a place.
+/// What is said at a place of a float or an integer, or of an array of 3 for each vertex.
+fn fault_at(
+    place: &VaryingPlace,
+    ty: u32,
+    interpolation: Option<Interpolation>,
+    sampling: Option<Sampling>,
+) -> Option<VaryingError> {
+    if interpolation == Some(Interpolation::PerVertex) {
+        return per_vertex_fault(place.stage, sampling);
+    }
+    let is_asked_for = INTERPOLATED.contains(&(place.stage, place.output));
+    interpolation_fault(is_asked_for, interpolation, sampling, ty == F32)
+}
+
+/// An item of this type at a place.
 fn interpolated_at(
     rt: &(impl Abort + AllocGlobal),
     bench: &Bench,
     place: &VaryingPlace,
+    ty: u32,
     interpolation: Option<Interpolation>,
     sampling: Option<Sampling>,
 ) {
     let binding = Some(interpolated(5, interpolation, sampling));
-    if interpolation == Some(Interpolation::PerVertex) {
-        let stage = place.stage;
-        alone(
-            rt,
-            bench,
-            place,
-            THREE_F32,
-            binding,
-            per_vertex_fault(stage, sampling),
-        );
-        alone(
-            rt,
-            bench,
-            place,
-            THREE_U32,
-            binding,
-            per_vertex_fault(stage, sampling),
-        );
-    } else {
-        let is_asked_for = INTERPOLATED.contains(&(place.stage, place.output));
-        let fault = interpolation_fault(is_asked_for, interpolation, sampling, true);
-        alone(rt, bench, place, F32, binding, fault);
-        let fault = interpolation_fault(is_asked_for, interpolation, sampling, false);
-        alone(rt, bench, place, U32, binding, fault);
-    }
+    let item = Item {
+        place: *place,
+        ty,
+        binding,
+    };
+    let expected = fault_at(place, ty, interpolation, sampling);
+    alone(rt, bench, Row { item, expected });
 }
 
-/// Each interpolation with each sampling, at a place.
+/// Each interpolation with each sampling, at a place: a float and an integer, or an array of 3 for each vertex.
 fn all_interpolated_at(rt: &(impl Abort + AllocGlobal), bench: &Bench, place: &VaryingPlace) {
     for interpolation in INTERPOLATIONS {
+        let types = if interpolation == Some(Interpolation::PerVertex) {
+            [THREE_F32, THREE_U32]
+        } else {
+            [F32, U32]
+        };
         for sampling in SAMPLINGS {
-            interpolated_at(rt, bench, place, interpolation, sampling);
+            interpolated_at(rt, bench, place, types[0], interpolation, sampling);
+            interpolated_at(rt, bench, place, types[1], interpolation, sampling);
         }
     }
 }
 
-#[test]
-fn interpolations_at_all_places(rt: HostRuntime) -> Result<(), Fail> {
-    let bench = make_bench(&rt)?;
+/// The same at all places.
+fn interpolated_at_all(rt: &(impl Abort + AllocGlobal), bench: &Bench) {
     for stage in STAGES {
-        all_interpolated_at(&rt, &bench, &at(stage, false));
-        all_interpolated_at(&rt, &bench, &at(stage, true));
+        all_interpolated_at(rt, bench, &at(stage, false));
+        all_interpolated_at(rt, bench, &at(stage, true));
     }
-    Ok(())
 }
 
 #[test]
-fn locations(rt: HostRuntime) -> Result<(), Fail> {
-    let bench = make_bench(&rt)?;
+fn interpolations_at_all_places(rt: HostRuntime) {
+    let bench = make_bench(&rt);
+    interpolated_at_all(&rt, &bench);
+    drop(bench);
+}
+
+/// Locations in what fragments and vertices take in.
+fn expect_locations(rt: &(impl Abort + AllocGlobal), bench: &Bench) {
     let fragment = at(ShaderStage::Fragment, false);
-    alone(&rt, &bench, &fragment, F32, Some(by_primitive(None)), None);
+    let by_default = Some(by_primitive(None));
+    alone(rt, bench, passes(fragment, F32, by_default));
     let vertex = at(ShaderStage::Vertex, false);
-    let fault = Some(VaryingError::InvalidPerPrimitive);
-    alone(&rt, &bench, &vertex, F32, Some(by_primitive(None)), fault);
-    let perspective = Some(Interpolation::Perspective);
-    let sampled = Some(interpolated(0, perspective, Some(Sampling::Sample)));
+    let fault = VaryingError::InvalidPerPrimitive;
+    alone(rt, bench, fails(vertex, F32, by_default, fault));
+    let fault = VaryingError::InvalidType(Handle::new(BOOL));
+    alone(rt, bench, fails(fragment, BOOL, Some(location(0)), fault));
+}
+
+/// Locations that need what the target lacks.
+fn expect_unsupported(rt: &(impl Abort + AllocGlobal), bench: &Bench) {
     let mut poor = at(ShaderStage::Fragment, false);
     poor.capabilities = Capabilities::empty();
+    let perspective = Some(Interpolation::Perspective);
+    let sampled = Some(interpolated(0, perspective, Some(Sampling::Sample)));
     let fault = VaryingError::UnsupportedCapability(Capabilities::MULTISAMPLED_SHADING);
-    alone(&rt, &bench, &poor, F32, sampled, Some(fault));
+    alone(rt, bench, fails(poor, F32, sampled, fault));
     let fault = VaryingError::UnsupportedCapability(Capabilities::MESH_SHADER);
-    alone(
-        &rt,
-        &bench,
-        &poor,
-        F32,
-        Some(by_primitive(perspective)),
-        Some(fault),
-    );
-    let mut primitives = at(ShaderStage::Mesh, true);
-    primitives.mesh_output = MeshOutputType::PrimitiveOutput;
-    let fault = Some(VaryingError::MissingPerPrimitive);
-    alone(&rt, &bench, &primitives, F32, Some(location(0)), fault);
-    alone(
-        &rt,
-        &bench,
-        &primitives,
-        F32,
-        Some(by_primitive(perspective)),
-        None,
-    );
-    let mut vertices = at(ShaderStage::Mesh, true);
-    vertices.mesh_output = MeshOutputType::VertexOutput;
-    let fault = Some(VaryingError::InvalidPerPrimitive);
-    alone(
-        &rt,
-        &bench,
-        &vertices,
-        F32,
-        Some(by_primitive(perspective)),
-        fault,
-    );
-    alone(&rt, &bench, &vertices, F32, Some(location(0)), None);
-    let fault = VaryingError::InvalidType(Handle::new(BOOL));
-    alone(&rt, &bench, &fragment, BOOL, Some(location(0)), Some(fault));
-    Ok(())
+    let primitive = Some(by_primitive(perspective));
+    alone(rt, bench, fails(poor, F32, primitive, fault));
+}
+
+/// Locations in the outputs of a mesh.
+fn expect_outputs(rt: &(impl Abort + AllocGlobal), bench: &Bench) {
+    let primitive = Some(by_primitive(Some(Interpolation::Perspective)));
+    let plain = Some(location(0));
+    let mut mesh = at(ShaderStage::Mesh, true);
+    mesh.mesh_output = MeshOutputType::PrimitiveOutput;
+    let fault = VaryingError::MissingPerPrimitive;
+    alone(rt, bench, fails(mesh, F32, plain, fault));
+    alone(rt, bench, passes(mesh, F32, primitive));
+    mesh.mesh_output = MeshOutputType::VertexOutput;
+    let fault = VaryingError::InvalidPerPrimitive;
+    alone(rt, bench, fails(mesh, F32, primitive, fault));
+    alone(rt, bench, passes(mesh, F32, plain));
+}
+
+#[test]
+fn locations(rt: HostRuntime) {
+    let bench = make_bench(&rt);
+    expect_locations(&rt, &bench);
+    expect_unsupported(&rt, &bench);
+    expect_outputs(&rt, &bench);
+    drop(bench);
 }
 
 /// The same location twice gets this answer the second time.
@@ -211,21 +215,29 @@ fn location_twice(
     at_location: u32,
     expected: Option<VaryingError>,
 ) {
-    let mut fragment = at(ShaderStage::Fragment, false);
-    fragment.flags = flags;
+    let mut place = at(ShaderStage::Fragment, false);
+    place.flags = flags;
+    let item = Item {
+        place,
+        ty: VEC4_F32,
+        binding: Some(location(at_location)),
+    };
     let mut state = VaryingState::new(rt.alloc());
-    let located = make_item(VEC4_F32, Some(location(at_location)));
-    next(rt, bench, &fragment, &mut state, located, None);
-    next(rt, bench, &fragment, &mut state, located, expected);
-    assert!(rt; state.has_location(at_location));
+    let earlier = Row {
+        item,
+        expected: None,
+    };
+    next(rt, bench, &mut state, earlier);
+    next(rt, bench, &mut state, Row { item, expected });
+    expect_location(rt, &state, at_location, true);
 }
 
 #[test]
-fn taken_locations(rt: HostRuntime) -> Result<(), Fail> {
-    let bench = make_bench(&rt)?;
+fn taken_locations(rt: HostRuntime) {
     let last = u32::MAX;
+    let bench = make_bench(&rt);
     let fault = VaryingError::BindingCollision { location: last };
     location_twice(&rt, &bench, ValidationFlags::BINDINGS, last, Some(fault));
     location_twice(&rt, &bench, ValidationFlags::empty(), last, None);
-    Ok(())
+    drop(bench);
 }
