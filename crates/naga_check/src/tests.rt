@@ -10,6 +10,7 @@ mod settings;
 use naga_case::run_case;
 use std::alloc::Global;
 use std::io::{Read, Write};
+use std::process::Abort;
 
 /// How many bytes there is room for: more than any line has.
 const ROOM: usize = 64;
@@ -82,4 +83,11 @@ fn again<F: Fn() -> Outcome>(call: F) -> Outcome
 /// Whether the program says this line of an input, with its status. A request for memory may have been refused the first time.
 fn gets<R: Read + Copy + Drop>(alloc: Global, input: R, line: &str) -> bool {
     again(|| run(alloc, input)).is(line)
+}
+
+/// Inputs get the lines beside them.
+fn expect_rows(rt: &(impl Abort + AllocGlobal), rows: &[(&str, &str)]) {
+    for &(input, line) in rows {
+        assert!(rt; gets(rt.alloc(), input.as_bytes(), line), "at {input:?}");
+    }
 }

@@ -9,28 +9,47 @@ mod whole;
 
 use naga_document::{FromJson, ReadError};
 use serde_json::Value;
-use std::alloc::Global;
+use std::alloc::{AllocError, Global};
 use std::process::Abort;
-use std::test::Fail;
 
-/// Whether a text is read. Where memory is refused, it is read again.
-fn is_read<T: FromJson>(alloc: Global, text: &str) -> Result<bool, Fail> {
-    let value = Value::from_str(alloc, text)?;
-    let read: Result<T, ReadError> = match T::from_json(alloc, &value) {
-        Err(ReadError::Memory) => T::from_json(alloc, &value),
-        read => read,
-    };
-    Ok(read.is_ok())
+/// What there was memory for.
+fn made<T>(rt: &impl Abort, answer: Result<T, AllocError>) -> T {
+    match answer {
+        Ok(value) => value,
+        Err(_) => panic!(rt; "no memory"),
+    }
 }
 
-fn check<T: FromJson>(
-    rt: &(impl Abort + AllocGlobal),
-    good: &str,
-    bad: [&str; 3],
-) -> Result<(), Fail> {
-    assert!(rt; is_read::<T>(rt.alloc(), good)?, "{good}");
-    for text in bad {
-        assert!(rt; !is_read::<T>(rt.alloc(), text)?, "{text}");
+/// The value that a text is.
+fn value_of(rt: &(impl Abort + AllocGlobal), text: &str) -> Value {
+    match Value::from_str(rt.alloc(), text) {
+        Ok(value) => value,
+        Err(_) => panic!(rt; "no value: {text}"),
     }
-    Ok(())
+}
+
+/// Whether a value is one of a type.
+fn is_read_once<T: FromJson>(alloc: Global, value: &Value) -> Result<bool, AllocError> {
+    match T::from_json(alloc, value) {
+        Ok(_) => Ok(true),
+        Err(ReadError::Unreadable(_)) => Ok(false),
+        Err(ReadError::Memory) => Err(AllocError),
+    }
+}
+
+/// Whether a text is one of a type. Where memory is refused, its value is read again.
+fn is_read<T: FromJson>(rt: &(impl Abort + AllocGlobal), text: &str) -> bool {
+    let value = value_of(rt, text);
+    match is_read_once::<T>(rt.alloc(), &value) {
+        Ok(answer) => answer,
+        Err(_) => made(rt, is_read_once::<T>(rt.alloc(), &value)),
+    }
+}
+
+/// The good text is one of a type, and the bad ones aren't.
+fn check<T: FromJson>(rt: &(impl Abort + AllocGlobal), good: &str, bad: [&str; 3]) {
+    assert!(rt; is_read::<T>(rt, good), "{good}");
+    for text in bad {
+        assert!(rt; !is_read::<T>(rt, text), "{text}");
+    }
 }

@@ -1,13 +1,13 @@
 //! Cut input, and the greatest numbers in the notation.
 
-use crate::tests::gets;
 use crate::tests::made::{Made, Part, cases, once, times};
+use crate::tests::{expect_rows, gets};
 
 /// A case with a Continue and a break condition.
 const WHOLE: &str = "P : loop { if t { continue } { } emit e1 } { } break_if e1";
 
 /// Its beginnings that are cases.
-const READABLE_BEGINNINGS: [(&str, &str); 5] = [
+static READABLE_BEGINNINGS: [(&str, &str); 5] = [
     ("P :", "ok 1ff"),
     ("P : ", "ok 1ff"),
     ("P : loop { if t { continue } { } emit e1 } { }", "ok 1ff"),
@@ -20,7 +20,7 @@ const READABLE_BEGINNINGS: [(&str, &str); 5] = [
 
 /// The line of a beginning.
 fn line_of(beginning: &[u8]) -> &'static str {
-    for (input, line) in READABLE_BEGINNINGS {
+    for &(input, line) in &READABLE_BEGINNINGS {
         if input.as_bytes() == beginning {
             return line;
         }
@@ -31,7 +31,7 @@ fn line_of(beginning: &[u8]) -> &'static str {
 #[test]
 fn cut_input(rt: HostRuntime) {
     let bytes = WHOLE.as_bytes();
-    for (input, _) in READABLE_BEGINNINGS {
+    for &(input, _) in &READABLE_BEGINNINGS {
         assert!(rt; bytes.starts_with(input.as_bytes()), "at {input:?}");
     }
     for len in 0..bytes.len() {
@@ -133,7 +133,7 @@ fn nested_continuing_parts(rt: HostRuntime) {
 }
 
 /// The greatest and the least values of cases.
-const GREATEST: [(&str, &str); 4] = [
+static GREATEST: [(&str, &str); 4] = [
     ("P : switch u { 4294967295 { } default { } }", "ok 1ff"),
     (
         "P : switch u { 4294967295 { } 4294967295 { } }",
@@ -151,9 +151,7 @@ const GREATEST: [(&str, &str); 4] = [
 
 #[test]
 fn greatest_values(rt: HostRuntime) {
-    for (input, line) in GREATEST {
-        assert!(rt; gets(rt.alloc(), input.as_bytes(), line), "at {input:?}");
-    }
+    expect_rows(&rt, GREATEST.as_slice());
 }
 
 /// An input has room for some 7400 cases. The value that the last one repeats is that of the case before it, or of the

@@ -1,9 +1,9 @@
 //! Worked rows of the program.
 
-use crate::tests::gets;
+use crate::tests::{expect_rows, gets};
 
 /// Bodies without a fault.
-const ACCEPTED: [(&str, &str); 30] = [
+static ACCEPTED: [(&str, &str); 30] = [
     ("P :", "ok 1ff"),
     (
         "P : loop { switch u { default { continue } } } { }",
@@ -43,7 +43,7 @@ const ACCEPTED: [(&str, &str); 30] = [
 ];
 
 /// Bodies with a fault.
-const FAULTS: [(&str, &str); 30] = [
+static FAULTS: [(&str, &str); 30] = [
     ("P : break", "fault BreakOutsideOfLoopOrSwitch"),
     (
         "P : loop { } { switch u { default { continue } } }",
@@ -113,7 +113,7 @@ const FAULTS: [(&str, &str); 30] = [
 ];
 
 /// Calls and stores with a fault.
-const FAULTS_OF_CALLS_AND_STORES: [(&str, &str); 16] = [
+static FAULTS_OF_CALLS_AND_STORES: [(&str, &str); 16] = [
     (
         "C : if t { call f -> r1 } { call f -> r1 }",
         "fault InvalidCall/ResultAlreadyPopulated 6",
@@ -151,7 +151,7 @@ const FAULTS_OF_CALLS_AND_STORES: [(&str, &str); 16] = [
 ];
 
 /// What an Emit's operands need: bench D.
-const ROWS_OF_OPERANDS: [(&str, &str); 8] = [
+static ROWS_OF_OPERANDS: [(&str, &str); 8] = [
     ("D : emit e2", "fault Expression/NotInScope 5"),
     ("D : emit x1 .. e2", "ok 1ff"),
     (
@@ -172,7 +172,7 @@ const ROWS_OF_OPERANDS: [(&str, &str); 8] = [
 ];
 
 /// What a Continue may have skipped is in scope, so that nothing puts it, and may not be used.
-const ROWS_OF_SKIPPED: [(&str, &str); 18] = [
+static ROWS_OF_SKIPPED: [(&str, &str); 18] = [
     (
         "P : loop { if t { continue } { } emit e1 } { } break_if e1",
         "fault Expression/NotInScope 3",
@@ -248,7 +248,7 @@ const ROWS_OF_SKIPPED: [(&str, &str); 18] = [
 ];
 
 /// What is no case.
-const UNREADABLE: [&str; 25] = [
+static UNREADABLE: [&str; 25] = [
     "",
     "P : emit",
     "P : emit r1",
@@ -278,42 +278,32 @@ const UNREADABLE: [&str; 25] = [
 
 #[test]
 fn accepted_rows(rt: HostRuntime) {
-    for (input, line) in ACCEPTED {
-        assert!(rt; gets(rt.alloc(), input.as_bytes(), line), "at {input:?}");
-    }
+    expect_rows(&rt, ACCEPTED.as_slice());
 }
 
 #[test]
 fn fault_rows(rt: HostRuntime) {
-    for (input, line) in FAULTS {
-        assert!(rt; gets(rt.alloc(), input.as_bytes(), line), "at {input:?}");
-    }
+    expect_rows(&rt, FAULTS.as_slice());
 }
 
 #[test]
 fn fault_rows_of_calls_and_stores(rt: HostRuntime) {
-    for (input, line) in FAULTS_OF_CALLS_AND_STORES {
-        assert!(rt; gets(rt.alloc(), input.as_bytes(), line), "at {input:?}");
-    }
+    expect_rows(&rt, FAULTS_OF_CALLS_AND_STORES.as_slice());
 }
 
 #[test]
 fn rows_of_operands(rt: HostRuntime) {
-    for (input, line) in ROWS_OF_OPERANDS {
-        assert!(rt; gets(rt.alloc(), input.as_bytes(), line), "at {input:?}");
-    }
+    expect_rows(&rt, ROWS_OF_OPERANDS.as_slice());
 }
 
 #[test]
 fn rows_of_skipped_emissions(rt: HostRuntime) {
-    for (input, line) in ROWS_OF_SKIPPED {
-        assert!(rt; gets(rt.alloc(), input.as_bytes(), line), "at {input:?}");
-    }
+    expect_rows(&rt, ROWS_OF_SKIPPED.as_slice());
 }
 
 #[test]
 fn unreadable_rows(rt: HostRuntime) {
-    for input in UNREADABLE {
+    for &input in &UNREADABLE {
         assert!(rt;
             gets(rt.alloc(), input.as_bytes(), "unreadable"),
             "at {input:?}"

@@ -52,7 +52,7 @@ const STORED: &str = "fault InvalidStoreTypes 4";
 /// By hand, from what each flag has looked at. Without BLOCKS no statement is, so nothing is refused, and no statement takes
 /// a stage away. Without EXPRESSIONS a result counts as filled from the start, which refuses each good call that names one,
 /// and no result has to be filled at the end. With or without it each expression of a bench may run in all stages.
-const LINES: [(&str, [&str; 4]); 28] = [
+static LINES: [(&str, [&str; 4]); 28] = [
     // case, [both, without EXPRESSIONS, without BLOCKS, neither]
     ("P :", [ALL, ALL, ALL, ALL]),
     ("P : break", [BREAK, BREAK, ALL, ALL]),
@@ -140,7 +140,7 @@ fn line_under(lines: [&'static str; 4], has_expressions: bool, has_blocks: bool)
 }
 
 /// Options, and whether they leave EXPRESSIONS, and BLOCKS.
-const OPTIONS: [(&str, bool, bool); 5] = [
+static OPTIONS: [(&str, bool, bool); 5] = [
     ("", true, true),
     (" -expressions", false, true),
     (" -blocks", true, false),
@@ -163,7 +163,7 @@ fn expect_with(
     has_expressions: bool,
     has_blocks: bool,
 ) {
-    for (input, lines) in LINES {
+    for &(input, lines) in &LINES {
         let outcome = again(|| run_with(rt.alloc(), input, options));
         assert!(rt;
             outcome.is(line_under(lines, has_expressions, has_blocks)),
@@ -175,7 +175,7 @@ fn expect_with(
 /// The four sets that options name.
 #[test]
 fn sets_by_options(rt: HostRuntime) {
-    for (options, has_expressions, has_blocks) in OPTIONS {
+    for &(options, has_expressions, has_blocks) in &OPTIONS {
         expect_with(&rt, options, has_expressions, has_blocks);
     }
 }

@@ -2,10 +2,9 @@
 
 use crate::tests::check;
 use naga_below::{Block, Function, FunctionArgument, FunctionResult, LocalVariable, Span};
-use std::test::Fail;
 
 /// Blocks of each kind of statement, each in a good form and in three bad ones.
-const BLOCKS: [(&str, [&str; 3]); 21] = [
+static BLOCKS: [(&str, [&str; 3]); 21] = [
     (
         r#"["Kill",{"span":[5,13],"statement":{"Return":{"value":0}}}]"#,
         [
@@ -177,16 +176,15 @@ const BLOCKS: [(&str, [&str; 3]); 21] = [
 ];
 
 #[test]
-fn statements(rt: HostRuntime) -> Result<(), Fail> {
-    for (good, bad) in BLOCKS {
-        check::<Block>(&rt, good, bad)?;
+fn statements(rt: HostRuntime) {
+    for &(good, bad) in &BLOCKS {
+        check::<Block>(&rt, good, bad);
     }
-    check::<Span>(&rt, "[7,5]", ["[7]", "[1,2,3]", r#"{"start":1,"end":2}"#])?;
-    Ok(())
+    check::<Span>(&rt, "[7,5]", ["[7]", "[1,2,3]", r#"{"start":1,"end":2}"#]);
 }
 
 #[test]
-fn functions(rt: HostRuntime) -> Result<(), Fail> {
+fn functions(rt: HostRuntime) {
     check::<LocalVariable>(
         &rt,
         r#"{"name":"x","ty":0,"init":null}"#,
@@ -195,7 +193,7 @@ fn functions(rt: HostRuntime) -> Result<(), Fail> {
             r#"{"name":"x","ty":null,"init":null}"#,
             r#""x""#,
         ],
-    )?;
+    );
     check::<FunctionArgument>(
         &rt,
         r#"{"name":null,"ty":0,"binding":null}"#,
@@ -204,12 +202,12 @@ fn functions(rt: HostRuntime) -> Result<(), Fail> {
             r#"{"name":null,"ty":0,"binding":"Flat"}"#,
             "[0]",
         ],
-    )?;
+    );
     check::<FunctionResult>(
         &rt,
         r#"{"ty":0,"binding":{"BuiltIn":"FragDepth"}}"#,
         [r#"{"ty":0}"#, r#"{"ty":0,"binding":"FragDepth"}"#, "null"],
-    )?;
+    );
     check::<Function>(
         &rt,
         r#"{"arguments":[],"result":null,"local_variables":[],"expressions":[],"body":[]}"#,
@@ -218,6 +216,5 @@ fn functions(rt: HostRuntime) -> Result<(), Fail> {
             r#"{"arguments":null,"result":null,"local_variables":[],"expressions":[],"body":[]}"#,
             r#"{"name":null,"arguments":[],"result":null,"local_variables":[],"expressions":[],"body":[]}"#,
         ],
-    )?;
-    Ok(())
+    );
 }
