@@ -1,8 +1,8 @@
 //! Bodies of functions, by their shape. Each has three expressions before its own: true, a `u32`, and a pointer to the local.
 
 use naga_below::{
-    Arena, Block, Expression, Handle, Literal, Operands, Range, Scalar, Sequence, Span, Statement,
-    SwitchCase, SwitchValue, tag,
+    Block, Expression, Function, Handle, Literal, Operands, Range, Scalar, Sequence, Span,
+    Statement, SwitchCase, SwitchValue, tag,
 };
 use std::alloc::{AllocError, Global};
 
@@ -51,89 +51,57 @@ pub enum Shape {
     Whole(u32),
 }
 
-/// The expressions of a function, and its body.
-#[derive(Drop)]
-pub struct Made {
-    pub expressions: Arena<Expression>,
-    pub body: Block,
-}
-
-impl Made {
-    /// The three expressions that each body has, and no statement.
-    fn shared(alloc: Global) -> Result<Made, AllocError> {
-        let mut made = Made {
-            expressions: Arena::new(alloc),
-            body: Block::new(alloc),
-        };
-        append(&mut made.expressions, literal(Scalar::BOOL))?;
-        append(&mut made.expressions, literal(Scalar::U32))?;
-        append(
-            &mut made.expressions,
-            Expression::LocalVariable(Handle::new(0)),
-        )?;
-        Ok(made)
-    }
-
-    fn load(&mut self) -> Result<(), AllocError> {
-        let pointer = Handle::new(2);
-        append(&mut self.expressions, Expression::Load { pointer })
-    }
-
-    fn call_result(&mut self) -> Result<(), AllocError> {
-        append(
-            &mut self.expressions,
-            Expression::CallResult(Handle::new(0)),
-        )
-    }
-
-    /// A Load, a Unary of it, and the result of a call.
-    fn mixed(&mut self, alloc: Global, first: u32) -> Result<(), AllocError> {
-        self.load()?;
-        append(&mut self.expressions, unary(alloc, first)?)?;
-        self.call_result()
-    }
-
-    fn push(&mut self, statement: Statement) -> Result<(), AllocError> {
-        push(&mut self.body, statement)
-    }
-}
-
-/// The expressions and the body of a shape.
-pub fn make(alloc: Global, shape: Shape) -> Result<Made, AllocError> {
-    let mut made = Made::shared(alloc)?;
-    fill(alloc, &mut made, shape)?;
-    Ok(made)
-}
-
-fn fill(alloc: Global, made: &mut Made, shape: Shape) -> Result<(), AllocError> {
+/// Gives a function the expressions and the body of a shape.
+pub fn fill(alloc: Global, fun: &mut Function, shape: Shape) -> Result<(), AllocError> {
+    put_shared(fun)?;
     match shape {
-        Shape::Emits(count) => emits(made, count),
-        Shape::Stores(count) => put_stores(&mut made.body, count),
-        Shape::Calls(count) => calls(alloc, made, count),
-        Shape::Mix(count) => mix(alloc, made, count),
+        Shape::Emits(count) => emits(fun, count),
+        Shape::Stores(count) => put_stores(&mut fun.body, count),
+        Shape::Calls(count) => calls(alloc, fun, count),
+        Shape::Mix(count) => mix(alloc, fun, count),
         Shape::Nest {
             holder,
             depth,
             width,
-        } => nest(alloc, made, holder, depth, width),
-        Shape::Own { blocks, loads } => own_blocks(alloc, made, blocks, loads),
-        Shape::Blocks { blocks, stores } => blocks_of_stores(alloc, made, blocks, stores),
-        Shape::Switch(count) => switch(alloc, made, count, 1),
-        Shape::Scattered(count) => switch(alloc, made, count, SCATTER),
-        Shape::Whole(count) => whole(alloc, made, count),
+        } => nest(alloc, fun, holder, depth, width),
+        Shape::Own { blocks, loads } => own_blocks(alloc, fun, blocks, loads),
+        Shape::Blocks { blocks, stores } => blocks_of_stores(alloc, fun, blocks, stores),
+        Shape::Switch(count) => switch(alloc, fun, count, 1),
+        Shape::Scattered(count) => switch(alloc, fun, count, SCATTER),
+        Shape::Whole(count) => whole(alloc, fun, count),
     }
 }
 
-/// Appends to an arena that has room.
-pub fn append(
-    expressions: &mut Arena<Expression>,
-    expression: Expression,
-) -> Result<(), AllocError> {
-    if expressions.is_full() {
+/// The three expressions that each body has.
+fn put_shared(fun: &mut Function) -> Result<(), AllocError> {
+    append(fun, literal(Scalar::BOOL))?;
+    append(fun, literal(Scalar::U32))?;
+    append(fun, Expression::LocalVariable(Handle::new(0)))
+}
+
+/// Appends an expression where there is room.
+pub fn append(fun: &mut Function, expression: Expression) -> Result<(), AllocError> {
+    if fun.expressions.is_full() {
         return Err(AllocError);
     }
-    expressions.append(expression, Span::UNDEFINED)?;
+    fun.expressions.append(expression, Span::UNDEFINED)?;
     Ok(())
+}
+
+fn load(fun: &mut Function) -> Result<(), AllocError> {
+    let pointer = Handle::new(2);
+    append(fun, Expression::Load { pointer })
+}
+
+fn call_result(fun: &mut Function) -> Result<(), AllocError> {
+    append(fun, Expression::CallResult(Handle::new(0)))
+}
+
+/// A Load, a Unary of it, and the result of a call.
+fn mixed(alloc: Global, fun: &mut Function, first: u32) -> Result<(), AllocError> {
+    load(fun)?;
+    append(fun, unary(alloc, first)?)?;
+    call_result(fun)
 }
 
 fn literal(scalar: Scalar) -> Expression {
@@ -172,38 +140,38 @@ fn call(alloc: Global, index: u32) -> Statement {
     }
 }
 
-fn emits(made: &mut Made, count: u32) -> Result<(), AllocError> {
+fn emits(fun: &mut Function, count: u32) -> Result<(), AllocError> {
     for index in 0..count {
-        made.load()?;
-        made.push(emit(index.wrapping_add(3), 1))?;
+        load(fun)?;
+        push(&mut fun.body, emit(index.wrapping_add(3), 1))?;
     }
     Ok(())
 }
 
-fn calls(alloc: Global, made: &mut Made, count: u32) -> Result<(), AllocError> {
+fn calls(alloc: Global, fun: &mut Function, count: u32) -> Result<(), AllocError> {
     for index in 0..count {
-        made.call_result()?;
-        made.push(call(alloc, index.wrapping_add(3)))?;
+        call_result(fun)?;
+        push(&mut fun.body, call(alloc, index.wrapping_add(3)))?;
     }
     Ok(())
 }
 
 /// A mixed body, and a Return of the `u32` behind it.
-fn whole(alloc: Global, made: &mut Made, count: u32) -> Result<(), AllocError> {
-    mix(alloc, made, count)?;
+fn whole(alloc: Global, fun: &mut Function, count: u32) -> Result<(), AllocError> {
+    mix(alloc, fun, count)?;
     let value = Some(Handle::new(1));
-    made.push(Statement::Return { value })
+    push(&mut fun.body, Statement::Return { value })
 }
 
-fn mix(alloc: Global, made: &mut Made, count: u32) -> Result<(), AllocError> {
+fn mix(alloc: Global, fun: &mut Function, count: u32) -> Result<(), AllocError> {
     for index in 0..count / 4 {
         let first = index.wrapping_mul(3).wrapping_add(3);
         let third = first.wrapping_add(2);
-        made.mixed(alloc, first)?;
-        made.push(emit(first, 2))?;
-        made.push(store(Handle::new(first.wrapping_add(1))))?;
-        made.push(call(alloc, third))?;
-        made.push(store(Handle::new(third)))?;
+        mixed(alloc, fun, first)?;
+        push(&mut fun.body, emit(first, 2))?;
+        push(&mut fun.body, store(Handle::new(first.wrapping_add(1))))?;
+        push(&mut fun.body, call(alloc, third))?;
+        push(&mut fun.body, store(Handle::new(third)))?;
     }
     Ok(())
 }
@@ -257,13 +225,13 @@ fn level_of(alloc: Global, level: u32, width: u32, inner: Statement) -> Result<B
 
 fn nest(
     alloc: Global,
-    made: &mut Made,
+    fun: &mut Function,
     holder: Holder,
     depth: u32,
     width: u32,
 ) -> Result<(), AllocError> {
     for _ in 0..depth.wrapping_add(1).wrapping_mul(width) {
-        made.load()?;
+        load(fun)?;
     }
     let mut list = Block::new(alloc);
     put_emits(&mut list, depth, width)?;
@@ -273,7 +241,7 @@ fn nest(
         let inner = hold(alloc, holder, level, list);
         list = level_of(alloc, level, width, inner)?;
     }
-    made.body = list;
+    fun.body = list;
     Ok(())
 }
 
@@ -285,25 +253,36 @@ fn own_block(alloc: Global, first: u32, loads: u32) -> Result<Block, AllocError>
     Ok(list)
 }
 
-fn own_blocks(alloc: Global, made: &mut Made, blocks: u32, loads: u32) -> Result<(), AllocError> {
+fn own_blocks(
+    alloc: Global,
+    fun: &mut Function,
+    blocks: u32,
+    loads: u32,
+) -> Result<(), AllocError> {
     for index in 0..blocks {
         let first = index.wrapping_mul(loads).wrapping_add(3);
         for _ in 0..loads {
-            made.load()?;
+            load(fun)?;
         }
-        made.push(Statement::Block(own_block(alloc, first, loads)?))?;
+        push(
+            &mut fun.body,
+            Statement::Block(own_block(alloc, first, loads)?),
+        )?;
     }
     Ok(())
 }
 
 fn blocks_of_stores(
     alloc: Global,
-    made: &mut Made,
+    fun: &mut Function,
     blocks: u32,
     count: u32,
 ) -> Result<(), AllocError> {
     for _ in 0..blocks {
-        made.push(Statement::Block(list_of_stores(alloc, count)?))?;
+        push(
+            &mut fun.body,
+            Statement::Block(list_of_stores(alloc, count)?),
+        )?;
     }
     Ok(())
 }
@@ -330,8 +309,8 @@ fn cases(alloc: Global, count: u32, factor: u32) -> Result<Sequence<SwitchCase>,
     Ok(cases)
 }
 
-fn switch(alloc: Global, made: &mut Made, count: u32, factor: u32) -> Result<(), AllocError> {
+fn switch(alloc: Global, fun: &mut Function, count: u32, factor: u32) -> Result<(), AllocError> {
     let cases = cases(alloc, count, factor)?;
     let selector = Handle::new(1);
-    made.push(Statement::Switch { selector, cases })
+    push(&mut fun.body, Statement::Switch { selector, cases })
 }

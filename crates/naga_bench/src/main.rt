@@ -17,7 +17,7 @@ use crate::cases::{BODIES, Case, Subject};
 use crate::modules::{module, with_globals};
 use crate::timing::{Timed, Times, validator};
 use crate::wholes::WHOLES;
-use naga_below::{EntryPoint, Module, ModuleInfo};
+use naga_below::{EntryPoint, FunctionInfo, Module, ModuleInfo};
 use naga_fits::{fits_function, fits_types};
 use naga_module::Plain;
 use naga_valid::Validator;
@@ -38,26 +38,35 @@ fn repetitions(statements: usize) -> u64 {
     }
 }
 
+/// The info of a module's first function; `None` where it is refused.
+fn info_of_first(
+    alloc: Global,
+    validator: &mut Validator<Plain>,
+    module: &Module,
+) -> Option<FunctionInfo> {
+    let fun = module.functions.as_slice().first()?;
+    if !validator.has_types_of(module) || !fits_types(module) || !fits_function(fun, module, 0) {
+        return None;
+    }
+    let infos = ModuleInfo::new(alloc);
+    match validator.validate_function(alloc, fun, module, &infos, false) {
+        Ok(info) => Some(info),
+        Err(_) => None,
+    }
+}
+
 /// The infos of a module's first function, which the others may call; `None` where it is refused.
 fn infos_of_first(
     alloc: Global,
     validator: &mut Validator<Plain>,
     module: &Module,
 ) -> Result<Option<ModuleInfo>, AllocError> {
-    let mut infos = ModuleInfo::new(alloc);
-    let Some(fun) = module.functions.as_slice().first() else {
+    let Some(info) = info_of_first(alloc, validator, module) else {
         return Ok(None);
     };
-    if !validator.has_types_of(module) || !fits_types(module) || !fits_function(fun, module, 0) {
-        return Ok(None);
-    }
-    match validator.validate_function(alloc, fun, module, &infos, false) {
-        Ok(info) => {
-            infos.functions.push(info)?;
-            Ok(Some(infos))
-        }
-        Err(_) => Ok(None),
-    }
+    let mut infos = ModuleInfo::new(alloc);
+    infos.functions.push(info)?;
+    Ok(Some(infos))
 }
 
 /// Each function of a module behind the first, so many times; the times together.
@@ -133,7 +142,9 @@ fn shape<C: Clock>(
     count: u64,
 ) -> io::Result<Option<Times>> {
     let module = module(alloc, shape, of)?;
-    functions(clock, alloc, validator, &module, count)
+    let times = functions(clock, alloc, validator, &module, count);
+    drop(module);
+    times
 }
 
 /// The first function of a shape behind one of a million expressions, the fastest of ten such turns.
@@ -143,17 +154,55 @@ fn first_after_large<C: Clock>(
     validator: &mut Validator<Plain>,
     shape: Shape,
 ) -> io::Result<Option<Times>> {
-    let small = module(alloc, shape, 1)?;
-    let Some(infos) = infos_of_first(alloc, validator, &small)? else {
-        return Ok(None);
-    };
     let large = module(alloc, Shape::Emits(1_000_000), 1)?;
+    let times = first_after(clock, alloc, validator, shape, &large);
+    drop(large);
+    times
+}
+
+/// The same behind the functions of this large module.
+fn first_after<C: Clock>(
+    clock: &C,
+    alloc: Global,
+    validator: &mut Validator<Plain>,
+    shape: Shape,
+    large: &Module,
+) -> io::Result<Option<Times>> {
+    let small = module(alloc, shape, 1)?;
+    let times = after(clock, alloc, validator, &small, large);
+    drop(small);
+    times
+}
+
+/// The same of this small module.
+fn after<C: Clock>(
+    clock: &C,
+    alloc: Global,
+    validator: &mut Validator<Plain>,
+    small: &Module,
+    large: &Module,
+) -> io::Result<Option<Times>> {
+    match infos_of_first(alloc, validator, small)? {
+        Some(infos) => by_turns(clock, alloc, validator, small, large, &infos),
+        None => Ok(None),
+    }
+}
+
+/// The functions of the small module behind those of the large one, the fastest of ten such turns.
+fn by_turns<C: Clock>(
+    clock: &C,
+    alloc: Global,
+    validator: &mut Validator<Plain>,
+    small: &Module,
+    large: &Module,
+    infos: &ModuleInfo,
+) -> io::Result<Option<Times>> {
     let mut times = Times::NONE;
     for _ in 0..10u64 {
-        if each(clock, alloc, validator, &large, &infos, 1)?.is_none() {
+        if each(clock, alloc, validator, large, infos, 1)?.is_none() {
             return Ok(None);
         }
-        match each(clock, alloc, validator, &small, &infos, 1)? {
+        match each(clock, alloc, validator, small, infos, 1)? {
             Some(next) => times = times.fastest(next),
             None => return Ok(None),
         }
@@ -171,8 +220,23 @@ fn entry<C: Clock>(
     globals: u32,
 ) -> io::Result<Option<Times>> {
     let ep = modules::entry_point(alloc, location, varyings, globals)?;
+    let times = entry_in(clock, alloc, validator, &ep, globals);
+    drop(ep);
+    times
+}
+
+/// This entry point in a module of so many globals.
+fn entry_in<C: Clock>(
+    clock: &C,
+    alloc: Global,
+    validator: &mut Validator<Plain>,
+    ep: &EntryPoint,
+    globals: u32,
+) -> io::Result<Option<Times>> {
     let module = with_globals(alloc, globals)?;
-    entry_point(clock, alloc, validator, &ep, &module)
+    let times = entry_point(clock, alloc, validator, ep, &module);
+    drop(module);
+    times
 }
 
 /// The times of a case, `None` where something is refused.

@@ -1,12 +1,11 @@
 //! Modules round the bodies.
 
-use crate::bodies::{Made, Shape, append, make};
+use crate::bodies::{Shape, append, fill};
 use bitflags::Flags;
 use naga_below::{
-    AddressSpace, Arena, Binding, Block, EntryPoint, Expression, Function, FunctionArgument,
+    AddressSpace, Arena, Binding, EntryPoint, Expression, Function, FunctionArgument,
     FunctionResult, GlobalVariable, Handle, Interpolation, Literal, LocalVariable,
-    MemoryDecorations, Module, Scalar, Sequence, ShaderStage, Span, Statement, Type, TypeInner,
-    UniqueArena,
+    MemoryDecorations, Module, Scalar, ShaderStage, Span, Statement, Type, TypeInner, UniqueArena,
 };
 use std::alloc::{AllocError, Global};
 
@@ -20,48 +19,26 @@ fn insert(types: &mut UniqueArena<Type>, scalar: Scalar) -> Result<(), AllocErro
 }
 
 /// `bool`, `u32` and `i32`.
-fn types(alloc: Global) -> Result<UniqueArena<Type>, AllocError> {
-    let mut types = UniqueArena::new(alloc);
-    insert(&mut types, Scalar::BOOL)?;
-    insert(&mut types, Scalar::U32)?;
-    insert(&mut types, Scalar::I32)?;
-    Ok(types)
-}
-
-/// The body of a function that returns its expression 0.
-fn returning(alloc: Global) -> Result<Block, AllocError> {
-    let mut body = Block::new(alloc);
-    let value = Some(Handle::new(0));
-    body.push(Statement::Return { value }, Span::UNDEFINED)?;
-    Ok(body)
-}
-
-fn literals(alloc: Global) -> Result<Arena<Expression>, AllocError> {
-    let mut expressions = Arena::new(alloc);
-    let scalar = Scalar::U32;
-    expressions.append(
-        Expression::Literal(Literal { scalar, bits: 0 }),
-        Span::UNDEFINED,
-    )?;
-    Ok(expressions)
+fn put_types(types: &mut UniqueArena<Type>) -> Result<(), AllocError> {
+    insert(types, Scalar::BOOL)?;
+    insert(types, Scalar::U32)?;
+    insert(types, Scalar::I32)
 }
 
 /// A function that returns a `u32`.
-pub fn callee(alloc: Global) -> Result<Function, AllocError> {
-    let expressions = literals(alloc)?;
-    let body = returning(alloc)?;
-    let mut fun = Function::new(alloc);
+fn fill_callee(fun: &mut Function) -> Result<(), AllocError> {
+    let scalar = Scalar::U32;
+    append(fun, Expression::Literal(Literal { scalar, bits: 0 }))?;
     fun.result = Some(FunctionResult {
         ty: Handle::new(1),
         binding: None,
     });
-    fun.expressions = expressions;
-    fun.body = body;
-    Ok(fun)
+    let value = Some(Handle::new(0));
+    fun.body.push(Statement::Return { value }, Span::UNDEFINED)
 }
 
-fn locals(alloc: Global, count: u32) -> Result<Arena<LocalVariable>, AllocError> {
-    let mut locals = Arena::new(alloc);
+/// So many locals of `u32`.
+fn put_locals(locals: &mut Arena<LocalVariable>, count: u32) -> Result<(), AllocError> {
     for _ in 0..count {
         let variable = LocalVariable {
             name: None,
@@ -73,67 +50,72 @@ fn locals(alloc: Global, count: u32) -> Result<Arena<LocalVariable>, AllocError>
         }
         locals.append(variable, Span::UNDEFINED)?;
     }
-    Ok(locals)
+    Ok(())
 }
 
-/// The arguments of a function of a shape, how many locals it has, and what it returns.
-fn signature(
-    alloc: Global,
-    shape: Shape,
-) -> Result<(Sequence<FunctionArgument>, u32, Option<FunctionResult>), AllocError> {
-    let mut arguments = Sequence::new(alloc);
-    match shape {
-        Shape::Whole(_) => {
-            for _ in 0..16u32 {
-                arguments.push(FunctionArgument {
-                    name: None,
-                    ty: Handle::new(1),
-                    binding: None,
-                })?;
-            }
-            let result = FunctionResult {
-                ty: Handle::new(1),
-                binding: None,
-            };
-            Ok((arguments, 16, Some(result)))
-        }
-        _ => Ok((arguments, 1, None)),
+/// Sixteen arguments and a result, each a `u32`.
+fn put_signature(fun: &mut Function) -> Result<(), AllocError> {
+    for _ in 0..16u32 {
+        fun.arguments.push(FunctionArgument {
+            name: None,
+            ty: Handle::new(1),
+            binding: None,
+        })?;
     }
+    fun.result = Some(FunctionResult {
+        ty: Handle::new(1),
+        binding: None,
+    });
+    Ok(())
 }
 
 /// A function of a shape, with a local of `u32`; a whole one has sixteen such locals and arguments, and returns a `u32`.
-pub fn function(alloc: Global, shape: Shape) -> Result<Function, AllocError> {
-    let Made { expressions, body } = make(alloc, shape)?;
-    let (arguments, count, result) = signature(alloc, shape)?;
-    let local_variables = locals(alloc, count)?;
-    let mut fun = Function::new(alloc);
-    fun.arguments = arguments;
-    fun.result = result;
-    fun.local_variables = local_variables;
-    fun.expressions = expressions;
-    fun.body = body;
-    Ok(fun)
+fn fill_function(alloc: Global, fun: &mut Function, shape: Shape) -> Result<(), AllocError> {
+    if let Shape::Whole(_) = shape {
+        put_signature(fun)?;
+        put_locals(&mut fun.local_variables, 16)?;
+    } else {
+        put_locals(&mut fun.local_variables, 1)?;
+    }
+    fill(alloc, fun, shape)
 }
 
-fn put(functions: &mut Arena<Function>, fun: Function) -> Result<(), AllocError> {
+/// Puts a function of a shape last, or the callee where there is none.
+fn put_function(
+    alloc: Global,
+    functions: &mut Arena<Function>,
+    shape: Option<Shape>,
+) -> Result<(), AllocError> {
     if functions.is_full() {
         return Err(AllocError);
+    }
+    let mut fun = Function::new(alloc);
+    match shape {
+        Some(shape) => fill_function(alloc, &mut fun, shape)?,
+        None => fill_callee(&mut fun)?,
     }
     functions.append(fun, Span::UNDEFINED)?;
     Ok(())
 }
 
+fn fill_module(
+    alloc: Global,
+    module: &mut Module,
+    shape: Shape,
+    count: u32,
+) -> Result<(), AllocError> {
+    put_types(&mut module.types)?;
+    put_function(alloc, &mut module.functions, None)?;
+    for _ in 0..count {
+        put_function(alloc, &mut module.functions, Some(shape))?;
+    }
+    Ok(())
+}
+
 /// A module of the callee and, behind it, so many functions of a shape.
 pub fn module(alloc: Global, shape: Shape, count: u32) -> Result<Module, AllocError> {
-    let mut functions = Arena::new(alloc);
-    put(&mut functions, callee(alloc)?)?;
-    for _ in 0..count {
-        put(&mut functions, function(alloc, shape)?)?;
-    }
-    let types = types(alloc)?;
     let mut module = Module::new(alloc);
-    module.types = types;
-    module.functions = functions;
+    fill_module(alloc, &mut module, shape, count)?;
     Ok(module)
 }
 
@@ -153,6 +135,22 @@ fn varying(location: u32) -> FunctionArgument {
     }
 }
 
+/// So many varyings, from a location on, and so many globals that are named.
+fn fill_entry(
+    fun: &mut Function,
+    first: u32,
+    varyings: u32,
+    globals: u32,
+) -> Result<(), AllocError> {
+    for index in 0..varyings {
+        fun.arguments.push(varying(first.wrapping_add(index)))?;
+    }
+    for index in 0..globals {
+        append(fun, Expression::GlobalVariable(Handle::new(index)))?;
+    }
+    Ok(())
+}
+
 /// A fragment shader that takes in so many varyings, from a location on, and uses so many globals.
 pub fn entry_point(
     alloc: Global,
@@ -160,20 +158,8 @@ pub fn entry_point(
     varyings: u32,
     globals: u32,
 ) -> Result<EntryPoint, AllocError> {
-    let mut arguments = Sequence::new(alloc);
-    for index in 0..varyings {
-        arguments.push(varying(first.wrapping_add(index)))?;
-    }
-    let mut expressions = Arena::new(alloc);
-    for index in 0..globals {
-        append(
-            &mut expressions,
-            Expression::GlobalVariable(Handle::new(index)),
-        )?;
-    }
     let mut function = Function::new(alloc);
-    function.arguments = arguments;
-    function.expressions = expressions;
+    fill_entry(&mut function, first, varyings, globals)?;
     Ok(EntryPoint {
         stage: ShaderStage::Fragment,
         early_depth_test: None,
@@ -184,9 +170,10 @@ pub fn entry_point(
     })
 }
 
-/// A module of so many private globals.
-pub fn with_globals(alloc: Global, count: u32) -> Result<Module, AllocError> {
-    let mut globals = Arena::new(alloc);
+/// The types, and so many private globals.
+fn fill_globals(module: &mut Module, count: u32) -> Result<(), AllocError> {
+    put_types(&mut module.types)?;
+    let globals = &mut module.global_variables;
     for _ in 0..count {
         let global = GlobalVariable {
             space: AddressSpace::Private,
@@ -200,9 +187,12 @@ pub fn with_globals(alloc: Global, count: u32) -> Result<Module, AllocError> {
         }
         globals.append(global, Span::UNDEFINED)?;
     }
-    let types = types(alloc)?;
+    Ok(())
+}
+
+/// A module of so many private globals.
+pub fn with_globals(alloc: Global, count: u32) -> Result<Module, AllocError> {
     let mut module = Module::new(alloc);
-    module.types = types;
-    module.global_variables = globals;
+    fill_globals(&mut module, count)?;
     Ok(module)
 }

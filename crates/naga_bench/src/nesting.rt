@@ -43,6 +43,23 @@ fn judge(
     }
 }
 
+/// Tells that a module is made, and maybe what is judged of it.
+fn tell(
+    rt: &HostRuntime,
+    validator: &mut Validator<Plain>,
+    module: &Module,
+    is_judged: bool,
+) -> io::Result<()> {
+    println!(rt; "made")?;
+    if !is_judged {
+        return Ok(());
+    }
+    match infos_of_first(rt.alloc(), validator, module)? {
+        Some(infos) => judge(rt, validator, module, &infos),
+        None => println!(rt; "not fit"),
+    }
+}
+
 /// Goes through the steps with a body whose lists hold each other so deep. Without a judgement it is dropped as it was made.
 pub fn run(
     rt: &HostRuntime,
@@ -57,13 +74,8 @@ pub fn run(
         width: 0,
     };
     let module = module(rt.alloc(), nest, 1)?;
-    println!(rt; "made")?;
-    if is_judged {
-        match infos_of_first(rt.alloc(), validator, &module)? {
-            Some(infos) => judge(rt, validator, &module, &infos)?,
-            None => println!(rt; "not fit")?,
-        }
-    }
+    let told = tell(rt, validator, &module, is_judged);
     drop(module);
+    told?;
     println!(rt; "dropped")
 }

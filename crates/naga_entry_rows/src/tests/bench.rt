@@ -13,13 +13,12 @@ use naga_flags::ir::MemoryDecorations;
 use naga_flags::valid::{ShaderStages, TypeFlags};
 use naga_ir::functions::Function;
 use naga_ir::module::{GlobalVariable, Module, ResourceBinding, SpecialTypes};
-use naga_ir::statements::{Block, Statement};
+use naga_ir::statements::Statement;
 use naga_types::built_in::BuiltIn;
 use naga_types::types::{
     AddressSpace, ArraySize, Scalar, StructMember, Type, TypeInner, VectorSize,
 };
 use naga_types::unique_arena::UniqueArena;
-use std::alloc::{AllocError, Global};
 use std::num::NonZeroU32;
 use std::process::Abort;
 
@@ -87,7 +86,7 @@ pub struct Bench {
 }
 
 /// What there was memory for.
-pub fn made<T>(rt: &impl Abort, answer: Result<T, AllocError>) -> T {
+pub fn made<T, E>(rt: &impl Abort, answer: Result<T, E>) -> T {
     match answer {
         Ok(value) => value,
         Err(_) => panic!(rt; "no memory"),
@@ -103,20 +102,26 @@ fn members() -> [[Option<Part>; 2]; 3] {
     ]
 }
 
+/// A member of a struct.
+fn member(part: Part) -> StructMember {
+    let Part { ty, binding } = part;
+    StructMember {
+        name: None,
+        ty: Handle::new(ty),
+        binding,
+        offset: 0,
+    }
+}
+
 /// A struct of these members.
-fn structure(alloc: Global, parts: [Option<Part>; 2]) -> Result<TypeInner, AllocError> {
-    let mut members = Sequence::new(alloc);
+fn structure(rt: &(impl Abort + AllocGlobal), parts: [Option<Part>; 2]) -> TypeInner {
+    let mut members = Sequence::new(rt.alloc());
     for part in parts {
-        if let Some(Part { ty, binding }) = part {
-            members.push(StructMember {
-                name: None,
-                ty: Handle::new(ty),
-                binding,
-                offset: 0,
-            })?;
+        if let Some(part) = part {
+            made(rt, members.push(member(part)));
         }
     }
-    Ok(TypeInner::Struct { members, span: 32 })
+    TypeInner::Struct { members, span: 32 }
 }
 
 /// The types without members, 0 to 5.
@@ -142,41 +147,35 @@ fn plain_types() -> [TypeInner; 6] {
 }
 
 /// Puts a type without a name last.
-fn add_type(
-    rt: &(impl Abort + AllocGlobal),
-    types: &mut UniqueArena<Type>,
-    inner: TypeInner,
-) -> Result<(), AllocError> {
+fn add_type(rt: &impl Abort, types: &mut UniqueArena<Type>, inner: TypeInner) {
     assert!(rt; !types.is_full());
-    types.insert(Type { name: None, inner }, NOWHERE)?;
-    Ok(())
+    made(rt, types.insert(Type { name: None, inner }, NOWHERE));
 }
 
 /// The types of the module.
-pub fn types_of(rt: &(impl Abort + AllocGlobal)) -> Result<UniqueArena<Type>, AllocError> {
+pub fn types_of(rt: &(impl Abort + AllocGlobal)) -> UniqueArena<Type> {
     let mut types = UniqueArena::new(rt.alloc());
     for inner in plain_types() {
-        add_type(rt, &mut types, inner)?;
+        add_type(rt, &mut types, inner);
     }
     for parts in members() {
-        let inner = structure(rt.alloc(), parts)?;
-        add_type(rt, &mut types, inner)?;
+        add_type(rt, &mut types, structure(rt, parts));
     }
-    Ok(types)
+    types
 }
 
 /// What is known of the types: of structs all but the one of sources are not shared between stages.
-pub fn infos_of_types(rt: &(impl Abort + AllocGlobal)) -> Result<Vec<TypeInfo>, AllocError> {
+pub fn infos_of_types(rt: &(impl Abort + AllocGlobal)) -> Vec<TypeInfo> {
     let unshared = TypeInfo {
         flags: TypeFlags(TypeFlags::ALL.0 & !TypeFlags::IO_SHAREABLE.0),
         ..GOOD
     };
-    let mut infos = vec![in rt.alloc(); unshared; TYPES]?;
+    let mut infos = made(rt, vec![in rt.alloc(); unshared; TYPES]);
     assert!(rt; infos.len() == TYPES);
     for index in 0..=SOURCES as usize {
         infos[index] = GOOD;
     }
-    Ok(infos)
+    infos
 }
 
 /// The space, the type and the binding of each global.
@@ -208,57 +207,55 @@ fn global(space: AddressSpace, ty: u32, binding: Option<u32>) -> GlobalVariable 
     }
 }
 
-fn globals_of(rt: &(impl Abort + AllocGlobal)) -> Result<Arena<GlobalVariable>, AllocError> {
+fn globals_of(rt: &(impl Abort + AllocGlobal)) -> Arena<GlobalVariable> {
     let mut arena = Arena::new(rt.alloc());
     for (space, ty, binding) in globals() {
         assert!(rt; !arena.is_full());
-        arena.append(global(space, ty, binding), NOWHERE)?;
+        made(rt, arena.append(global(space, ty, binding), NOWHERE));
     }
-    Ok(arena)
+    arena
 }
 
-/// A function of this one statement, if there is one.
-fn callee(alloc: Global, statement: Option<Statement>) -> Result<Function, AllocError> {
-    let mut body = Block::new(alloc);
-    if let Some(statement) = statement {
-        body.push(statement, HERE)?;
+/// A function whose body is a Kill, or empty.
+fn callee(rt: &(impl Abort + AllocGlobal), kills: bool) -> Function {
+    let mut fun = Function::new(rt.alloc());
+    if kills {
+        made(rt, fun.body.push(Statement::Kill, HERE));
     }
-    let mut fun = Function::new(alloc);
-    fun.body = body;
-    Ok(fun)
+    fun
 }
 
 /// The functions of the module.
-fn functions_of(rt: &(impl Abort + AllocGlobal)) -> Result<Arena<Function>, AllocError> {
+fn functions_of(rt: &(impl Abort + AllocGlobal)) -> Arena<Function> {
     let mut functions = Arena::new(rt.alloc());
-    for statement in [Some(Statement::Kill), None] {
-        let fun = callee(rt.alloc(), statement)?;
+    for kills in [true, false] {
         assert!(rt; !functions.is_full());
-        functions.append(fun, NOWHERE)?;
+        made(rt, functions.append(callee(rt, kills), NOWHERE));
     }
-    Ok(functions)
+    functions
 }
 
 /// The info of each function, which may run at these stages.
-pub fn infos_of(alloc: Global, stages: [ShaderStages; 2]) -> Result<ModuleInfo, AllocError> {
-    let mut infos = ModuleInfo::new(alloc);
+pub fn infos_of(rt: &(impl Abort + AllocGlobal), stages: [ShaderStages; 2]) -> ModuleInfo {
+    let mut infos = ModuleInfo::new(rt.alloc());
     for available_stages in stages {
-        infos.functions.push(FunctionInfo {
-            expression_types: Sequence::new(alloc),
-            global_uses: Sequence::new(alloc),
+        let info = FunctionInfo {
+            expression_types: Sequence::new(rt.alloc()),
+            global_uses: Sequence::new(rt.alloc()),
             available_stages,
             dual_source_blending: false,
-        })?;
+        };
+        made(rt, infos.functions.push(info));
     }
-    Ok(infos)
+    infos
 }
 
 /// The module.
 fn module(rt: &(impl Abort + AllocGlobal)) -> Module {
     let mut module = Module::new(rt.alloc());
-    module.types = made(rt, types_of(rt));
-    module.global_variables = made(rt, globals_of(rt));
-    module.functions = made(rt, functions_of(rt));
+    module.types = types_of(rt);
+    module.global_variables = globals_of(rt);
+    module.functions = functions_of(rt);
     module.special_types = SpecialTypes {
         ray_desc: Some(Handle::new(COLOR)),
     };
@@ -270,7 +267,7 @@ pub fn make_bench(rt: &(impl Abort + AllocGlobal)) -> Bench {
     let stages = [ShaderStages::FRAGMENT, ShaderStages::ALL];
     Bench {
         module: module(rt),
-        types: made(rt, infos_of_types(rt)),
-        infos: made(rt, infos_of(rt.alloc(), stages)),
+        types: infos_of_types(rt),
+        infos: infos_of(rt, stages),
     }
 }

@@ -21,7 +21,7 @@ use naga_ir::operations::RayPipelineFunction;
 use naga_ir::statements::{Block, Statement};
 use naga_layers::plain::Plain;
 use naga_valid::validator::Validator;
-use std::alloc::{AllocError, Global};
+use std::alloc::Global;
 use std::process::Abort;
 
 /// The expressions of a function that names two globals: the second of these, and the descriptor of rays.
@@ -30,20 +30,19 @@ const RAY_PAYLOAD_NAMED: u32 = 1;
 pub const DESCRIPTOR: u32 = 2;
 
 /// The globals that are named, and behind them a descriptor of rays.
-fn expressions_of(
-    rt: &(impl Abort + AllocGlobal),
-    globals: [Option<u32>; 2],
-) -> Result<Arena<Expression>, AllocError> {
+fn expressions_of(rt: &(impl Abort + AllocGlobal), globals: [Option<u32>; 2]) -> Arena<Expression> {
     let mut expressions = Arena::new(rt.alloc());
     for global in globals {
         if let Some(global) = global {
             assert!(rt; !expressions.is_full());
-            expressions.append(Expression::GlobalVariable(Handle::new(global)), NOWHERE)?;
+            let named = Expression::GlobalVariable(Handle::new(global));
+            made(rt, expressions.append(named, NOWHERE));
         }
     }
     assert!(rt; !expressions.is_full());
-    expressions.append(Expression::ZeroValue(Handle::new(COLOR)), NOWHERE)?;
-    Ok(expressions)
+    let descriptor = Expression::ZeroValue(Handle::new(COLOR));
+    made(rt, expressions.append(descriptor, NOWHERE));
+    expressions
 }
 
 fn statement(alloc: Global, step: Step) -> Statement {
@@ -69,31 +68,36 @@ fn ray(descriptor: u32) -> Statement {
     })
 }
 
-fn body_of(alloc: Global, steps: [Option<Step>; 2]) -> Result<Block, AllocError> {
-    let mut body = Block::new(alloc);
+fn body_of(rt: &(impl Abort + AllocGlobal), steps: [Option<Step>; 2]) -> Block {
+    let mut body = Block::new(rt.alloc());
     for step in steps {
         if let Some(step) = step {
-            body.push(statement(alloc, step), HERE)?;
+            made(rt, body.push(statement(rt.alloc(), step), HERE));
         }
     }
-    Ok(body)
+    body
+}
+
+fn argument(part: Part) -> FunctionArgument {
+    let Part { ty, binding } = part;
+    FunctionArgument {
+        name: None,
+        ty: Handle::new(ty),
+        binding,
+    }
 }
 
 fn arguments_of(
-    alloc: Global,
+    rt: &(impl Abort + AllocGlobal),
     parts: [Option<Part>; 2],
-) -> Result<Sequence<FunctionArgument>, AllocError> {
-    let mut arguments = Sequence::new(alloc);
+) -> Sequence<FunctionArgument> {
+    let mut arguments = Sequence::new(rt.alloc());
     for part in parts {
-        if let Some(Part { ty, binding }) = part {
-            arguments.push(FunctionArgument {
-                name: None,
-                ty: Handle::new(ty),
-                binding,
-            })?;
+        if let Some(part) = part {
+            made(rt, arguments.push(argument(part)));
         }
     }
-    Ok(arguments)
+    arguments
 }
 
 fn result_of(declared: Option<Part>) -> Option<FunctionResult> {
@@ -109,9 +113,9 @@ fn result_of(declared: Option<Part>) -> Option<FunctionResult> {
 /// The function of an entry point, with statements at `HERE`.
 pub fn function(rt: &(impl Abort + AllocGlobal), case: &Case) -> Function {
     let mut fun = Function::new(rt.alloc());
-    fun.expressions = made(rt, expressions_of(rt, case.globals));
-    fun.body = made(rt, body_of(rt.alloc(), case.body));
-    fun.arguments = made(rt, arguments_of(rt.alloc(), case.arguments));
+    fun.expressions = expressions_of(rt, case.globals);
+    fun.body = body_of(rt, case.body);
+    fun.arguments = arguments_of(rt, case.arguments);
     fun.result = result_of(case.declared);
     fun
 }
@@ -179,68 +183,67 @@ pub fn validator_over<B: Below + Drop>(
     Validator::new(below, case.flags, case.capabilities).with_types(infos)
 }
 
-/// What is answered of an entry point: its info, or its refusal, of which a fault stands at `HERE` where it is its function's,
-/// and else nowhere.
+/// What is answered of an entry point.
+type Answer = Result<FunctionInfo, Refusal<EntryPointError>>;
+
+/// The answer of the validator.
+fn answer_to<B: Below>(
+    rt: &(impl Abort + AllocGlobal),
+    validator: &mut Validator<B>,
+    bench: &Bench,
+    ep: &EntryPoint,
+) -> Answer {
+    let Bench { module, infos, .. } = bench;
+    assert!(rt; validator.has_types_of(module) && validator.has_payload_sizes(module));
+    assert!(rt; fits_types(module) && fits_entry(ep, module));
+    assert!(rt; fits_function(&ep.function, module, infos.functions.len()));
+    validator.validate_entry_point(rt.alloc(), ep, module, infos)
+}
+
+/// A fault stands at `HERE` where it is its function's, and else nowhere.
+fn expect_place(rt: &impl Abort, answer: &Answer) {
+    if let Err(Refusal::Fault(fault)) = answer {
+        let in_function = matches!(fault.as_inner(), EntryPointError::Function(_));
+        let places = if in_function { [HERE].as_slice() } else { &[] };
+        assert!(rt; fault.spans() == places);
+    }
+}
+
+/// What is answered of an entry point: its info, or its refusal, of which a fault stands where it should.
 pub fn ask<B: Below>(
     rt: &(impl Abort + AllocGlobal),
     validator: &mut Validator<B>,
     bench: &Bench,
     case: &Case,
-) -> Result<FunctionInfo, Refusal<EntryPointError>> {
+) -> Answer {
     let ep = entry_point(rt, case);
-    let Bench { module, infos, .. } = bench;
-    assert!(rt; validator.has_types_of(module) && validator.has_payload_sizes(module));
-    assert!(rt; fits_types(module) && fits_entry(&ep, module));
-    assert!(rt; fits_function(&ep.function, module, infos.functions.len()));
-    let answer = validator.validate_entry_point(rt.alloc(), &ep, module, infos);
-    if let Err(Refusal::Fault(fault)) = &answer {
-        let in_function = matches!(fault.as_inner(), EntryPointError::Function(_));
-        let places = if in_function { [HERE].as_slice() } else { &[] };
-        assert!(rt; fault.spans() == places);
-    }
+    let answer = answer_to(rt, validator, bench, &ep);
+    expect_place(rt, &answer);
     answer
 }
 
-/// What one validator answers next. Where memory is refused it stays as it was, and answers when it is asked again.
-pub fn answer_of(
+/// The same. Where memory is refused the validator stays as it was, and is asked again.
+fn ask_again(
     rt: &(impl Abort + AllocGlobal),
     validator: &mut Validator<Plain>,
     bench: &Bench,
     case: &Case,
-) -> Result<FunctionInfo, EntryPointError> {
+) -> Answer {
     let before = validator.trace_state();
-    let mut answer = ask(rt, validator, bench, case);
-    if let Err(Refusal::Memory) = answer {
-        assert_eq!(rt; validator.trace_state(), before);
-        answer = ask(rt, validator, bench, case);
-    }
-    match answer {
-        Ok(info) => Ok(info),
-        Err(Refusal::Fault(fault)) => Err(fault.into_inner()),
-        Err(Refusal::Memory) => panic!(rt; "refused twice"),
+    match ask(rt, validator, bench, case) {
+        Err(Refusal::Memory) => {
+            assert!(rt; validator.trace_state() == before);
+            ask(rt, validator, bench, case)
+        }
+        answer => answer,
     }
 }
 
 /// The info of an entry point that is accepted.
 pub fn info_of(rt: &(impl Abort + AllocGlobal), bench: &Bench, case: &Case) -> FunctionInfo {
     let mut validator = validator(rt, bench, case);
-    match answer_of(rt, &mut validator, bench, case) {
+    match ask_again(rt, &mut validator, bench, case) {
         Ok(info) => info,
-        Err(fault) => panic!(rt; "refused: {fault:?}"),
+        Err(refusal) => panic!(rt; "refused: {refusal:?}"),
     }
-}
-
-/// The fault in an answer, if there is one.
-pub fn fault_in(answer: Result<FunctionInfo, EntryPointError>) -> Option<EntryPointError> {
-    match answer {
-        Ok(_) => None,
-        Err(fault) => Some(fault),
-    }
-}
-
-/// An entry point is accepted.
-pub fn accepts(rt: &(impl Abort + AllocGlobal), bench: &Bench, case: &Case) {
-    let mut validator = validator(rt, bench, case);
-    let fault = fault_in(answer_of(rt, &mut validator, bench, case));
-    assert!(rt; fault.is_none(), "refused: {fault:?}");
 }

@@ -3,7 +3,8 @@
 use crate::tests::bench::{
     Bench, COLOR, OUTPUT, PAYLOAD, RAY_PAYLOAD, SOURCES, STRUCTURE, TWIN, U32, UNIFORM, make_bench,
 };
-use crate::tests::judged::{answer_of, fault_in, info_of, validator};
+use crate::tests::judged::{info_of, validator};
+use crate::tests::rows::{Row, bad, expect_answer, good};
 use crate::tests::shape::{
     Case, Step, at, at_compute, at_fragment, at_mesh, at_task, smooth, unbound,
 };
@@ -13,11 +14,17 @@ use naga_context::trace::{TraceRayVertexReturnState, TraceState};
 use naga_flags::valid::GlobalUse;
 use naga_interface::error::EntryPointError;
 use naga_ir::module::ShaderStage;
+use naga_layers::plain::Plain;
+use naga_valid::validator::Validator;
 use std::process::Abort;
-use std::test::Fail;
+
+/// Whether the outputs of an accepted entry point are the two sources of a blend.
+fn is_blend_of(rt: &(impl Abort + AllocGlobal), bench: &Bench, case: &Case) -> bool {
+    info_of(rt, bench, case).dual_source_blending
+}
 
 #[test]
-fn two_sources_of_a_blend_are_told(rt: HostRuntime) -> Result<(), Fail> {
+fn two_sources_of_a_blend_are_told(rt: HostRuntime) {
     let bench = make_bench(&rt);
     for (declared, is_blend) in [
         (Some(unbound(SOURCES)), true),
@@ -28,10 +35,9 @@ fn two_sources_of_a_blend_are_told(rt: HostRuntime) -> Result<(), Fail> {
             declared,
             ..at_fragment()
         };
-        let info = info_of(&rt, &bench, &case);
-        assert!(rt; info.dual_source_blending == is_blend);
+        assert!(rt; is_blend_of(&rt, &bench, &case) == is_blend);
     }
-    Ok(())
+    drop(bench);
 }
 
 /// How an accepted entry point uses a global.
@@ -46,7 +52,7 @@ fn use_of(
 }
 
 #[test]
-fn the_stage_uses_globals_too(rt: HostRuntime) -> Result<(), Fail> {
+fn the_stage_uses_globals_too(rt: HostRuntime) {
     let bench = make_bench(&rt);
     let read = GlobalUse::READ;
     for (case, global, uses) in [
@@ -64,7 +70,7 @@ fn the_stage_uses_globals_too(rt: HostRuntime) -> Result<(), Fail> {
     ] {
         assert!(rt; use_of(&rt, &bench, &case, global) == Some(uses));
     }
-    Ok(())
+    drop(bench);
 }
 
 /// A ray generation entry point that traces a ray, whose payload is of u32 and whose structure returns vertices.
@@ -87,19 +93,28 @@ fn traced() -> TraceState {
     }
 }
 
+/// A validator gives a row its own answer, and ray traces leave it this.
+fn expect_left(
+    rt: &(impl Abort + AllocGlobal),
+    validator: &mut Validator<Plain>,
+    bench: &Bench,
+    row: Row,
+    left: TraceState,
+) {
+    assert!(rt; expect_answer(rt, validator, bench, &row) == left);
+}
+
 #[test]
-fn a_refused_entry_point_leaves_no_traces(rt: HostRuntime) -> Result<(), Fail> {
+fn a_refused_entry_point_leaves_no_traces(rt: HostRuntime) {
     let bench = make_bench(&rt);
-    let refused = tracing().with_payload(PAYLOAD);
-    let mut validator = validator(&rt, &bench, &refused);
-    let first = fault_in(answer_of(&rt, &mut validator, &bench, &refused));
-    assert!(rt; first == Some(EntryPointError::UnexpectedTaskPayload));
-    assert_eq!(rt; validator.trace_state(), NOTHING);
-    let second = fault_in(answer_of(&rt, &mut validator, &bench, &tracing()));
-    assert!(rt; second.is_none());
-    assert_eq!(rt; validator.trace_state(), traced());
-    let third = fault_in(answer_of(&rt, &mut validator, &bench, &refused));
-    assert!(rt; third == Some(EntryPointError::UnexpectedTaskPayload));
-    assert_eq!(rt; validator.trace_state(), traced());
-    Ok(())
+    let refused = || {
+        let payload = EntryPointError::UnexpectedTaskPayload;
+        bad(tracing().with_payload(PAYLOAD), payload)
+    };
+    let mut validator = validator(&rt, &bench, &tracing());
+    expect_left(&rt, &mut validator, &bench, refused(), NOTHING);
+    expect_left(&rt, &mut validator, &bench, good(tracing()), traced());
+    expect_left(&rt, &mut validator, &bench, refused(), traced());
+    drop(validator);
+    drop(bench);
 }

@@ -1,7 +1,7 @@
 //! Whole modules, judged over the plain layer.
 
 use crate::tests::bench::{COLOR, KILLS, infos_of, infos_of_types, made, make_bench, types_of};
-use crate::tests::judged::{accepts, entry_point, function};
+use crate::tests::judged::{entry_point, function, info_of};
 use crate::tests::parts::{ALL_CHECKS, HERE, NOWHERE};
 use crate::tests::shape::{Case, Step, at_compute, at_fragment};
 use naga_arena::arena::Arena;
@@ -18,9 +18,7 @@ use naga_ir::functions::Function;
 use naga_ir::module::{EntryPoint, Module, SpecialTypes};
 use naga_layers::plain::Plain;
 use naga_module::check::{Given, ModuleFault, check_module};
-use std::alloc::AllocError;
 use std::process::Abort;
-use std::test::Fail;
 
 /// A module of this function and this entry point, if they are there. Its types, and what is known of them, are those of the rows of
 /// entry points; of a function the body counts alone.
@@ -44,36 +42,30 @@ pub fn beside_a_kill(entry: Case) -> Parts {
     }
 }
 
-fn functions_of(
-    rt: &(impl Abort + AllocGlobal),
-    parts: &Parts,
-) -> Result<Arena<Function>, AllocError> {
+fn functions_of(rt: &(impl Abort + AllocGlobal), parts: &Parts) -> Arena<Function> {
     let mut functions = Arena::new(rt.alloc());
     if let Some(case) = &parts.function {
-        functions.append(function(rt, case), NOWHERE)?;
+        made(rt, functions.append(function(rt, case), NOWHERE));
     }
-    Ok(functions)
+    functions
 }
 
-fn entries_of(
-    rt: &(impl Abort + AllocGlobal),
-    parts: &Parts,
-) -> Result<Sequence<EntryPoint>, AllocError> {
+fn entries_of(rt: &(impl Abort + AllocGlobal), parts: &Parts) -> Sequence<EntryPoint> {
     let mut entries = Sequence::new(rt.alloc());
     if let Some(case) = &parts.entry {
-        entries.push(entry_point(rt, case))?;
+        made(rt, entries.push(entry_point(rt, case)));
     }
-    Ok(entries)
+    entries
 }
 
 fn module(rt: &(impl Abort + AllocGlobal), parts: &Parts) -> Module {
     let mut module = Module::new(rt.alloc());
-    module.types = made(rt, types_of(rt));
-    module.functions = made(rt, functions_of(rt, parts));
+    module.types = types_of(rt);
+    module.functions = functions_of(rt, parts);
     module.special_types = SpecialTypes {
         ray_desc: Some(Handle::new(COLOR)),
     };
-    module.entry_points = made(rt, entries_of(rt, parts));
+    module.entry_points = entries_of(rt, parts);
     module
 }
 
@@ -85,32 +77,22 @@ const SETTINGS: Settings = Settings {
     subgroup_operations: SubgroupOperationSet::ALL,
 };
 
-/// What is answered of a module over a lower layer.
-fn answer_over<B: Below + Drop>(
-    rt: &(impl Abort + AllocGlobal),
+/// The fault of a module of which this is known, over a lower layer, if it has one.
+fn fault_given<B: Below + Drop>(
+    rt: &impl AllocGlobal,
     below: B,
-    parts: &Parts,
-) -> Result<ModuleInfo, ModuleFault> {
-    let module = module(rt, parts);
-    let given = Given {
-        types: made(rt, infos_of_types(rt)),
-        global_types: Vec::new(rt.alloc()),
-    };
-    check_module(rt.alloc(), below, SETTINGS, given, &module)
+    given: Given,
+    module: &Module,
+) -> Option<ModuleFault> {
+    match check_module(rt.alloc(), below, SETTINGS, given, module) {
+        Ok(_) => None,
+        Err(fault) => Some(fault),
+    }
 }
 
-/// The fault of a module over a lower layer, if it has one. That of a function, or of an entry point's, stands at `HERE`, any
-/// other nowhere.
-pub fn fault_over<B: Below + Drop>(
-    rt: &(impl Abort + AllocGlobal),
-    below: B,
-    parts: &Parts,
-) -> Option<ModuleFault> {
-    let fault = match answer_over(rt, below, parts) {
-        Ok(_) => return None,
-        Err(fault) => fault,
-    };
-    match &fault {
+/// The fault of a function, or of an entry point's, stands at `HERE`, any other nowhere.
+fn expect_place(rt: &impl Abort, fault: &ModuleFault) {
+    match fault {
         ModuleFault::Function(_, error) => assert!(rt; error.spans() == [HERE].as_slice()),
         ModuleFault::EntryPoint(_, error) => {
             let in_function = matches!(error.as_inner(), EntryPointError::Function(_));
@@ -118,7 +100,25 @@ pub fn fault_over<B: Below + Drop>(
         }
         ModuleFault::NotFit | ModuleFault::Global(_, _) | ModuleFault::Memory => {}
     }
-    Some(fault)
+}
+
+/// The fault of a module over a lower layer, if it has one, which stands where it should.
+pub fn fault_over<B: Below + Drop>(
+    rt: &(impl Abort + AllocGlobal),
+    below: B,
+    parts: &Parts,
+) -> Option<ModuleFault> {
+    let module = module(rt, parts);
+    let given = Given {
+        types: infos_of_types(rt),
+        global_types: Vec::new(rt.alloc()),
+    };
+    let fault = fault_given(rt, below, given, &module);
+    drop(module);
+    if let Some(fault) = &fault {
+        expect_place(rt, fault);
+    }
+    fault
 }
 
 pub fn in_entry_point(
@@ -131,22 +131,26 @@ pub fn in_entry_point(
 }
 
 #[test]
-fn infos_that_claim_all_stages_are_believed(rt: HostRuntime) -> Result<(), Fail> {
+fn infos_that_claim_all_stages_are_believed(rt: HostRuntime) {
     let mut bench = make_bench(&rt);
-    bench.infos = made(&rt, infos_of(rt.alloc(), [ShaderStages::ALL; 2]));
-    accepts(&rt, &bench, &at_compute().doing(Step::Call(KILLS)));
-    Ok(())
+    bench.infos = infos_of(&rt, [ShaderStages::ALL; 2]);
+    drop(info_of(&rt, &bench, &at_compute().doing(Step::Call(KILLS))));
+    drop(bench);
+}
+
+/// It is this fault.
+fn expect_fault(rt: &impl Abort, found: Option<ModuleFault>, expected: ModuleFault) {
+    assert!(rt; found == Some(expected));
 }
 
 #[test]
-fn there_is_an_info_for_each_type(rt: HostRuntime) -> Result<(), Fail> {
+fn there_is_an_info_for_each_type(rt: HostRuntime) {
     let module = module(&rt, &NOTHING);
     let given = Given {
         types: Vec::new(rt.alloc()),
         global_types: Vec::new(rt.alloc()),
     };
-    let below = Plain::without_mesh_shaders();
-    let answer = check_module(rt.alloc(), below, SETTINGS, given, &module);
-    assert!(rt; answer == Err(ModuleFault::NotFit));
-    Ok(())
+    let found = fault_given(&rt, Plain::without_mesh_shaders(), given, &module);
+    drop(module);
+    expect_fault(&rt, found, ModuleFault::NotFit);
 }

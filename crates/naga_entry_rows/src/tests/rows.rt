@@ -8,6 +8,7 @@ use naga_arena::arena::Arena;
 use naga_arena::handle::Handle;
 use naga_arena::span::Refusal;
 use naga_below::valid::info::FunctionInfo;
+use naga_context::trace::TraceState;
 use naga_errors::below::Below;
 use naga_errors::function::FunctionError;
 use naga_fits::function::fits_function;
@@ -15,7 +16,6 @@ use naga_fits::types::fits_types;
 use naga_interface::error::EntryPointError;
 use naga_ir::functions::{Function, LocalVariable};
 use naga_valid::validator::Validator;
-use std::alloc::{AllocError, Global};
 use std::process::Abort;
 
 /// An entry point, or its function by itself, and its fault, if it has one.
@@ -56,36 +56,53 @@ pub fn alone(case: Case, fault: Option<FunctionError>) -> Row {
 }
 
 /// A local that begins as the descriptor of rays.
-fn locals_of(alloc: Global) -> Result<Arena<LocalVariable>, AllocError> {
-    let mut locals = Arena::new(alloc);
+fn locals_of(rt: &(impl Abort + AllocGlobal)) -> Arena<LocalVariable> {
+    let mut locals = Arena::new(rt.alloc());
     let local = LocalVariable {
         name: None,
         ty: Handle::new(COLOR),
         init: Some(Handle::new(DESCRIPTOR)),
     };
-    locals.append(local, NOWHERE)?;
-    Ok(locals)
+    made(rt, locals.append(local, NOWHERE));
+    locals
 }
 
 /// The function of a case, as one of the module.
 fn function_alone(rt: &(impl Abort + AllocGlobal), case: &Case) -> Function {
     let mut fun = function(rt, case);
-    fun.local_variables = made(rt, locals_of(rt.alloc()));
+    fun.local_variables = locals_of(rt);
     fun
 }
 
-/// The refusal of a function, if it is refused, as that of an entry point whose function it is.
+/// The refusal of a function, if it is refused, as that of an entry point whose function it is; a fault stands at `HERE`.
 fn refusal_in(
+    rt: &impl Abort,
     answer: Result<FunctionInfo, Refusal<FunctionError>>,
 ) -> Option<Refusal<EntryPointError>> {
     match answer {
         Ok(_) => None,
-        Err(Refusal::Fault(fault)) => Some(Refusal::Fault(fault.into_other())),
+        Err(Refusal::Fault(fault)) => {
+            assert!(rt; fault.spans() == [HERE].as_slice());
+            Some(Refusal::Fault(fault.into_other()))
+        }
         Err(Refusal::Memory) => Some(Refusal::Memory),
     }
 }
 
-/// The refusal of the function of a case by itself, if it is refused; a fault stands at `HERE`.
+/// What is answered of a function of the module.
+fn answer_alone<B: Below>(
+    rt: &(impl Abort + AllocGlobal),
+    validator: &mut Validator<B>,
+    bench: &Bench,
+    fun: &Function,
+) -> Result<FunctionInfo, Refusal<FunctionError>> {
+    let Bench { module, infos, .. } = bench;
+    assert!(rt; validator.has_types_of(module) && fits_types(module));
+    assert!(rt; fits_function(fun, module, infos.functions.len()));
+    validator.validate_function(rt.alloc(), fun, module, infos, false)
+}
+
+/// The refusal of the function of a case by itself, if it is refused.
 fn refusal_alone<B: Below>(
     rt: &(impl Abort + AllocGlobal),
     validator: &mut Validator<B>,
@@ -93,14 +110,7 @@ fn refusal_alone<B: Below>(
     case: &Case,
 ) -> Option<Refusal<EntryPointError>> {
     let fun = function_alone(rt, case);
-    let Bench { module, infos, .. } = bench;
-    assert!(rt; validator.has_types_of(module) && fits_types(module));
-    assert!(rt; fits_function(&fun, module, infos.functions.len()));
-    let answer = validator.validate_function(rt.alloc(), &fun, module, infos, false);
-    if let Err(Refusal::Fault(fault)) = &answer {
-        assert!(rt; fault.spans() == [HERE].as_slice());
-    }
-    refusal_in(answer)
+    refusal_in(rt, answer_alone(rt, validator, bench, &fun))
 }
 
 /// The refusal of a row by a validator, if it is refused.
@@ -113,8 +123,7 @@ pub fn refusal_of<B: Below>(
     if row.alone {
         return refusal_alone(rt, validator, bench, &row.case);
     }
-    let answer = ask(rt, validator, bench, &row.case);
-    match answer {
+    match ask(rt, validator, bench, &row.case) {
         Ok(_) => None,
         Err(refusal) => Some(refusal),
     }
@@ -128,12 +137,13 @@ pub fn settled<B: Below>(
     row: &Row,
 ) -> Option<Refusal<EntryPointError>> {
     let before = validator.trace_state();
-    let found = refusal_of(rt, validator, bench, row);
-    if let Some(Refusal::Memory) = found {
-        assert_eq!(rt; validator.trace_state(), before);
-        return refusal_of(rt, validator, bench, row);
+    match refusal_of(rt, validator, bench, row) {
+        Some(Refusal::Memory) => {
+            assert!(rt; validator.trace_state() == before);
+            refusal_of(rt, validator, bench, row)
+        }
+        found => found,
     }
-    found
 }
 
 /// Whether what was found is the row's own answer.
@@ -148,6 +158,18 @@ pub fn is_own(row: &Row, found: &Option<Refusal<EntryPointError>>) -> bool {
     }
 }
 
+/// A validator gives a row its own answer. What ray traces leave it.
+pub fn expect_answer<B: Below>(
+    rt: &(impl Abort + AllocGlobal),
+    validator: &mut Validator<B>,
+    bench: &Bench,
+    row: &Row,
+) -> TraceState {
+    let found = settled(rt, validator, bench, row);
+    assert!(rt; is_own(row, &found), "{found:?}");
+    validator.trace_state()
+}
+
 /// A validator that has seen other rows before, none of which was accepted, answers a row as a fresh one does, and is left as
 /// that one is.
 pub fn expect_own<B: Below>(
@@ -156,10 +178,8 @@ pub fn expect_own<B: Below>(
     bench: &Bench,
     row: &Row,
 ) {
-    let found = settled(rt, later, bench, row);
-    assert!(rt; is_own(row, &found), "{found:?}");
+    let left = expect_answer(rt, later, bench, row);
     let mut fresh = validator(rt, bench, &row.case);
-    let first = settled(rt, &mut fresh, bench, row);
-    assert!(rt; is_own(row, &first));
-    assert_eq!(rt; later.trace_state(), fresh.trace_state());
+    let fresh_left = expect_answer(rt, &mut fresh, bench, row);
+    assert!(rt; left == fresh_left);
 }

@@ -5,7 +5,7 @@ use crate::tests::bench::{
     make_bench,
 };
 use crate::tests::judged::validator;
-use crate::tests::rows::{Row, alone, bad, expect_own, good, is_own, settled};
+use crate::tests::rows::{Row, alone, bad, expect_answer, expect_own, good, is_own, settled};
 use crate::tests::shape::{
     Case, Part, Step, at, at_compute, at_fragment, at_vertex, built_in, smooth,
 };
@@ -19,7 +19,6 @@ use naga_ir::module::ShaderStage;
 use naga_types::built_in::BuiltIn;
 use naga_types::types::{Binding, Interpolation, Sampling};
 use std::process::Abort;
-use std::test::Fail;
 
 /// The same in groups of so many invocations.
 fn sized(case: Case, width: u32) -> Case {
@@ -144,27 +143,31 @@ fn rows() -> [Row; 21] {
     ]
 }
 
+/// A fresh validator gives the row with this number its own answer.
+fn expect_row(rt: &(impl Abort + AllocGlobal), bench: &Bench, index: usize, row: &Row) {
+    let mut validator = validator(rt, bench, &row.case);
+    let found = settled(rt, &mut validator, bench, row);
+    assert!(rt; is_own(row, &found), "row {index}: {found:?}");
+}
+
 #[test]
-fn worked_rows(rt: HostRuntime) -> Result<(), Fail> {
+fn worked_rows(rt: HostRuntime) {
     let bench = make_bench(&rt);
-    for (index, row) in rows().into_iter().enumerate() {
-        let mut validator = validator(&rt, &bench, &row.case);
-        let found = settled(&rt, &mut validator, &bench, &row);
-        assert!(rt; is_own(&row, &found), "row {index}: {found:?}");
+    for (index, row) in rows().iter().enumerate() {
+        expect_row(&rt, &bench, index, row);
     }
-    Ok(())
+    drop(bench);
 }
 
 /// What a validator that has refused a row answers to the next one is what a fresh one answers.
 fn expect_behind(rt: &(impl Abort + AllocGlobal), bench: &Bench, refused: &Row, row: &Row) {
     let mut validator = validator(rt, bench, &refused.case);
-    let first = settled(rt, &mut validator, bench, refused);
-    assert!(rt; is_own(refused, &first));
+    expect_answer(rt, &mut validator, bench, refused);
     expect_own(rt, &mut validator, bench, row);
 }
 
 #[test]
-fn a_refusal_changes_no_later_answer(rt: HostRuntime) -> Result<(), Fail> {
+fn a_refusal_changes_no_later_answer(rt: HostRuntime) {
     let bench = make_bench(&rt);
     let rows = rows();
     for refused in &rows {
@@ -175,5 +178,5 @@ fn a_refusal_changes_no_later_answer(rt: HostRuntime) -> Result<(), Fail> {
             }
         }
     }
-    Ok(())
+    drop(bench);
 }

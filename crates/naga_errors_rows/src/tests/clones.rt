@@ -1,5 +1,6 @@
 //! Clones are equal, texts and spans included, and an error converts into the one that holds it.
 
+use crate::tests::{expect_equal, granted};
 use naga_arena::handle::Handle;
 use naga_arena::span::{Span, WithSpan};
 use naga_errors::function::{AtomicError, FunctionError, LocalVariableError, SubgroupError};
@@ -9,73 +10,98 @@ use naga_ir::module::{MeshOutputTopology, MeshStageInfo};
 use naga_types::built_in::BuiltIn;
 use naga_types::name::Name;
 use naga_types::types::{AddressSpace, Members, Scalar, StructMember, TypeInner, VectorSize};
-use std::alloc::{AllocError, Global};
-use std::test::Fail;
+use std::process::Abort;
 
 /// A struct of one named member.
-fn structure(alloc: Global, member: &str) -> Result<TypeInner, AllocError> {
-    let mut members = Members::new(alloc);
-    members.push(StructMember {
-        name: Some(Name::from(String::from_str(alloc, member)?)),
+fn structure(rt: &(impl Abort + AllocGlobal), member: &str) -> TypeInner {
+    let member = StructMember {
+        name: Some(name_of(rt, member)),
         ty: Handle::new(0),
         binding: None,
         offset: 0,
-    })?;
-    Ok(TypeInner::Struct { members, span: 4 })
+    };
+    let mut members = Members::new(rt.alloc());
+    granted(rt, members.push(member));
+    TypeInner::Struct { members, span: 4 }
 }
 
-fn bad_texel(alloc: Global, member: &str) -> Result<FunctionError, AllocError> {
-    Ok(FunctionError::InvalidStoreValue {
+/// The name of this text.
+fn name_of(rt: &(impl Abort + AllocGlobal), text: &str) -> Name {
+    Name::from(granted(rt, String::from_str(rt.alloc(), text)))
+}
+
+fn bad_texel(rt: &(impl Abort + AllocGlobal), member: &str) -> FunctionError {
+    FunctionError::InvalidStoreValue {
         actual: Handle::new(7),
-        actual_ty: structure(alloc, member)?,
+        actual_ty: structure(rt, member),
         expected_ty: TypeInner::Vector {
             size: VectorSize::Quad,
             scalar: Scalar::F32,
         },
-    })
+    }
+}
+
+/// Two errors differ.
+fn expect_other(rt: &impl Abort, first: &FunctionError, second: &FunctionError) {
+    assert!(rt; *first != *second);
 }
 
 #[test]
-fn a_bad_texel(rt: HostRuntime) -> Result<(), Fail> {
-    let error = bad_texel(rt.alloc(), "x")?;
-    assert!(rt; error.clone(rt.alloc())? == error);
-    assert!(rt; error == bad_texel(rt.alloc(), "x")?);
-    assert!(rt; error != bad_texel(rt.alloc(), "y")?);
-    Ok(())
+fn a_bad_texel(rt: HostRuntime) {
+    let error = bad_texel(&rt, "x");
+    let copy = granted(&rt, error.clone(rt.alloc()));
+    expect_equal(&rt, &copy, &error);
+    let same = bad_texel(&rt, "x");
+    expect_equal(&rt, &error, &same);
+    let other = bad_texel(&rt, "y");
+    expect_other(&rt, &error, &other);
+    drop(copy);
+    drop(same);
+    drop(other);
+    drop(error);
+}
+
+/// The clone of an error is equal to it.
+fn clone_error(rt: &(impl Abort + AllocGlobal), error: &FunctionError) {
+    let copy = granted(rt, error.clone(rt.alloc()));
+    expect_equal(rt, &copy, error);
+    drop(copy);
 }
 
 #[test]
-fn errors_with_names(rt: HostRuntime) -> Result<(), Fail> {
-    let alloc = rt.alloc();
-    let name = Name::from(String::from_str(alloc, "p")?);
+fn errors_with_names(rt: HostRuntime) {
     let errors = [
         FunctionError::LocalVariable {
             handle: Handle::new(2),
-            name: name.clone(alloc)?,
+            name: name_of(&rt, "p"),
             source: LocalVariableError::InitializerType,
         },
         FunctionError::InvalidArgumentPointerSpace {
             index: 1,
-            name,
+            name: name_of(&rt, "p"),
             space: AddressSpace::Uniform,
         },
     ];
     for error in &errors {
-        assert!(rt; error.clone(alloc)? == *error);
+        clone_error(&rt, error);
     }
+    drop(errors);
     let varying = VaryingError::InvalidBuiltInType(
         BuiltIn::Position { invariant: true },
-        structure(alloc, "x")?,
+        structure(&rt, "x"),
     );
-    assert!(rt; varying.clone(alloc)? == varying);
-    Ok(())
+    let copy = granted(&rt, varying.clone(rt.alloc()));
+    expect_equal(&rt, &copy, &varying);
+    drop(copy);
+    drop(varying);
 }
 
-#[test]
-fn an_analysis(rt: HostRuntime) -> Result<(), Fail> {
+const PLACE: Span = Span { start: 3, end: 5 };
+
+/// An analysis with a fault at a place.
+fn faulty_analysis(rt: &(impl Abort + AllocGlobal)) -> MeshAnalysis {
     let fault = WithSpan::new(rt.alloc(), MeshFault::OutputField);
-    let fault = fault.with_span(Span { start: 3, end: 5 })?;
-    let analysis = MeshAnalysis {
+    MeshAnalysis {
         implied: MeshStageInfo {
             topology: MeshOutputTopology::Lines,
             max_vertices: 4,
@@ -87,21 +113,52 @@ fn an_analysis(rt: HostRuntime) -> Result<(), Fail> {
             output_variable: Handle::new(0),
         },
         overrides: [None, Some(Handle::new(6))],
-        fault: Some(fault),
-    };
-    let copy = analysis.clone(rt.alloc())?;
-    assert!(rt; copy == analysis);
-    let spans = copy.fault.as_ref().map(|fault| fault.spans());
-    assert_eq!(rt; spans, Some([Span { start: 3, end: 5 }].as_slice()));
-    Ok(())
+        fault: Some(granted(rt, fault.with_span(PLACE))),
+    }
+}
+
+/// The fault is at the place.
+fn expect_place(rt: &impl Abort, analysis: &MeshAnalysis) {
+    let spans = analysis.fault.as_ref().map(|fault| fault.spans());
+    assert_eq!(rt; spans, Some([PLACE].as_slice()));
+}
+
+#[test]
+fn an_analysis(rt: HostRuntime) {
+    let analysis = faulty_analysis(&rt);
+    let copy = granted(&rt, analysis.clone(rt.alloc()));
+    expect_equal(&rt, &copy, &analysis);
+    expect_place(&rt, &copy);
+    drop(copy);
+    drop(analysis);
+}
+
+/// The error holds the one of an atomic operation.
+fn expect_atomic(rt: &impl Abort, error: &FunctionError, held: &AtomicError) {
+    assert!(rt; matches!(error, FunctionError::InvalidAtomic(atomic) if *atomic == *held));
+}
+
+/// The error holds the one of a subgroup operation.
+fn expect_subgroup(rt: &impl Abort, error: &FunctionError, held: &SubgroupError) {
+    assert!(rt; matches!(error, FunctionError::InvalidSubgroup(subgroup) if *subgroup == *held));
+}
+
+fn an_atomic_error_in_an_error(rt: &impl Abort) {
+    let held = AtomicError::InvalidPointer(Handle::new(4));
+    let error = FunctionError::from(held);
+    expect_atomic(rt, &error, &held);
+    drop(error);
+}
+
+fn a_subgroup_error_in_an_error(rt: &impl Abort) {
+    let held = SubgroupError::InvalidOperand(Handle::new(4));
+    let error = FunctionError::from(held);
+    expect_subgroup(rt, &error, &held);
+    drop(error);
 }
 
 #[test]
 fn errors_in_errors(rt: HostRuntime) {
-    let held = AtomicError::InvalidPointer(Handle::new(4));
-    let error = FunctionError::from(held);
-    assert!(rt; matches!(&error, FunctionError::InvalidAtomic(atomic) if *atomic == held));
-    let held = SubgroupError::InvalidOperand(Handle::new(4));
-    let error = FunctionError::from(held);
-    assert!(rt; matches!(&error, FunctionError::InvalidSubgroup(subgroup) if *subgroup == held));
+    an_atomic_error_in_an_error(&rt);
+    a_subgroup_error_in_an_error(&rt);
 }

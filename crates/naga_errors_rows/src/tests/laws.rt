@@ -3,9 +3,11 @@
 ghost use Rattle.std.specs.Prelude.{◌≡◌, ◌<◌, length};
 
 use crate::tests::bools::Bools;
+use crate::tests::granted;
 use bitflags::Flags;
 use naga_arena::arena::Arena;
 use naga_arena::handle::Handle;
+use naga_arena::sequence::Sequence;
 use naga_arena::span::{Refusal, Span};
 use naga_arena::tag;
 use naga_below::valid::expression_error::ExpressionError;
@@ -18,13 +20,13 @@ use naga_flags::ir::MemoryDecorations;
 use naga_flags::valid::{GlobalUse, ShaderStages, SubgroupOperationSet, ValidationFlags};
 use naga_ir::expressions::{Expression, Literal};
 use naga_ir::functions::Function;
-use naga_ir::module::{GlobalVariable, Module};
+use naga_ir::module::{GlobalVariable, Module, SpecialTypes};
+use naga_ir::statements::Block;
 use naga_types::types::{AddressSpace, Scalar, Type, TypeInner};
 use naga_types::typifier::TypeResolution;
 use naga_types::unique_arena::UniqueArena;
 use std::alloc::{AllocError, Global};
 use std::process::Abort;
-use std::test::Fail;
 
 /// No check, and a target that can do nothing.
 fn settings() -> Settings {
@@ -125,11 +127,13 @@ fn output_size<B: Below>(
 }
 
 /// A module of a bool and a global of it.
-fn module_of_bool(alloc: Global) -> Result<Module, AllocError> {
-    let mut types = UniqueArena::new(alloc);
+fn module_of_bool(rt: &(impl Abort + AllocGlobal)) -> Module {
+    let mut types = UniqueArena::new(rt.alloc());
     let inner = TypeInner::Scalar(Scalar::BOOL);
-    let ty = types.insert(Type { name: None, inner }, Span::UNDEFINED)?;
-    let mut global_variables = Arena::new(alloc);
+    let ty = granted(
+        rt,
+        types.insert(Type { name: None, inner }, Span::UNDEFINED),
+    );
     let global = GlobalVariable {
         space: AddressSpace::Private,
         binding: None,
@@ -137,24 +141,65 @@ fn module_of_bool(alloc: Global) -> Result<Module, AllocError> {
         init: None,
         memory_decorations: MemoryDecorations::empty(),
     };
-    global_variables.append(global, Span::UNDEFINED)?;
-    let mut module = Module::new(alloc);
-    module.types = types;
-    module.global_variables = global_variables;
-    Ok(module)
+    let mut global_variables = Arena::new(rt.alloc());
+    granted(rt, global_variables.append(global, Span::UNDEFINED));
+    Module {
+        types,
+        special_types: SpecialTypes { ray_desc: None },
+        constants: Arena::new(rt.alloc()),
+        overrides: Arena::new(rt.alloc()),
+        global_variables,
+        global_expressions: Arena::new(rt.alloc()),
+        functions: Arena::new(rt.alloc()),
+        entry_points: Sequence::new(rt.alloc()),
+    }
 }
 
 /// A function of a literal.
-fn function_of_bool(alloc: Global) -> Result<Function, AllocError> {
-    let mut expressions = Arena::new(alloc);
+fn function_of_bool(rt: &(impl Abort + AllocGlobal)) -> Function {
     let literal = Literal {
         scalar: Scalar::BOOL,
         bits: 1,
     };
-    expressions.append(Expression::Literal(literal), Span::UNDEFINED)?;
-    let mut fun = Function::new(alloc);
-    fun.expressions = expressions;
-    Ok(fun)
+    let mut expressions = Arena::new(rt.alloc());
+    granted(
+        rt,
+        expressions.append(Expression::Literal(literal), Span::UNDEFINED),
+    );
+    Function {
+        arguments: Sequence::new(rt.alloc()),
+        result: None,
+        local_variables: Arena::new(rt.alloc()),
+        expressions,
+        body: Block::new(rt.alloc()),
+    }
+}
+
+/// What is no refusal.
+fn answered<T>(rt: &impl Abort, answer: Result<T, Refusal<FunctionError>>) -> T {
+    match answer {
+        Ok(value) => value,
+        Err(_) => panic!(rt; "refused"),
+    }
+}
+
+/// The info is that of the small layer, with the use that was added, and its expression is no struct.
+fn assert_uses(rt: &impl Abort, info: &FunctionInfo, is_struct: bool) {
+    assert!(rt; !is_struct);
+    assert_eq!(rt;
+        info.global_uses.as_slice(),
+        [GlobalUse(GlobalUse::READ.0 | GlobalUse::QUERY.0)].as_slice()
+    );
+}
+
+/// The small layer has a fault where it is asked for stages.
+fn assert_fault(rt: &impl Abort, answer: &Result<ShaderStages, Refusal<ExpressionError>>) {
+    let fault = match answer {
+        Err(Refusal::Fault(fault)) => fault,
+        Err(Refusal::Memory) => panic!(rt; "no memory"),
+        Ok(_) => panic!(rt; "no fault"),
+    };
+    assert_eq!(rt; *fault.as_inner(), ExpressionError::NotInScope);
 }
 
 /// Asks the small layer of the first expression and the first global.
@@ -163,40 +208,45 @@ fn assert_answers(
     fun: &Function,
     module: &Module,
     mod_info: &ModuleInfo,
-) -> Result<(), Fail> {
-    let alloc = rt.alloc();
+) {
     let handle = Handle::new(0);
     let global = Handle::new(0);
-    assert_eq!(rt; fun.expressions.len(), 1);
-    assert_eq!(rt; module.global_variables.len(), 1);
+    assert!(rt; fun.expressions.len() == 1);
+    assert!(rt; module.global_variables.len() == 1);
+    assert!(rt; granted(rt, is_constant(&Bools, rt.alloc(), fun, handle)));
+    let size = granted(rt, output_size(&Bools, rt.alloc(), module, global));
+    assert!(rt; size == Some(1));
     let subject = Subject {
         fun,
         program: module,
         mod_info,
     };
-    let (info, is_struct) = with_query(&Bools, alloc, &subject, handle, global)?;
-    assert!(rt; !is_struct);
-    assert_eq!(rt;
-        info.global_uses.as_slice(),
-        [GlobalUse::READ.union(GlobalUse::QUERY)].as_slice()
-    );
-    assert!(rt; is_constant(&Bools, alloc, fun, handle)?);
-    let answer = stages(&Bools, alloc, &subject, &info, handle);
-    let fault = match &answer {
-        Err(Refusal::Fault(fault)) => fault,
-        Err(Refusal::Memory) => panic!(rt; "no memory"),
-        Ok(_) => panic!(rt; "no fault"),
-    };
-    assert_eq!(rt; *fault.as_inner(), ExpressionError::NotInScope);
-    assert_eq!(rt; output_size(&Bools, alloc, module, global)?, Some(1));
-    Ok(())
+    let query = with_query(&Bools, rt.alloc(), &subject, handle, global);
+    let (info, is_struct) = answered(rt, query);
+    assert_uses(rt, &info, is_struct);
+    assert_stages(rt, &subject, &info, handle);
+    drop(info);
+}
+
+/// Asks the small layer of the stages of an expression.
+fn assert_stages(
+    rt: &(impl Abort + AllocGlobal),
+    subject: &Subject,
+    info: &FunctionInfo,
+    handle: Handle<tag::Expression>,
+) {
+    let answer = stages(&Bools, rt.alloc(), subject, info, handle);
+    assert_fault(rt, &answer);
+    drop(answer);
 }
 
 #[test]
-fn a_lawful_layer_answers(rt: HostRuntime) -> Result<(), Fail> {
-    let alloc = rt.alloc();
-    let module = module_of_bool(alloc)?;
-    let fun = function_of_bool(alloc)?;
-    let mod_info = ModuleInfo::new(alloc);
-    assert_answers(&rt, &fun, &module, &mod_info)
+fn a_lawful_layer_answers(rt: HostRuntime) {
+    let module = module_of_bool(&rt);
+    let fun = function_of_bool(&rt);
+    let mod_info = ModuleInfo::new(rt.alloc());
+    assert_answers(&rt, &fun, &module, &mod_info);
+    drop(mod_info);
+    drop(fun);
+    drop(module);
 }

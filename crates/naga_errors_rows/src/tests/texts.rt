@@ -4,21 +4,31 @@ mod function;
 mod inner;
 mod interface;
 
+use crate::tests::granted;
 use naga_errors::sentences::Explain;
 use std::fmt::Display;
 use std::process::Abort;
-use std::test::Fail;
 
+/// The error has this name, and is told by this sentence.
 fn assert_told<E: Display + Explain>(
     rt: &(impl Abort + AllocGlobal),
     error: &E,
     name: &str,
     sentence: &str,
-) -> Result<(), Fail> {
-    let printed = error.to_string(rt.alloc())?;
+) {
+    assert_prints(rt, error, name);
+    assert_explains(rt, error, sentence);
+}
+
+fn assert_prints(rt: &(impl Abort + AllocGlobal), error: &impl Display, name: &str) {
+    let printed = granted(rt, error.to_string(rt.alloc()));
     assert_eq!(rt; printed.as_str(), name);
+    drop(printed);
+}
+
+fn assert_explains(rt: &(impl Abort + AllocGlobal), error: &impl Explain, sentence: &str) {
     let mut told = String::new(rt.alloc());
-    error.explain(&mut told)?;
+    assert!(rt; error.explain(&mut told).is_ok());
     assert_eq!(rt; told.as_str(), sentence);
-    Ok(())
+    drop(told);
 }

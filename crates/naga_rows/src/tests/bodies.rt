@@ -1,6 +1,6 @@
 //! What the tests of statements share: places, targets, and what the validator answers over the plain layer.
 
-use naga_arena::span::{Refusal, Span};
+use naga_arena::span::{Refusal, Span, WithSpan};
 use naga_below::valid::info::{FunctionInfo, ModuleInfo};
 use naga_below::valid::types::TypeInfo;
 use naga_errors::function::FunctionError;
@@ -14,7 +14,6 @@ use naga_layers::plain::Plain;
 use naga_types::types::{Type, TypeInner};
 use naga_types::unique_arena::UniqueArena;
 use naga_valid::validator::Validator;
-use std::alloc::AllocError;
 use std::process::Abort;
 
 /// Where nothing is.
@@ -49,15 +48,18 @@ pub struct Target {
     pub operations: SubgroupOperationSet,
 }
 
+/// What there was memory for.
+pub fn made<T, E>(rt: &impl Abort, answer: Result<T, E>) -> T {
+    match answer {
+        Ok(value) => value,
+        Err(_) => panic!(rt; "no memory"),
+    }
+}
+
 /// Puts a type without a name last.
-pub fn add_type(
-    rt: &(impl Abort + AllocGlobal),
-    types: &mut UniqueArena<Type>,
-    inner: TypeInner,
-) -> Result<(), AllocError> {
+pub fn add_type(rt: &impl Abort, types: &mut UniqueArena<Type>, inner: TypeInner) {
     assert!(rt; !types.is_full());
-    types.insert(Type { name: None, inner }, NOWHERE)?;
-    Ok(())
+    made(rt, types.insert(Type { name: None, inner }, NOWHERE));
 }
 
 /// A validator with all flags for this target, and with a good info for each type of a module.
@@ -66,9 +68,7 @@ pub fn validator_for(
     target: Target,
     module: &Module,
 ) -> Validator<Plain> {
-    let Ok(infos) = vec![in rt.alloc(); GOOD; module.types.len()] else {
-        panic!(rt; "no memory");
-    };
+    let infos = made(rt, vec![in rt.alloc(); GOOD; module.types.len()]);
     let below = Plain::without_mesh_shaders();
     let mut validator = Validator::new(below, ALL_CHECKS, target.capabilities).with_types(infos);
     validator.subgroup_stages(target.stages);
@@ -80,7 +80,7 @@ pub fn validator_for(
 pub type Answer = Result<ShaderStages, FunctionError>;
 
 /// One call of the validator.
-fn ask(
+fn ask_once(
     rt: &(impl Abort + AllocGlobal),
     validator: &mut Validator<Plain>,
     fun: &Function,
@@ -93,8 +93,33 @@ fn ask(
     validator.validate_function(rt.alloc(), fun, module, infos, false)
 }
 
-/// The stages that a validator leaves a function, or its fault, which must be at this place, or at none. Where memory is refused
-/// the validator stays as it was, and answers when it is asked again.
+/// What a validator answers: where memory is refused it stays as it was, and answers when it is asked again.
+fn ask(
+    rt: &(impl Abort + AllocGlobal),
+    validator: &mut Validator<Plain>,
+    fun: &Function,
+    module: &Module,
+    infos: &ModuleInfo,
+) -> Result<FunctionInfo, Refusal<FunctionError>> {
+    let before = validator.trace_state();
+    match ask_once(rt, validator, fun, module, infos) {
+        Err(Refusal::Memory) => {
+            assert!(rt; validator.trace_state() == before);
+            ask_once(rt, validator, fun, module, infos)
+        }
+        answer => answer,
+    }
+}
+
+/// A fault is at this place, or at none.
+fn expect_at(rt: &impl Abort, fault: &WithSpan<FunctionError>, place: Option<Span>) {
+    match place {
+        Some(span) => assert!(rt; fault.spans() == [span].as_slice()),
+        None => assert!(rt; fault.spans().is_empty()),
+    }
+}
+
+/// The stages that a validator leaves a function, or its fault, which must be at this place, or at none.
 pub fn judge(
     rt: &(impl Abort + AllocGlobal),
     validator: &mut Validator<Plain>,
@@ -103,19 +128,10 @@ pub fn judge(
     infos: &ModuleInfo,
     place: Option<Span>,
 ) -> Answer {
-    let before = validator.trace_state();
-    let mut answer = ask(rt, validator, fun, module, infos);
-    if let Err(Refusal::Memory) = answer {
-        assert_eq!(rt; validator.trace_state(), before);
-        answer = ask(rt, validator, fun, module, infos);
-    }
-    match answer {
+    match ask(rt, validator, fun, module, infos) {
         Ok(info) => Ok(info.available_stages),
         Err(Refusal::Fault(fault)) => {
-            match place {
-                Some(span) => assert!(rt; fault.spans() == [span].as_slice()),
-                None => assert!(rt; fault.spans().is_empty()),
-            }
+            expect_at(rt, &fault, place);
             Err(fault.into_inner())
         }
         Err(Refusal::Memory) => panic!(rt; "refused twice"),
@@ -123,6 +139,6 @@ pub fn judge(
 }
 
 /// An answer is the expected one.
-pub fn expect(rt: &(impl Abort + AllocGlobal), answer: Answer, expected: Answer) {
+pub fn expect(rt: &impl Abort, answer: Answer, expected: Answer) {
     assert!(rt; answer == expected);
 }

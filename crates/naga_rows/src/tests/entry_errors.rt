@@ -1,34 +1,34 @@
 //! What the errors of entry points print: the name of the variant, but for one; and the sentences that tell them.
 
+use crate::tests::bodies::made;
 use naga_below::{Capabilities, GlobalUse, Handle, Refusal, ShaderStage, Span, WithSpan};
 use naga_errors::{Explain, FunctionError, VaryingError};
 use naga_interface::EntryPointError;
 use naga_module::report::{Subject, write_refusal};
 use std::process::Abort;
-use std::test::Fail;
 
 /// What the one error prints that has a text of its own.
 const ONLY_WHERE_RAYS_ARE_TRACED: &str =
     "Only the `ray_generation`, `closest_hit`, and `miss` shader stages can access a global variable in the `ray_payload` address space";
 
+/// An error prints as its name, and is told by its sentence.
 fn assert_told(
     rt: &(impl Abort + AllocGlobal),
     error: &EntryPointError,
     name: &str,
     sentence: &str,
-) -> Result<(), Fail> {
-    let printed = error.to_string(rt.alloc())?;
-    assert_eq!(rt; printed.as_str(), name);
+) {
+    let printed = made(rt, error.to_string(rt.alloc()));
+    assert!(rt; printed.as_str() == name, "{printed}");
     let mut told = String::new(rt.alloc());
-    error.explain(&mut told)?;
-    assert_eq!(rt; told.as_str(), sentence);
-    Ok(())
+    made(rt, error.explain(&mut told));
+    assert!(rt; told.as_str() == sentence, "{told}");
 }
 
-#[test]
-fn errors_of_entry_points_are_told(rt: HostRuntime) -> Result<(), Fail> {
+/// Each error, with its name and its sentence.
+fn rows() -> [(EntryPointError, &'static str, &'static str); 29] {
     let global = Handle::new(1);
-    let rows = [
+    [
         (
             EntryPointError::Conflict,
             "Conflict",
@@ -174,22 +174,42 @@ fn errors_of_entry_points_are_told(rt: HostRuntime) -> Result<(), Fail> {
             "IncomingRayPayloadInInvalidStage",
             "an incoming ray payload is used at a stage that no ray brings one to",
         ),
-    ];
-    for (error, name, sentence) in rows {
-        assert_told(&rt, &error, name, sentence)?;
-    }
-    Ok(())
+    ]
 }
 
 #[test]
-fn a_refused_entry_point_is_told(rt: HostRuntime) -> Result<(), Fail> {
+fn errors_of_entry_points_are_told(rt: HostRuntime) {
+    for (error, name, sentence) in &rows() {
+        assert_told(&rt, error, *name, *sentence);
+    }
+}
+
+/// The refusal of an entry point whose function has a fault, which is placed.
+fn refusal(rt: &(impl Abort + AllocGlobal)) -> Refusal<EntryPointError> {
     let fault = EntryPointError::Function(FunctionError::InvalidIfType(Handle::new(3)));
-    let fault = WithSpan::new(rt.alloc(), fault).with_span(Span { start: 50, end: 55 })?;
+    let fault = WithSpan::new(rt.alloc(), fault);
+    Refusal::Fault(made(rt, fault.with_span(Span { start: 50, end: 55 })))
+}
+
+/// The refusal of entry point 1 is told so.
+fn expect_told(
+    rt: &(impl Abort + AllocGlobal),
+    refusal: &Refusal<EntryPointError>,
+    expected: &str,
+) {
     let mut told = String::new(rt.alloc());
-    write_refusal(&mut told, Subject::EntryPoint(1), &Refusal::Fault(fault))?;
-    assert_eq!(rt;
-        told.as_str(),
-        "entry point 1: 50..55: Function(InvalidIfType([3])): the function has a fault: the condition of an if or of a loop's end is no bool"
+    made(
+        rt,
+        write_refusal(&mut told, Subject::EntryPoint(1), refusal),
     );
-    Ok(())
+    assert!(rt; told.as_str() == expected, "{told}");
+}
+
+#[test]
+fn a_refused_entry_point_is_told(rt: HostRuntime) {
+    expect_told(
+        &rt,
+        &refusal(&rt),
+        "entry point 1: 50..55: Function(InvalidIfType([3])): the function has a fault: the condition of an if or of a loop's end is no bool",
+    );
 }

@@ -1,9 +1,10 @@
 //! Global variables, judged over the plain layer.
 
-use crate::tests::bodies::{ALL_CHECKS, GOOD, NOWHERE, add_type};
+use crate::tests::bodies::{ALL_CHECKS, GOOD, NOWHERE, add_type, made};
 use bitflags::Flags;
 use naga_arena::arena::Arena;
 use naga_arena::handle::Handle;
+use naga_below::proc::expression_kinds::ExpressionKindTracker;
 use naga_below::valid::info::ModuleInfo;
 use naga_below::valid::types::{Disalignment, TypeInfo};
 use naga_errors::below::Below;
@@ -16,13 +17,12 @@ use naga_flags::valid::ValidationFlags;
 use naga_ir::expressions::{Expression, Literal};
 use naga_ir::module::{GlobalVariable, Module, ResourceBinding};
 use naga_layers::plain::Plain;
-use naga_types::types::{AddressSpace, ArraySize, Members, Scalar, TypeInner};
+use naga_types::types::{AddressSpace, ArraySize, Members, Scalar, Type, TypeInner};
 use naga_types::typifier::TypeResolution;
 use naga_types::unique_arena::UniqueArena;
 use naga_valid::validator::Validator;
 use std::alloc::{AllocError, Global};
 use std::process::Abort;
-use std::test::Fail;
 
 // The types of the module.
 const U32: u32 = 0;
@@ -117,8 +117,8 @@ fn literal(scalar: Scalar) -> Expression {
     Expression::Literal(Literal { scalar, bits: 0 })
 }
 
-/// A module of these globals and the types and global expressions above.
-fn module(rt: &(impl Abort + AllocGlobal), rows: &[Row]) -> Result<Module, AllocError> {
+/// The types of the module.
+fn types_of(rt: &(impl Abort + AllocGlobal)) -> UniqueArena<Type> {
     let alloc = rt.alloc();
     let mut types = UniqueArena::new(alloc);
     for inner in [
@@ -137,33 +137,50 @@ fn module(rt: &(impl Abort + AllocGlobal), rows: &[Row]) -> Result<Module, Alloc
             span: 3,
         },
     ] {
-        add_type(rt, &mut types, inner)?;
+        add_type(rt, &mut types, inner);
     }
-    let mut globals = Arena::new(alloc);
+    types
+}
+
+/// The globals of the rows.
+fn globals_of(rt: &(impl Abort + AllocGlobal), rows: &[Row]) -> Arena<GlobalVariable> {
+    let mut globals = Arena::new(rt.alloc());
     for row in rows {
         assert!(rt; !globals.is_full());
-        globals.append(row.var, NOWHERE)?;
+        made(rt, globals.append(row.var, NOWHERE));
     }
-    let mut expressions = Arena::new(alloc);
-    expressions.append(literal(Scalar::U32), NOWHERE)?;
-    expressions.append(literal(Scalar::I32), NOWHERE)?;
-    expressions.append(Expression::RayQueryProceedResult, NOWHERE)?;
-    let mut module = Module::new(alloc);
-    module.types = types;
-    module.global_variables = globals;
-    module.global_expressions = expressions;
-    Ok(module)
+    globals
+}
+
+/// The global expressions of the module.
+fn expressions_of(rt: &(impl Abort + AllocGlobal)) -> Arena<Expression> {
+    let mut expressions = Arena::new(rt.alloc());
+    made(rt, expressions.append(literal(Scalar::U32), NOWHERE));
+    made(rt, expressions.append(literal(Scalar::I32), NOWHERE));
+    made(
+        rt,
+        expressions.append(Expression::RayQueryProceedResult, NOWHERE),
+    );
+    expressions
+}
+
+/// A module of these globals and the types and global expressions above.
+fn module(rt: &(impl Abort + AllocGlobal), rows: &[Row]) -> Module {
+    let mut module = Module::new(rt.alloc());
+    module.types = types_of(rt);
+    module.global_variables = globals_of(rt, rows);
+    module.global_expressions = expressions_of(rt);
+    module
 }
 
 /// No function is known, and the types of the global expressions above.
-fn infos(rt: &impl AllocGlobal) -> Result<ModuleInfo, AllocError> {
+fn infos(rt: &(impl Abort + AllocGlobal)) -> ModuleInfo {
     let mut infos = ModuleInfo::new(rt.alloc());
     for ty in [U32, I32, I32] {
-        infos
-            .global_types
-            .push(TypeResolution::Handle(Handle::new(ty)))?;
+        let resolution = TypeResolution::Handle(Handle::new(ty));
+        made(rt, infos.global_types.push(resolution));
     }
-    Ok(infos)
+    infos
 }
 
 /// A request of so many bytes tells tools/memory that each later one is to be refused.
@@ -176,25 +193,37 @@ fn mark(alloc: Global) {
 }
 
 /// A validator for each row, over the plain layer.
-fn validators(rt: &impl AllocGlobal, rows: &[Row]) -> Result<Vec<Validator<Plain>>, AllocError> {
+fn validators(rt: &(impl Abort + AllocGlobal), rows: &[Row]) -> Vec<Validator<Plain>> {
     let mut validators = Vec::new(rt.alloc());
     for row in rows {
-        let types = vec![in rt.alloc(); row.info; TYPES]?;
+        let types = made(rt, vec![in rt.alloc(); row.info; TYPES]);
         let below = Plain::without_mesh_shaders();
-        validators.push(Validator::new(below, row.flags, Capabilities::ALL).with_types(types))?;
+        let validator = Validator::new(below, row.flags, Capabilities::ALL).with_types(types);
+        made(rt, validators.push(validator));
     }
-    Ok(validators)
+    validators
+}
+
+/// What the rows are judged over.
+#[derive(Clone, Copy)]
+struct Subject<'a> {
+    module: &'a Module,
+    infos: &'a ModuleInfo,
+    kinds: &'a ExpressionKindTracker,
 }
 
 /// Each global of the module is answered as its row says. It takes no memory: behind the mark each request may be refused.
 fn expect(
     rt: &(impl Abort + AllocGlobal),
-    module: &Module,
-    infos: &ModuleInfo,
+    subject: Subject,
+    validators: &[Validator<Plain>],
     rows: &[Row],
-) -> Result<(), AllocError> {
-    let kinds = Plain::without_mesh_shaders().kinds(rt.alloc(), &module.global_expressions)?;
-    let validators = validators(rt, rows)?;
+) {
+    let Subject {
+        module,
+        infos,
+        kinds,
+    } = subject;
     let globals = module.global_variables.as_slice();
     assert!(rt; globals.len() == rows.len() && validators.len() == rows.len());
     assert!(rt; kinds.len() == module.global_expressions.len());
@@ -203,14 +232,13 @@ fn expect(
     for (place, row) in rows.iter().enumerate() {
         let validator = &validators[place];
         assert!(rt; validator.has_types_of(module));
-        let answer = validator.validate_global_var(&globals[place], module, infos, &kinds);
+        let answer = validator.validate_global_var(&globals[place], module, infos, kinds);
         assert!(rt; answer == row.answer, "row {place}: {answer:?}");
     }
-    Ok(())
 }
 
-#[test]
-fn globals_are_judged_with_what_the_layer_knows(rt: HostRuntime) -> Result<(), Fail> {
+/// The rows.
+fn rows() -> [Row; 14] {
     let write_only = GlobalVariableError::StorageAddressSpaceWriteOnlyNotSupported;
     let alignment = GlobalVariableError::Alignment(WRITE_ONLY, Handle::new(I32), Disalignment(7));
     let uniform = |answer| global(AddressSpace::Uniform, U32, answer);
@@ -220,7 +248,7 @@ fn globals_are_judged_with_what_the_layer_knows(rt: HostRuntime) -> Result<(), F
     let usage = GlobalVariableError::InvalidUsage(AddressSpace::Private);
     let ty = GlobalVariableError::InvalidType(AddressSpace::Handle);
     let refused = GlobalVariableError::InitializerNotAllowed(AddressSpace::WorkGroup);
-    let rows = [
+    [
         bound(global(WRITE_ONLY, U32, Err(write_only))),
         with_bad_layouts(bound(global(WRITE_ONLY, U32, Err(alignment)))),
         uniform(Err(GlobalVariableError::InvalidBinding)),
@@ -247,9 +275,23 @@ fn globals_are_judged_with_what_the_layer_knows(rt: HostRuntime) -> Result<(), F
             PROCEEDS,
         ),
         with_init(private(Ok(())), LITERAL_U32),
-    ];
-    let module = module(&rt, &rows)?;
-    let infos = infos(&rt)?;
-    expect(&rt, &module, &infos, &rows)?;
-    Ok(())
+    ]
+}
+
+#[test]
+fn globals_are_judged_with_what_the_layer_knows(rt: HostRuntime) {
+    let rows = rows();
+    let module = module(&rt, &rows);
+    let infos = infos(&rt);
+    let below = Plain::without_mesh_shaders();
+    let kinds = made(&rt, below.kinds(rt.alloc(), &module.global_expressions));
+    let validators = validators(&rt, &rows);
+    let subject = Subject {
+        module: &module,
+        infos: &infos,
+        kinds: &kinds,
+    };
+    expect(&rt, subject, validators.as_slice(), &rows);
+    drop(validators);
+    drop(module);
 }

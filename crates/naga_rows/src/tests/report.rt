@@ -1,47 +1,44 @@
 //! What is told of refusals, and that they pass into `anyhow`.
 
-use crate::tests::bodies::{EVERYTHING, HERE, validator_for};
+use crate::tests::bodies::{EVERYTHING, HERE, made, validator_for};
 use naga_below::{
-    AddressSpace, Arena, Block, Capabilities, Expression, ExpressionError, Function, FunctionInfo,
-    Handle, Literal, Module, ModuleInfo, Name, Refusal, Scalar, Span, Statement, TypeInner,
-    WithSpan,
+    AddressSpace, Capabilities, Expression, ExpressionError, Function, FunctionInfo, Handle,
+    Literal, Module, ModuleInfo, Name, Refusal, Scalar, Span, Statement, TypeInner, WithSpan,
 };
-use naga_errors::{CallError, FunctionError, GlobalVariableError, LocalVariableError};
+use naga_errors::{CallError, Explain, FunctionError, GlobalVariableError, LocalVariableError};
 use naga_fits::{fits_function, fits_types};
 use naga_interface::EntryPointError;
 use naga_module::check::ModuleFault;
 use naga_module::report::{Subject, write_fault, write_module_fault, write_refusal};
-use std::alloc::{AllocError, Global};
 use std::process::Abort;
-use std::test::Fail;
 
-/// The fault of a function with this handle is told so.
+/// The refusal of a function with this handle is told so.
 fn assert_told(
     rt: &(impl Abort + AllocGlobal),
     function: u32,
     refusal: &Refusal<FunctionError>,
     expected: &str,
-) -> Result<(), Fail> {
+) {
     let mut told = String::new(rt.alloc());
-    write_refusal(&mut told, Subject::Function(Handle::new(function)), refusal)?;
-    assert_eq!(rt; told.as_str(), expected);
-    Ok(())
+    made(
+        rt,
+        write_refusal(&mut told, Subject::Function(Handle::new(function)), refusal),
+    );
+    assert!(rt; told.as_str() == expected, "{told}");
 }
 
 /// The refusal for a fault at this place.
 fn at(
-    alloc: Global,
+    rt: &(impl Abort + AllocGlobal),
     place: Span,
     fault: FunctionError,
-) -> Result<Refusal<FunctionError>, AllocError> {
-    Ok(Refusal::Fault(WithSpan::new(alloc, fault).with_span(place)?))
+) -> Refusal<FunctionError> {
+    Refusal::Fault(made(rt, WithSpan::new(rt.alloc(), fault).with_span(place)))
 }
 
-#[test]
-fn faults_are_told_with_their_fields(rt: HostRuntime) -> Result<(), Fail> {
-    let place = Span { start: 50, end: 55 };
-    let name = Name::from(String::from_str(rt.alloc(), "color")?);
-    let rows = [
+/// Faults, and what is told of them between 50 and 55 in function 2.
+fn rows(name: Name) -> [(FunctionError, &'static str); 7] {
+    [
         (
             FunctionError::InvalidStoreTypes {
                 pointer: Handle::new(4),
@@ -89,76 +86,98 @@ fn faults_are_told_with_their_fields(rt: HostRuntime) -> Result<(), Fail> {
             },
             "function [2]: 50..55: InvalidCall { function: [1], error: Argument { index: 0, source: NotInScope } }: a call of the function has a fault: an argument has a fault: it is not in scope where it is used",
         ),
-    ];
-    for (fault, expected) in rows {
-        assert_told(&rt, 2, &at(rt.alloc(), place, fault)?, expected)?;
+    ]
+}
+
+#[test]
+fn faults_are_told_with_their_fields(rt: HostRuntime) {
+    let place = Span { start: 50, end: 55 };
+    let name = Name::from(made(&rt, String::from_str(rt.alloc(), "color")));
+    for (fault, expected) in rows(name) {
+        assert_told(&rt, 2, &at(&rt, place, fault), expected);
     }
-    Ok(())
+}
+
+/// A refusal without a place, one with two, and want of memory, and what is told of them in function 0.
+fn placed(rt: &(impl Abort + AllocGlobal)) -> [(Refusal<FunctionError>, &'static str); 3] {
+    let none = WithSpan::new(rt.alloc(), FunctionError::MissingDefaultCase);
+    let two = WithSpan::new(rt.alloc(), FunctionError::MissingDefaultCase);
+    let two = made(rt, two.with_span(Span { start: 3, end: 5 }));
+    let two = made(rt, two.with_span(Span { start: 7, end: 9 }));
+    [
+        (
+            Refusal::Fault(none),
+            "function [0]: MissingDefaultCase: a switch has no default case",
+        ),
+        (
+            Refusal::Fault(two),
+            "function [0]: 3..5, 7..9: MissingDefaultCase: a switch has no default case",
+        ),
+        (
+            Refusal::Memory,
+            "function [0]: Memory: there was not enough memory",
+        ),
+    ]
 }
 
 #[test]
-fn places_stand_before_the_fault(rt: HostRuntime) -> Result<(), Fail> {
-    let kinds = || FunctionError::MissingDefaultCase;
-    let none = Refusal::Fault(WithSpan::new(rt.alloc(), kinds()));
-    assert_told(
-        &rt,
-        0,
-        &none,
-        "function [0]: MissingDefaultCase: a switch has no default case",
-    )?;
-    let two = WithSpan::new(rt.alloc(), kinds()).with_span(Span { start: 3, end: 5 })?;
-    let two = Refusal::Fault(two.with_span(Span { start: 7, end: 9 })?);
-    assert_told(
-        &rt,
-        0,
-        &two,
-        "function [0]: 3..5, 7..9: MissingDefaultCase: a switch has no default case",
-    )?;
-    assert_told(
-        &rt,
-        0,
-        &Refusal::Memory,
-        "function [0]: Memory: there was not enough memory",
-    )?;
-    Ok(())
+fn places_stand_before_the_fault(rt: HostRuntime) {
+    for (refusal, expected) in &placed(&rt) {
+        assert_told(&rt, 0, refusal, *expected);
+    }
+}
+
+/// A fault of a subject at these places is told so.
+fn assert_fault_told<E: Explain>(
+    rt: &(impl Abort + AllocGlobal),
+    subject: Subject,
+    places: &[Span],
+    fault: &E,
+    expected: &str,
+) {
+    let mut told = String::new(rt.alloc());
+    made(rt, write_fault(&mut told, subject, places, fault));
+    assert!(rt; told.as_str() == expected, "{told}");
 }
 
 #[test]
-fn subjects_are_told(rt: HostRuntime) -> Result<(), Fail> {
-    let mut told = String::new(rt.alloc());
-    let global = Subject::GlobalVariable(Handle::new(1));
-    write_fault(&mut told, global, &[], &GlobalVariableError::InvalidBinding)?;
-    assert_eq!(rt;
-        told.as_str(),
-        "global [1]: InvalidBinding: a binding is missing where the space is bound, or is there where it isn't"
+fn subjects_are_told(rt: HostRuntime) {
+    assert_fault_told(
+        &rt,
+        Subject::GlobalVariable(Handle::new(1)),
+        &[],
+        &GlobalVariableError::InvalidBinding,
+        "global [1]: InvalidBinding: a binding is missing where the space is bound, or is there where it isn't",
     );
-    let mut told = String::new(rt.alloc());
-    let error = FunctionError::InvalidPayloadType;
-    write_fault(&mut told, Subject::EntryPoint(3), &[HERE], &error)?;
-    assert_eq!(rt;
-        told.as_str(),
-        "entry point 3: 3..7: InvalidPayloadType: the payload of a ray is no pointer"
+    assert_fault_told(
+        &rt,
+        Subject::EntryPoint(3),
+        &[HERE],
+        &FunctionError::InvalidPayloadType,
+        "entry point 3: 3..7: InvalidPayloadType: the payload of a ray is no pointer",
     );
-    Ok(())
 }
+
+/// The number 7.
+const SEVEN: Literal = Literal {
+    scalar: Scalar::U32,
+    bits: 7,
+};
 
 /// A function that returns a number although it declares no result.
-fn function(alloc: Global) -> Result<Function, AllocError> {
-    let mut expressions = Arena::new(alloc);
-    let literal = Literal {
-        scalar: Scalar::U32,
-        bits: 7,
-    };
-    expressions.append(Expression::Literal(literal), Span::UNDEFINED)?;
-    let mut body = Block::new(alloc);
+fn function(rt: &(impl Abort + AllocGlobal)) -> Function {
+    let mut fun = Function::new(rt.alloc());
+    assert!(rt; !fun.expressions.is_full());
+    made(
+        rt,
+        fun.expressions
+            .append(Expression::Literal(SEVEN), Span::UNDEFINED),
+    );
     let ends = Statement::Return {
         value: Some(Handle::new(0)),
     };
-    body.push(ends, HERE)?;
-    let mut fun = Function::new(alloc);
-    fun.expressions = expressions;
-    fun.body = body;
-    Ok(fun)
+    made(rt, fun.body.push(ends, HERE));
+    fun
 }
 
 /// Judges a function, as a program does that only passes errors on.
@@ -176,29 +195,31 @@ fn judged(
 }
 
 /// What the error says that such a program ends with.
-fn passed_text(
-    rt: &(impl Abort + AllocGlobal),
-    fun: &Function,
-    module: &Module,
-) -> Result<String, Fail> {
-    let Err(error) = judged(rt, fun, module) else {
-        panic!(rt; "accepted");
-    };
-    Ok(error.to_string(rt.alloc())?)
+fn passed_text(rt: &(impl Abort + AllocGlobal), fun: &Function, module: &Module) -> String {
+    match judged(rt, fun, module) {
+        Ok(_) => panic!(rt; "accepted"),
+        Err(error) => made(rt, error.to_string(rt.alloc())),
+    }
 }
 
-/// Where memory is refused, the function is judged again.
-#[test]
-fn refusals_pass_into_anyhow(rt: HostRuntime) -> Result<(), Fail> {
-    let alloc = rt.alloc();
-    let fun = function(alloc)?;
-    let module = Module::new(alloc);
-    let mut text = passed_text(&rt, &fun, &module)?;
+/// Such a program ends with this error. Where memory is refused, the function is judged again.
+fn expect_passed(rt: &(impl Abort + AllocGlobal), fun: &Function, module: &Module, expected: &str) {
+    let text = passed_text(rt, fun, module);
     if text.as_str() == "Memory" {
-        text = passed_text(&rt, &fun, &module)?;
+        let again = passed_text(rt, fun, module);
+        assert!(rt; again.as_str() == expected, "{again}");
+    } else {
+        assert!(rt; text.as_str() == expected, "{text}");
     }
-    assert_eq!(rt; text.as_str(), "InvalidReturnType");
-    Ok(())
+}
+
+#[test]
+fn refusals_pass_into_anyhow(rt: HostRuntime) {
+    let fun = function(&rt);
+    let module = Module::new(rt.alloc());
+    expect_passed(&rt, &fun, &module, "InvalidReturnType");
+    drop(fun);
+    drop(module);
 }
 
 /// Passes a fault with its places on.
@@ -209,37 +230,39 @@ fn passed_on(fault: WithSpan<GlobalVariableError>) -> anyhow::Result<()> {
 }
 
 #[test]
-fn faults_pass_into_anyhow(rt: HostRuntime) -> Result<(), Fail> {
+fn faults_pass_into_anyhow(rt: HostRuntime) {
     let fault = WithSpan::new(rt.alloc(), GlobalVariableError::InvalidBinding);
-    let Err(error) = passed_on(fault) else {
-        panic!(rt; "no error");
-    };
-    let text = error.to_string(rt.alloc())?;
-    assert_eq!(rt; text.as_str(), "InvalidBinding");
-    Ok(())
+    match passed_on(fault) {
+        Ok(()) => panic!(rt; "no error"),
+        Err(error) => {
+            let text = made(&rt, error.to_string(rt.alloc()));
+            assert!(rt; text.as_str() == "InvalidBinding", "{text}");
+        }
+    }
 }
 
-/// The fault of a module is told so, and has this name.
+/// The fault of a module prints as its name, and is told so.
 fn assert_module_told(
     rt: &(impl Abort + AllocGlobal),
     fault: &ModuleFault,
     name: &str,
     expected: &str,
-) -> Result<(), Fail> {
-    let printed = fault.to_string(rt.alloc())?;
-    assert_eq!(rt; printed.as_str(), name);
+) {
+    let printed = made(rt, fault.to_string(rt.alloc()));
+    assert!(rt; printed.as_str() == name, "{printed}");
     let mut told = String::new(rt.alloc());
-    write_module_fault(&mut told, fault)?;
-    assert_eq!(rt; told.as_str(), expected);
-    Ok(())
+    made(rt, write_module_fault(&mut told, fault));
+    assert!(rt; told.as_str() == expected, "{told}");
 }
 
-#[test]
-fn faults_of_modules_are_told(rt: HostRuntime) -> Result<(), Fail> {
-    let alloc = rt.alloc();
-    let in_function = WithSpan::new(alloc, FunctionError::InvalidPayloadType).with_span(HERE)?;
-    let in_entry = WithSpan::new(alloc, EntryPointError::ExpectedTaskPayload);
-    let rows = [
+/// The faults of modules, with their names and what is told of them; that of the function is at `HERE`.
+fn module_faults(
+    rt: &(impl Abort + AllocGlobal),
+) -> [(ModuleFault, &'static str, &'static str); 5] {
+    let in_function = WithSpan::new(rt.alloc(), FunctionError::InvalidPayloadType);
+    let in_function = made(rt, in_function.with_span(HERE));
+    let in_entry = WithSpan::new(rt.alloc(), EntryPointError::ExpectedTaskPayload);
+    [
         (
             ModuleFault::NotFit,
             "NotFit",
@@ -265,9 +288,12 @@ fn faults_of_modules_are_told(rt: HostRuntime) -> Result<(), Fail> {
             "Memory",
             "Memory: there was not enough memory",
         ),
-    ];
-    for (fault, name, expected) in rows {
-        assert_module_told(&rt, &fault, name, expected)?;
+    ]
+}
+
+#[test]
+fn faults_of_modules_are_told(rt: HostRuntime) {
+    for (fault, name, expected) in &module_faults(&rt) {
+        assert_module_told(&rt, fault, *name, *expected);
     }
-    Ok(())
 }

@@ -1,7 +1,9 @@
 //! What a validator is set to, and the type infos that it is given.
 
-use crate::tests::bodies::{ALL_CHECKS, EVERYTHING, HERE, expect, judge, validator_for};
-use bitflags::Flags;
+use crate::tests::bodies::{
+    ALL_CHECKS, Answer, EVERYTHING, HERE, expect, judge, made, validator_for,
+};
+use naga_arena::span::Span;
 use naga_below::valid::info::ModuleInfo;
 use naga_below::valid::types::TypeInfo;
 use naga_context::trace::{TraceRayVertexReturnState, TraceState};
@@ -10,60 +12,75 @@ use naga_flags::ir::Barrier;
 use naga_flags::valid::{ShaderStages, SubgroupOperationSet, TypeFlags};
 use naga_ir::functions::Function;
 use naga_ir::module::Module;
-use naga_ir::statements::{Block, Statement};
+use naga_ir::statements::Statement;
 use naga_layers::plain::Plain;
 use naga_valid::validator::Validator;
-use std::alloc::{AllocError, Global};
-use std::test::Fail;
+use std::process::Abort;
 
 /// A function of a subgroup barrier.
-fn function(alloc: Global) -> Result<Function, AllocError> {
-    let mut body = Block::new(alloc);
-    body.push(Statement::ControlBarrier(Barrier::SUB_GROUP), HERE)?;
-    let mut fun = Function::new(alloc);
-    fun.body = body;
-    Ok(fun)
+fn function(rt: &(impl Abort + AllocGlobal)) -> Function {
+    let mut fun = Function::new(rt.alloc());
+    let barrier = Statement::ControlBarrier(Barrier::SUB_GROUP);
+    made(rt, fun.body.push(barrier, HERE));
+    fun
 }
 
-#[test]
-fn settings_let_subgroups_be_used(rt: HostRuntime) -> Result<(), Fail> {
-    let fun = function(rt.alloc())?;
+/// What a validator answers of the function, in an empty module; a fault is at this place.
+fn answer(
+    rt: &(impl Abort + AllocGlobal),
+    validator: &mut Validator<Plain>,
+    place: Option<Span>,
+) -> Answer {
+    let fun = function(rt);
     let module = Module::new(rt.alloc());
     let infos = ModuleInfo::new(rt.alloc());
-    let flags = ALL_CHECKS;
-    let mut validator = Validator::new(
-        Plain::without_mesh_shaders(),
-        flags,
-        EVERYTHING.capabilities,
-    );
+    let answer = judge(rt, validator, &fun, &module, &infos, place);
+    drop(fun);
+    drop(module);
+    answer
+}
+
+/// What is left where no ray was traced.
+const NOTHING: TraceState = TraceState {
+    payload: None,
+    vertex_return: TraceRayVertexReturnState::NoTraceRays,
+};
+
+#[test]
+fn settings_let_subgroups_be_used(rt: HostRuntime) {
+    let below = Plain::without_mesh_shaders();
+    let mut validator = Validator::new(below, ALL_CHECKS, EVERYTHING.capabilities);
     let basic = SubgroupOperationSet::BASIC;
     let error = SubgroupError::UnsupportedOperation(basic);
-    let before = judge(&rt, &mut validator, &fun, &module, &infos, Some(HERE));
-    expect(&rt, before, Err(FunctionError::InvalidSubgroup(error)));
+    let refused = Err(FunctionError::InvalidSubgroup(error));
+    expect(&rt, answer(&rt, &mut validator, Some(HERE)), refused);
     validator.subgroup_stages(ShaderStages::COMPUTE);
     validator.subgroup_operations(basic);
-    let behind = judge(&rt, &mut validator, &fun, &module, &infos, None);
-    expect(&rt, behind, Ok(ShaderStages::COMPUTE_LIKE));
-    let nothing = TraceState {
-        payload: None,
-        vertex_return: TraceRayVertexReturnState::NoTraceRays,
-    };
-    assert_eq!(rt; validator.trace_state(), nothing);
-    Ok(())
+    let accepted = Ok(ShaderStages::COMPUTE_LIKE);
+    expect(&rt, answer(&rt, &mut validator, None), accepted);
+    assert!(rt; validator.trace_state() == NOTHING);
+}
+
+/// What is known of a type of data.
+const DATA: TypeInfo = TypeInfo {
+    flags: TypeFlags::DATA,
+    storage_layout: Ok(4),
+    uniform_layout: Ok(4),
+    immediates_compatibility: Ok(()),
+};
+
+/// Whether a validator has one info for each type of a module.
+fn expect_types(rt: &impl Abort, validator: &Validator<Plain>, module: &Module, expected: bool) {
+    assert!(rt; validator.has_types_of(module) == expected);
 }
 
 #[test]
-fn there_is_one_info_for_each_type(rt: HostRuntime) -> Result<(), Fail> {
+fn there_is_one_info_for_each_type(rt: HostRuntime) {
     let module = Module::new(rt.alloc());
     let validator = validator_for(&rt, EVERYTHING, &module);
-    assert!(rt; validator.has_types_of(&module));
-    let info = TypeInfo {
-        flags: TypeFlags::DATA,
-        storage_layout: Ok(4),
-        uniform_layout: Ok(4),
-        immediates_compatibility: Ok(()),
-    };
-    let validator = validator.with_types(vec![in rt.alloc(); info]?);
-    assert!(rt; !validator.has_types_of(&module));
-    Ok(())
+    expect_types(&rt, &validator, &module, true);
+    let validator = validator.with_types(made(&rt, vec![in rt.alloc(); DATA; 1]));
+    expect_types(&rt, &validator, &module, false);
+    drop(validator);
+    drop(module);
 }
