@@ -1,4 +1,7 @@
 //! Tables of cases, each public call once with ample memory, and refused growth.
+//!
+//! A test makes what owns memory by a helper, hands references to helpers that assert, and lets it go by `drop`: so the
+//! proofs stay small.
 
 mod arenas;
 mod clones;
@@ -14,7 +17,21 @@ use naga_arena::handle::Tagged;
 use naga_arena::span::Span;
 use naga_ir::statements::{Block, Statement};
 use naga_types::types::{Scalar, Type, TypeInner};
-use std::alloc::{AllocError, Global};
+use std::alloc::AllocError;
+use std::process::Abort;
+
+/// What there was memory for.
+fn granted<T>(rt: &impl Abort, answer: Result<T, AllocError>) -> T {
+    match answer {
+        Ok(value) => value,
+        Err(_) => panic!(rt; "no memory"),
+    }
+}
+
+/// Two values are equal.
+fn expect_equal<T: PartialEq>(rt: &impl Abort, first: &T, second: &T) {
+    assert!(rt; *first == *second);
+}
 
 fn unnamed(inner: TypeInner) -> Type {
     Type { name: None, inner }
@@ -25,15 +42,15 @@ fn scalar_type(scalar: Scalar) -> Type {
 }
 
 /// An arena of one value.
-fn arena_of<T: Tagged + Drop>(alloc: Global, span: Span, value: T) -> Result<Arena<T>, AllocError> {
-    let mut arena = Arena::new(alloc);
-    arena.append(value, span)?;
-    Ok(arena)
+fn arena_of<T: Tagged + Drop>(rt: &(impl Abort + AllocGlobal), span: Span, value: T) -> Arena<T> {
+    let mut arena = Arena::new(rt.alloc());
+    granted(rt, arena.append(value, span));
+    arena
 }
 
 /// A block of one statement.
-fn block_of(alloc: Global, statement: Statement) -> Result<Block, AllocError> {
-    let mut block = Block::new(alloc);
-    block.push(statement, Span::UNDEFINED)?;
-    Ok(block)
+fn block_of(rt: &(impl Abort + AllocGlobal), statement: Statement) -> Block {
+    let mut block = Block::new(rt.alloc());
+    granted(rt, block.push(statement, Span::UNDEFINED));
+    block
 }

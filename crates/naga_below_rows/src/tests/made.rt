@@ -1,65 +1,129 @@
 //! What is made empty, and what is made of parts.
 
-use naga_arena::arena::Arena;
+use crate::tests::{expect_equal, granted};
 use naga_arena::handle::Handle;
 use naga_arena::range::Range;
+use naga_arena::sequence::Sequence;
 use naga_arena::span::Span;
 use naga_below::proc::expression_kinds::{ExpressionKind, ExpressionKindTracker};
 use naga_below::valid::info::ModuleInfo;
 use naga_ir::functions::Function;
 use naga_ir::module::Module;
 use naga_ir::statements::{Block, Located, Statement};
-use std::test::Fail;
+use std::alloc::AllocError;
+use std::process::Abort;
 
-#[test]
-fn what_is_made_holds_nothing(rt: HostRuntime) -> Result<(), Fail> {
-    let module = Module::new(rt.alloc());
+/// The module holds nothing.
+fn expect_empty_module(rt: &impl Abort, module: &Module) {
     assert!(rt; module.types.is_empty() && !module.types.is_full());
     assert!(rt; module.functions.is_empty() && !module.functions.is_full());
     assert!(rt; module.entry_points.is_empty() && module.special_types.ray_desc.is_none());
-    let function = Function::new(rt.alloc());
+}
+
+/// The function has neither expressions nor a result.
+fn expect_empty_function(rt: &impl Abort, function: &Function) {
     assert!(rt; function.expressions.is_empty() && function.result.is_none());
-    assert!(rt; function.body == Block::new(rt.alloc()));
-    let info = ModuleInfo::new(rt.alloc());
+}
+
+/// The info knows nothing.
+fn expect_empty_info(rt: &impl Abort, info: &ModuleInfo) {
     assert!(rt; info.functions.is_empty() && info.global_types.is_empty());
-    assert_eq!(rt; Span::UNDEFINED, Span { start: 0, end: 0 });
-    Ok(())
+}
+
+fn a_module_holds_nothing(rt: &(impl Abort + AllocGlobal)) {
+    let module = Module::new(rt.alloc());
+    expect_empty_module(rt, &module);
+    drop(module);
+}
+
+fn a_function_holds_nothing(rt: &(impl Abort + AllocGlobal)) {
+    let function = Function::new(rt.alloc());
+    expect_empty_function(rt, &function);
+    a_body_holds_nothing(rt, &function.body);
+    drop(function);
+}
+
+fn a_body_holds_nothing(rt: &(impl Abort + AllocGlobal), body: &Block) {
+    let block = Block::new(rt.alloc());
+    expect_equal(rt, body, &block);
+    drop(block);
+}
+
+fn an_info_holds_nothing(rt: &(impl Abort + AllocGlobal)) {
+    let info = ModuleInfo::new(rt.alloc());
+    expect_empty_info(rt, &info);
+    drop(info);
 }
 
 #[test]
-fn blocks_take_statements_in_order(rt: HostRuntime) -> Result<(), Fail> {
-    let place = Span { start: 3, end: 5 };
-    let mut pushed = Block::new(rt.alloc());
-    pushed.push(Statement::Break, place)?;
-    pushed.push(Statement::Kill, Span::UNDEFINED)?;
-    assert_eq!(rt; pushed.list.len(), 2);
-    let mut list = Vec::new(rt.alloc());
-    list.push(Located {
+fn what_is_made_holds_nothing(rt: HostRuntime) {
+    a_module_holds_nothing(&rt);
+    a_function_holds_nothing(&rt);
+    an_info_holds_nothing(&rt);
+    assert_eq!(rt; Span::UNDEFINED, Span { start: 0, end: 0 });
+}
+
+const PLACE: Span = Span { start: 3, end: 5 };
+
+/// A break and a kill, which are pushed.
+fn pushed(rt: &(impl Abort + AllocGlobal)) -> Block {
+    let mut block = Block::new(rt.alloc());
+    granted(rt, block.push(Statement::Break, PLACE));
+    granted(rt, block.push(Statement::Kill, Span::UNDEFINED));
+    block
+}
+
+/// The same in a list.
+fn listed(rt: &(impl Abort + AllocGlobal)) -> Block {
+    let mut list = Sequence::new(rt.alloc());
+    let first = Located {
         statement: Statement::Break,
-        span: place,
-    })?;
-    list.push(Located {
+        span: PLACE,
+    };
+    granted(rt, list.push(first));
+    let second = Located {
         statement: Statement::Kill,
         span: Span::UNDEFINED,
-    })?;
-    assert!(rt; pushed == Block::from(list));
-    Ok(())
+    };
+    granted(rt, list.push(second));
+    Block::from(list.into_vec())
+}
+
+/// The block has two statements.
+fn expect_two(rt: &impl Abort, block: &Block) {
+    assert!(rt; block.list.len() == 2);
 }
 
 #[test]
-fn a_range_has_both_of_its_ends(rt: HostRuntime) -> Result<(), Fail> {
+fn blocks_take_statements_in_order(rt: HostRuntime) {
+    let pushed = pushed(&rt);
+    expect_two(&rt, &pushed);
+    let listed = listed(&rt);
+    expect_equal(&rt, &pushed, &listed);
+    drop(listed);
+    drop(pushed);
+}
+
+#[test]
+fn a_range_has_both_of_its_ends(rt: HostRuntime) {
     let emitted = Range::new(Handle::new(3), Handle::new(5));
     assert_eq!(rt; emitted, Range { start: 3, end: 6 });
     let none = Range::new(Handle::new(3), Handle::new(2));
     assert_eq!(rt; none, Range { start: 3, end: 3 });
-    Ok(())
+}
+
+/// The one kind is that of a constant.
+fn expect_const(rt: &impl Abort, kinds: &ExpressionKindTracker) {
+    assert!(rt; kinds.len() == 1 && kinds.is_const(Handle::new(0)));
 }
 
 #[test]
-fn kinds_are_made_of_a_list(rt: HostRuntime) -> Result<(), Fail> {
+fn kinds_are_made_of_a_list(rt: HostRuntime) {
     let mut list = Vec::new(rt.alloc());
-    list.push(ExpressionKind::Const)?;
+    granted(
+        &rt,
+        list.push(ExpressionKind::Const).map_err(AllocError::from),
+    );
     let kinds = ExpressionKindTracker::from(list);
-    assert!(rt; kinds.len() == 1 && kinds.is_const(Handle::new(0)));
-    Ok(())
+    expect_const(&rt, &kinds);
 }

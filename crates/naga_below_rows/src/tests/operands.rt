@@ -1,13 +1,12 @@
 //! The operands of expressions, by a table.
 
+use crate::tests::granted;
 use naga_arena::handle::Handle;
 use naga_arena::sequence::Sequence;
 use naga_ir::expressions::{Expression, Literal, Operands};
 use naga_ir::operands::{operand, operand_count};
 use naga_types::types::Scalar;
-use std::alloc::{AllocError, Global};
 use std::process::Abort;
-use std::test::Fail;
 
 /// An expression has these operands, and none behind them.
 fn expect(rt: &impl Abort, expression: &Expression, handles: &[u32]) {
@@ -20,11 +19,11 @@ fn expect(rt: &impl Abort, expression: &Expression, handles: &[u32]) {
 }
 
 /// Operands 5 and 2.
-fn two(alloc: Global) -> Result<Operands, AllocError> {
-    let mut operands = Sequence::new(alloc);
-    operands.push(Handle::new(5))?;
-    operands.push(Handle::new(2))?;
-    Ok(operands)
+fn two(rt: &(impl Abort + AllocGlobal)) -> Operands {
+    let mut operands = Sequence::new(rt.alloc());
+    granted(rt, operands.push(Handle::new(5)));
+    granted(rt, operands.push(Handle::new(2)));
+    operands
 }
 
 #[test]
@@ -35,24 +34,33 @@ fn operands_that_are_fields(rt: HostRuntime) {
         index: Handle::new(2),
     };
     expect(&rt, &access, &[5, 2]);
-    let member = Expression::AccessIndex { base, index: 7 };
-    expect(&rt, &member, &[5]);
-    expect(&rt, &Expression::Load { pointer: base }, &[5]);
+    drop(access);
+    let of_one = [
+        Expression::AccessIndex { base, index: 7 },
+        Expression::Load { pointer: base },
+    ];
+    for expression in &of_one {
+        expect(&rt, expression, &[5]);
+    }
+    drop(of_one);
 }
 
 #[test]
-fn operands_that_are_listed(rt: HostRuntime) -> Result<(), Fail> {
-    let composed = Expression::Compose {
-        ty: Handle::new(9),
-        components: two(rt.alloc())?,
-    };
-    expect(&rt, &composed, &[5, 2]);
-    let binary = Expression::Binary {
-        operands: two(rt.alloc())?,
-        detail: 9,
-    };
-    expect(&rt, &binary, &[5, 2]);
-    Ok(())
+fn operands_that_are_listed(rt: HostRuntime) {
+    let listed = [
+        Expression::Compose {
+            ty: Handle::new(9),
+            components: two(&rt),
+        },
+        Expression::Binary {
+            operands: two(&rt),
+            detail: 9,
+        },
+    ];
+    for expression in &listed {
+        expect(&rt, expression, &[5, 2]);
+    }
+    drop(listed);
 }
 
 #[test]
@@ -61,8 +69,14 @@ fn kinds_without_operands(rt: HostRuntime) {
         scalar: Scalar::U32,
         bits: 7,
     };
-    expect(&rt, &Expression::Literal(literal), &[]);
-    expect(&rt, &Expression::LocalVariable(Handle::new(3)), &[]);
-    expect(&rt, &Expression::CallResult(Handle::new(3)), &[]);
-    expect(&rt, &Expression::SubgroupBallotResult, &[]);
+    let kinds = [
+        Expression::Literal(literal),
+        Expression::LocalVariable(Handle::new(3)),
+        Expression::CallResult(Handle::new(3)),
+        Expression::SubgroupBallotResult,
+    ];
+    for kind in &kinds {
+        expect(&rt, kind, &[]);
+    }
+    drop(kinds);
 }
