@@ -150,6 +150,7 @@ fn expect_in_function(rt: &(impl Abort + AllocGlobal), expression: Expression, f
     };
     assert_eq!(rt; fits_function(last, &module, 1), fits);
     expect_unfit(rt, &FIRST, &module, !fits);
+    drop(module);
 }
 
 /// The module with this expression as its second: its globals fit where this is so.
@@ -161,6 +162,7 @@ fn expect_in_module(rt: &(impl Abort + AllocGlobal), expression: Expression, fit
     known.global_types = Sequence::from(made(rt, global_types_of(alloc, &FIRST)));
     assert_eq!(rt; fits_globals(&module, &known), fits);
     expect_unfit(rt, &FIRST, &module, !fits);
+    drop(module);
 }
 
 #[test]

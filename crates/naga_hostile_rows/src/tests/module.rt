@@ -299,11 +299,10 @@ pub fn fault_of(
     handles: &Handles,
     module: &Module,
 ) -> Option<ModuleFault> {
-    let first = told_of(rt, handles, module);
-    if first == Some(ModuleFault::Memory) {
-        return told_of(rt, handles, module);
+    match told_of(rt, handles, module) {
+        Some(ModuleFault::Memory) => told_of(rt, handles, module),
+        first => first,
     }
-    first
 }
 
 /// What is told of a module of which this is known, if it is not accepted.
@@ -330,9 +329,11 @@ pub fn expect_unfit(
     module: &Module,
     is_unfit: bool,
 ) {
-    let fault = fault_of(rt, handles, module);
-    assert!(rt;
-        (fault == Some(ModuleFault::NotFit)) == is_unfit,
-        "{fault:?}"
-    );
+    expect_not_fit(rt, fault_of(rt, handles, module), is_unfit);
+}
+
+/// A fault is that of a module that doesn't fit exactly where this is so.
+fn expect_not_fit(rt: &impl Abort, fault: Option<ModuleFault>, is_unfit: bool) {
+    let is_not_fit = matches!(fault, Some(ModuleFault::NotFit));
+    assert!(rt; is_not_fit == is_unfit, "{fault:?}");
 }

@@ -84,6 +84,7 @@ fn expect(rt: &(impl Abort + AllocGlobal), row: usize, handles: &Handles, seen_b
     let found = tests_of(rt, handles, &module);
     assert!(rt; found == expected, "row {row}: {found:?}");
     expect_unfit(rt, handles, &module, seen_by.is_some());
+    drop(module);
 }
 
 /// Each module of these handles, in each of which one names nothing or too late a type, fails in this test alone.

@@ -31,6 +31,7 @@ fn expect(rt: &(impl Abort + AllocGlobal), statement: Statement, fits: bool) {
     };
     assert_eq!(rt; fits_function(last, &module, 1), fits);
     expect_unfit(rt, &FIRST, &module, !fits);
+    drop(module);
 }
 
 fn block_of(alloc: Global, statement: Statement) -> Result<Block, AllocError> {

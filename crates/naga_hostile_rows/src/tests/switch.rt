@@ -12,7 +12,6 @@ use naga_ir::statements::{Block, Statement, SwitchCase, SwitchValue};
 use naga_module::check::ModuleFault;
 use std::alloc::{AllocError, Global};
 use std::process::Abort;
-use std::test::Fail;
 
 /// How many cases have a value of their own.
 const DISTINCT: u32 = 9999;
@@ -58,26 +57,32 @@ fn answer_of(rt: &(impl Abort + AllocGlobal), last: SwitchValue) -> Option<Modul
     let mut fun = Function::new(rt.alloc());
     fun.expressions = made(rt, expressions_of(rt.alloc(), 0, None));
     fun.body = made(rt, body_of(rt.alloc(), cases));
-    fault_of(rt, &FIRST, &module(rt, &FIRST, Some(fun)))
+    let module = module(rt, &FIRST, Some(fun));
+    let fault = fault_of(rt, &FIRST, &module);
+    drop(module);
+    fault
+}
+
+/// What is answered is this fault.
+fn expect(rt: &impl Abort, answer: Option<ModuleFault>, fault: ModuleFault) {
+    assert!(rt; answer == Some(fault));
 }
 
 /// The last value is the first again, or that of the case before it.
 #[test]
-fn the_last_of_ten_thousand_cases_is_repeated(rt: HostRuntime) -> Result<(), Fail> {
+fn the_last_of_ten_thousand_cases_is_repeated(rt: HostRuntime) {
     for value in [0, DISTINCT - 1] {
         let last = SwitchValue::U32(value);
         let conflict = FunctionError::ConflictingSwitchCase(SwitchValue::U32(value));
         let fault = ModuleFault::Function(Handle::new(1), WithSpan::new(rt.alloc(), conflict));
-        assert!(rt; answer_of(&rt, last) == Some(fault));
+        expect(&rt, answer_of(&rt, last), fault);
     }
-    Ok(())
 }
 
 /// With a default as the last case no value is there twice, and the entry point is judged, whose payload is none.
 #[test]
-fn ten_thousand_cases(rt: HostRuntime) -> Result<(), Fail> {
+fn ten_thousand_cases(rt: HostRuntime) {
     let payload = EntryPointError::TaskPayloadWrongAddressSpace;
     let fault = ModuleFault::EntryPoint(0, WithSpan::new(rt.alloc(), payload));
-    assert!(rt; answer_of(&rt, SwitchValue::Default) == Some(fault));
-    Ok(())
+    expect(&rt, answer_of(&rt, SwitchValue::Default), fault);
 }
