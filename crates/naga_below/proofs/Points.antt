@@ -1,6 +1,6 @@
 -- What it says that no point fails, and which point fails first.
 use Rattle.std.specs.Option.{option_map, option_or}
-use Rattle.std.specs.Prelude.{ℕ, suc, ◌<◌, ◌≤◌, ◌+◌, Bool, true, false, not, List, Option, None, Some, ◌≡◌, ◌∷◌, ◌++◌, [], drop, get_or, length}
+use Rattle.std.specs.Prelude.{ℕ, suc, ◌<◌, ◌≤◌, ◌+◌, Bool, true, false, not, List, None, ◌≡◌, ◌∷◌, ◌++◌, [], drop, get_or, length}
 use Rattle.std.proofs.Common.{arith, refl, sym, ap, ◌∙◌}
 use Rattle.std.proofs.lemmas.List.{at_drop_more, at_drop_all}
 use Rattle.naga_below.specs.Points.{Point, first_fault, within, points_from}

@@ -1,5 +1,5 @@
 -- What the reading of a text answers.
-use Rattle.std.specs.Prelude.{◌≡◌, ◌≤◌, ℕ, IsUtf8, List, length, Option, Some, Result, Ok, Err}
+use Rattle.std.specs.Prelude.{◌≡◌, ◌≤◌, ℕ, IsUtf8, List, length, Some, Result, Ok, Err}
 use Rattle.serde_json.specs.Read as json
 use Rattle.naga_document.specs.declared.document.Document.{Document}
 use Rattle.naga_from_json.specs.declared.read.error.ReadError.{ReadError}

@@ -4,7 +4,6 @@ use Rattle.naga_types.specs.Formats.{format_scalar}
 use Rattle.naga_below.specs.Points.{Point}
 use Rattle.naga_types.specs.TypeTests.{is_same_inner}
 use Rattle.naga_types.specs.Types.{inner_at}
-use Rattle.naga_types.specs.declared.types.ImageClass.TheVariants as class
 use Rattle.naga_types.specs.declared.types.StorageFormat.{StorageFormat}
 use Rattle.naga_types.specs.declared.types.Type.{«Type» as IrType}
 use Rattle.naga_types.specs.declared.types.TypeInner.{TypeInner}

@@ -1,6 +1,6 @@
 //! Questions about types. None takes memory.
 
-ghost use Rattle.std.specs.Prelude.{◌≡◌, ◌<◌, length};
+ghost use Rattle.std.specs.Prelude.{◌≡◌, ◌<◌, length, unwrap_or};
 ghost use Rattle.naga_types.specs.Types.{scalar_of, scalar_kind_of, pointer_space_of, pointer_base_of, image_coordinates_of, access_of, NamesTypesBelow, NameEachOther, ResolutionFits, value_pointer_of};
 ghost use Rattle.naga_types.specs.TypeTests.{is_equivalent, is_exchange_struct, is_scalar_member, is_same_type, SameIsDecided, EquivalentIsDecided, ExchangeStructIsDecided, ScalarIsDecided, ScalarMemberIsDecided};
 ghost use Rattle.naga_types.specs.Formats.{format_kind, format_scalar};
@@ -145,11 +145,18 @@ impl TypeInner {
         requires second { NamesTypesBelow (length types.now) other.now }
         ensures { result ≡ is_equivalent types.now self.now other.now }
     {
-        match (self.canonical_form(types), other.canonical_form(types)) {
-            (None, None) => *self == *other,
-            (None, Some(form)) => *self == form,
-            (Some(form), None) => form == *other,
-            (Some(form), Some(other_form)) => form == other_form,
+        let own_form = self.canonical_form(types);
+        let other_form = other.canonical_form(types);
+        *self.or_form(&own_form) == *other.or_form(&other_form)
+    }
+
+    /// A form that was made, or else the type itself.
+    fn or_form<'a>(&'a self, form: &'a Option<TypeInner>) -> &'a TypeInner
+        ensures { result.now ≡ unwrap_or form.now self.now }
+    {
+        match form {
+            Some(form) => form,
+            None => self,
         }
     }
 

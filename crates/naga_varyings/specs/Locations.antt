@@ -1,6 +1,6 @@
 -- The check list of what is bound to a location.
 use Rattle.std.specs.Prelude.{ℕ, Bool, true, false, not, ◌&&◌, ◌||◌, ◌==◌, List, [], ◌∷◌, ◌++◌, Option, None, Some, is_none, is_some, option_and_then, if◌then◌else◌}
-use Rattle.naga_flags.specs.Bits.{IO_SHAREABLE, contains}
+use Rattle.naga_flags.specs.Bits.{IO_SHAREABLE}
 use Rattle.naga_flags.specs.Capabilities.{MESH_SHADER, MULTISAMPLED_SHADING, PER_VERTEX, has_capability}
 use Rattle.naga_below.specs.Points.{Point}
 use Rattle.naga_types.specs.Types.{inner_at, scalar_kind_of}

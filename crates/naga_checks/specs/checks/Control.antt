@@ -1,5 +1,5 @@
 -- The check lists of Emit, If, Return, Break and Continue, and of a break condition.
-use Rattle.std.specs.Prelude.{ℕ, zero, suc, Bool, true, false, not, ◌&&◌, ◌||◌, nat_le, nat_lt, map, ◌-◌, List, [], ◌∷◌, ◌++◌, Option, None, Some, is_none}
+use Rattle.std.specs.Prelude.{ℕ, zero, suc, Bool, true, false, not, ◌&&◌, ◌||◌, nat_le, nat_lt, map, ◌-◌, [], ◌∷◌, ◌++◌, Option, None, Some, is_none}
 use Rattle.std.specs.Option.{option_map}
 use Rattle.naga_types.specs.declared.types.ScalarKind.{ScalarKind}
 use Rattle.naga_types.specs.declared.types.ScalarKind.TheVariants as kind

@@ -1,4 +1,4 @@
-use Rattle.std.proofs.Common.{◌<◌, ◌↔◌}
+use Rattle.std.proofs.Common.{◌<◌}
 use Rattle.naga_ir.specs.Operands.{operands_of}
 use Rattle.naga_below.proofs.Each.{left_behind}
 use Rattle.naga_fits.proofs.expressions.operands_below.Goals as goal
