@@ -1,5 +1,5 @@
 -- Numbers other than 0.
-use Rattle.std.proofs.Common.{◌≡◌, ℕ, zero, suc, ◌<◌, Option, Some, ap, arith}
+use Rattle.std.proofs.Common.{◌≡◌, ℕ, zero, suc, ◌<◌, Some, ap, arith}
 use Rattle.std.proofs.Props.{props}
 use Rattle.std.specs.declared.num.NonZeroU32.{NonZeroU32}
 use Rattle.naga_from_json.specs.Numbers.{nonzero, above_zero}

@@ -1,9 +1,9 @@
 -- Lists that are read item by item.
-use Rattle.std.proofs.Common.{◌≡◌, ℕ, List, [], ◌∷◌, ◌++◌, Option, Some, None, refl, ap, sym, ◌∙◌, rules}
-use Rattle.std.specs.Prelude.{option_map, option_and_then}
+use Rattle.std.proofs.Common.{◌≡◌, List, [], ◌∷◌, ◌++◌, Option, Some, None, refl, ap, sym}
+use Rattle.std.specs.Prelude.{option_map}
 use Rattle.std.proofs.lemmas.List.{append-nil, append_assoc}
 use Rattle.serde_json.specs.Data.{Data, Items, no_items, item}
-use Rattle.naga_from_json.specs.Form.{each_of, given}
+use Rattle.naga_from_json.specs.Form.{each_of}
 
 -- what the items stand for, behind those that were read
 abbrev pub each_behind : {T : Type 0} → (Data → Option T) → List T → Items → Option (List T)

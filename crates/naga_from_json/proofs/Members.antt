@@ -1,5 +1,5 @@
 -- Objects with one member, and lists of two and of three items.
-use Rattle.std.proofs.Common.{◌≡◌, ℕ, List, [], ◌∷◌, length, slice_get, Option, Some, None, String, Global, string_bytes, nat_eq, true, false, Bool, refl, ap, sym, ◌∙◌, arith, rules}
+use Rattle.std.proofs.Common.{◌≡◌, List, [], ◌∷◌, length, slice_get, Option, Some, None, string_bytes, nat_eq, false, refl, arith, rules}
 use Rattle.serde_json.proofs.Views.{Entry}
 use Rattle.serde_json.specs.View.{view, members_view}
 use Rattle.naga_from_json.specs.Form.{only_member, holding, two_items, three_items}

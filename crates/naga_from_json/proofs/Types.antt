@@ -1,7 +1,7 @@
 -- Types of a module, of which no two are equal.
-use Rattle.std.proofs.Common.{◌≡◌, ℕ, zero, suc, ◌<◌, ◌≤◌, ◌+◌, List, [], ◌∷◌, ◌++◌, length, drop, slice_get, get_or, Bool, true, false, ◌||◌, true≢false, Option, Some, None, refl, ap, sym, ◌∙◌, subst, arith, rules}
+use Rattle.std.proofs.Common.{◌≡◌, ℕ, zero, suc, ◌<◌, ◌+◌, List, [], ◌∷◌, ◌++◌, length, drop, slice_get, get_or, Bool, true, false, ◌||◌, true≢false, Some, None, refl, ap, sym, ◌∙◌, arith}
 use Rattle.std.specs.List.{Contains}
-use Rattle.std.proofs.lemmas.List.{drop_more, length_push}
+use Rattle.std.proofs.lemmas.List.{drop_more}
 use Rattle.naga_types.specs.EqualTypes.{type_same}
 use Rattle.naga_types.specs.contracts.types.TypePartialEq.TheImpl as ir_type
 use Rattle.naga_types.specs.contracts.types.TypeEq.TheImpl.Laws.{laws-law as type_laws}

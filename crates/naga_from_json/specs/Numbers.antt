@@ -1,5 +1,5 @@
 -- Numbers. One with a fraction or an exponent is no integer, whatever its value, and neither is -0.
-use Rattle.std.specs.Prelude.{ℕ, zero, suc, ◌<◌, ◌^◌, ◌&&◌, nat_lt, ℤ, pos, negsuc, int_lt, Option, Some, None, option_and_then, if◌then◌else◌}
+use Rattle.std.specs.Prelude.{ℕ, zero, suc, ◌<◌, nat_lt, ℤ, pos, negsuc, int_lt, Option, Some, None, if◌then◌else◌}
 use Rattle.std.proofs.Common.{arith}
 use Rattle.std.specs.declared.num.NonZeroU32.{NonZeroU32}
 use Rattle.serde_json.specs.Data.{Data}

@@ -1,6 +1,6 @@
 -- Sets of named bits: lists of names, each at most once. The names and their bits are those that the sets have themselves.
 use Rattle.std.specs.Int.RustNames.{bit_or}
-use Rattle.std.specs.Prelude.{ℕ, List, [], codes, Option, Some, None, option_and_then, option_map, if◌then◌else◌}
+use Rattle.std.specs.Prelude.{ℕ, List, [], codes, Option, Some, None, option_map, if◌then◌else◌}
 use Rattle.std.specs.Str.{bytes_eq}
 use Rattle.bitflags.specs.Sets.{Row, find_name}
 use Rattle.serde_json.specs.Data.{Data, Items, no_items, item}

@@ -5,8 +5,6 @@ use Rattle.naga_below.specs.declared.valid.expression_error.ExpressionError.{Exp
 use Rattle.naga_below.specs.declared.valid.expression_error.ExpressionError.TheVariants as expression_error
 use Rattle.naga_from_json.specs.declared.read.errors.ExpressionErrorName.{ExpressionErrorName}
 use Rattle.naga_from_json.specs.declared.read.errors.ExpressionErrorName.TheVariants as expression_error_name
-use Rattle.naga_errors.specs.declared.analyzer.UniformityRequirements.{UniformityRequirements}
-use Rattle.naga_errors.specs.declared.analyzer.UniformityDisruptor.{UniformityDisruptor}
 use Rattle.naga_layers.specs.declared.facts.LowerFunctionError.{LowerFunctionError}
 use Rattle.naga_layers.specs.declared.facts.LowerFunctionError.TheVariants as lower_function_error
 use Rattle.naga_from_json.specs.declared.read.errors.LowerErrorName.{LowerErrorName}

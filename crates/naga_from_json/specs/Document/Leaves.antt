@@ -1,5 +1,5 @@
 -- Statements that hold no others.
-use Rattle.std.specs.Prelude.{ℕ, List, [], ◌∷◌, codes, Option, Some, option_map}
+use Rattle.std.specs.Prelude.{[], ◌∷◌, codes, Option, Some, option_map}
 use Rattle.serde_json.specs.Data.{Data}
 use Rattle.naga_ir.specs.declared.statements.Statement.{Statement}
 use Rattle.naga_from_json.specs.declared.read.leaves.LeafName.{LeafName}

@@ -1,5 +1,5 @@
 -- Address spaces, and where resources are bound.
-use Rattle.std.specs.Prelude.{ℕ, List, [], ◌∷◌, codes, Option, Some, None, option_map, ⊤}
+use Rattle.std.specs.Prelude.{ℕ, List, [], ◌∷◌, codes, Option, Some, ⊤}
 use Rattle.serde_json.specs.Data.{Data}
 use Rattle.naga_types.specs.declared.types.AddressSpace.{AddressSpace}
 use Rattle.naga_types.specs.declared.types.AddressSpace.TheVariants as address_space
