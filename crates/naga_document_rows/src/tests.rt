@@ -24,7 +24,7 @@ fn made<T>(rt: &impl Abort, answer: Result<T, AllocError>) -> T {
 fn value_of(rt: &(impl Abort + AllocGlobal), text: &str) -> Value {
     match Value::from_str(rt.alloc(), text) {
         Ok(value) => value,
-        Err(_) => panic!(rt; "no value: {text}"),
+        Err(error) => panic!(rt; "{error:?}"),
     }
 }
 

@@ -7,11 +7,10 @@ mod clones;
 mod laws;
 mod texts;
 
-use std::alloc::AllocError;
 use std::process::Abort;
 
 /// What there was memory for.
-fn granted<T>(rt: &impl Abort, answer: Result<T, AllocError>) -> T {
+fn granted<T, E>(rt: &impl Abort, answer: Result<T, E>) -> T {
     match answer {
         Ok(value) => value,
         Err(_) => panic!(rt; "no memory"),

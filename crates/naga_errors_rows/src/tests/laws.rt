@@ -7,7 +7,6 @@ use crate::tests::granted;
 use bitflags::Flags;
 use naga_arena::arena::Arena;
 use naga_arena::handle::Handle;
-use naga_arena::sequence::Sequence;
 use naga_arena::span::{Refusal, Span};
 use naga_arena::tag;
 use naga_below::valid::expression_error::ExpressionError;
@@ -20,8 +19,7 @@ use naga_flags::ir::MemoryDecorations;
 use naga_flags::valid::{GlobalUse, ShaderStages, SubgroupOperationSet, ValidationFlags};
 use naga_ir::expressions::{Expression, Literal};
 use naga_ir::functions::Function;
-use naga_ir::module::{GlobalVariable, Module, SpecialTypes};
-use naga_ir::statements::Block;
+use naga_ir::module::{GlobalVariable, Module};
 use naga_types::types::{AddressSpace, Scalar, Type, TypeInner};
 use naga_types::typifier::TypeResolution;
 use naga_types::unique_arena::UniqueArena;
@@ -143,16 +141,10 @@ fn module_of_bool(rt: &(impl Abort + AllocGlobal)) -> Module {
     };
     let mut global_variables = Arena::new(rt.alloc());
     granted(rt, global_variables.append(global, Span::UNDEFINED));
-    Module {
-        types,
-        special_types: SpecialTypes { ray_desc: None },
-        constants: Arena::new(rt.alloc()),
-        overrides: Arena::new(rt.alloc()),
-        global_variables,
-        global_expressions: Arena::new(rt.alloc()),
-        functions: Arena::new(rt.alloc()),
-        entry_points: Sequence::new(rt.alloc()),
-    }
+    let mut module = Module::new(rt.alloc());
+    module.types = types;
+    module.global_variables = global_variables;
+    module
 }
 
 /// A function of a literal.
@@ -166,20 +158,17 @@ fn function_of_bool(rt: &(impl Abort + AllocGlobal)) -> Function {
         rt,
         expressions.append(Expression::Literal(literal), Span::UNDEFINED),
     );
-    Function {
-        arguments: Sequence::new(rt.alloc()),
-        result: None,
-        local_variables: Arena::new(rt.alloc()),
-        expressions,
-        body: Block::new(rt.alloc()),
-    }
+    let mut fun = Function::new(rt.alloc());
+    fun.expressions = expressions;
+    fun
 }
 
 /// What is no refusal.
 fn answered<T>(rt: &impl Abort, answer: Result<T, Refusal<FunctionError>>) -> T {
     match answer {
         Ok(value) => value,
-        Err(_) => panic!(rt; "refused"),
+        Err(Refusal::Memory) => panic!(rt; "no memory"),
+        Err(Refusal::Fault(_)) => panic!(rt; "refused"),
     }
 }
 

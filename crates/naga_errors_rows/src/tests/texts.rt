@@ -28,7 +28,7 @@ fn assert_prints(rt: &(impl Abort + AllocGlobal), error: &impl Display, name: &s
 
 fn assert_explains(rt: &(impl Abort + AllocGlobal), error: &impl Explain, sentence: &str) {
     let mut told = String::new(rt.alloc());
-    assert!(rt; error.explain(&mut told).is_ok());
+    granted(rt, error.explain(&mut told));
     assert_eq!(rt; told.as_str(), sentence);
     drop(told);
 }
