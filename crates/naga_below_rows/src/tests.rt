@@ -5,9 +5,9 @@
 
 mod arenas;
 mod clones;
+mod constructors;
 mod errors;
 mod flags;
-mod made;
 mod operands;
 mod spaces;
 mod types;
@@ -21,7 +21,7 @@ use std::alloc::AllocError;
 use std::process::Abort;
 
 /// What there was memory for.
-fn granted<T>(rt: &impl Abort, answer: Result<T, AllocError>) -> T {
+fn made<T>(rt: &impl Abort, answer: Result<T, AllocError>) -> T {
     match answer {
         Ok(value) => value,
         Err(_) => panic!(rt; "no memory"),
@@ -44,13 +44,13 @@ fn scalar_type(scalar: Scalar) -> Type {
 /// An arena of one value.
 fn arena_of<T: Tagged + Drop>(rt: &(impl Abort + AllocGlobal), span: Span, value: T) -> Arena<T> {
     let mut arena = Arena::new(rt.alloc());
-    granted(rt, arena.append(value, span));
+    made(rt, arena.append(value, span));
     arena
 }
 
 /// A block of one statement.
 fn block_of(rt: &(impl Abort + AllocGlobal), statement: Statement) -> Block {
     let mut block = Block::new(rt.alloc());
-    granted(rt, block.push(statement, Span::UNDEFINED));
+    made(rt, block.push(statement, Span::UNDEFINED));
     block
 }

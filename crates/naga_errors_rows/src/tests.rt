@@ -10,7 +10,7 @@ mod texts;
 use std::process::Abort;
 
 /// What there was memory for.
-fn granted<T, E>(rt: &impl Abort, answer: Result<T, E>) -> T {
+fn made<T, E>(rt: &impl Abort, answer: Result<T, E>) -> T {
     match answer {
         Ok(value) => value,
         Err(_) => panic!(rt; "no memory"),

@@ -1,6 +1,6 @@
 //! Arenas: places, spans, values that are there already, and refused growth.
 
-use crate::tests::{expect_equal, granted, scalar_type};
+use crate::tests::{expect_equal, made, scalar_type};
 use naga_arena::arena::Arena;
 use naga_arena::handle::Handle;
 use naga_arena::sequence::Sequence;
@@ -26,7 +26,7 @@ fn append_first(rt: &impl Abort, constants: &mut Arena<Constant>) {
         Ok(handle) => handle,
         Err(_) => {
             assert_eq!(rt; constants.len(), 0);
-            granted(rt, constants.append(constant(), FIRST))
+            made(rt, constants.append(constant(), FIRST))
         }
     };
     expect_first(rt, constants, handle);
@@ -42,7 +42,7 @@ fn expect_first(rt: &impl Abort, constants: &Arena<Constant>, handle: Handle<tag
 /// Appends another; the first keeps its span.
 fn append_second(rt: &impl Abort, constants: &mut Arena<Constant>) {
     assert!(rt; !constants.is_full());
-    let other = granted(rt, constants.append(constant(), SECOND));
+    let other = made(rt, constants.append(constant(), SECOND));
     expect_spans(rt, constants, other);
 }
 
@@ -67,7 +67,7 @@ fn insert_first(rt: &impl Abort, types: &mut UniqueArena<Type>) -> Handle<tag::T
         Ok(handle) => handle,
         Err(_) => {
             assert_eq!(rt; types.len(), 0);
-            granted(rt, types.insert(scalar_type(Scalar::U32), FIRST))
+            made(rt, types.insert(scalar_type(Scalar::U32), FIRST))
         }
     }
 }
@@ -79,7 +79,7 @@ fn insert_more(
     scalar: Scalar,
 ) -> Handle<tag::Type> {
     assert!(rt; !types.is_full());
-    granted(rt, types.insert(scalar_type(scalar), SECOND))
+    made(rt, types.insert(scalar_type(scalar), SECOND))
 }
 
 /// The arena holds u32 and i32, with these handles and the spans of their first insertion.
@@ -116,7 +116,7 @@ fn types_are_stored_once(rt: HostRuntime) {
 /// Pushes one item, and sets another in its place.
 fn push_and_set(rt: &impl Abort, items: &mut Sequence<u32>) {
     assert!(rt; items.is_empty());
-    granted(rt, items.push(3));
+    made(rt, items.push(3));
     assert!(rt; items.len() == 1);
     items.set(0, 4);
     assert!(rt; items[0] == 4);
@@ -131,7 +131,7 @@ fn expect_four(rt: &impl Abort, items: &Sequence<u32>) {
 fn sequences_grow_and_compare(rt: HostRuntime) {
     let mut items = Sequence::new(rt.alloc());
     push_and_set(&rt, &mut items);
-    let copy = granted(&rt, items.clone(rt.alloc()));
+    let copy = made(&rt, items.clone(rt.alloc()));
     expect_equal(&rt, &copy, &items);
     expect_four(&rt, &copy);
     let from = Sequence::from(items.into_vec());

@@ -1,6 +1,6 @@
 //! Each clone is made once, and arenas keep their spans.
 
-use crate::tests::{arena_of, block_of, expect_equal, granted, scalar_type};
+use crate::tests::{arena_of, block_of, expect_equal, made, scalar_type};
 use bitflags::Flags;
 use naga_arena::arena::Arena;
 use naga_arena::handle::Handle;
@@ -30,7 +30,7 @@ fn switch_of_one(rt: &(impl Abort + AllocGlobal)) -> Block {
         fall_through: true,
     };
     let mut cases = Sequence::new(rt.alloc());
-    granted(rt, cases.push(case));
+    made(rt, cases.push(case));
     let statement = Statement::Switch {
         selector: Handle::new(0),
         cases,
@@ -52,7 +52,7 @@ fn loop_over(rt: &(impl Abort + AllocGlobal)) -> Block {
 #[test]
 fn a_block(rt: HostRuntime) {
     let block = loop_over(&rt);
-    let copy = granted(&rt, block.clone(rt.alloc()));
+    let copy = made(&rt, block.clone(rt.alloc()));
     expect_equal(&rt, &copy, &block);
     drop(copy);
     drop(block);
@@ -60,12 +60,12 @@ fn a_block(rt: HostRuntime) {
 
 /// A name of one letter.
 fn letter(rt: &(impl Abort + AllocGlobal)) -> Name {
-    Name::from(granted(rt, String::from_str(rt.alloc(), "v")))
+    Name::from(made(rt, String::from_str(rt.alloc(), "v")))
 }
 
 /// The clone of a name that is there.
 fn cloned(rt: &(impl Abort + AllocGlobal), name: &Option<Name>) -> Name {
-    match granted(rt, clone_name(rt.alloc(), name)) {
+    match made(rt, clone_name(rt.alloc(), name)) {
         Some(copy) => copy,
         None => panic!(rt; "no name"),
     }
@@ -94,14 +94,14 @@ fn struct_of_one(rt: &(impl Abort + AllocGlobal)) -> TypeInner {
         offset: 4,
     };
     let mut members = Sequence::new(rt.alloc());
-    granted(rt, members.push(member));
+    made(rt, members.push(member));
     TypeInner::Struct { members, span: 8 }
 }
 
 #[test]
 fn resolutions(rt: HostRuntime) {
     let resolution = TypeResolution::Value(struct_of_one(&rt));
-    let copy = granted(&rt, resolution.clone(rt.alloc()));
+    let copy = made(&rt, resolution.clone(rt.alloc()));
     expect_equal(&rt, &copy, &resolution);
     drop(copy);
     drop(resolution);
@@ -110,7 +110,7 @@ fn resolutions(rt: HostRuntime) {
 /// An expression that composes one component.
 fn compose_of_one(rt: &(impl Abort + AllocGlobal)) -> Expression {
     let mut components = Sequence::new(rt.alloc());
-    granted(rt, components.push(Handle::new(2)));
+    made(rt, components.push(Handle::new(2)));
     Expression::Compose {
         ty: Handle::new(0),
         components,
@@ -119,7 +119,7 @@ fn compose_of_one(rt: &(impl Abort + AllocGlobal)) -> Expression {
 
 /// The clone of an expression is equal to it.
 fn clone_expression(rt: &(impl Abort + AllocGlobal), expression: &Expression) {
-    let copy = granted(rt, expression.clone(rt.alloc()));
+    let copy = made(rt, expression.clone(rt.alloc()));
     expect_equal(rt, &copy, expression);
     drop(copy);
 }
@@ -136,7 +136,7 @@ fn two_constants(rt: &(impl Abort + AllocGlobal)) -> Arena<Constant> {
     let mut constants = arena_of(rt, SPAN, Constant { ty: Handle::new(7) });
     assert!(rt; !constants.is_full());
     let second = Constant { ty: Handle::new(3) };
-    granted(rt, constants.append(second, Span::UNDEFINED));
+    made(rt, constants.append(second, Span::UNDEFINED));
     constants
 }
 
@@ -151,7 +151,7 @@ fn expect_two_constants(rt: &impl Abort, copy: &Arena<Constant>) {
 #[test]
 fn an_arena_with_spans(rt: HostRuntime) {
     let constants = two_constants(&rt);
-    let copy = granted(&rt, constants.clone(rt.alloc()));
+    let copy = made(&rt, constants.clone(rt.alloc()));
     expect_two_constants(&rt, &copy);
     drop(copy);
     drop(constants);
@@ -160,8 +160,8 @@ fn an_arena_with_spans(rt: HostRuntime) {
 /// The types u32 and i32.
 fn two_types(rt: &(impl Abort + AllocGlobal)) -> UniqueArena<Type> {
     let mut types = UniqueArena::new(rt.alloc());
-    granted(rt, types.insert(scalar_type(Scalar::U32), SPAN));
-    granted(rt, types.insert(scalar_type(Scalar::I32), Span::UNDEFINED));
+    made(rt, types.insert(scalar_type(Scalar::U32), SPAN));
+    made(rt, types.insert(scalar_type(Scalar::I32), Span::UNDEFINED));
     types
 }
 
@@ -178,7 +178,7 @@ fn expect_two_types(rt: &impl Abort, copy: &UniqueArena<Type>) {
 /// The arena of `two_types` finds the second.
 fn find_second(rt: &impl Abort, copy: &mut UniqueArena<Type>) {
     assert!(rt; !copy.is_full());
-    let again = granted(rt, copy.insert(scalar_type(Scalar::I32), SPAN));
+    let again = made(rt, copy.insert(scalar_type(Scalar::I32), SPAN));
     assert!(rt; again.index() == 1 && copy.len() == 2);
 }
 
@@ -186,7 +186,7 @@ fn find_second(rt: &impl Abort, copy: &mut UniqueArena<Type>) {
 #[test]
 fn a_unique_arena_with_spans(rt: HostRuntime) {
     let types = two_types(&rt);
-    let mut copy = granted(&rt, types.clone(rt.alloc()));
+    let mut copy = made(&rt, types.clone(rt.alloc()));
     expect_two_types(&rt, &copy);
     find_second(&rt, &mut copy);
     drop(copy);
@@ -201,7 +201,7 @@ fn arguments_of_each(rt: &(impl Abort + AllocGlobal)) -> Sequence<FunctionArgume
         binding: None,
     };
     let mut arguments = Sequence::new(rt.alloc());
-    granted(rt, arguments.push(argument));
+    made(rt, arguments.push(argument));
     arguments
 }
 
@@ -267,7 +267,7 @@ fn entry_points_of_each(rt: &(impl Abort + AllocGlobal)) -> Sequence<EntryPoint>
         task_payload: Some(Handle::new(6)),
     };
     let mut entry_points = Sequence::new(rt.alloc());
-    granted(rt, entry_points.push(entry_point));
+    made(rt, entry_points.push(entry_point));
     entry_points
 }
 
@@ -284,7 +284,7 @@ fn expect_entry_of_each(rt: &impl Abort, ep: &EntryPoint, body: &Block) {
 /// A module of one of each.
 fn module_of_each(rt: &(impl Abort + AllocGlobal)) -> Module {
     let mut types = UniqueArena::new(rt.alloc());
-    granted(rt, types.insert(scalar_type(Scalar::F32), SPAN));
+    made(rt, types.insert(scalar_type(Scalar::F32), SPAN));
     let global = GlobalVariable {
         space: AddressSpace::Private,
         binding: None,
@@ -349,7 +349,7 @@ fn expect_functions_of_each(rt: &impl Abort, module: &Module, body: &Block) {
 /// A module of one of each, cloned.
 fn clone_of_each(rt: &(impl Abort + AllocGlobal)) -> Module {
     let module = module_of_each(rt);
-    let copy = granted(rt, module.clone(rt.alloc()));
+    let copy = made(rt, module.clone(rt.alloc()));
     drop(module);
     copy
 }

@@ -1,6 +1,6 @@
 //! What errors and handles print.
 
-use crate::tests::granted;
+use crate::tests::made;
 use bitflags::Flags;
 use naga_arena::handle::Handle;
 use naga_arena::span::{Refusal, Span, WithSpan};
@@ -15,7 +15,7 @@ use std::fmt::Debug;
 use std::process::Abort;
 
 fn assert_prints(rt: &(impl Abort + AllocGlobal), value: &impl Debug, text: &str) {
-    let printed = granted(rt, format!(in rt.alloc(); "{value:?}"));
+    let printed = made(rt, format!(in rt.alloc(); "{value:?}"));
     assert_eq!(rt; printed.as_str(), text);
 }
 
@@ -38,23 +38,23 @@ fn sets_print_their_names(rt: HostRuntime) {
 #[test]
 fn lists_and_names_print_as_such(rt: HostRuntime) {
     let mut operands = Operands::new(rt.alloc());
-    granted(&rt, operands.push(Handle::new(1)));
-    granted(&rt, operands.push(Handle::new(2)));
+    made(&rt, operands.push(Handle::new(1)));
+    made(&rt, operands.push(Handle::new(2)));
     assert_prints(&rt, &operands, "[[1], [2]]");
-    let name = Name::from(granted(&rt, String::from_str(rt.alloc(), "color")));
+    let name = Name::from(made(&rt, String::from_str(rt.alloc(), "color")));
     assert_prints(&rt, &name, "\"color\"");
 }
 
 /// An error, which is taken as any error, has this text.
 fn assert_says(rt: &(impl Abort + AllocGlobal), error: &impl Error, text: &str) {
-    let said = granted(rt, error.to_string(rt.alloc()));
+    let said = made(rt, error.to_string(rt.alloc()));
     assert_eq!(rt; said.as_str(), text);
 }
 
 #[test]
 fn refusals_are_errors(rt: HostRuntime) {
     let fault = WithSpan::new(rt.alloc(), ExpressionError::NotInScope);
-    let fault = granted(&rt, fault.with_span(Span { start: 3, end: 5 }));
+    let fault = made(&rt, fault.with_span(Span { start: 3, end: 5 }));
     assert_says(&rt, &fault, "NotInScope");
     let fault = WithSpan::new(rt.alloc(), ExpressionError::Lower(4));
     let refusals = [

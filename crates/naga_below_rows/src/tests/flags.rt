@@ -1,6 +1,6 @@
 //! Sets of named bits, infos, errors and their places.
 
-use crate::tests::granted;
+use crate::tests::made;
 use bitflags::Flags;
 use naga_arena::handle::Handle;
 use naga_arena::sequence::Sequence;
@@ -50,7 +50,7 @@ fn all_names_fill_a_set(rt: &impl Abort) {
 /// The info of a function that reads one global.
 fn reading(rt: &(impl Abort + AllocGlobal)) -> FunctionInfo {
     let mut global_uses = Sequence::new(rt.alloc());
-    granted(rt, global_uses.push(GlobalUse::READ));
+    made(rt, global_uses.push(GlobalUse::READ));
     FunctionInfo {
         expression_types: Sequence::new(rt.alloc()),
         global_uses,
@@ -76,7 +76,7 @@ fn uses_are_joined(rt: HostRuntime) {
 
 /// An error writes this name.
 fn expect_name(rt: &(impl Abort + AllocGlobal), error: &ExpressionError, name: &str) {
-    let text = granted(rt, error.to_string(rt.alloc()));
+    let text = made(rt, error.to_string(rt.alloc()));
     assert_eq!(rt; text.as_str(), name);
 }
 
@@ -135,8 +135,8 @@ const SECOND: Span = Span { start: 7, end: 9 };
 
 /// A fault with two places.
 fn placed(rt: &(impl Abort + AllocGlobal)) -> WithSpan<ExpressionError> {
-    let fault = granted(rt, WithSpan::new(rt.alloc(), FAULT).with_span(FIRST));
-    granted(rt, fault.with_span(SECOND))
+    let fault = made(rt, WithSpan::new(rt.alloc(), FAULT).with_span(FIRST));
+    made(rt, fault.with_span(SECOND))
 }
 
 /// The first has the two places, the second has none, and they are equal.

@@ -1,6 +1,6 @@
 //! The operands of expressions, by a table.
 
-use crate::tests::granted;
+use crate::tests::made;
 use naga_arena::handle::Handle;
 use naga_arena::sequence::Sequence;
 use naga_ir::expressions::{Expression, Literal, Operands};
@@ -21,8 +21,8 @@ fn expect(rt: &impl Abort, expression: &Expression, handles: &[u32]) {
 /// Operands 5 and 2.
 fn two(rt: &(impl Abort + AllocGlobal)) -> Operands {
     let mut operands = Sequence::new(rt.alloc());
-    granted(rt, operands.push(Handle::new(5)));
-    granted(rt, operands.push(Handle::new(2)));
+    made(rt, operands.push(Handle::new(5)));
+    made(rt, operands.push(Handle::new(2)));
     operands
 }
 

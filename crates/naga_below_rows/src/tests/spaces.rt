@@ -1,6 +1,6 @@
 //! What the tests of conditions on globals and entry points ask of spaces; what they ask of handles is in `naga_hostile_rows`.
 
-use crate::tests::{arena_of, granted, unnamed};
+use crate::tests::{arena_of, made, unnamed};
 use bitflags::Flags;
 use naga_arena::handle::Handle;
 use naga_arena::span::Span;
@@ -22,7 +22,7 @@ fn infos_of(rt: &(impl Abort + AllocGlobal), is_typed: bool) -> ModuleInfo {
     let mut infos = ModuleInfo::new(rt.alloc());
     if is_typed {
         let resolution = TypeResolution::Handle(Handle::new(0));
-        granted(rt, infos.global_types.push(resolution));
+        made(rt, infos.global_types.push(resolution));
     }
     infos
 }
@@ -45,12 +45,12 @@ fn types_of_images(rt: &(impl Abort + AllocGlobal)) -> UniqueArena<Type> {
         arrayed: false,
         class: ImageClass::External,
     };
-    granted(rt, types.insert(unnamed(image), Span::UNDEFINED));
+    made(rt, types.insert(unnamed(image), Span::UNDEFINED));
     let images = TypeInner::BindingArray {
         base: Handle::new(0),
         size: ArraySize::Dynamic,
     };
-    granted(rt, types.insert(unnamed(images), Span::UNDEFINED));
+    made(rt, types.insert(unnamed(images), Span::UNDEFINED));
     types
 }
 

@@ -3,7 +3,7 @@
 ghost use Rattle.std.specs.Prelude.{◌↔◌, IsTrue};
 ghost use Rattle.naga_types.specs.Types.{ResolutionFits};
 
-use crate::tests::{granted, scalar_type};
+use crate::tests::{made, scalar_type};
 use bitflags::Flags;
 use naga_arena::handle::Handle;
 use naga_arena::sequence::Sequence;
@@ -28,7 +28,7 @@ use std::process::Abort;
 /// The type u32 alone.
 fn types_of_u32(rt: &(impl Abort + AllocGlobal)) -> UniqueArena<Type> {
     let mut types = UniqueArena::new(rt.alloc());
-    granted(rt, types.insert(scalar_type(Scalar::U32), Span::UNDEFINED));
+    made(rt, types.insert(scalar_type(Scalar::U32), Span::UNDEFINED));
     types
 }
 
@@ -232,7 +232,7 @@ fn spaces_and_statements_require(rt: HostRuntime) {
 
 fn member(rt: &(impl Abort + AllocGlobal), name: &str, ty: u32) -> StructMember {
     StructMember {
-        name: Some(Name::from(granted(rt, String::from_str(rt.alloc(), name)))),
+        name: Some(Name::from(made(rt, String::from_str(rt.alloc(), name)))),
         ty: Handle::new(ty),
         binding: None,
         offset: 0,
@@ -242,16 +242,16 @@ fn member(rt: &(impl Abort + AllocGlobal), name: &str, ty: u32) -> StructMember 
 /// The types i32 and bool.
 fn types_of_exchange(rt: &(impl Abort + AllocGlobal)) -> UniqueArena<Type> {
     let mut types = UniqueArena::new(rt.alloc());
-    granted(rt, types.insert(scalar_type(Scalar::I32), Span::UNDEFINED));
-    granted(rt, types.insert(scalar_type(Scalar::BOOL), Span::UNDEFINED));
+    made(rt, types.insert(scalar_type(Scalar::I32), Span::UNDEFINED));
+    made(rt, types.insert(scalar_type(Scalar::BOOL), Span::UNDEFINED));
     types
 }
 
 /// What a compare exchange of the first gives.
 fn exchanged(rt: &(impl Abort + AllocGlobal)) -> TypeInner {
     let mut members = Sequence::new(rt.alloc());
-    granted(rt, members.push(member(rt, "old_value", 0)));
-    granted(rt, members.push(member(rt, "exchanged", 1)));
+    made(rt, members.push(member(rt, "old_value", 0)));
+    made(rt, members.push(member(rt, "exchanged", 1)));
     TypeInner::Struct { members, span: 8 }
 }
 
@@ -275,7 +275,7 @@ fn a_compare_exchange_gives_a_struct(rt: HostRuntime) {
 /// Tracks an override, which is no constant.
 fn track_override(rt: &impl Abort, kinds: &mut ExpressionKindTracker) {
     assert!(rt; kinds.is_empty());
-    granted(rt, kinds.push(ExpressionKind::Override));
+    made(rt, kinds.push(ExpressionKind::Override));
     assert!(rt; kinds.len() == 1);
     assert!(rt; !kinds.is_const(Handle::new(0)));
     assert!(rt; kinds.is_const_or_override(Handle::new(0)));

@@ -1,6 +1,6 @@
 //! Clones are equal, texts and spans included, and an error converts into the one that holds it.
 
-use crate::tests::{expect_equal, granted};
+use crate::tests::{expect_equal, made};
 use naga_arena::handle::Handle;
 use naga_arena::span::{Span, WithSpan};
 use naga_errors::function::{AtomicError, FunctionError, LocalVariableError, SubgroupError};
@@ -21,13 +21,13 @@ fn structure(rt: &(impl Abort + AllocGlobal), member: &str) -> TypeInner {
         offset: 0,
     };
     let mut members = Members::new(rt.alloc());
-    granted(rt, members.push(member));
+    made(rt, members.push(member));
     TypeInner::Struct { members, span: 4 }
 }
 
 /// The name of this text.
 fn name_of(rt: &(impl Abort + AllocGlobal), text: &str) -> Name {
-    Name::from(granted(rt, String::from_str(rt.alloc(), text)))
+    Name::from(made(rt, String::from_str(rt.alloc(), text)))
 }
 
 fn bad_texel(rt: &(impl Abort + AllocGlobal), member: &str) -> FunctionError {
@@ -49,7 +49,7 @@ fn expect_other(rt: &impl Abort, first: &FunctionError, second: &FunctionError) 
 #[test]
 fn a_bad_texel(rt: HostRuntime) {
     let error = bad_texel(&rt, "x");
-    let copy = granted(&rt, error.clone(rt.alloc()));
+    let copy = made(&rt, error.clone(rt.alloc()));
     expect_equal(&rt, &copy, &error);
     let same = bad_texel(&rt, "x");
     expect_equal(&rt, &error, &same);
@@ -63,7 +63,7 @@ fn a_bad_texel(rt: HostRuntime) {
 
 /// The clone of an error is equal to it.
 fn clone_error(rt: &(impl Abort + AllocGlobal), error: &FunctionError) {
-    let copy = granted(rt, error.clone(rt.alloc()));
+    let copy = made(rt, error.clone(rt.alloc()));
     expect_equal(rt, &copy, error);
     drop(copy);
 }
@@ -90,7 +90,7 @@ fn errors_with_names(rt: HostRuntime) {
         BuiltIn::Position { invariant: true },
         structure(&rt, "x"),
     );
-    let copy = granted(&rt, varying.clone(rt.alloc()));
+    let copy = made(&rt, varying.clone(rt.alloc()));
     expect_equal(&rt, &copy, &varying);
     drop(copy);
     drop(varying);
@@ -113,7 +113,7 @@ fn faulty_analysis(rt: &(impl Abort + AllocGlobal)) -> MeshAnalysis {
             output_variable: Handle::new(0),
         },
         overrides: [None, Some(Handle::new(6))],
-        fault: Some(granted(rt, fault.with_span(PLACE))),
+        fault: Some(made(rt, fault.with_span(PLACE))),
     }
 }
 
@@ -126,7 +126,7 @@ fn expect_place(rt: &impl Abort, analysis: &MeshAnalysis) {
 #[test]
 fn an_analysis(rt: HostRuntime) {
     let analysis = faulty_analysis(&rt);
-    let copy = granted(&rt, analysis.clone(rt.alloc()));
+    let copy = made(&rt, analysis.clone(rt.alloc()));
     expect_equal(&rt, &copy, &analysis);
     expect_place(&rt, &copy);
     drop(copy);

@@ -3,7 +3,7 @@
 ghost use Rattle.std.specs.Prelude.{◌≡◌, ◌<◌, length};
 
 use crate::tests::bools::Bools;
-use crate::tests::granted;
+use crate::tests::made;
 use bitflags::Flags;
 use naga_arena::arena::Arena;
 use naga_arena::handle::Handle;
@@ -128,7 +128,7 @@ fn output_size<B: Below>(
 fn module_of_bool(rt: &(impl Abort + AllocGlobal)) -> Module {
     let mut types = UniqueArena::new(rt.alloc());
     let inner = TypeInner::Scalar(Scalar::BOOL);
-    let ty = granted(
+    let ty = made(
         rt,
         types.insert(Type { name: None, inner }, Span::UNDEFINED),
     );
@@ -140,7 +140,7 @@ fn module_of_bool(rt: &(impl Abort + AllocGlobal)) -> Module {
         memory_decorations: MemoryDecorations::empty(),
     };
     let mut global_variables = Arena::new(rt.alloc());
-    granted(rt, global_variables.append(global, Span::UNDEFINED));
+    made(rt, global_variables.append(global, Span::UNDEFINED));
     let mut module = Module::new(rt.alloc());
     module.types = types;
     module.global_variables = global_variables;
@@ -154,7 +154,7 @@ fn function_of_bool(rt: &(impl Abort + AllocGlobal)) -> Function {
         bits: 1,
     };
     let mut expressions = Arena::new(rt.alloc());
-    granted(
+    made(
         rt,
         expressions.append(Expression::Literal(literal), Span::UNDEFINED),
     );
@@ -202,8 +202,8 @@ fn assert_answers(
     let global = Handle::new(0);
     assert!(rt; fun.expressions.len() == 1);
     assert!(rt; module.global_variables.len() == 1);
-    assert!(rt; granted(rt, is_constant(&Bools, rt.alloc(), fun, handle)));
-    let size = granted(rt, output_size(&Bools, rt.alloc(), module, global));
+    assert!(rt; made(rt, is_constant(&Bools, rt.alloc(), fun, handle)));
+    let size = made(rt, output_size(&Bools, rt.alloc(), module, global));
     assert!(rt; size == Some(1));
     let subject = Subject {
         fun,

@@ -4,7 +4,7 @@ mod function;
 mod inner;
 mod interface;
 
-use crate::tests::granted;
+use crate::tests::made;
 use naga_errors::sentences::Explain;
 use std::fmt::Display;
 use std::process::Abort;
@@ -21,14 +21,14 @@ fn assert_told<E: Display + Explain>(
 }
 
 fn assert_prints(rt: &(impl Abort + AllocGlobal), error: &impl Display, name: &str) {
-    let printed = granted(rt, error.to_string(rt.alloc()));
+    let printed = made(rt, error.to_string(rt.alloc()));
     assert_eq!(rt; printed.as_str(), name);
     drop(printed);
 }
 
 fn assert_explains(rt: &(impl Abort + AllocGlobal), error: &impl Explain, sentence: &str) {
     let mut told = String::new(rt.alloc());
-    granted(rt, error.explain(&mut told));
+    made(rt, error.explain(&mut told));
     assert_eq!(rt; told.as_str(), sentence);
     drop(told);
 }

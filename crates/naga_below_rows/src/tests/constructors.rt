@@ -1,6 +1,6 @@
 //! What is made empty, and what is made of parts.
 
-use crate::tests::{expect_equal, granted};
+use crate::tests::{expect_equal, made};
 use naga_arena::handle::Handle;
 use naga_arena::range::Range;
 use naga_arena::sequence::Sequence;
@@ -68,8 +68,8 @@ const PLACE: Span = Span { start: 3, end: 5 };
 /// A break and a kill, which are pushed.
 fn pushed(rt: &(impl Abort + AllocGlobal)) -> Block {
     let mut block = Block::new(rt.alloc());
-    granted(rt, block.push(Statement::Break, PLACE));
-    granted(rt, block.push(Statement::Kill, Span::UNDEFINED));
+    made(rt, block.push(Statement::Break, PLACE));
+    made(rt, block.push(Statement::Kill, Span::UNDEFINED));
     block
 }
 
@@ -80,12 +80,12 @@ fn listed(rt: &(impl Abort + AllocGlobal)) -> Block {
         statement: Statement::Break,
         span: PLACE,
     };
-    granted(rt, list.push(first));
+    made(rt, list.push(first));
     let second = Located {
         statement: Statement::Kill,
         span: Span::UNDEFINED,
     };
-    granted(rt, list.push(second));
+    made(rt, list.push(second));
     Block::from(list.into_vec())
 }
 
@@ -120,7 +120,7 @@ fn expect_const(rt: &impl Abort, kinds: &ExpressionKindTracker) {
 #[test]
 fn kinds_are_made_of_a_list(rt: HostRuntime) {
     let mut list = Vec::new(rt.alloc());
-    granted(
+    made(
         &rt,
         list.push(ExpressionKind::Const).map_err(AllocError::from),
     );
