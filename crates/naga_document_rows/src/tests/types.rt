@@ -38,7 +38,7 @@ fn types(rt: HostRuntime) {
             r#"{"Storage":{"access":["LOAD"]},"Handle":null}"#,
         ],
     );
-    check::<ImageDimension>(&rt, r#""Cube""#, [r#""D4""#, "2", "null"]);
+    check::<ImageDimension>(&rt, r#""Cube""#, [r#""4D""#, "2", "null"]);
     check::<ImageClass>(
         &rt,
         r#"{"Sampled":{"kind":"Float","multi":true}}"#,
@@ -51,7 +51,7 @@ fn types(rt: HostRuntime) {
     check::<StorageFormat>(
         &rt,
         r#""Rgba32Float""#,
-        [r#""rgba32float""#, r#""R8""#, r#"["R8Uint"]"#],
+        [r#""rgba32float""#, r#""R8uint""#, r#"["R8Uint"]"#],
     );
     check::<TypeInner>(
         &rt,
