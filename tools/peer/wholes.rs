@@ -1,4 +1,4 @@
-//! Times naga's own code over cases of crates/naga_bench: whole functions, entry points and modules (group `d`), and the sizes of bodies
+//! Times naga's own code over cases of crates/bench: whole functions, entry points and modules (group `d`), and the sizes of bodies
 //! (groups `a` to `c`) that the benchmark of naga's code leaves out. With an argument, only those whose names begin so. A line has the name, the statements (an entry point counts as one), the expressions, the median and the
 //! fastest judgement, the same of the lower layer alone, the judgement's own share for each statement by both, and the repetitions, in
 //! nanoseconds: what `sh tools/bench` reads of its second argument.

@@ -4,7 +4,7 @@
 #[cfg(test)]
 mod tests;
 
-use naga_case::run_case;
+use case_run::run_case;
 use std::io;
 use std::process::ExitCode;
 

@@ -7,7 +7,7 @@ mod notation;
 mod rows;
 mod settings;
 
-use naga_case::run_case;
+use case_run::run_case;
 use std::alloc::Global;
 use std::io::{Read, Write};
 use std::process::Abort;

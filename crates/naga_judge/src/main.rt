@@ -9,7 +9,7 @@ mod tests;
 
 use crate::arguments::{Task, task_of};
 use clap::error::ErrorKind;
-use naga_verdict::run::{Form, run_document, run_lines};
+use json_verdict::run::{Form, run_document, run_lines};
 use std::io;
 use std::process::ExitCode;
 

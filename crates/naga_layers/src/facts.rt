@@ -4,17 +4,17 @@
 ghost use Rattle.std.specs.Prelude.{◌≡◌};
 ghost use Rattle.naga_layers.specs.Recorded.Facts.{no_facts, fault_of, info_of, analysis_of};
 
-use naga_arena::handle::Handle;
-use naga_arena::sequence::Sequence;
-use naga_arena::span::WithSpan;
-use naga_arena::tag;
-use naga_below::valid::expression_error::ExpressionError;
-use naga_errors::analyzer::{UniformityDisruptor, UniformityRequirements};
-use naga_errors::function::FunctionError;
-use naga_errors::mesh::{MeshAnalysis, MeshFault};
-use naga_flags::valid::{GlobalUse, ShaderStages};
-use naga_ir::module::MeshStageInfo;
-use naga_types::typifier::TypeResolution;
+use check_errors::analyzer::{UniformityDisruptor, UniformityRequirements};
+use check_errors::function::FunctionError;
+use check_errors::mesh::{MeshAnalysis, MeshFault};
+use ir_arena::handle::Handle;
+use ir_arena::sequence::Sequence;
+use ir_arena::span::WithSpan;
+use ir_arena::tag;
+use ir_facts::valid::expression_error::ExpressionError;
+use ir_flags::valid::{GlobalUse, ShaderStages};
+use ir_module::module::MeshStageInfo;
+use ir_types::typifier::TypeResolution;
 use std::alloc::Global;
 
 /// What a lower layer says of a module. No list must have a certain length: what a missing fact means is said at

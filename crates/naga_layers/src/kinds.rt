@@ -2,13 +2,13 @@
 
 ghost use Rattle.std.specs.Prelude.{◌≡◌, [], IfOk};
 ghost use Rattle.naga_layers.specs.Kinds.{kind_at, later_of, latest_of, kind_of, kinds_from};
-ghost use Rattle.naga_below.specs.declared.proc.expression_kinds.ExpressionKind.TheVariants.{Const};
+ghost use Rattle.ir_facts.specs.declared.proc.expression_kinds.ExpressionKind.TheVariants.{Const};
 
-use naga_arena::arena::Arena;
-use naga_arena::handle::Handle;
-use naga_arena::tag;
-use naga_below::proc::expression_kinds::{ExpressionKind, ExpressionKindTracker};
-use naga_ir::expressions::Expression;
+use ir_arena::arena::Arena;
+use ir_arena::handle::Handle;
+use ir_arena::tag;
+use ir_facts::proc::expression_kinds::{ExpressionKind, ExpressionKindTracker};
+use ir_module::expressions::Expression;
 use std::alloc::{AllocError, Global};
 
 /// The kind of each expression.

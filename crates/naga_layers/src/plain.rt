@@ -1,7 +1,7 @@
 //! The plain lower layer: a small one, over which the program and the tests judge.
 
 ghost use Rattle.std.specs.Prelude.{◌≡◌, IfOk};
-ghost use Rattle.naga_errors.specs.Answers.{Answers};
+ghost use Rattle.check_errors.specs.Answers.{Answers};
 ghost use Rattle.naga_layers.specs.Plain.Infos.{plain_info};
 ghost use Rattle.naga_layers.specs.Plain.Meaning.{plain_layer};
 
@@ -13,22 +13,22 @@ use crate::kinds::kinds_of;
 use crate::plain::sizes::size_of;
 use crate::plain::types::types_of;
 use crate::plain::uses::uses_of;
-use naga_arena::arena::Arena;
-use naga_arena::handle::Handle;
-use naga_arena::span::Refusal;
-use naga_arena::tag;
-use naga_below::proc::expression_kinds::ExpressionKindTracker;
-use naga_below::valid::expression_error::ExpressionError;
-use naga_below::valid::info::{FunctionInfo, ModuleInfo};
-use naga_below::valid::settings::Settings;
-use naga_errors::below::Below;
-use naga_errors::function::FunctionError;
-use naga_errors::mesh::MeshAnalysis;
-use naga_flags::capabilities::Capabilities;
-use naga_flags::valid::{ShaderStages, ValidationFlags};
-use naga_ir::expressions::Expression;
-use naga_ir::functions::Function;
-use naga_ir::module::{MeshOutputTopology, MeshStageInfo, Module};
+use check_errors::below::Below;
+use check_errors::function::FunctionError;
+use check_errors::mesh::MeshAnalysis;
+use ir_arena::arena::Arena;
+use ir_arena::handle::Handle;
+use ir_arena::span::Refusal;
+use ir_arena::tag;
+use ir_facts::proc::expression_kinds::ExpressionKindTracker;
+use ir_facts::valid::expression_error::ExpressionError;
+use ir_facts::valid::info::{FunctionInfo, ModuleInfo};
+use ir_facts::valid::settings::Settings;
+use ir_flags::capabilities::Capabilities;
+use ir_flags::valid::{ShaderStages, ValidationFlags};
+use ir_module::expressions::Expression;
+use ir_module::functions::Function;
+use ir_module::module::{MeshOutputTopology, MeshStageInfo, Module};
 use std::alloc::{AllocError, Global};
 
 /// A lower layer that types the plainest expressions, and refuses any other as `Lower(1)`. Every expression may run in

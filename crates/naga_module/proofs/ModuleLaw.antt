@@ -2,26 +2,26 @@
 use Rattle.std.proofs.Common.{◌≡◌, ◌+◌, ◌++◌, ◌∙◌, inl, inr, ℕ, zero, suc, true, false, List, [], ◌∷◌, Some, Result, Ok, Err, length, slice_get, refl, sym, ap, subst, arith}
 use Rattle.std.proofs.lemmas.List.{length-append}
 use Rattle.std.specs.Prelude.{drop, take}
-use Rattle.naga_below.specs.Fits.{FitsFunction, FitsEntry}
-use Rattle.naga_ir.specs.declared.functions.Function.{Function}
-use Rattle.naga_ir.specs.declared.module.EntryPoint.{EntryPoint}
-use Rattle.naga_ir.specs.declared.module.Module.{Module}
-use Rattle.naga_below.specs.declared.valid.info.FunctionInfo.{FunctionInfo}
-use Rattle.naga_below.specs.declared.valid.info.ModuleInfo.{ModuleInfo}
-use Rattle.naga_below.specs.declared.valid.settings.Settings.{Settings}
-use Rattle.naga_below.specs.declared.valid.types.TypeInfo.{TypeInfo}
-use Rattle.naga_errors.specs.Meaning.{Meaning}
-use Rattle.naga_function.proofs.Chains.{none_is_vetted, one_more_is_vetted, fits_calls_below}
+use Rattle.ir_facts.specs.Fits.{FitsFunction, FitsEntry}
+use Rattle.ir_module.specs.declared.functions.Function.{Function}
+use Rattle.ir_module.specs.declared.module.EntryPoint.{EntryPoint}
+use Rattle.ir_module.specs.declared.module.Module.{Module}
+use Rattle.ir_facts.specs.declared.valid.info.FunctionInfo.{FunctionInfo}
+use Rattle.ir_facts.specs.declared.valid.info.ModuleInfo.{ModuleInfo}
+use Rattle.ir_facts.specs.declared.valid.settings.Settings.{Settings}
+use Rattle.ir_facts.specs.declared.valid.types.TypeInfo.{TypeInfo}
+use Rattle.check_errors.specs.Meaning.{Meaning}
+use Rattle.check_body.proofs.Chains.{none_is_vetted, one_more_is_vetted, fits_calls_below}
 use Rattle.naga_valid.proofs.EntryChains.{entry_is_sound, entry_keeps_its_stage}
-use Rattle.naga_function.proofs.FunctionLaw.{is_sound}
-use Rattle.naga_function.specs.Chains.{AreVetted, ChainsKeepTo}
-use Rattle.naga_interface.specs.Judged.{HasPayloadSizes, entry_judgement}
-use Rattle.naga_interface.specs.Uses.{only}
-use Rattle.naga_function.specs.InOrder.{with_info}
-use Rattle.naga_statements.specs.Judged.{FunctionOutcome, function_judgement}
-use Rattle.naga_statements.specs.Parts.{no_traces}
-use Rattle.naga_context.specs.WhatIsChecked.{checks_blocks}
-use Rattle.naga_context.specs.declared.trace.TraceState.{TraceState}
+use Rattle.check_body.proofs.FunctionLaw.{is_sound}
+use Rattle.check_body.specs.Chains.{AreVetted, ChainsKeepTo}
+use Rattle.check_entry.specs.Judged.{HasPayloadSizes, entry_judgement}
+use Rattle.check_entry.specs.Uses.{only}
+use Rattle.check_body.specs.InOrder.{with_info}
+use Rattle.check_statement.specs.Judged.{FunctionOutcome, function_judgement}
+use Rattle.check_statement.specs.Parts.{no_traces}
+use Rattle.check_scope.specs.WhatIsChecked.{checks_blocks}
+use Rattle.check_scope.specs.declared.trace.TraceState.{TraceState}
 use Rattle.naga_module.specs.ModuleJudgement.{Answer, Tested, Step, with_entry, first_infos, IsOfFunction, IsOfEntryPoint, EntriesAnswer, BehindFunctions, FunctionsAnswer, Fits, globals_step}
 use Rattle.naga_module.specs.ModuleLaw.{IsSoundFunction, infos_before, AcceptedModuleHolds}
 use Rattle.naga_module.specs.declared.check.ModuleFault.{ModuleFault}

@@ -1,12 +1,12 @@
 -- The judgement of a module, step by step: what is answered behind each.
 use Rattle.std.proofs.Common.{◌≡◌, ◌⊎◌, inl, inr, List, [], Ok, Err, refl, sym, subst}
 use Rattle.std.specs.Prelude.{Result, OnOk, IfErr}
-use Rattle.naga_ir.specs.declared.module.Module.{Module}
-use Rattle.naga_below.specs.declared.valid.info.ModuleInfo.{ModuleInfo}
-use Rattle.naga_below.specs.declared.valid.settings.Settings.{Settings}
-use Rattle.naga_below.specs.declared.valid.types.TypeInfo.{TypeInfo}
-use Rattle.naga_errors.specs.Meaning.{Meaning}
-use Rattle.naga_context.specs.declared.trace.TraceState.{TraceState}
+use Rattle.ir_module.specs.declared.module.Module.{Module}
+use Rattle.ir_facts.specs.declared.valid.info.ModuleInfo.{ModuleInfo}
+use Rattle.ir_facts.specs.declared.valid.settings.Settings.{Settings}
+use Rattle.ir_facts.specs.declared.valid.types.TypeInfo.{TypeInfo}
+use Rattle.check_errors.specs.Meaning.{Meaning}
+use Rattle.check_scope.specs.declared.trace.TraceState.{TraceState}
 use Rattle.naga_module.specs.CodeModule.{Leads, Stops}
 use Rattle.naga_module.specs.ModuleJudgement.{Answer, Step, IsOfFunction, globals_step, BehindFunctions, BehindTests, FunctionsAnswer}
 use Rattle.naga_module.specs.declared.check.ModuleFault.{ModuleFault}

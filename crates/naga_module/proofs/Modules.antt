@@ -4,23 +4,23 @@ use Rattle.std.proofs.lemmas.List.{at_drop_more, drop_all}
 use Rattle.std.proofs.lemmas.Option.{get_or_from_slice_get}
 use Rattle.std.specs.Option.{option_or}
 use Rattle.std.specs.Prelude.{None, Some, slice_get}
-use Rattle.naga_below.proofs.Points.{first_turn, first_end}
-use Rattle.naga_below.specs.Points.{Point, first_fault, points_from, points_of_each}
-use Rattle.naga_below.specs.Fits.{FitsFunction, FitsEntry}
-use Rattle.naga_ir.specs.declared.functions.Function.{Function}
-use Rattle.naga_ir.specs.declared.module.EntryPoint.{EntryPoint}
-use Rattle.naga_ir.specs.declared.module.Module.{Module}
-use Rattle.naga_below.specs.declared.valid.info.ModuleInfo.{ModuleInfo}
-use Rattle.naga_below.specs.declared.valid.settings.Settings.{Settings}
-use Rattle.naga_below.specs.declared.valid.types.TypeInfo.{TypeInfo}
-use Rattle.naga_errors.specs.Meaning.{Meaning}
-use Rattle.naga_errors.specs.declared.function.FunctionError.{FunctionError}
-use Rattle.naga_interface.specs.Faults.{fault_of}
-use Rattle.naga_interface.specs.Judged.{entry_judgement}
-use Rattle.naga_function.specs.InOrder.{with_info}
-use Rattle.naga_statements.specs.Judged.{FunctionOutcome, function_judgement}
-use Rattle.naga_interface.specs.declared.error.EntryPointError.{EntryPointError}
-use Rattle.naga_context.specs.declared.trace.TraceState.{TraceState}
+use Rattle.ir_facts.proofs.Points.{first_turn, first_end}
+use Rattle.ir_facts.specs.Points.{Point, first_fault, points_from, points_of_each}
+use Rattle.ir_facts.specs.Fits.{FitsFunction, FitsEntry}
+use Rattle.ir_module.specs.declared.functions.Function.{Function}
+use Rattle.ir_module.specs.declared.module.EntryPoint.{EntryPoint}
+use Rattle.ir_module.specs.declared.module.Module.{Module}
+use Rattle.ir_facts.specs.declared.valid.info.ModuleInfo.{ModuleInfo}
+use Rattle.ir_facts.specs.declared.valid.settings.Settings.{Settings}
+use Rattle.ir_facts.specs.declared.valid.types.TypeInfo.{TypeInfo}
+use Rattle.check_errors.specs.Meaning.{Meaning}
+use Rattle.check_errors.specs.declared.function.FunctionError.{FunctionError}
+use Rattle.check_entry.specs.Faults.{fault_of}
+use Rattle.check_entry.specs.Judged.{entry_judgement}
+use Rattle.check_body.specs.InOrder.{with_info}
+use Rattle.check_statement.specs.Judged.{FunctionOutcome, function_judgement}
+use Rattle.check_entry.specs.declared.error.EntryPointError.{EntryPointError}
+use Rattle.check_scope.specs.declared.trace.TraceState.{TraceState}
 use Rattle.naga_module.specs.CodeModule.{Leads, Stops, EntriesLead, EntriesStop}
 use Rattle.naga_module.specs.ModuleJudgement.{Answer, Step, with_entry, IsOfFunction, IsOfEntryPoint, EntriesAnswer, FunctionsAnswer}
 use Rattle.naga_module.specs.declared.check.ModuleFault.{ModuleFault}

@@ -3,23 +3,23 @@ use Rattle.std.proofs.Common.{◌≡◌, ◌+◌, inl, inr, ℕ, suc, false, Lis
 use Rattle.std.proofs.lemmas.List.{length-append}
 use Rattle.std.proofs.lemmas.List.Elements.{All-nil}
 use Rattle.std.specs.Prelude.{All, IsSome, slice_get}
-use Rattle.naga_below.specs.Fits.{FitsFunction}
-use Rattle.naga_below.specs.Points.{answer, first_fault, points_of_each}
-use Rattle.naga_ir.specs.declared.functions.Function.{Function}
-use Rattle.naga_ir.specs.declared.module.EntryPoint.{EntryPoint}
-use Rattle.naga_ir.specs.declared.module.GlobalVariable.{GlobalVariable}
-use Rattle.naga_ir.specs.declared.module.Module.{Module}
-use Rattle.naga_types.specs.declared.types.AddressSpace.TheVariants as space
-use Rattle.naga_below.specs.declared.valid.info.ModuleInfo.{ModuleInfo}
-use Rattle.naga_below.specs.declared.valid.settings.Settings.{Settings}
-use Rattle.naga_below.specs.declared.valid.types.TypeInfo.{TypeInfo}
-use Rattle.naga_errors.specs.Meaning.{Meaning}
-use Rattle.naga_errors.specs.declared.function.FunctionError.{FunctionError}
-use Rattle.naga_function.specs.InOrder.{with_info}
-use Rattle.naga_statements.specs.Judged.{FunctionOutcome, function_judgement}
-use Rattle.naga_statements.specs.Parts.{no_traces}
-use Rattle.naga_interface.specs.Judged.{HasPayloadSizes}
-use Rattle.naga_context.specs.declared.trace.TraceState.{TraceState}
+use Rattle.ir_facts.specs.Fits.{FitsFunction}
+use Rattle.ir_facts.specs.Points.{answer, first_fault, points_of_each}
+use Rattle.ir_module.specs.declared.functions.Function.{Function}
+use Rattle.ir_module.specs.declared.module.EntryPoint.{EntryPoint}
+use Rattle.ir_module.specs.declared.module.GlobalVariable.{GlobalVariable}
+use Rattle.ir_module.specs.declared.module.Module.{Module}
+use Rattle.ir_types.specs.declared.types.AddressSpace.TheVariants as space
+use Rattle.ir_facts.specs.declared.valid.info.ModuleInfo.{ModuleInfo}
+use Rattle.ir_facts.specs.declared.valid.settings.Settings.{Settings}
+use Rattle.ir_facts.specs.declared.valid.types.TypeInfo.{TypeInfo}
+use Rattle.check_errors.specs.Meaning.{Meaning}
+use Rattle.check_errors.specs.declared.function.FunctionError.{FunctionError}
+use Rattle.check_body.specs.InOrder.{with_info}
+use Rattle.check_statement.specs.Judged.{FunctionOutcome, function_judgement}
+use Rattle.check_statement.specs.Parts.{no_traces}
+use Rattle.check_entry.specs.Judged.{HasPayloadSizes}
+use Rattle.check_scope.specs.declared.trace.TraceState.{TraceState}
 use Rattle.naga_module.specs.ModuleJudgement.{Answer, Step, IsOfFunction, first_infos, globals_step, points_of_global, EntriesAnswer, FunctionsAnswer}
 use Rattle.naga_module.specs.ModuleLaw.{IsToldOfFunctions, FunctionsAloneAreTold}
 use Rattle.naga_module.specs.declared.check.ModuleFault.{ModuleFault}

@@ -3,26 +3,26 @@ use Rattle.std.proofs.Common.{◌≡◌, ◌<◌, ◌∙◌, ℕ, zero, suc, fal
 use Rattle.std.proofs.lemmas.List.Elements.{All-contains, All-from_recursion}
 use Rattle.std.specs.List.{AllByRecursion}
 use Rattle.std.specs.Prelude.{Contains, slice_get}
-use Rattle.naga_ir.proofs.Rows.{body_of-list}
-use Rattle.naga_flags.specs.Bits.{ALL_STAGES}
-use Rattle.naga_below.specs.Points.{and_then, answer, first_fault}
-use Rattle.naga_ir.specs.Tree.{Body}
-use Rattle.naga_ir.specs.View.{list_body}
-use Rattle.naga_ir.specs.declared.functions.Function.{Function}
-use Rattle.naga_ir.specs.declared.statements.Block.{out-roll-Block}
-use Rattle.naga_ir.specs.declared.statements.Statement.{Statement}
-use Rattle.naga_ir.specs.declared.statements.Statement as ir
-use Rattle.naga_below.specs.declared.valid.info.FunctionInfo.{FunctionInfo}
-use Rattle.naga_errors.specs.declared.function.FunctionError.{FunctionError}
+use Rattle.ir_module.proofs.Rows.{body_of-list}
+use Rattle.ir_flags.specs.Bits.{ALL_STAGES}
+use Rattle.ir_facts.specs.Points.{and_then, answer, first_fault}
+use Rattle.ir_module.specs.Tree.{Body}
+use Rattle.ir_module.specs.View.{list_body}
+use Rattle.ir_module.specs.declared.functions.Function.{Function}
+use Rattle.ir_module.specs.declared.statements.Block.{out-roll-Block}
+use Rattle.ir_module.specs.declared.statements.Statement.{Statement}
+use Rattle.ir_module.specs.declared.statements.Statement as ir
+use Rattle.ir_facts.specs.declared.valid.info.FunctionInfo.{FunctionInfo}
+use Rattle.check_errors.specs.declared.function.FunctionError.{FunctionError}
 use Rattle.naga_runs.specs.Judgement.{judgement, state_after}
-use Rattle.naga_context.specs.Blocks.{body_of, emitted_operands}
-use Rattle.naga_function.specs.Chains.{Calls, Through, CallsBelow, infos_below, IsVettedInfo}
-use Rattle.naga_context.specs.Context.{Context, pre_emitted}
-use Rattle.naga_statements.specs.Expressions.{stages_from}
-use Rattle.naga_function.specs.InOrder.{called_by}
-use Rattle.naga_statements.specs.Judged.{FunctionOutcome, body_judgement, context_with, function_judgement, unfilled_points, outcome_left}
-use Rattle.naga_statements.specs.Parts.{no_traces}
-use Rattle.naga_statements.specs.Rules.{body_rules}
+use Rattle.check_scope.specs.Blocks.{body_of, emitted_operands}
+use Rattle.check_body.specs.Chains.{Calls, Through, CallsBelow, infos_below, IsVettedInfo}
+use Rattle.check_scope.specs.Context.{Context, pre_emitted}
+use Rattle.check_statement.specs.Expressions.{stages_from}
+use Rattle.check_body.specs.InOrder.{called_by}
+use Rattle.check_statement.specs.Judged.{FunctionOutcome, body_judgement, context_with, function_judgement, unfilled_points, outcome_left}
+use Rattle.check_statement.specs.Parts.{no_traces}
+use Rattle.check_statement.specs.Rules.{body_rules}
 use Rattle.naga_layers.specs.Plain.Meaning.{plain_meaning, plain_layer}
 use Rattle.naga_layers.specs.Plain.Types.{types_from}
 use Rattle.naga_layers.specs.Plain.Uses.{with_all_named}

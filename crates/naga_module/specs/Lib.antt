@@ -2,9 +2,9 @@ pub mod ModuleJudgement
 pub mod CodeModule
 pub mod ModuleLaw
 pub mod WorkedChain
-pub use Rattle.naga_context.specs.Blocks.{body_of}
-pub use Rattle.naga_context.specs.Context.{pre_emitted_of}
-pub use Rattle.naga_context.specs.WhatIsChecked.{checks_blocks}
+pub use Rattle.check_scope.specs.Blocks.{body_of}
+pub use Rattle.check_scope.specs.Context.{pre_emitted_of}
+pub use Rattle.check_scope.specs.WhatIsChecked.{checks_blocks}
 pub use Rattle.naga_layers.specs.Plain.Meaning.{plain_meaning, plain_layer}
 pub use Rattle.naga_layers.specs.Recorded.Meaning.{recorded_meaning}
 pub use Rattle.naga_module.specs.ModuleJudgement.{Fits, IsJudgement, IsAnswered}

@@ -2,25 +2,25 @@
 -- infos of those before it; the sizes of task payloads; its entry points in order, each with all infos so far. What ray traces
 -- leave goes from each to the next. It is told as what an answer has to be, since a test is a proposition.
 use Rattle.std.specs.Prelude.{◌≡◌, ◌⊎◌, ℕ, false, List, [], ◌∷◌, ◌++◌, Result, Ok, Err, length}
-use Rattle.naga_below.specs.Fits.{FitsTypes, FitsGlobals, FitsFunction, FitsEntry}
-use Rattle.naga_below.specs.Points.{Point, first_fault, answer, within, points_of_each}
-use Rattle.naga_ir.specs.declared.functions.Function.{Function}
-use Rattle.naga_ir.specs.declared.module.EntryPoint.{EntryPoint}
-use Rattle.naga_ir.specs.declared.module.GlobalVariable.{GlobalVariable}
-use Rattle.naga_ir.specs.declared.module.Module.{Module}
-use Rattle.naga_types.specs.declared.typifier.TypeResolution.{TypeResolution}
-use Rattle.naga_below.specs.declared.valid.info.FunctionInfo.{FunctionInfo}
-use Rattle.naga_below.specs.declared.valid.info.ModuleInfo.{ModuleInfo}
-use Rattle.naga_below.specs.declared.valid.settings.Settings.{Settings}
-use Rattle.naga_below.specs.declared.valid.types.TypeInfo.{TypeInfo}
-use Rattle.naga_errors.specs.Meaning.{Meaning}
-use Rattle.naga_interface.specs.Faults.{EntryFault, fault_of}
-use Rattle.naga_interface.specs.Judged.{HasPayloadSizes, entry_judgement}
-use Rattle.naga_interface.specs.GlobalPoints.{module_global_points}
-use Rattle.naga_function.specs.InOrder.{with_info}
-use Rattle.naga_statements.specs.Judged.{function_judgement}
-use Rattle.naga_statements.specs.Parts.{AreInfosOf, no_traces}
-use Rattle.naga_context.specs.declared.trace.TraceState.{TraceState}
+use Rattle.ir_facts.specs.Fits.{FitsTypes, FitsGlobals, FitsFunction, FitsEntry}
+use Rattle.ir_facts.specs.Points.{Point, first_fault, answer, within, points_of_each}
+use Rattle.ir_module.specs.declared.functions.Function.{Function}
+use Rattle.ir_module.specs.declared.module.EntryPoint.{EntryPoint}
+use Rattle.ir_module.specs.declared.module.GlobalVariable.{GlobalVariable}
+use Rattle.ir_module.specs.declared.module.Module.{Module}
+use Rattle.ir_types.specs.declared.typifier.TypeResolution.{TypeResolution}
+use Rattle.ir_facts.specs.declared.valid.info.FunctionInfo.{FunctionInfo}
+use Rattle.ir_facts.specs.declared.valid.info.ModuleInfo.{ModuleInfo}
+use Rattle.ir_facts.specs.declared.valid.settings.Settings.{Settings}
+use Rattle.ir_facts.specs.declared.valid.types.TypeInfo.{TypeInfo}
+use Rattle.check_errors.specs.Meaning.{Meaning}
+use Rattle.check_entry.specs.Faults.{EntryFault, fault_of}
+use Rattle.check_entry.specs.Judged.{HasPayloadSizes, entry_judgement}
+use Rattle.check_entry.specs.GlobalPoints.{module_global_points}
+use Rattle.check_body.specs.InOrder.{with_info}
+use Rattle.check_statement.specs.Judged.{function_judgement}
+use Rattle.check_statement.specs.Parts.{AreInfosOf, no_traces}
+use Rattle.check_scope.specs.declared.trace.TraceState.{TraceState}
 use Rattle.naga_module.specs.declared.check.ModuleFault.{ModuleFault}
 use Rattle.naga_module.specs.declared.check.ModuleFault.TheVariants as fault
 

@@ -1,21 +1,21 @@
 -- What is known of a module that is accepted, where bodies are looked at.
 use Rattle.std.specs.Prelude.{◌≡◌, ℕ, true, List, [], Some, Ok, Err, ⊤, slice_get, take}
-use Rattle.naga_below.specs.Each.{EachAt}
-use Rattle.naga_below.specs.Fits.{FitsFunction}
-use Rattle.naga_ir.specs.declared.functions.Function.{Function}
-use Rattle.naga_ir.specs.declared.module.EntryPoint.{EntryPoint}
-use Rattle.naga_ir.specs.declared.module.Module.{Module}
-use Rattle.naga_types.specs.declared.typifier.TypeResolution.{TypeResolution}
-use Rattle.naga_below.specs.declared.valid.info.ModuleInfo.{ModuleInfo}
-use Rattle.naga_below.specs.declared.valid.settings.Settings.{Settings}
-use Rattle.naga_below.specs.declared.valid.types.TypeInfo.{TypeInfo}
-use Rattle.naga_errors.specs.Meaning.{Meaning}
+use Rattle.ir_facts.specs.Each.{EachAt}
+use Rattle.ir_facts.specs.Fits.{FitsFunction}
+use Rattle.ir_module.specs.declared.functions.Function.{Function}
+use Rattle.ir_module.specs.declared.module.EntryPoint.{EntryPoint}
+use Rattle.ir_module.specs.declared.module.Module.{Module}
+use Rattle.ir_types.specs.declared.typifier.TypeResolution.{TypeResolution}
+use Rattle.ir_facts.specs.declared.valid.info.ModuleInfo.{ModuleInfo}
+use Rattle.ir_facts.specs.declared.valid.settings.Settings.{Settings}
+use Rattle.ir_facts.specs.declared.valid.types.TypeInfo.{TypeInfo}
+use Rattle.check_errors.specs.Meaning.{Meaning}
 use Rattle.naga_runs.specs.Soundness.{RunsAreSure}
-use Rattle.naga_context.specs.Blocks.{body_of}
-use Rattle.naga_function.specs.Chains.{ChainsKeepTo}
-use Rattle.naga_context.specs.Context.{pre_emitted_of}
-use Rattle.naga_interface.specs.Uses.{only}
-use Rattle.naga_context.specs.WhatIsChecked.{checks_blocks}
+use Rattle.check_scope.specs.Blocks.{body_of}
+use Rattle.check_body.specs.Chains.{ChainsKeepTo}
+use Rattle.check_scope.specs.Context.{pre_emitted_of}
+use Rattle.check_entry.specs.Uses.{only}
+use Rattle.check_scope.specs.WhatIsChecked.{checks_blocks}
 use Rattle.naga_module.specs.ModuleJudgement.{Fits, IsJudgement, IsAnswered}
 use Rattle.naga_module.specs.declared.check.ModuleFault.{ModuleFault}
 use Rattle.naga_module.specs.declared.check.ModuleFault.TheVariants as fault

@@ -1,19 +1,19 @@
 -- A chain of two calls, worked by hand over the plain layer: its infos are vetted, and its last function reaches its first.
 use Rattle.std.specs.Int.RustNames.{bit_or}
 use Rattle.std.specs.Prelude.{false, [], ◌∷◌, None}
-use Rattle.naga_flags.specs.Bits.{EXPRESSIONS, BLOCKS, FRAGMENT, NO_OPERATION, NO_STAGE}
-use Rattle.naga_flags.specs.Capabilities.{NO_CAPABILITY}
-use Rattle.naga_ir.specs.declared.functions.Function.{Function}
-use Rattle.naga_ir.specs.declared.module.Module.{Module}
-use Rattle.naga_ir.specs.declared.statements.Block.{Block, roll-Block}
-use Rattle.naga_ir.specs.declared.statements.Located.{Located}
-use Rattle.naga_ir.specs.declared.statements.Statement.{Statement}
-use Rattle.naga_ir.specs.declared.statements.Statement as ir
-use Rattle.naga_below.specs.declared.valid.info.FunctionInfo.{FunctionInfo}
-use Rattle.naga_below.specs.declared.valid.info.ModuleInfo.{ModuleInfo}
-use Rattle.naga_below.specs.declared.valid.settings.Settings.{Settings}
-use Rattle.naga_context.specs.Blocks.{body_of}
-use Rattle.naga_function.specs.Chains.{Reaches, AreVetted}
+use Rattle.ir_flags.specs.Bits.{EXPRESSIONS, BLOCKS, FRAGMENT, NO_OPERATION, NO_STAGE}
+use Rattle.ir_flags.specs.Capabilities.{NO_CAPABILITY}
+use Rattle.ir_module.specs.declared.functions.Function.{Function}
+use Rattle.ir_module.specs.declared.module.Module.{Module}
+use Rattle.ir_module.specs.declared.statements.Block.{Block, roll-Block}
+use Rattle.ir_module.specs.declared.statements.Located.{Located}
+use Rattle.ir_module.specs.declared.statements.Statement.{Statement}
+use Rattle.ir_module.specs.declared.statements.Statement as ir
+use Rattle.ir_facts.specs.declared.valid.info.FunctionInfo.{FunctionInfo}
+use Rattle.ir_facts.specs.declared.valid.info.ModuleInfo.{ModuleInfo}
+use Rattle.ir_facts.specs.declared.valid.settings.Settings.{Settings}
+use Rattle.check_scope.specs.Blocks.{body_of}
+use Rattle.check_body.specs.Chains.{Reaches, AreVetted}
 use Rattle.naga_layers.specs.Plain.Meaning.{plain_meaning, plain_layer}
 
 -- a statement without a span, and a body of it alone

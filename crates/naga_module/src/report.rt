@@ -1,8 +1,8 @@
 //! Refusals, told to a person.
 
 use crate::check::ModuleFault;
-use naga_below::{Handle, Refusal, Span, tag};
-use naga_errors::Explain;
+use check_errors::Explain;
+use ir_arena::{Handle, Refusal, Span, tag};
 use std::error::Error;
 use std::fmt;
 

@@ -3,8 +3,8 @@ use Rattle.std.proofs.lemmas.List.{append-nil}
 use Rattle.std.specs.List.{AllByRecursion}
 use Rattle.std.specs.Prelude.{ℕ, zero, suc, Bool, true, false, List, Option, Some, None, ◌≡◌, ◌∷◌, ◌++◌, ◌||◌, [], ◌+◌}
 use Rattle.std.proofs.Common.{refl, sym, ap, subst, arith, append_assoc, append-nil, ◌∙◌}
-use Rattle.naga_ir.specs.Tree.{Act, Stmt, Body, Cases, Use, Put, Leaf, Block, Branch, Switch, Loop, Break, Continue, Return, Kill, Done, Then, NoCase, OneCase}
-use Rattle.naga_ir.specs.declared.statements.SwitchValue.{SwitchValue}
+use Rattle.ir_module.specs.Tree.{Act, Stmt, Body, Cases, Use, Put, Leaf, Block, Branch, Switch, Loop, Break, Continue, Return, Kill, Done, Then, NoCase, OneCase}
+use Rattle.ir_module.specs.declared.statements.SwitchValue.{SwitchValue}
 use Rattle.naga_runs.specs.Handles.{Handles, with_handle}
 use Rattle.naga_runs.specs.Abilities.{may_return_from, may_break_from, may_continue_from, node_jump}
 use Rattle.naga_runs.specs.Machine.{Event, Outcome, Run, recorded, after, left, by_choice, at_zero, then_rest, then_case, closing, then_close, turn, turns, run_stmt, run_body, run_cases, whole, Next, Broken, Continued, Returned, Ended, Stopped, Stuck, Ran}

@@ -1,12 +1,12 @@
 -- From a judgement to the law over runs.
 use Rattle.std.specs.List.{AllByRecursion}
 use Rattle.std.specs.Prelude.{⊤, ℕ, List, None, Ok, ◌≡◌}
-use Rattle.naga_ir.specs.Tree.{Body, Leaf, Block as Nested, Branch, Switch, Loop, Break, Continue, Return, Kill}
-use Rattle.naga_ir.specs.declared.statements.Block.{Block}
-use Rattle.naga_ir.specs.View.{statement_acts, body_of}
+use Rattle.ir_module.specs.Tree.{Body, Leaf, Block as Nested, Branch, Switch, Loop, Break, Continue, Return, Kill}
+use Rattle.ir_module.specs.declared.statements.Block.{Block}
+use Rattle.ir_module.specs.View.{statement_acts, body_of}
 use Rattle.naga_runs.specs.Abilities.{node_jump}
 use Rattle.naga_runs.specs.Handles.{Handles}
-use Rattle.naga_below.specs.Points.{first_fault}
+use Rattle.ir_facts.specs.Points.{first_fault}
 use Rattle.naga_runs.specs.Judgement.{Rules, judgement}
 use Rattle.naga_runs.specs.Positions.{Node, NoNode, StatementNode, BreakIfNode, node_at}
 use Rattle.naga_runs.specs.PutsAndUses.{node_acts}

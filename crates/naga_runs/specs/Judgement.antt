@@ -1,8 +1,8 @@
 -- The judgement of a body: the fault of the first point that fails, over all its visits in visit order; where none
 -- fails, the state that the visits leave.
 use Rattle.std.specs.Prelude.{List, Result, Ok, Err, ◌≡◌, ◌∷◌, ◌++◌, []}
-use Rattle.naga_below.specs.Points.{Point, first_fault, answer}
-use Rattle.naga_ir.specs.Tree.{Body}
+use Rattle.ir_facts.specs.Points.{Point, first_fault, answer}
+use Rattle.ir_module.specs.Tree.{Body}
 use Rattle.naga_runs.specs.Handles.{Handles}
 use Rattle.naga_runs.specs.Visits.{Visit, visits_of}
 

@@ -1,11 +1,11 @@
 -- The plainest rules: uses, puts and jumps alone. They show that the premises of the law over judgements can be met.
 use Rattle.std.specs.Prelude.{ℕ, suc, not, List, Ok, Err, ◌≡◌, ◌∷◌, ◌++◌, []}
-use Rattle.naga_ir.specs.Tree.{Act, Use, Put, Leaf}
-use Rattle.naga_ir.specs.View.{statement_acts}
+use Rattle.ir_module.specs.Tree.{Act, Use, Put, Leaf}
+use Rattle.ir_module.specs.View.{statement_acts}
 use Rattle.naga_runs.specs.Abilities.{Jump, node_jump, NoJump, ToBreak, ToContinue, ToReturn}
 use Rattle.naga_runs.specs.Guards.{SurelyGuards, SurelyReadGuards}
 use Rattle.naga_runs.specs.Handles.{Handles, with_handle}
-use Rattle.naga_below.specs.Points.{Point}
+use Rattle.ir_facts.specs.Points.{Point}
 use Rattle.naga_runs.specs.Judgement.{Rules, judgement}
 use Rattle.naga_runs.specs.Positions.{Node, StatementNode}
 use Rattle.naga_runs.specs.PutsAndUses.{node_acts}

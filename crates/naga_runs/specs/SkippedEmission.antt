@@ -1,6 +1,6 @@
 -- What one body does, and that the law's conditions refuse it and not all: loop { if 0 { continue } { } emit 3 } { } break_if 3.
 use Rattle.std.specs.Prelude.{ℕ, true, false, Option, Some, None, ◌≡◌, ◌≢◌, ◌∷◌, []}
-use Rattle.naga_ir.specs.Tree.{Use, Put}
+use Rattle.ir_module.specs.Tree.{Use, Put}
 use Rattle.naga_runs.specs.Handles.{Handles, with_handle}
 use Rattle.naga_runs.specs.Machine.{Event, run, events_of, outcome_of, Stopped, Stuck}
 use Rattle.naga_runs.specs.Positions.{Root, LoopBody, Condition, In}

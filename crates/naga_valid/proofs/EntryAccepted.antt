@@ -1,28 +1,28 @@
 -- What is known of an accepted entry point.
 use Rattle.std.proofs.Common.{◌≡◌, ℕ, Bool, true, false, List, Option, None, Some, Result, Ok, Err, refl, ◌∙◌}
 use Rattle.std.specs.Prelude.{if◌then◌else◌}
-use Rattle.naga_flags.specs.Bits.{READ, WRITE}
-use Rattle.naga_below.specs.Points.{first_fault, answer, and_then, within}
-use Rattle.naga_ir.specs.declared.module.EntryPoint.{EntryPoint}
-use Rattle.naga_ir.specs.declared.module.MeshStageInfo.{MeshStageInfo}
-use Rattle.naga_ir.specs.declared.module.Module.{Module}
-use Rattle.naga_ir.specs.declared.module.ShaderStage.{ShaderStage}
-use Rattle.naga_ir.specs.declared.module.ShaderStage.TheVariants as stage
-use Rattle.naga_flags.specs.declared.valid.GlobalUse.{GlobalUse}
-use Rattle.naga_below.specs.declared.valid.info.FunctionInfo.{FunctionInfo}
-use Rattle.naga_below.specs.declared.valid.info.ModuleInfo.{ModuleInfo}
-use Rattle.naga_below.specs.declared.valid.settings.Settings.{Settings}
-use Rattle.naga_below.specs.declared.valid.types.TypeInfo.{TypeInfo}
-use Rattle.naga_rules.specs.AllowedUses.{join}
-use Rattle.naga_errors.specs.Meaning.{Meaning}
-use Rattle.naga_errors.specs.declared.function.FunctionError.{FunctionError}
-use Rattle.naga_interface.specs.Faults.{EntryFault, fault_of}
-use Rattle.naga_interface.specs.Judged.{entry_judgement, of_function, interface_points, interface_step, entry_outcome}
-use Rattle.naga_interface.specs.Start.{start_points}
-use Rattle.naga_interface.specs.Uses.{with_use_of, output_variable_of, with_own_uses, with_uses_at}
-use Rattle.naga_interface.specs.Varyings.{are_blend_sources}
-use Rattle.naga_statements.specs.Judged.{FunctionOutcome, function_judgement}
-use Rattle.naga_context.specs.declared.trace.TraceState.{TraceState}
+use Rattle.ir_flags.specs.Bits.{READ, WRITE}
+use Rattle.ir_facts.specs.Points.{first_fault, answer, and_then, within}
+use Rattle.ir_module.specs.declared.module.EntryPoint.{EntryPoint}
+use Rattle.ir_module.specs.declared.module.MeshStageInfo.{MeshStageInfo}
+use Rattle.ir_module.specs.declared.module.Module.{Module}
+use Rattle.ir_module.specs.declared.module.ShaderStage.{ShaderStage}
+use Rattle.ir_module.specs.declared.module.ShaderStage.TheVariants as stage
+use Rattle.ir_flags.specs.declared.valid.GlobalUse.{GlobalUse}
+use Rattle.ir_facts.specs.declared.valid.info.FunctionInfo.{FunctionInfo}
+use Rattle.ir_facts.specs.declared.valid.info.ModuleInfo.{ModuleInfo}
+use Rattle.ir_facts.specs.declared.valid.settings.Settings.{Settings}
+use Rattle.ir_facts.specs.declared.valid.types.TypeInfo.{TypeInfo}
+use Rattle.check_variables.specs.AllowedUses.{join}
+use Rattle.check_errors.specs.Meaning.{Meaning}
+use Rattle.check_errors.specs.declared.function.FunctionError.{FunctionError}
+use Rattle.check_entry.specs.Faults.{EntryFault, fault_of}
+use Rattle.check_entry.specs.Judged.{entry_judgement, of_function, interface_points, interface_step, entry_outcome}
+use Rattle.check_entry.specs.Start.{start_points}
+use Rattle.check_entry.specs.Uses.{with_use_of, output_variable_of, with_own_uses, with_uses_at}
+use Rattle.check_entry.specs.Varyings.{are_blend_sources}
+use Rattle.check_statement.specs.Judged.{FunctionOutcome, function_judgement}
+use Rattle.check_scope.specs.declared.trace.TraceState.{TraceState}
 
 module _ (below : Meaning) (settings : Settings) (infos : List TypeInfo) (trace : TraceState) (program : Module) (earlier : ModuleInfo) (ep : EntryPoint) (outcome : FunctionOutcome) where
   -- its function is accepted, and no point behind it fails

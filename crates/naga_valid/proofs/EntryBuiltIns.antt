@@ -3,38 +3,38 @@ use Rattle.std.proofs.Common.{◌≡◌, ℕ, suc, ◌<◌, ◌≤◌, Bool, tru
 use Rattle.std.proofs.lemmas.Option.{slice_get_cases}
 use Rattle.std.specs.List.{AllByRecursion, list_any}
 use Rattle.std.specs.Prelude.{⊤, All, IfSome}
-use Rattle.naga_below.proofs.Callers.{types_name_each_other}
-use Rattle.naga_below.proofs.Points.{both_hold, not_holds}
-use Rattle.naga_flags.specs.Bits.{IO_SHAREABLE}
-use Rattle.naga_below.specs.Points.{first_fault}
-use Rattle.naga_types.specs.Types.{inner_at, NameEachOther, NamesTypesBelow}
-use Rattle.naga_types.specs.contracts.built_in.BuiltInEq.TheImpl.Laws.{laws-law as built_in_laws}
-use Rattle.naga_types.specs.declared.built_in.BuiltIn.{BuiltIn}
-use Rattle.naga_ir.specs.declared.functions.FunctionArgument.{FunctionArgument}
-use Rattle.naga_ir.specs.declared.module.EntryPoint.{EntryPoint}
-use Rattle.naga_types.specs.declared.types.Binding.{Binding}
-use Rattle.naga_types.specs.declared.types.Binding.TheVariants as binding
-use Rattle.naga_types.specs.declared.types.StructMember.{StructMember}
-use Rattle.naga_types.specs.declared.types.Type.{«Type» as IrType}
-use Rattle.naga_types.specs.declared.types.TypeInner.{TypeInner}
-use Rattle.naga_types.specs.declared.types.TypeInner.TheVariants as inner
-use Rattle.naga_below.specs.declared.valid.settings.Settings.{Settings}
-use Rattle.naga_below.specs.declared.valid.types.TypeInfo.{TypeInfo}
-use Rattle.naga_varyings.proofs.Seeing.{goes_own_way}
-use Rattle.naga_varyings.proofs.TypesAt.{inner_is, named_at}
-use Rattle.naga_varyings.specs.BuiltIns.{built_in_rule, canonical, is_same_built_in}
-use Rattle.naga_errors.specs.TypeInfos.{type_has}
-use Rattle.naga_varyings.specs.VaryingFaults.{Itself}
-use Rattle.naga_varyings.specs.Varyings.{Part, Placed, Bound, BlendSources, UnboundMember, Unbound, built_in_points, go_same_way, is_built_in, member_part, member_parts, part_points, parts_of, placed, placed_parts, placed_points, ruled_points, seen_at, unbound_parts, group_parts}
-use Rattle.naga_varyings.specs.declared.varying.MeshOutputType.TheVariants.{Neither}
-use Rattle.naga_varyings.specs.declared.varying.VaryingPlace.{VaryingPlace}
-use Rattle.naga_interface.specs.Faults.{OfArgument}
+use Rattle.ir_facts.proofs.Callers.{types_name_each_other}
+use Rattle.ir_facts.proofs.Points.{both_hold, not_holds}
+use Rattle.ir_flags.specs.Bits.{IO_SHAREABLE}
+use Rattle.ir_facts.specs.Points.{first_fault}
+use Rattle.ir_types.specs.Types.{inner_at, NameEachOther, NamesTypesBelow}
+use Rattle.ir_types.specs.contracts.built_in.BuiltInEq.TheImpl.Laws.{laws-law as built_in_laws}
+use Rattle.ir_types.specs.declared.built_in.BuiltIn.{BuiltIn}
+use Rattle.ir_module.specs.declared.functions.FunctionArgument.{FunctionArgument}
+use Rattle.ir_module.specs.declared.module.EntryPoint.{EntryPoint}
+use Rattle.ir_types.specs.declared.types.Binding.{Binding}
+use Rattle.ir_types.specs.declared.types.Binding.TheVariants as binding
+use Rattle.ir_types.specs.declared.types.StructMember.{StructMember}
+use Rattle.ir_types.specs.declared.types.Type.{«Type» as IrType}
+use Rattle.ir_types.specs.declared.types.TypeInner.{TypeInner}
+use Rattle.ir_types.specs.declared.types.TypeInner.TheVariants as inner
+use Rattle.ir_facts.specs.declared.valid.settings.Settings.{Settings}
+use Rattle.ir_facts.specs.declared.valid.types.TypeInfo.{TypeInfo}
+use Rattle.check_varyings.proofs.Seeing.{goes_own_way}
+use Rattle.check_varyings.proofs.TypesAt.{inner_is, named_at}
+use Rattle.check_varyings.specs.BuiltIns.{built_in_rule, canonical, is_same_built_in}
+use Rattle.check_errors.specs.TypeInfos.{type_has}
+use Rattle.check_varyings.specs.VaryingFaults.{Itself}
+use Rattle.check_varyings.specs.Varyings.{Part, Placed, Bound, BlendSources, UnboundMember, Unbound, built_in_points, go_same_way, is_built_in, member_part, member_parts, part_points, parts_of, placed, placed_parts, placed_points, ruled_points, seen_at, unbound_parts, group_parts}
+use Rattle.check_varyings.specs.declared.varying.MeshOutputType.TheVariants.{Neither}
+use Rattle.check_varyings.specs.declared.varying.VaryingPlace.{VaryingPlace}
+use Rattle.check_entry.specs.Faults.{OfArgument}
 use Rattle.naga_valid.specs.Facts.{IsBuiltIn, BuiltInsAreDistinct, AcceptedBuiltInsAreDistinct}
-use Rattle.naga_interface.specs.Varyings.{argument_item, argument_points, place_of}
+use Rattle.check_entry.specs.Varyings.{argument_item, argument_points, place_of}
 use Rattle.naga_valid.proofs.EntryAccepted.{accepted_entry}
 use Rattle.naga_valid.proofs.EntryGroups.{any_at, all_at, all_both, group_none, part_none}
 use Rattle.naga_valid.proofs.EntryFacts.{none_within, arguments_hold}
-use Rattle.naga_context.proofs.Flat.{holds_at}
+use Rattle.check_scope.proofs.Flat.{holds_at}
 
 -- there is a type where a part is bound
 abbrev HasType : List IrType → Part → Type 0

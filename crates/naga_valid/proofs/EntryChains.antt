@@ -4,32 +4,32 @@ use Rattle.std.proofs.lemmas.Bool.Decides.{nat_tests}
 use Rattle.std.proofs.lemmas.Nat.{and_comm}
 use Rattle.std.specs.Int.RustNames.{bit_and}
 use Rattle.std.specs.Option.{option_map}
-use Rattle.naga_below.proofs.Points.{first_holds, both_hold, first_within}
-use Rattle.naga_flags.specs.Bits.{contains}
-use Rattle.naga_below.specs.Points.{first_fault, within}
-use Rattle.naga_ir.specs.declared.module.EntryPoint.{EntryPoint}
-use Rattle.naga_ir.specs.declared.module.MeshStageInfo.{MeshStageInfo}
-use Rattle.naga_ir.specs.declared.module.Module.{Module}
-use Rattle.naga_ir.specs.declared.module.ShaderStage.{ShaderStage}
-use Rattle.naga_ir.specs.declared.module.ShaderStage.TheVariants as stage
-use Rattle.naga_flags.specs.declared.valid.GlobalUse.{GlobalUse}
-use Rattle.naga_flags.specs.declared.valid.ShaderStages.{ShaderStages}
-use Rattle.naga_below.specs.declared.valid.info.FunctionInfo.{FunctionInfo}
-use Rattle.naga_below.specs.declared.valid.settings.Settings.{Settings}
-use Rattle.naga_below.specs.declared.valid.types.TypeInfo.{TypeInfo}
-use Rattle.naga_errors.specs.Meaning.{Meaning}
-use Rattle.naga_function.specs.Accepted.{AreAmong}
-use Rattle.naga_interface.specs.Faults.{fault_of}
-use Rattle.naga_interface.specs.Judged.{used_points, interface_points}
+use Rattle.ir_facts.proofs.Points.{first_holds, both_hold, first_within}
+use Rattle.ir_flags.specs.Bits.{contains}
+use Rattle.ir_facts.specs.Points.{first_fault, within}
+use Rattle.ir_module.specs.declared.module.EntryPoint.{EntryPoint}
+use Rattle.ir_module.specs.declared.module.MeshStageInfo.{MeshStageInfo}
+use Rattle.ir_module.specs.declared.module.Module.{Module}
+use Rattle.ir_module.specs.declared.module.ShaderStage.{ShaderStage}
+use Rattle.ir_module.specs.declared.module.ShaderStage.TheVariants as stage
+use Rattle.ir_flags.specs.declared.valid.GlobalUse.{GlobalUse}
+use Rattle.ir_flags.specs.declared.valid.ShaderStages.{ShaderStages}
+use Rattle.ir_facts.specs.declared.valid.info.FunctionInfo.{FunctionInfo}
+use Rattle.ir_facts.specs.declared.valid.settings.Settings.{Settings}
+use Rattle.ir_facts.specs.declared.valid.types.TypeInfo.{TypeInfo}
+use Rattle.check_errors.specs.Meaning.{Meaning}
+use Rattle.check_body.specs.Accepted.{AreAmong}
+use Rattle.check_entry.specs.Faults.{fault_of}
+use Rattle.check_entry.specs.Judged.{used_points, interface_points}
 use Rattle.naga_valid.specs.Chains.{AcceptedEntryIsSound, AcceptedEntryKeepsItsStage}
-use Rattle.naga_interface.specs.Globals.{globals_points}
-use Rattle.naga_interface.specs.Mesh.{mesh_points}
-use Rattle.naga_interface.specs.Uses.{only, stage_points, payload_points, with_use_of, with_uses_at, with_own_uses, output_variable_of}
-use Rattle.naga_interface.specs.Varyings.{argument_points, result_points}
-use Rattle.naga_interface.specs.declared.error.EntryPointError.TheVariants as fault
-use Rattle.naga_function.proofs.Chains.{chains_are_kept}
+use Rattle.check_entry.specs.Globals.{globals_points}
+use Rattle.check_entry.specs.Mesh.{mesh_points}
+use Rattle.check_entry.specs.Uses.{only, stage_points, payload_points, with_use_of, with_uses_at, with_own_uses, output_variable_of}
+use Rattle.check_entry.specs.Varyings.{argument_points, result_points}
+use Rattle.check_entry.specs.declared.error.EntryPointError.TheVariants as fault
+use Rattle.check_body.proofs.Chains.{chains_are_kept}
 use Rattle.naga_valid.proofs.EntryAccepted.{accepted_entry}
-use Rattle.naga_function.proofs.FunctionLaw.{is_sound}
+use Rattle.check_body.proofs.FunctionLaw.{is_sound}
 
 -- stages
 

@@ -3,45 +3,45 @@ use Rattle.std.proofs.Common.{◌≡◌, ◌≢◌, ◌⊎◌, inl, inr, ℕ, ze
 use Rattle.std.proofs.lemmas.Bool.Decides.{nat_tests}
 use Rattle.std.specs.Option.{option_map}
 use Rattle.std.specs.Prelude.{option_and_then, if◌then◌else◌}
-use Rattle.naga_below.proofs.Points.{first_holds, both_hold, first_within, not_holds}
-use Rattle.naga_below.specs.Points.{Point, first_fault, points_from, within}
-use Rattle.naga_flags.specs.Bits.{IO_SHAREABLE}
-use Rattle.naga_types.specs.EqualBuiltIns.{built_in_same}
-use Rattle.naga_types.specs.Types.{inner_at}
-use Rattle.naga_types.specs.declared.built_in.BuiltIn.{BuiltIn}
-use Rattle.naga_types.specs.declared.built_in.BuiltIn.TheVariants.{Position}
-use Rattle.naga_ir.specs.declared.functions.FunctionResult.{FunctionResult}
-use Rattle.naga_ir.specs.declared.module.EntryPoint.{EntryPoint}
-use Rattle.naga_ir.specs.declared.module.GlobalVariable.{GlobalVariable}
-use Rattle.naga_ir.specs.declared.module.Module.{Module}
-use Rattle.naga_ir.specs.declared.module.ResourceBinding.{ResourceBinding}
-use Rattle.naga_ir.specs.declared.module.ShaderStage.{ShaderStage}
-use Rattle.naga_ir.specs.declared.module.ShaderStage.TheVariants.{Vertex}
-use Rattle.naga_types.specs.declared.types.Binding.{Binding}
-use Rattle.naga_types.specs.declared.types.Binding.TheVariants as binding
-use Rattle.naga_types.specs.declared.types.StructMember.{StructMember}
-use Rattle.naga_types.specs.declared.types.Type.{«Type» as IrType}
-use Rattle.naga_types.specs.declared.types.TypeInner.{TypeInner}
-use Rattle.naga_types.specs.declared.types.TypeInner.TheVariants as inner
-use Rattle.naga_flags.specs.declared.valid.GlobalUse.{GlobalUse}
-use Rattle.naga_flags.specs.declared.valid.ValidationFlags.{ValidationFlags}
-use Rattle.naga_below.specs.declared.valid.info.FunctionInfo.{FunctionInfo}
-use Rattle.naga_below.specs.declared.valid.settings.Settings.{Settings}
-use Rattle.naga_below.specs.declared.valid.types.TypeInfo.{TypeInfo}
-use Rattle.naga_varyings.specs.BuiltIns.{canonical, is_same_built_in}
-use Rattle.naga_errors.specs.WhatIsChecked.{checks_bindings}
-use Rattle.naga_errors.specs.Meaning.{Meaning}
-use Rattle.naga_errors.specs.TypeInfos.{type_has}
-use Rattle.naga_varyings.specs.Varyings.{Bound, is_built_in, member_part, member_parts, parts_of, unbound_parts}
-use Rattle.naga_interface.specs.Faults.{EntryFault, fault_of}
-use Rattle.naga_interface.specs.Globals.{binding_at, binding_points, global_points, globals_points, immediate_points, is_bound_to, is_same_binding, is_some_use, is_taken_before, is_used, use_points}
-use Rattle.naga_interface.specs.Judged.{interface_points, used_points}
-use Rattle.naga_interface.specs.Mesh.{mesh_points}
-use Rattle.naga_interface.specs.Uses.{payload_points, stage_points, with_own_uses}
+use Rattle.ir_facts.proofs.Points.{first_holds, both_hold, first_within, not_holds}
+use Rattle.ir_facts.specs.Points.{Point, first_fault, points_from, within}
+use Rattle.ir_flags.specs.Bits.{IO_SHAREABLE}
+use Rattle.ir_types.specs.EqualBuiltIns.{built_in_same}
+use Rattle.ir_types.specs.Types.{inner_at}
+use Rattle.ir_types.specs.declared.built_in.BuiltIn.{BuiltIn}
+use Rattle.ir_types.specs.declared.built_in.BuiltIn.TheVariants.{Position}
+use Rattle.ir_module.specs.declared.functions.FunctionResult.{FunctionResult}
+use Rattle.ir_module.specs.declared.module.EntryPoint.{EntryPoint}
+use Rattle.ir_module.specs.declared.module.GlobalVariable.{GlobalVariable}
+use Rattle.ir_module.specs.declared.module.Module.{Module}
+use Rattle.ir_module.specs.declared.module.ResourceBinding.{ResourceBinding}
+use Rattle.ir_module.specs.declared.module.ShaderStage.{ShaderStage}
+use Rattle.ir_module.specs.declared.module.ShaderStage.TheVariants.{Vertex}
+use Rattle.ir_types.specs.declared.types.Binding.{Binding}
+use Rattle.ir_types.specs.declared.types.Binding.TheVariants as binding
+use Rattle.ir_types.specs.declared.types.StructMember.{StructMember}
+use Rattle.ir_types.specs.declared.types.Type.{«Type» as IrType}
+use Rattle.ir_types.specs.declared.types.TypeInner.{TypeInner}
+use Rattle.ir_types.specs.declared.types.TypeInner.TheVariants as inner
+use Rattle.ir_flags.specs.declared.valid.GlobalUse.{GlobalUse}
+use Rattle.ir_flags.specs.declared.valid.ValidationFlags.{ValidationFlags}
+use Rattle.ir_facts.specs.declared.valid.info.FunctionInfo.{FunctionInfo}
+use Rattle.ir_facts.specs.declared.valid.settings.Settings.{Settings}
+use Rattle.ir_facts.specs.declared.valid.types.TypeInfo.{TypeInfo}
+use Rattle.check_varyings.specs.BuiltIns.{canonical, is_same_built_in}
+use Rattle.check_errors.specs.WhatIsChecked.{checks_bindings}
+use Rattle.check_errors.specs.Meaning.{Meaning}
+use Rattle.check_errors.specs.TypeInfos.{type_has}
+use Rattle.check_varyings.specs.Varyings.{Bound, is_built_in, member_part, member_parts, parts_of, unbound_parts}
+use Rattle.check_entry.specs.Faults.{EntryFault, fault_of}
+use Rattle.check_entry.specs.Globals.{binding_at, binding_points, global_points, globals_points, immediate_points, is_bound_to, is_same_binding, is_some_use, is_taken_before, is_used, use_points}
+use Rattle.check_entry.specs.Judged.{interface_points, used_points}
+use Rattle.check_entry.specs.Mesh.{mesh_points}
+use Rattle.check_entry.specs.Uses.{payload_points, stage_points, with_own_uses}
 use Rattle.naga_valid.specs.Facts.{IsUsedAt, BindingsAreDistinct, IsPosition, HasPositionMember, IsReturnedPosition, ReturnsPosition, AcceptedBindingsAreDistinct, AcceptedVertexHasPosition, AcceptedHasAcceptedFunction}
-use Rattle.naga_interface.specs.Varyings.{are_blend_sources, argument_points, declared_points, has_built_in, result_parts, result_points, returned_points}
-use Rattle.naga_statements.specs.Judged.{FunctionOutcome}
-use Rattle.naga_interface.specs.declared.error.EntryPointError.TheVariants.{MissingVertexOutputPosition}
+use Rattle.check_entry.specs.Varyings.{are_blend_sources, argument_points, declared_points, has_built_in, result_parts, result_points, returned_points}
+use Rattle.check_statement.specs.Judged.{FunctionOutcome}
+use Rattle.check_entry.specs.declared.error.EntryPointError.TheVariants.{MissingVertexOutputPosition}
 use Rattle.naga_valid.proofs.EntryAccepted.{accepted_entry, stages_are}
 use Rattle.naga_valid.proofs.EntryGlobals.{points_are}
 

@@ -2,17 +2,17 @@
 use Rattle.std.proofs.Common.{◌≡◌, ℕ, ◌==◌, false, List, [], None, Some, Result, slice_get, sym, ap, ◌∙◌}
 use Rattle.std.specs.Prelude.{IsErr, if◌then◌else◌}
 use Rattle.std.specs.Result.{result_err}
-use Rattle.naga_below.specs.Points.{first_fault}
-use Rattle.naga_ir.specs.declared.module.EntryPoint.{EntryPoint}
-use Rattle.naga_ir.specs.declared.module.GlobalVariable.{GlobalVariable}
-use Rattle.naga_ir.specs.declared.module.Module.{Module}
-use Rattle.naga_flags.specs.declared.valid.GlobalUse.{GlobalUse}
-use Rattle.naga_flags.specs.declared.valid.ValidationFlags.{ValidationFlags}
-use Rattle.naga_errors.specs.Meaning.{Meaning}
-use Rattle.naga_context.specs.walk.Answers.{Finds}
-use Rattle.naga_interface.specs.Globals.{binding_points, use_points, used_global_points, points_if_used, global_points}
-use Rattle.naga_interface.specs.declared.error.EntryPointError.{EntryPointError}
-use Rattle.naga_context.proofs.Refusals.{fault_first, fault_second}
+use Rattle.ir_facts.specs.Points.{first_fault}
+use Rattle.ir_module.specs.declared.module.EntryPoint.{EntryPoint}
+use Rattle.ir_module.specs.declared.module.GlobalVariable.{GlobalVariable}
+use Rattle.ir_module.specs.declared.module.Module.{Module}
+use Rattle.ir_flags.specs.declared.valid.GlobalUse.{GlobalUse}
+use Rattle.ir_flags.specs.declared.valid.ValidationFlags.{ValidationFlags}
+use Rattle.check_errors.specs.Meaning.{Meaning}
+use Rattle.check_scope.specs.walk.Answers.{Finds}
+use Rattle.check_entry.specs.Globals.{binding_points, use_points, used_global_points, points_if_used, global_points}
+use Rattle.check_entry.specs.declared.error.EntryPointError.{EntryPointError}
+use Rattle.check_scope.proofs.Refusals.{fault_first, fault_second}
 
 module _ (below : Meaning) (flags : ValidationFlags) (program : Module) (ep : EntryPoint) (uses : List GlobalUse) (h : ℕ) (g : GlobalVariable) (given : GlobalUse) (is : slice_get uses h ≡ Some given) (some : (given.0 == 0) ≡ false) where
   pub points_are : global_points below flags program ep uses h g ≡ used_global_points below flags program ep uses h g given

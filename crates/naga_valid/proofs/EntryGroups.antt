@@ -3,35 +3,35 @@ use Rattle.std.proofs.Common.{◌≡◌, ℕ, zero, suc, ◌<◌, ◌==◌, Bool
 use Rattle.std.proofs.lemmas.Bool.Decides.{nat_tests}
 use Rattle.std.specs.List.{AllByRecursion, list_any}
 use Rattle.std.specs.Option.{option_or}
-use Rattle.naga_below.proofs.Points.{first_holds, both_hold, first_of_both}
-use Rattle.naga_below.specs.Points.{Point, first_fault, within}
-use Rattle.naga_ir.specs.declared.functions.FunctionArgument.{FunctionArgument}
-use Rattle.naga_ir.specs.declared.functions.FunctionResult.{FunctionResult}
-use Rattle.naga_ir.specs.declared.module.EntryPoint.{EntryPoint}
-use Rattle.naga_ir.specs.declared.module.MeshStageInfo.{MeshStageInfo}
-use Rattle.naga_ir.specs.declared.module.Module.{Module}
-use Rattle.naga_types.specs.declared.types.Binding.TheVariants as binding
-use Rattle.naga_types.specs.declared.types.Type.{«Type» as IrType}
-use Rattle.naga_below.specs.declared.valid.info.FunctionInfo.{FunctionInfo}
-use Rattle.naga_below.specs.declared.valid.settings.Settings.{Settings}
-use Rattle.naga_below.specs.declared.valid.types.TypeInfo.{TypeInfo}
-use Rattle.naga_varyings.specs.Locations.{carried_type, interpolation_points, location_points, per_vertex_points, sharing_points}
-use Rattle.naga_errors.specs.WhatIsChecked.{checks_bindings}
-use Rattle.naga_errors.specs.Meaning.{Meaning}
-use Rattle.naga_varyings.specs.VaryingFaults.{VaryingFault, Itself}
-use Rattle.naga_varyings.specs.Varyings.{Item, Part, Placed, Bound, BlendSources, UnboundMember, Unbound, blend_points, group_points_from, is_at, item_points, part_points, placed, placed_parts, placed_points, seen_at, group_parts}
-use Rattle.naga_varyings.specs.declared.varying.MeshOutputType.TheVariants.{VertexOutput, PrimitiveOutput}
-use Rattle.naga_varyings.specs.declared.varying.VaryingPlace.{VaryingPlace}
-use Rattle.naga_interface.specs.Faults.{EntryFault, OfArgument, OfResult, fault_of}
-use Rattle.naga_interface.specs.Globals.{globals_points}
-use Rattle.naga_interface.specs.Judged.{interface_points}
+use Rattle.ir_facts.proofs.Points.{first_holds, both_hold, first_of_both}
+use Rattle.ir_facts.specs.Points.{Point, first_fault, within}
+use Rattle.ir_module.specs.declared.functions.FunctionArgument.{FunctionArgument}
+use Rattle.ir_module.specs.declared.functions.FunctionResult.{FunctionResult}
+use Rattle.ir_module.specs.declared.module.EntryPoint.{EntryPoint}
+use Rattle.ir_module.specs.declared.module.MeshStageInfo.{MeshStageInfo}
+use Rattle.ir_module.specs.declared.module.Module.{Module}
+use Rattle.ir_types.specs.declared.types.Binding.TheVariants as binding
+use Rattle.ir_types.specs.declared.types.Type.{«Type» as IrType}
+use Rattle.ir_facts.specs.declared.valid.info.FunctionInfo.{FunctionInfo}
+use Rattle.ir_facts.specs.declared.valid.settings.Settings.{Settings}
+use Rattle.ir_facts.specs.declared.valid.types.TypeInfo.{TypeInfo}
+use Rattle.check_varyings.specs.Locations.{carried_type, interpolation_points, location_points, per_vertex_points, sharing_points}
+use Rattle.check_errors.specs.WhatIsChecked.{checks_bindings}
+use Rattle.check_errors.specs.Meaning.{Meaning}
+use Rattle.check_varyings.specs.VaryingFaults.{VaryingFault, Itself}
+use Rattle.check_varyings.specs.Varyings.{Item, Part, Placed, Bound, BlendSources, UnboundMember, Unbound, blend_points, group_points_from, is_at, item_points, part_points, placed, placed_parts, placed_points, seen_at, group_parts}
+use Rattle.check_varyings.specs.declared.varying.MeshOutputType.TheVariants.{VertexOutput, PrimitiveOutput}
+use Rattle.check_varyings.specs.declared.varying.VaryingPlace.{VaryingPlace}
+use Rattle.check_entry.specs.Faults.{EntryFault, OfArgument, OfResult, fault_of}
+use Rattle.check_entry.specs.Globals.{globals_points}
+use Rattle.check_entry.specs.Judged.{interface_points}
 use Rattle.naga_valid.specs.Facts.{TakesLocation, LocationsAreDistinct, GroupsAreDistinct, mesh_items, AcceptedLocationsAreDistinct}
-use Rattle.naga_interface.specs.Mesh.{mesh_points, said_points, variable_points}
-use Rattle.naga_interface.specs.Uses.{with_own_uses}
-use Rattle.naga_interface.specs.Varyings.{argument_item, argument_points, declared_points, output_item, output_points, outputs_points, primitive_points, result_items, result_points, vertex_points}
+use Rattle.check_entry.specs.Mesh.{mesh_points, said_points, variable_points}
+use Rattle.check_entry.specs.Uses.{with_own_uses}
+use Rattle.check_entry.specs.Varyings.{argument_item, argument_points, declared_points, output_item, output_points, outputs_points, primitive_points, result_items, result_points, vertex_points}
 use Rattle.naga_valid.proofs.EntryAccepted.{accepted_entry}
 use Rattle.naga_valid.proofs.EntryFacts.{none_within, arguments_hold, results_hold}
-use Rattle.naga_context.proofs.Flat.{holds_at}
+use Rattle.check_scope.proofs.Flat.{holds_at}
 
 pub none_joined : {Fault : Type 0} (ps qs : List (Point Fault)) → first_fault ps ≡ None → first_fault qs ≡ None → first_fault (ps ++ qs) ≡ None
 none_joined ps qs e f = first_of_both ps qs ∙ ap (λ o. option_or o (first_fault qs)) e ∙ f

@@ -2,23 +2,23 @@
 use Rattle.std.proofs.Common.{◌≡◌, true, List, None, Some, Result, Ok, Err, sym, ap, ◌∙◌}
 use Rattle.std.specs.Option.{option_map}
 use Rattle.std.specs.Prelude.{IsErr}
-use Rattle.naga_below.proofs.Points.{first_within}
-use Rattle.naga_below.specs.Points.{Point, first_fault, answer, and_then}
-use Rattle.naga_ir.specs.declared.module.EntryPoint.{EntryPoint}
-use Rattle.naga_ir.specs.declared.module.Module.{Module}
-use Rattle.naga_arena.specs.declared.span.Refusal.{Refusal}
-use Rattle.naga_arena.specs.declared.span.Refusal.TheVariants as refusal
-use Rattle.naga_below.specs.declared.valid.info.ModuleInfo.{ModuleInfo}
-use Rattle.naga_below.specs.declared.valid.settings.Settings.{Settings}
-use Rattle.naga_below.specs.declared.valid.types.TypeInfo.{TypeInfo}
-use Rattle.naga_errors.specs.Meaning.{Meaning}
-use Rattle.naga_errors.specs.declared.function.FunctionError.{FunctionError}
-use Rattle.naga_interface.specs.Faults.{EntryFault, fault_of, Judges, RefusesFault, AnswersFault}
-use Rattle.naga_interface.specs.Judged.{entry_judgement, of_function, interface_step, AnswersOutcome, RefusesEntry}
-use Rattle.naga_interface.specs.Start.{start_points}
-use Rattle.naga_statements.specs.Judged.{FunctionOutcome, function_judgement}
-use Rattle.naga_interface.specs.declared.error.EntryPointError.{EntryPointError}
-use Rattle.naga_context.specs.declared.trace.TraceState.{TraceState}
+use Rattle.ir_facts.proofs.Points.{first_within}
+use Rattle.ir_facts.specs.Points.{Point, first_fault, answer, and_then}
+use Rattle.ir_module.specs.declared.module.EntryPoint.{EntryPoint}
+use Rattle.ir_module.specs.declared.module.Module.{Module}
+use Rattle.ir_arena.specs.declared.span.Refusal.{Refusal}
+use Rattle.ir_arena.specs.declared.span.Refusal.TheVariants as refusal
+use Rattle.ir_facts.specs.declared.valid.info.ModuleInfo.{ModuleInfo}
+use Rattle.ir_facts.specs.declared.valid.settings.Settings.{Settings}
+use Rattle.ir_facts.specs.declared.valid.types.TypeInfo.{TypeInfo}
+use Rattle.check_errors.specs.Meaning.{Meaning}
+use Rattle.check_errors.specs.declared.function.FunctionError.{FunctionError}
+use Rattle.check_entry.specs.Faults.{EntryFault, fault_of, Judges, RefusesFault, AnswersFault}
+use Rattle.check_entry.specs.Judged.{entry_judgement, of_function, interface_step, AnswersOutcome, RefusesEntry}
+use Rattle.check_entry.specs.Start.{start_points}
+use Rattle.check_statement.specs.Judged.{FunctionOutcome, function_judgement}
+use Rattle.check_entry.specs.declared.error.EntryPointError.{EntryPointError}
+use Rattle.check_scope.specs.declared.trace.TraceState.{TraceState}
 
 module _ {A : Type 0} (points : List (Point EntryFault)) (x : A) where
   -- a refusal for one of the points

@@ -1,22 +1,22 @@
 -- What is known of an accepted function has one use for each global of the module.
 use Rattle.std.proofs.Common.{◌≡◌, Bool, List, Option, None, Some, Result, Ok, Err, length, refl, sym, ap, ◌∙◌}
-use Rattle.naga_below.specs.Points.{first_fault, answer, and_then}
-use Rattle.naga_ir.specs.declared.functions.Function.{Function}
-use Rattle.naga_ir.specs.declared.module.Module.{Module}
-use Rattle.naga_flags.specs.declared.valid.GlobalUse.{GlobalUse}
-use Rattle.naga_flags.specs.declared.valid.ShaderStages.{ShaderStages}
-use Rattle.naga_below.specs.declared.valid.info.FunctionInfo.{FunctionInfo}
-use Rattle.naga_below.specs.declared.valid.info.ModuleInfo.{ModuleInfo}
-use Rattle.naga_below.specs.declared.valid.settings.Settings.{Settings}
-use Rattle.naga_below.specs.declared.valid.types.TypeInfo.{TypeInfo}
-use Rattle.naga_errors.specs.Meaning.{Meaning, HasOneUseEach}
-use Rattle.naga_errors.specs.declared.function.FunctionError.{FunctionError}
+use Rattle.ir_facts.specs.Points.{first_fault, answer, and_then}
+use Rattle.ir_module.specs.declared.functions.Function.{Function}
+use Rattle.ir_module.specs.declared.module.Module.{Module}
+use Rattle.ir_flags.specs.declared.valid.GlobalUse.{GlobalUse}
+use Rattle.ir_flags.specs.declared.valid.ShaderStages.{ShaderStages}
+use Rattle.ir_facts.specs.declared.valid.info.FunctionInfo.{FunctionInfo}
+use Rattle.ir_facts.specs.declared.valid.info.ModuleInfo.{ModuleInfo}
+use Rattle.ir_facts.specs.declared.valid.settings.Settings.{Settings}
+use Rattle.ir_facts.specs.declared.valid.types.TypeInfo.{TypeInfo}
+use Rattle.check_errors.specs.Meaning.{Meaning, HasOneUseEach}
+use Rattle.check_errors.specs.declared.function.FunctionError.{FunctionError}
 use Rattle.naga_runs.specs.Visits.{Visit}
-use Rattle.naga_context.specs.Context.{Context}
-use Rattle.naga_statements.specs.Declarations.{declaration_points}
-use Rattle.naga_statements.specs.Expressions.{with_stages, expressions_step}
-use Rattle.naga_statements.specs.Judged.{FunctionOutcome, body_step, unfilled_points, outcome_left, judged_with, context_with, declarations_step, expressions_known, lower_step, function_judgement}
-use Rattle.naga_context.specs.declared.trace.TraceState.{TraceState}
+use Rattle.check_scope.specs.Context.{Context}
+use Rattle.check_statement.specs.Declarations.{declaration_points}
+use Rattle.check_statement.specs.Expressions.{with_stages, expressions_step}
+use Rattle.check_statement.specs.Judged.{FunctionOutcome, body_step, unfilled_points, outcome_left, judged_with, context_with, declarations_step, expressions_known, lower_step, function_judgement}
+use Rattle.check_scope.specs.declared.trace.TraceState.{TraceState}
 
 by_unfilled : (context : Context) (visits : List Visit) (outcome : FunctionOutcome) (o : Option FunctionError) → answer o (outcome_left context visits) ≡ Ok outcome → outcome.info.global_uses ≡ context.info.global_uses
 by_unfilled context visits outcome None e =

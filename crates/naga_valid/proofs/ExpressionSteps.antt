@@ -1,16 +1,16 @@
 -- The fold over a function's expressions, one by one.
 use Rattle.std.proofs.Common.{◌≡◌, ℕ, suc, ◌+◌, ◌-◌, ◌<◌, ◌≤◌, Result, Ok, sym, ap, ◌∙◌, subst, arith}
-use Rattle.naga_below.specs.Points.{and_then}
-use Rattle.naga_arena.specs.declared.span.Refusal.{Refusal}
-use Rattle.naga_arena.specs.declared.span.Refusal.TheVariants as refusal
-use Rattle.naga_flags.specs.declared.valid.ShaderStages.{ShaderStages}
-use Rattle.naga_below.specs.declared.valid.info.FunctionInfo.{FunctionInfo}
-use Rattle.naga_errors.specs.Answers.{Answers, Refuses}
-use Rattle.naga_errors.specs.Meaning.{Meaning}
-use Rattle.naga_errors.specs.declared.function.FunctionError.{FunctionError}
-use Rattle.naga_context.specs.Context.{Context}
-use Rattle.naga_statements.specs.Expressions.{with_stages, of_expression, mask_at, stages_from}
-use Rattle.naga_statements.specs.Stages.{meet}
+use Rattle.ir_facts.specs.Points.{and_then}
+use Rattle.ir_arena.specs.declared.span.Refusal.{Refusal}
+use Rattle.ir_arena.specs.declared.span.Refusal.TheVariants as refusal
+use Rattle.ir_flags.specs.declared.valid.ShaderStages.{ShaderStages}
+use Rattle.ir_facts.specs.declared.valid.info.FunctionInfo.{FunctionInfo}
+use Rattle.check_errors.specs.Answers.{Answers, Refuses}
+use Rattle.check_errors.specs.Meaning.{Meaning}
+use Rattle.check_errors.specs.declared.function.FunctionError.{FunctionError}
+use Rattle.check_scope.specs.Context.{Context}
+use Rattle.check_statement.specs.Expressions.{with_stages, of_expression, mask_at, stages_from}
+use Rattle.check_statement.specs.Stages.{meet}
 
 module _ (below : Meaning) (context : Context) (n h : ℕ) (stages : ShaderStages) (whole : Result ShaderStages FunctionError) where
   one_more : h < n → stages_from below context stages h (n - h) ≡ and_then (mask_at below context stages h) (λ mask. stages_from below context (meet stages mask) (h + 1) (n - (h + 1)))

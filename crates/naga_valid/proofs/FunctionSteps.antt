@@ -1,34 +1,34 @@
 -- The steps of a function's judgement, as the code takes them.
 use Rattle.std.proofs.Common.{◌≡◌, Bool, true, false, List, [], Option, None, Some, Result, Ok, Err, length, refl, sym, ap, ◌∙◌, subst}
 use Rattle.std.specs.Prelude.{if◌then◌else◌}
-use Rattle.naga_below.specs.Points.{first_fault, answer, and_then}
-use Rattle.naga_ir.specs.declared.functions.Function.{Function}
-use Rattle.naga_ir.specs.declared.module.Module.{Module}
-use Rattle.naga_below.specs.declared.proc.expression_kinds.ExpressionKind.{ExpressionKind}
-use Rattle.naga_arena.specs.declared.span.Refusal.{Refusal}
-use Rattle.naga_arena.specs.declared.span.Refusal.TheVariants as refusal
-use Rattle.naga_below.specs.declared.valid.info.FunctionInfo.{FunctionInfo}
-use Rattle.naga_below.specs.declared.valid.info.ModuleInfo.{ModuleInfo}
-use Rattle.naga_below.specs.declared.valid.settings.Settings.{Settings}
-use Rattle.naga_flags.specs.declared.valid.ShaderStages.{ShaderStages}
-use Rattle.naga_below.specs.declared.valid.types.TypeInfo.{TypeInfo}
-use Rattle.naga_errors.specs.Answers.{Answers, IsFirstFault, Refuses}
-use Rattle.naga_errors.specs.Meaning.{Meaning}
-use Rattle.naga_errors.specs.declared.function.FunctionError.{FunctionError}
+use Rattle.ir_facts.specs.Points.{first_fault, answer, and_then}
+use Rattle.ir_module.specs.declared.functions.Function.{Function}
+use Rattle.ir_module.specs.declared.module.Module.{Module}
+use Rattle.ir_facts.specs.declared.proc.expression_kinds.ExpressionKind.{ExpressionKind}
+use Rattle.ir_arena.specs.declared.span.Refusal.{Refusal}
+use Rattle.ir_arena.specs.declared.span.Refusal.TheVariants as refusal
+use Rattle.ir_facts.specs.declared.valid.info.FunctionInfo.{FunctionInfo}
+use Rattle.ir_facts.specs.declared.valid.info.ModuleInfo.{ModuleInfo}
+use Rattle.ir_facts.specs.declared.valid.settings.Settings.{Settings}
+use Rattle.ir_flags.specs.declared.valid.ShaderStages.{ShaderStages}
+use Rattle.ir_facts.specs.declared.valid.types.TypeInfo.{TypeInfo}
+use Rattle.check_errors.specs.Answers.{Answers, IsFirstFault, Refuses}
+use Rattle.check_errors.specs.Meaning.{Meaning}
+use Rattle.check_errors.specs.declared.function.FunctionError.{FunctionError}
 use Rattle.naga_runs.specs.Judgement.{viewed}
 use Rattle.naga_runs.specs.Visits.{Visit}
-use Rattle.naga_context.specs.Context.{Context, ContextFits}
-use Rattle.naga_statements.specs.Declarations.{declaration_points}
-use Rattle.naga_statements.specs.Expressions.{with_stages, stages_from, expressions_step}
-use Rattle.naga_context.specs.WhatIsChecked.{checks_blocks, checks_expressions}
-use Rattle.naga_statements.specs.Judged.{FunctionOutcome, body_judgement, outcome_left, judged_with, declarations_step, expressions_known, context_with, lower_step, function_judgement}
-use Rattle.naga_context.specs.Results.{filled_before, filled_points}
-use Rattle.naga_statements.specs.walk.Asked.{asked_context, known_behind}
-use Rattle.naga_statements.specs.walk.State.{body_outcome, body_left}
-use Rattle.naga_statements.specs.declared.state.BodyOutcome.{BodyOutcome}
-use Rattle.naga_context.specs.declared.trace.TraceState.{TraceState}
-use Rattle.naga_function.proofs.Accepted.{with_blocks}
-use Rattle.naga_function.proofs.Traces.{no_trace}
+use Rattle.check_scope.specs.Context.{Context, ContextFits}
+use Rattle.check_statement.specs.Declarations.{declaration_points}
+use Rattle.check_statement.specs.Expressions.{with_stages, stages_from, expressions_step}
+use Rattle.check_scope.specs.WhatIsChecked.{checks_blocks, checks_expressions}
+use Rattle.check_statement.specs.Judged.{FunctionOutcome, body_judgement, outcome_left, judged_with, declarations_step, expressions_known, context_with, lower_step, function_judgement}
+use Rattle.check_scope.specs.Results.{filled_before, filled_points}
+use Rattle.check_statement.specs.walk.Asked.{asked_context, known_behind}
+use Rattle.check_statement.specs.walk.State.{body_outcome, body_left}
+use Rattle.check_statement.specs.declared.state.BodyOutcome.{BodyOutcome}
+use Rattle.check_scope.specs.declared.trace.TraceState.{TraceState}
+use Rattle.check_body.proofs.Accepted.{with_blocks}
+use Rattle.check_body.proofs.Traces.{no_trace}
 
 -- what is known of a function whose body leaves this
 abbrev pub outcome_with : FunctionInfo → BodyOutcome → FunctionOutcome

@@ -3,27 +3,27 @@ use Rattle.std.proofs.Common.{◌≡◌, ℕ, suc, ◌+◌, ◌<◌, ◌≤◌, 
 use Rattle.std.proofs.lemmas.List.{at_drop_more, at_drop_all, take_more}
 use Rattle.std.specs.Option.{option_map, option_or}
 use Rattle.std.specs.Prelude.{Bool, true, false, IsErr, if◌then◌else◌}
-use Rattle.naga_below.proofs.Points.{first_of_both, first_within}
-use Rattle.naga_below.specs.Points.{Point, first_fault, within}
-use Rattle.naga_types.specs.declared.types.Type.{«Type» as IrType}
-use Rattle.naga_below.specs.declared.valid.types.TypeInfo.{TypeInfo}
-use Rattle.naga_ir.specs.declared.module.EntryPoint.{EntryPoint}
-use Rattle.naga_types.specs.declared.types.Binding.{Binding}
-use Rattle.naga_arena.specs.declared.span.Refusal.{Refusal}
-use Rattle.naga_arena.specs.declared.span.Refusal.TheVariants as refusal
-use Rattle.naga_below.specs.declared.valid.settings.Settings.{Settings}
-use Rattle.naga_types.specs.TypeTests.{it_is}
-use Rattle.naga_types.specs.Types.{inner_at}
-use Rattle.naga_varyings.proofs.Seeing.{points_are_by_position}
-use Rattle.naga_varyings.specs.Seen.{Seen}
-use Rattle.naga_varyings.specs.VaryingFaults.{VaryingFault}
-use Rattle.naga_varyings.specs.Varyings.{Item, Placed, placed_parts, item_points, group_points, group_points_from, points_from, seen_at, group_parts}
-use Rattle.naga_varyings.specs.declared.varying.MeshOutputType.{MeshOutputType}
-use Rattle.naga_varyings.specs.declared.varying.VaryingPlace.{VaryingPlace}
-use Rattle.naga_interface.specs.Faults.{EntryFault, OfResult, Other, Judges}
-use Rattle.naga_interface.specs.Varyings.{is_struct, output_points, place_of}
-use Rattle.naga_interface.specs.declared.error.EntryPointError.{EntryPointError}
-use Rattle.naga_interface.specs.declared.error.EntryPointError.TheVariants as fault
+use Rattle.ir_facts.proofs.Points.{first_of_both, first_within}
+use Rattle.ir_facts.specs.Points.{Point, first_fault, within}
+use Rattle.ir_types.specs.declared.types.Type.{«Type» as IrType}
+use Rattle.ir_facts.specs.declared.valid.types.TypeInfo.{TypeInfo}
+use Rattle.ir_module.specs.declared.module.EntryPoint.{EntryPoint}
+use Rattle.ir_types.specs.declared.types.Binding.{Binding}
+use Rattle.ir_arena.specs.declared.span.Refusal.{Refusal}
+use Rattle.ir_arena.specs.declared.span.Refusal.TheVariants as refusal
+use Rattle.ir_facts.specs.declared.valid.settings.Settings.{Settings}
+use Rattle.ir_types.specs.TypeTests.{it_is}
+use Rattle.ir_types.specs.Types.{inner_at}
+use Rattle.check_varyings.proofs.Seeing.{points_are_by_position}
+use Rattle.check_varyings.specs.Seen.{Seen}
+use Rattle.check_varyings.specs.VaryingFaults.{VaryingFault}
+use Rattle.check_varyings.specs.Varyings.{Item, Placed, placed_parts, item_points, group_points, group_points_from, points_from, seen_at, group_parts}
+use Rattle.check_varyings.specs.declared.varying.MeshOutputType.{MeshOutputType}
+use Rattle.check_varyings.specs.declared.varying.VaryingPlace.{VaryingPlace}
+use Rattle.check_entry.specs.Faults.{EntryFault, OfResult, Other, Judges}
+use Rattle.check_entry.specs.Varyings.{is_struct, output_points, place_of}
+use Rattle.check_entry.specs.declared.error.EntryPointError.{EntryPointError}
+use Rattle.check_entry.specs.declared.error.EntryPointError.TheVariants as fault
 
 module _ (types : List IrType) (infos : List TypeInfo) where
   parts_more : (items : List Item) (x : Item) → group_parts types infos (items ++ x ∷ []) ≡ group_parts types infos items ++ placed_parts types infos x

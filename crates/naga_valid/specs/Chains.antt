@@ -1,20 +1,20 @@
 -- What an accepted entry point keeps to through chains of calls: its stage; and that runs of its body are sure.
 use Rattle.std.specs.Prelude.{◌≡◌, true, List, Ok}
-use Rattle.naga_ir.specs.declared.module.EntryPoint.{EntryPoint}
-use Rattle.naga_ir.specs.declared.module.Module.{Module}
-use Rattle.naga_below.specs.declared.valid.info.ModuleInfo.{ModuleInfo}
-use Rattle.naga_below.specs.declared.valid.settings.Settings.{Settings}
-use Rattle.naga_below.specs.declared.valid.types.TypeInfo.{TypeInfo}
-use Rattle.naga_errors.specs.Meaning.{Meaning}
+use Rattle.ir_module.specs.declared.module.EntryPoint.{EntryPoint}
+use Rattle.ir_module.specs.declared.module.Module.{Module}
+use Rattle.ir_facts.specs.declared.valid.info.ModuleInfo.{ModuleInfo}
+use Rattle.ir_facts.specs.declared.valid.settings.Settings.{Settings}
+use Rattle.ir_facts.specs.declared.valid.types.TypeInfo.{TypeInfo}
+use Rattle.check_errors.specs.Meaning.{Meaning}
 use Rattle.naga_runs.specs.Soundness.{RunsAreSure}
-use Rattle.naga_context.specs.Blocks.{body_of}
-use Rattle.naga_function.specs.Chains.{CallsBelow, AreVetted, ChainsKeepTo}
-use Rattle.naga_context.specs.Context.{pre_emitted_of}
-use Rattle.naga_interface.specs.Judged.{entry_judgement}
-use Rattle.naga_interface.specs.Uses.{only}
-use Rattle.naga_statements.specs.Judged.{FunctionOutcome}
-use Rattle.naga_context.specs.WhatIsChecked.{checks_blocks}
-use Rattle.naga_context.specs.declared.trace.TraceState.{TraceState}
+use Rattle.check_scope.specs.Blocks.{body_of}
+use Rattle.check_body.specs.Chains.{CallsBelow, AreVetted, ChainsKeepTo}
+use Rattle.check_scope.specs.Context.{pre_emitted_of}
+use Rattle.check_entry.specs.Judged.{entry_judgement}
+use Rattle.check_entry.specs.Uses.{only}
+use Rattle.check_statement.specs.Judged.{FunctionOutcome}
+use Rattle.check_scope.specs.WhatIsChecked.{checks_blocks}
+use Rattle.check_scope.specs.declared.trace.TraceState.{TraceState}
 use Rattle.std.specs.Prelude.{length}
 
 -- something holds of every entry point that the judgement accepts where bodies are looked at

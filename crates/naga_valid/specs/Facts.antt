@@ -1,36 +1,36 @@
 -- What is known of each entry point that the judgement accepts: in words over the entry point, not over the points.
 use Rattle.std.specs.Prelude.{◌≡◌, ◌≢◌, ⊤, ℕ, true, List, [], ◌∷◌, Option, None, Some, Ok, map, slice_get}
-use Rattle.naga_below.specs.Fits.{FitsTypes}
-use Rattle.naga_below.specs.FitsBody.{SignatureFits}
-use Rattle.naga_types.specs.Types.{inner_at}
-use Rattle.naga_types.specs.declared.built_in.BuiltIn.{BuiltIn}
-use Rattle.naga_types.specs.declared.built_in.BuiltIn.TheVariants.{Position}
-use Rattle.naga_ir.specs.declared.functions.FunctionResult.{FunctionResult}
-use Rattle.naga_ir.specs.declared.module.EntryPoint.{EntryPoint}
-use Rattle.naga_ir.specs.declared.module.GlobalVariable.{GlobalVariable}
-use Rattle.naga_ir.specs.declared.module.MeshStageInfo.{MeshStageInfo}
-use Rattle.naga_ir.specs.declared.module.Module.{Module}
-use Rattle.naga_ir.specs.declared.module.ResourceBinding.{ResourceBinding}
-use Rattle.naga_ir.specs.declared.module.ShaderStage.TheVariants.{Vertex}
-use Rattle.naga_types.specs.declared.types.Binding.{Binding}
-use Rattle.naga_types.specs.declared.types.Binding.TheVariants as binding
-use Rattle.naga_types.specs.declared.types.StructMember.{StructMember}
-use Rattle.naga_types.specs.declared.types.Type.{«Type» as IrType}
-use Rattle.naga_types.specs.declared.types.TypeInner.{TypeInner}
-use Rattle.naga_types.specs.declared.types.TypeInner.TheVariants as inner
-use Rattle.naga_flags.specs.declared.valid.GlobalUse.{GlobalUse}
-use Rattle.naga_below.specs.declared.valid.info.ModuleInfo.{ModuleInfo}
-use Rattle.naga_below.specs.declared.valid.settings.Settings.{Settings}
-use Rattle.naga_below.specs.declared.valid.types.TypeInfo.{TypeInfo}
-use Rattle.naga_varyings.specs.BuiltIns.{canonical}
-use Rattle.naga_errors.specs.WhatIsChecked.{checks_bindings}
-use Rattle.naga_errors.specs.Meaning.{Meaning}
-use Rattle.naga_varyings.specs.Varyings.{Item, Part, Placed, Bound, BlendSources, group_parts}
-use Rattle.naga_varyings.specs.declared.varying.MeshOutputType.TheVariants.{VertexOutput, PrimitiveOutput}
-use Rattle.naga_interface.specs.Judged.{entry_judgement}
-use Rattle.naga_interface.specs.Varyings.{argument_item, result_items, output_item}
-use Rattle.naga_statements.specs.Judged.{FunctionOutcome, function_judgement}
-use Rattle.naga_context.specs.declared.trace.TraceState.{TraceState}
+use Rattle.ir_facts.specs.Fits.{FitsTypes}
+use Rattle.ir_facts.specs.FitsBody.{SignatureFits}
+use Rattle.ir_types.specs.Types.{inner_at}
+use Rattle.ir_types.specs.declared.built_in.BuiltIn.{BuiltIn}
+use Rattle.ir_types.specs.declared.built_in.BuiltIn.TheVariants.{Position}
+use Rattle.ir_module.specs.declared.functions.FunctionResult.{FunctionResult}
+use Rattle.ir_module.specs.declared.module.EntryPoint.{EntryPoint}
+use Rattle.ir_module.specs.declared.module.GlobalVariable.{GlobalVariable}
+use Rattle.ir_module.specs.declared.module.MeshStageInfo.{MeshStageInfo}
+use Rattle.ir_module.specs.declared.module.Module.{Module}
+use Rattle.ir_module.specs.declared.module.ResourceBinding.{ResourceBinding}
+use Rattle.ir_module.specs.declared.module.ShaderStage.TheVariants.{Vertex}
+use Rattle.ir_types.specs.declared.types.Binding.{Binding}
+use Rattle.ir_types.specs.declared.types.Binding.TheVariants as binding
+use Rattle.ir_types.specs.declared.types.StructMember.{StructMember}
+use Rattle.ir_types.specs.declared.types.Type.{«Type» as IrType}
+use Rattle.ir_types.specs.declared.types.TypeInner.{TypeInner}
+use Rattle.ir_types.specs.declared.types.TypeInner.TheVariants as inner
+use Rattle.ir_flags.specs.declared.valid.GlobalUse.{GlobalUse}
+use Rattle.ir_facts.specs.declared.valid.info.ModuleInfo.{ModuleInfo}
+use Rattle.ir_facts.specs.declared.valid.settings.Settings.{Settings}
+use Rattle.ir_facts.specs.declared.valid.types.TypeInfo.{TypeInfo}
+use Rattle.check_varyings.specs.BuiltIns.{canonical}
+use Rattle.check_errors.specs.WhatIsChecked.{checks_bindings}
+use Rattle.check_errors.specs.Meaning.{Meaning}
+use Rattle.check_varyings.specs.Varyings.{Item, Part, Placed, Bound, BlendSources, group_parts}
+use Rattle.check_varyings.specs.declared.varying.MeshOutputType.TheVariants.{VertexOutput, PrimitiveOutput}
+use Rattle.check_entry.specs.Judged.{entry_judgement}
+use Rattle.check_entry.specs.Varyings.{argument_item, result_items, output_item}
+use Rattle.check_statement.specs.Judged.{FunctionOutcome, function_judgement}
+use Rattle.check_scope.specs.declared.trace.TraceState.{TraceState}
 
 -- the global with this handle is used, and is bound here
 pub record IsUsedAt (globals : List GlobalVariable) (uses : List GlobalUse) (b : ResourceBinding) (h : ℕ) : Type 0 where

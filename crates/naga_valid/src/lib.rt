@@ -6,6 +6,6 @@ pub mod validator;
 
 pub use crate::laws::entry_law;
 pub use crate::validator::Validator;
-pub use naga_context::trace::{TraceRayVertexReturnState, TraceState};
-pub use naga_function::laws::{chains_law, function_law};
-pub use naga_interface::error::EntryPointError;
+pub use check_body::laws::{chains_law, function_law};
+pub use check_entry::error::EntryPointError;
+pub use check_scope::trace::{TraceRayVertexReturnState, TraceState};

@@ -1,7 +1,7 @@
 //! The validator of functions.
 
 ghost use Rattle.std.specs.Prelude.{◌≡◌, ◌↔◌, IsTrue, []};
-ghost use Rattle.naga_statements.specs.Parts.{Parts, infos_given, first_settings, no_traces, NamesTypes, AreInfosOf};
+ghost use Rattle.check_statement.specs.Parts.{Parts, infos_given, first_settings, no_traces, NamesTypes, AreInfosOf};
 
 mod entry;
 mod entry_point;
@@ -14,15 +14,15 @@ mod varyings;
 mod whole;
 
 use bitflags::Flags;
-use naga_arena::sequence::Sequence;
-use naga_below::valid::settings::Settings;
-use naga_below::valid::types::TypeInfo;
-use naga_context::table::Table;
-use naga_context::trace::{TraceRayVertexReturnState, TraceState};
-use naga_errors::below::Below;
-use naga_flags::capabilities::Capabilities;
-use naga_flags::valid::{ShaderStages, SubgroupOperationSet, ValidationFlags};
-use naga_ir::module::Module;
+use check_errors::below::Below;
+use check_scope::table::Table;
+use check_scope::trace::{TraceRayVertexReturnState, TraceState};
+use ir_arena::sequence::Sequence;
+use ir_facts::valid::settings::Settings;
+use ir_facts::valid::types::TypeInfo;
+use ir_flags::capabilities::Capabilities;
+use ir_flags::valid::{ShaderStages, SubgroupOperationSet, ValidationFlags};
+use ir_module::module::Module;
 use std::marker::Model;
 
 /// Validates the functions of a module over a lower layer: naga's `Validator`.

@@ -1,7 +1,7 @@
 //! Readers and writers that fail.
 
 use crate::tests::{Outcome, ROOM, again};
-use naga_case::run_case;
+use case_run::run_case;
 use std::alloc::Global;
 use std::io;
 use std::io::{Read, Write};

@@ -1,5 +1,5 @@
 //! Which inputs are cases.
-use naga_notation::case::{ReadError, read_case};
+use case_notation::case::{ReadError, read_case};
 use std::alloc::Global;
 use std::test::Fail;
 

@@ -1,6 +1,6 @@
 //! Readers and writers that fail.
 
-use naga_verdict::run::{Form, run_document, run_lines};
+use json_verdict::run::{Form, run_document, run_lines};
 use std::alloc::Global;
 use std::io;
 use std::io::{Read, Write};

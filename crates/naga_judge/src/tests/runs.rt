@@ -1,6 +1,6 @@
 //! Whole runs, from a reader to a writer.
 
-use naga_verdict::run::{Form, run_document, run_lines};
+use json_verdict::run::{Form, run_document, run_lines};
 use std::alloc::Global;
 use std::collections::VecDeque;
 use std::io;

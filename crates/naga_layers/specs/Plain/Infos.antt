@@ -1,11 +1,11 @@
 -- What the plain layer knows of a function.
 use Rattle.std.specs.Prelude.{false, List, [], Result, Ok, Err}
-use Rattle.naga_flags.specs.Bits.{ALL_STAGES}
-use Rattle.naga_ir.specs.declared.functions.Function.{Function}
-use Rattle.naga_ir.specs.declared.module.Module.{Module}
-use Rattle.naga_types.specs.declared.typifier.TypeResolution.{TypeResolution}
-use Rattle.naga_below.specs.declared.valid.info.FunctionInfo.{FunctionInfo}
-use Rattle.naga_errors.specs.declared.function.FunctionError.{FunctionError}
+use Rattle.ir_flags.specs.Bits.{ALL_STAGES}
+use Rattle.ir_module.specs.declared.functions.Function.{Function}
+use Rattle.ir_module.specs.declared.module.Module.{Module}
+use Rattle.ir_types.specs.declared.typifier.TypeResolution.{TypeResolution}
+use Rattle.ir_facts.specs.declared.valid.info.FunctionInfo.{FunctionInfo}
+use Rattle.check_errors.specs.declared.function.FunctionError.{FunctionError}
 use Rattle.naga_layers.specs.Plain.Types.{types_from}
 use Rattle.naga_layers.specs.Plain.Uses.{uses_of}
 

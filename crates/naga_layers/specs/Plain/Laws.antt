@@ -6,31 +6,31 @@ use Rattle.std.proofs.lemmas.List.{length-append, length-set, length-replicate}
 use Rattle.std.proofs.lemmas.List.Elements.{All-push, All-nil}
 use Rattle.std.proofs.lemmas.Option.{slice_get_within, get_or_from_slice_get, option_and_then_some, same_Some}
 use Rattle.std.proofs.lemmas.Result.{IfOk-at_ok}
-use Rattle.naga_flags.specs.Bits.{READ, NO_USE}
-use Rattle.naga_types.specs.Types.{ResolutionFits, pointer_base_of, resolved}
-use Rattle.naga_ir.specs.declared.expressions.Expression.{Expression}
-use Rattle.naga_ir.specs.declared.expressions.Expression.TheVariants as e
-use Rattle.naga_ir.specs.declared.functions.Function.{Function}
-use Rattle.naga_ir.specs.declared.functions.FunctionArgument.{FunctionArgument}
-use Rattle.naga_ir.specs.declared.functions.FunctionResult.{FunctionResult}
-use Rattle.naga_ir.specs.declared.functions.LocalVariable.{LocalVariable}
-use Rattle.naga_ir.specs.declared.module.Constant.{Constant}
-use Rattle.naga_ir.specs.declared.module.GlobalVariable.{GlobalVariable}
-use Rattle.naga_ir.specs.declared.module.Module.{Module}
-use Rattle.naga_ir.specs.declared.module.Override.{Override}
-use Rattle.naga_types.specs.declared.types.AddressSpace.{AddressSpace}
-use Rattle.naga_types.specs.declared.types.AddressSpace.TheVariants as space
-use Rattle.naga_types.specs.declared.types.TypeInner.{TypeInner}
-use Rattle.naga_types.specs.declared.types.TypeInner.TheVariants as inner
-use Rattle.naga_below.specs.declared.proc.expression_kinds.ExpressionKind.{ExpressionKind}
-use Rattle.naga_types.specs.declared.typifier.TypeResolution.{TypeResolution}
-use Rattle.naga_types.specs.declared.typifier.TypeResolution.TheVariants.{Handle, Value}
-use Rattle.naga_flags.specs.declared.valid.GlobalUse.{GlobalUse}
-use Rattle.naga_below.specs.declared.valid.info.FunctionInfo.{FunctionInfo}
-use Rattle.naga_errors.specs.Lawful.{IsNoStruct}
-use Rattle.naga_errors.specs.declared.function.FunctionError.{FunctionError}
-use Rattle.naga_errors.specs.declared.function.FunctionError.TheVariants.{Expression as InExpression}
-use Rattle.naga_below.specs.declared.valid.expression_error.ExpressionError.TheVariants.{Lower}
+use Rattle.ir_flags.specs.Bits.{READ, NO_USE}
+use Rattle.ir_types.specs.Types.{ResolutionFits, pointer_base_of, resolved}
+use Rattle.ir_module.specs.declared.expressions.Expression.{Expression}
+use Rattle.ir_module.specs.declared.expressions.Expression.TheVariants as e
+use Rattle.ir_module.specs.declared.functions.Function.{Function}
+use Rattle.ir_module.specs.declared.functions.FunctionArgument.{FunctionArgument}
+use Rattle.ir_module.specs.declared.functions.FunctionResult.{FunctionResult}
+use Rattle.ir_module.specs.declared.functions.LocalVariable.{LocalVariable}
+use Rattle.ir_module.specs.declared.module.Constant.{Constant}
+use Rattle.ir_module.specs.declared.module.GlobalVariable.{GlobalVariable}
+use Rattle.ir_module.specs.declared.module.Module.{Module}
+use Rattle.ir_module.specs.declared.module.Override.{Override}
+use Rattle.ir_types.specs.declared.types.AddressSpace.{AddressSpace}
+use Rattle.ir_types.specs.declared.types.AddressSpace.TheVariants as space
+use Rattle.ir_types.specs.declared.types.TypeInner.{TypeInner}
+use Rattle.ir_types.specs.declared.types.TypeInner.TheVariants as inner
+use Rattle.ir_facts.specs.declared.proc.expression_kinds.ExpressionKind.{ExpressionKind}
+use Rattle.ir_types.specs.declared.typifier.TypeResolution.{TypeResolution}
+use Rattle.ir_types.specs.declared.typifier.TypeResolution.TheVariants.{Handle, Value}
+use Rattle.ir_flags.specs.declared.valid.GlobalUse.{GlobalUse}
+use Rattle.ir_facts.specs.declared.valid.info.FunctionInfo.{FunctionInfo}
+use Rattle.check_errors.specs.Lawful.{IsNoStruct}
+use Rattle.check_errors.specs.declared.function.FunctionError.{FunctionError}
+use Rattle.check_errors.specs.declared.function.FunctionError.TheVariants.{Expression as InExpression}
+use Rattle.ir_facts.specs.declared.valid.expression_error.ExpressionError.TheVariants.{Lower}
 use Rattle.naga_layers.specs.Plain.Infos.{plain_info, info_of_types, with_types}
 use Rattle.naga_layers.specs.Kinds.{kinds_from, kind_of}
 use Rattle.naga_layers.specs.Plain.Types.{type_at, pointer_to, global_type, known_type, loaded_type, own_type, type_of, or_refuse, types_from}

@@ -1,8 +1,8 @@
 -- What the plain layer means.
 use Rattle.std.specs.Prelude.{[], ◌∷◌, None, Ok}
-use Rattle.naga_flags.specs.Bits.{ALL_STAGES}
-use Rattle.naga_ir.specs.declared.module.MeshOutputTopology.TheVariants.{Points}
-use Rattle.naga_errors.specs.Meaning.{Meaning}
+use Rattle.ir_flags.specs.Bits.{ALL_STAGES}
+use Rattle.ir_module.specs.declared.module.MeshOutputTopology.TheVariants.{Points}
+use Rattle.check_errors.specs.Meaning.{Meaning}
 use Rattle.naga_layers.specs.Plain.Infos.{plain_info}
 use Rattle.naga_layers.specs.Kinds.{kinds_from}
 use Rattle.naga_layers.specs.Plain.Sizes.{size_at}

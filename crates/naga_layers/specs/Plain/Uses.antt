@@ -1,11 +1,11 @@
 -- The uses of globals that the plain layer finds: each that an expression names is read.
 use Rattle.std.specs.Prelude.{List, [], ◌∷◌, replicate, slice_set, length}
-use Rattle.naga_flags.specs.Bits.{READ, NO_USE}
-use Rattle.naga_ir.specs.declared.expressions.Expression.{Expression}
-use Rattle.naga_ir.specs.declared.expressions.Expression.TheVariants as e
-use Rattle.naga_ir.specs.declared.functions.Function.{Function}
-use Rattle.naga_ir.specs.declared.module.Module.{Module}
-use Rattle.naga_flags.specs.declared.valid.GlobalUse.{GlobalUse}
+use Rattle.ir_flags.specs.Bits.{READ, NO_USE}
+use Rattle.ir_module.specs.declared.expressions.Expression.{Expression}
+use Rattle.ir_module.specs.declared.expressions.Expression.TheVariants as e
+use Rattle.ir_module.specs.declared.functions.Function.{Function}
+use Rattle.ir_module.specs.declared.module.Module.{Module}
+use Rattle.ir_flags.specs.declared.valid.GlobalUse.{GlobalUse}
 
 -- the uses, with that of the global that an expression names, if it names one
 abbrev pub with_named : List GlobalUse → Expression → List GlobalUse

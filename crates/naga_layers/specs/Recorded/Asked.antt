@@ -1,7 +1,7 @@
 -- Which of the facts answers for a function.
 use Rattle.std.specs.Prelude.{Option, length, nat_lt, slice_get, if◌then◌else◌}
-use Rattle.naga_ir.specs.declared.module.Module.{Module}
-use Rattle.naga_below.specs.declared.valid.info.ModuleInfo.{ModuleInfo}
+use Rattle.ir_module.specs.declared.module.Module.{Module}
+use Rattle.ir_facts.specs.declared.valid.info.ModuleInfo.{ModuleInfo}
 use Rattle.naga_layers.specs.declared.facts.Facts.{Facts}
 use Rattle.naga_layers.specs.declared.facts.FunctionFact.{FunctionFact}
 

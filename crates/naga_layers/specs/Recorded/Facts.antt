@@ -1,12 +1,12 @@
 -- What facts are as answers of a lower layer.
 use Rattle.std.specs.Prelude.{ℕ, [], ◌∷◌, None, Some, slice_get, unwrap_or}
 use Rattle.std.specs.Option.{option_flatten}
-use Rattle.naga_ir.specs.declared.module.MeshOutputTopology.TheVariants.{Points}
-use Rattle.naga_below.specs.declared.valid.info.FunctionInfo.{FunctionInfo}
-use Rattle.naga_errors.specs.declared.function.FunctionError.{FunctionError}
-use Rattle.naga_errors.specs.declared.function.FunctionError.TheVariants as fault
-use Rattle.naga_errors.specs.declared.mesh.MeshAnalysis.{MeshAnalysis}
-use Rattle.naga_errors.specs.declared.mesh.MeshFault.TheVariants.{OutputType}
+use Rattle.ir_module.specs.declared.module.MeshOutputTopology.TheVariants.{Points}
+use Rattle.ir_facts.specs.declared.valid.info.FunctionInfo.{FunctionInfo}
+use Rattle.check_errors.specs.declared.function.FunctionError.{FunctionError}
+use Rattle.check_errors.specs.declared.function.FunctionError.TheVariants as fault
+use Rattle.check_errors.specs.declared.mesh.MeshAnalysis.{MeshAnalysis}
+use Rattle.check_errors.specs.declared.mesh.MeshFault.TheVariants.{OutputType}
 use Rattle.naga_layers.specs.declared.facts.Facts.{Facts}
 use Rattle.naga_layers.specs.declared.facts.InfoFact.{InfoFact}
 use Rattle.naga_layers.specs.declared.facts.LowerFunctionError.{LowerFunctionError}

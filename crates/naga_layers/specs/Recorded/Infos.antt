@@ -1,17 +1,17 @@
 -- What is answered of a function and of its expressions, of the fact that is recorded.
 use Rattle.std.specs.Prelude.{ℕ, Bool, true, false, ◌&&◌, ◌==◌, Option, None, Some, Result, Ok, Err, length, nat_lt, slice_get, if◌then◌else◌}
 use Rattle.std.specs.List.{list_all}
-use Rattle.naga_ir.specs.declared.functions.Function.{Function}
-use Rattle.naga_ir.specs.declared.module.Module.{Module}
-use Rattle.naga_types.specs.declared.types.TypeInner.TheVariants as inner
-use Rattle.naga_types.specs.declared.typifier.TypeResolution.{TypeResolution}
-use Rattle.naga_types.specs.declared.typifier.TypeResolution.TheVariants.{Handle, Value}
-use Rattle.naga_below.specs.declared.valid.expression_error.ExpressionError.{ExpressionError}
-use Rattle.naga_below.specs.declared.valid.expression_error.ExpressionError.TheVariants.{Lower}
-use Rattle.naga_flags.specs.declared.valid.ShaderStages.{ShaderStages}
-use Rattle.naga_below.specs.declared.valid.info.FunctionInfo.{FunctionInfo}
-use Rattle.naga_errors.specs.declared.function.FunctionError.{FunctionError}
-use Rattle.naga_errors.specs.declared.function.FunctionError.TheVariants.{Expression as InExpression}
+use Rattle.ir_module.specs.declared.functions.Function.{Function}
+use Rattle.ir_module.specs.declared.module.Module.{Module}
+use Rattle.ir_types.specs.declared.types.TypeInner.TheVariants as inner
+use Rattle.ir_types.specs.declared.typifier.TypeResolution.{TypeResolution}
+use Rattle.ir_types.specs.declared.typifier.TypeResolution.TheVariants.{Handle, Value}
+use Rattle.ir_facts.specs.declared.valid.expression_error.ExpressionError.{ExpressionError}
+use Rattle.ir_facts.specs.declared.valid.expression_error.ExpressionError.TheVariants.{Lower}
+use Rattle.ir_flags.specs.declared.valid.ShaderStages.{ShaderStages}
+use Rattle.ir_facts.specs.declared.valid.info.FunctionInfo.{FunctionInfo}
+use Rattle.check_errors.specs.declared.function.FunctionError.{FunctionError}
+use Rattle.check_errors.specs.declared.function.FunctionError.TheVariants.{Expression as InExpression}
 use Rattle.naga_layers.specs.Recorded.Facts.{fault_of, info_of}
 use Rattle.naga_layers.specs.declared.facts.ExpressionFact.{ExpressionFact}
 use Rattle.naga_layers.specs.declared.facts.ExpressionFact.TheVariants.{Stages, Error as ExpressionRefused}

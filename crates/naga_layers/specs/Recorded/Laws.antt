@@ -5,15 +5,15 @@ use Rattle.std.proofs.Common.{refl}
 use Rattle.std.proofs.lemmas.Bool.{ltb-true, eqb-true}
 use Rattle.std.proofs.lemmas.List.Sums.{AllPass-from_list_all}
 use Rattle.std.proofs.lemmas.Result.{IfOk-at_ok}
-use Rattle.naga_types.specs.Types.{ResolutionFits}
-use Rattle.naga_ir.specs.declared.functions.Function.{Function}
-use Rattle.naga_ir.specs.declared.module.Module.{Module}
-use Rattle.naga_types.specs.declared.types.TypeInner.TheVariants as inner
-use Rattle.naga_types.specs.declared.typifier.TypeResolution.{TypeResolution}
-use Rattle.naga_types.specs.declared.typifier.TypeResolution.TheVariants.{Handle, Value}
-use Rattle.naga_below.specs.declared.valid.info.FunctionInfo.{FunctionInfo}
-use Rattle.naga_below.specs.declared.valid.info.ModuleInfo.{ModuleInfo}
-use Rattle.naga_errors.specs.Lawful.{IsNoStruct}
+use Rattle.ir_types.specs.Types.{ResolutionFits}
+use Rattle.ir_module.specs.declared.functions.Function.{Function}
+use Rattle.ir_module.specs.declared.module.Module.{Module}
+use Rattle.ir_types.specs.declared.types.TypeInner.TheVariants as inner
+use Rattle.ir_types.specs.declared.typifier.TypeResolution.{TypeResolution}
+use Rattle.ir_types.specs.declared.typifier.TypeResolution.TheVariants.{Handle, Value}
+use Rattle.ir_facts.specs.declared.valid.info.FunctionInfo.{FunctionInfo}
+use Rattle.ir_facts.specs.declared.valid.info.ModuleInfo.{ModuleInfo}
+use Rattle.check_errors.specs.Lawful.{IsNoStruct}
 use Rattle.naga_layers.specs.Recorded.Asked.{fact_asked}
 use Rattle.naga_layers.specs.Recorded.Facts.{info_of}
 use Rattle.naga_layers.specs.Recorded.Infos.{is_lawful_type, is_lawful_info, recorded_info, USELESS}

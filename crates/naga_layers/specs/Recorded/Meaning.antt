@@ -1,7 +1,7 @@
 -- What the layer of recorded facts means.
 use Rattle.std.specs.Prelude.{[], slice_get}
 use Rattle.std.specs.Option.{option_flatten}
-use Rattle.naga_errors.specs.Meaning.{Meaning}
+use Rattle.check_errors.specs.Meaning.{Meaning}
 use Rattle.naga_layers.specs.Kinds.{kinds_from}
 use Rattle.naga_layers.specs.Recorded.Asked.{fact_asked}
 use Rattle.naga_layers.specs.Recorded.Facts.{analysis_of, analysis_at}

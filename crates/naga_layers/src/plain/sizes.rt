@@ -3,10 +3,10 @@
 ghost use Rattle.std.specs.Prelude.{◌≡◌};
 ghost use Rattle.naga_layers.specs.Plain.Sizes.{components_of, size_at, size_of};
 
-use naga_arena::handle::Handle;
-use naga_arena::tag;
-use naga_ir::module::Module;
-use naga_types::types::{ArraySize, TypeInner, VectorSize};
+use ir_arena::handle::Handle;
+use ir_arena::tag;
+use ir_module::module::Module;
+use ir_types::types::{ArraySize, TypeInner, VectorSize};
 
 /// The size of the type with a handle, in bytes, where it is known and fits 32 bits.
 pub fn size_of(module: &Module, ty: Handle<tag::Type>) -> Option<u32>

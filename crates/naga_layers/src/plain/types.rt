@@ -1,23 +1,23 @@
 //! Types of expressions.
 
 ghost use Rattle.std.specs.Prelude.{◌≡◌, [], IfOk, option_and_then, slice_get};
-ghost use Rattle.naga_arena.specs.declared.span.Refusal.TheVariants.{Fault};
-ghost use Rattle.naga_below.specs.declared.valid.expression_error.ExpressionError.TheVariants.{Lower};
-ghost use Rattle.naga_errors.specs.Answers.{Answers};
-ghost use Rattle.naga_errors.specs.declared.function.FunctionError.TheVariants.{Expression as InExpression};
+ghost use Rattle.ir_arena.specs.declared.span.Refusal.TheVariants.{Fault};
+ghost use Rattle.ir_facts.specs.declared.valid.expression_error.ExpressionError.TheVariants.{Lower};
+ghost use Rattle.check_errors.specs.Answers.{Answers};
+ghost use Rattle.check_errors.specs.declared.function.FunctionError.TheVariants.{Expression as InExpression};
 ghost use Rattle.naga_layers.specs.Plain.Types.{type_at, pointer_to, global_type, loaded_type, first_of, own_type, type_of, types_from};
 
-use naga_arena::handle::Handle;
-use naga_arena::sequence::Sequence;
-use naga_arena::span::{Refusal, WithSpan};
-use naga_arena::tag;
-use naga_below::valid::expression_error::ExpressionError;
-use naga_errors::function::FunctionError;
-use naga_ir::expressions::Expression;
-use naga_ir::functions::Function;
-use naga_ir::module::{GlobalVariable, Module};
-use naga_types::types::{AddressSpace, Scalar, TypeInner, VectorSize};
-use naga_types::typifier::TypeResolution;
+use check_errors::function::FunctionError;
+use ir_arena::handle::Handle;
+use ir_arena::sequence::Sequence;
+use ir_arena::span::{Refusal, WithSpan};
+use ir_arena::tag;
+use ir_facts::valid::expression_error::ExpressionError;
+use ir_module::expressions::Expression;
+use ir_module::functions::Function;
+use ir_module::module::{GlobalVariable, Module};
+use ir_types::types::{AddressSpace, Scalar, TypeInner, VectorSize};
+use ir_types::typifier::TypeResolution;
 use std::alloc::{AllocError, Global};
 
 /// The type of each expression of a function, or the first expression that has none here.

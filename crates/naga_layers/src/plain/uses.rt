@@ -4,11 +4,11 @@ ghost use Rattle.std.specs.Prelude.{◌≡◌, IfOk};
 ghost use Rattle.naga_layers.specs.Plain.Uses.{uses_of};
 
 use bitflags::Flags;
-use naga_arena::sequence::Sequence;
-use naga_flags::valid::GlobalUse;
-use naga_ir::expressions::Expression;
-use naga_ir::functions::Function;
-use naga_ir::module::Module;
+use ir_arena::sequence::Sequence;
+use ir_flags::valid::GlobalUse;
+use ir_module::expressions::Expression;
+use ir_module::functions::Function;
+use ir_module::module::Module;
 use std::alloc::{AllocError, Global};
 
 /// One use for each global of the module: that it is read, where an expression of the function names it.

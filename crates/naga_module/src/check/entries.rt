@@ -1,20 +1,20 @@
 //! The entry points of a module, in order.
 
 ghost use Rattle.std.specs.Prelude.{◌≡◌, ◌<◌, ◌+◌, ◌↔◌, ◌⊎◌, [], Ok, Err, IsTrue, OnOk, IfErr, length, drop};
-ghost use Rattle.naga_below.specs.Fits.{FitsTypes, FitsFunction, FitsEntry};
+ghost use Rattle.ir_facts.specs.Fits.{FitsTypes, FitsFunction, FitsEntry};
 ghost use Rattle.naga_module.specs.CodeModule.{EntriesLead, EntriesStop};
 ghost use Rattle.naga_module.specs.ModuleJudgement.{EntriesAnswer, BehindFunctions};
 ghost use Rattle.naga_module.specs.declared.check.ModuleFault.TheVariants as fault;
-ghost use Rattle.naga_statements.specs.Parts.{AreInfosOf};
-ghost use Rattle.naga_interface.specs.Judged.{HasPayloadSizes};
+ghost use Rattle.check_statement.specs.Parts.{AreInfosOf};
+ghost use Rattle.check_entry.specs.Judged.{HasPayloadSizes};
 
 use crate::check::ModuleFault;
-use naga_arena::span::Refusal;
-use naga_below::valid::info::ModuleInfo;
-use naga_errors::below::Below;
-use naga_fits::entry::fits_entry;
-use naga_fits::function::fits_function;
-use naga_ir::module::{EntryPoint, Module};
+use check_errors::below::Below;
+use ir_arena::span::Refusal;
+use ir_facts::valid::info::ModuleInfo;
+use ir_fits::entry::fits_entry;
+use ir_fits::function::fits_function;
+use ir_module::module::{EntryPoint, Module};
 use naga_valid::validator::Validator;
 use std::alloc::Global;
 

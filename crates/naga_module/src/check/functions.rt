@@ -1,18 +1,18 @@
 //! The functions of a module, in order.
 
 ghost use Rattle.std.specs.Prelude.{◌≡◌, ◌<◌, ◌+◌, [], OnOk, IfErr, length, drop};
-ghost use Rattle.naga_below.specs.Fits.{FitsTypes};
+ghost use Rattle.ir_facts.specs.Fits.{FitsTypes};
 ghost use Rattle.naga_module.specs.CodeModule.{Leads, Stops};
-ghost use Rattle.naga_statements.specs.Parts.{AreInfosOf};
+ghost use Rattle.check_statement.specs.Parts.{AreInfosOf};
 
 use crate::check::ModuleFault;
-use naga_arena::handle::Handle;
-use naga_arena::span::Refusal;
-use naga_arena::tag;
-use naga_below::valid::info::ModuleInfo;
-use naga_errors::below::Below;
-use naga_fits::function::fits_function;
-use naga_ir::module::Module;
+use check_errors::below::Below;
+use ir_arena::handle::Handle;
+use ir_arena::span::Refusal;
+use ir_arena::tag;
+use ir_facts::valid::info::ModuleInfo;
+use ir_fits::function::fits_function;
+use ir_module::module::Module;
 use naga_valid::validator::Validator;
 use std::alloc::Global;
 

@@ -2,24 +2,24 @@
 
 ghost use Rattle.std.specs.Prelude.{◌≡◌, ◌⊎◌, Ok, Err, OnOk, IfErr, Some, slice_get};
 ghost use Rattle.std.specs.Result.{result_err};
-ghost use Rattle.naga_below.specs.Fits.{FitsTypes, FitsGlobals};
-ghost use Rattle.naga_below.specs.Points.{first_fault, points_of_each};
+ghost use Rattle.ir_facts.specs.Fits.{FitsTypes, FitsGlobals};
+ghost use Rattle.ir_facts.specs.Points.{first_fault, points_of_each};
 ghost use Rattle.naga_module.specs.ModuleJudgement.{points_of_global, globals_step};
 ghost use Rattle.naga_module.specs.declared.check.ModuleFault.TheVariants as fault;
-ghost use Rattle.naga_statements.specs.Parts.{AreInfosOf};
+ghost use Rattle.check_statement.specs.Parts.{AreInfosOf};
 
 use crate::check::ModuleFault;
-use naga_arena::handle::Handle;
-use naga_arena::tag;
-use naga_below::proc::expression_kinds::ExpressionKindTracker;
-use naga_below::valid::info::ModuleInfo;
-use naga_errors::below::Below;
-use naga_ir::module::{GlobalVariable, Module};
+use check_errors::below::Below;
+use ir_arena::handle::Handle;
+use ir_arena::tag;
+use ir_facts::proc::expression_kinds::ExpressionKindTracker;
+use ir_facts::valid::info::ModuleInfo;
+use ir_module::module::{GlobalVariable, Module};
 use naga_valid::validator::Validator;
 use std::alloc::Global;
 
 /// Judges a global variable of a module.
-#[tactic(auto, using(naga_below::proofs::Points::first_within))]
+#[tactic(auto, using(ir_facts::proofs::Points::first_within))]
 fn check_global<B: Below>(
     validator: &Validator<B>,
     module: &Module,

@@ -1,26 +1,26 @@
 //! The judgement of an entry point: naga's `validate_entry_point`, step by step.
 
 ghost use Rattle.std.specs.Prelude.{◌≡◌, length};
-ghost use Rattle.naga_below.specs.Fits.{FitsTypes, FitsFunction, FitsEntry};
-ghost use Rattle.naga_below.specs.FitsBody.{SignatureFits};
-ghost use Rattle.naga_interface.specs.Faults.{AnswersFault, Judges};
-ghost use Rattle.naga_interface.specs.Judged.{HasPayloadSizes, entry_judgement, interface_step, used_points, AnswersOutcome};
-ghost use Rattle.naga_interface.specs.Start.{start_points};
-ghost use Rattle.naga_statements.specs.Parts.{AreInfosOf};
+ghost use Rattle.ir_facts.specs.Fits.{FitsTypes, FitsFunction, FitsEntry};
+ghost use Rattle.ir_facts.specs.FitsBody.{SignatureFits};
+ghost use Rattle.check_entry.specs.Faults.{AnswersFault, Judges};
+ghost use Rattle.check_entry.specs.Judged.{HasPayloadSizes, entry_judgement, interface_step, used_points, AnswersOutcome};
+ghost use Rattle.check_entry.specs.Start.{start_points};
+ghost use Rattle.check_statement.specs.Parts.{AreInfosOf};
 
 use crate::validator::Validator;
 use crate::validator::judge::Subject;
-use naga_arena::span::Refusal;
-use naga_below::valid::info::{FunctionInfo, ModuleInfo};
-use naga_context::table::Table;
-use naga_errors::below::Below;
-use naga_interface::answers::{answer, answer_of_function, judged, refusal};
-use naga_interface::error::EntryPointError;
-use naga_interface::outcome::FunctionOutcome;
-use naga_interface::start::check_start;
-use naga_interface::uses::{check_payload, check_stage, insert_own_uses};
-use naga_interface::varyings::set_blending;
-use naga_ir::module::{EntryPoint, Module};
+use check_entry::answers::{answer, answer_of_function, judged, refusal};
+use check_entry::error::EntryPointError;
+use check_entry::outcome::FunctionOutcome;
+use check_entry::start::check_start;
+use check_entry::uses::{check_payload, check_stage, insert_own_uses};
+use check_entry::varyings::set_blending;
+use check_errors::below::Below;
+use check_scope::table::Table;
+use ir_arena::span::Refusal;
+use ir_facts::valid::info::{FunctionInfo, ModuleInfo};
+use ir_module::module::{EntryPoint, Module};
 use std::alloc::Global;
 
 impl<B: Below> Validator<B> {

@@ -1,28 +1,28 @@
 //! The validation of an entry point.
 
 ghost use Rattle.std.specs.Prelude.{◌≡◌, true, OnOk, OnErr, IfOk, length};
-ghost use Rattle.naga_below.specs.Fits.{FitsTypes, FitsFunction, FitsEntry};
-ghost use Rattle.naga_ir.specs.declared.module.ShaderStage.TheVariants.{Vertex};
+ghost use Rattle.ir_facts.specs.Fits.{FitsTypes, FitsFunction, FitsEntry};
+ghost use Rattle.ir_module.specs.declared.module.ShaderStage.TheVariants.{Vertex};
 ghost use Rattle.naga_runs.specs.Soundness.{RunsAreSure};
-ghost use Rattle.naga_errors.specs.WhatIsChecked.{checks_bindings};
-ghost use Rattle.naga_function.specs.Accepted.{ResultsAreFilledOnce, StagesAreOfAll};
-ghost use Rattle.naga_context.specs.Blocks.{body_of};
-ghost use Rattle.naga_function.specs.Chains.{AreVetted, ChainsKeepTo};
-ghost use Rattle.naga_context.specs.Context.{pre_emitted_of};
-ghost use Rattle.naga_interface.specs.Judged.{HasPayloadSizes, entry_judgement, AnswersEntry, AnswersOutcome};
+ghost use Rattle.check_errors.specs.WhatIsChecked.{checks_bindings};
+ghost use Rattle.check_body.specs.Accepted.{ResultsAreFilledOnce, StagesAreOfAll};
+ghost use Rattle.check_scope.specs.Blocks.{body_of};
+ghost use Rattle.check_body.specs.Chains.{AreVetted, ChainsKeepTo};
+ghost use Rattle.check_scope.specs.Context.{pre_emitted_of};
+ghost use Rattle.check_entry.specs.Judged.{HasPayloadSizes, entry_judgement, AnswersEntry, AnswersOutcome};
 ghost use Rattle.naga_valid.specs.Facts.{argument_parts, BindingsAreDistinct, BuiltInsAreDistinct, GroupsAreDistinct, ReturnsPosition};
-ghost use Rattle.naga_interface.specs.Start.{start_points};
-ghost use Rattle.naga_interface.specs.Uses.{only};
-ghost use Rattle.naga_statements.specs.Parts.{AreInfosOf};
-ghost use Rattle.naga_context.specs.WhatIsChecked.{checks_blocks, checks_expressions};
+ghost use Rattle.check_entry.specs.Start.{start_points};
+ghost use Rattle.check_entry.specs.Uses.{only};
+ghost use Rattle.check_statement.specs.Parts.{AreInfosOf};
+ghost use Rattle.check_scope.specs.WhatIsChecked.{checks_blocks, checks_expressions};
 
 use crate::validator::Validator;
-use naga_arena::span::Refusal;
-use naga_below::valid::info::{FunctionInfo, ModuleInfo};
-use naga_errors::below::Below;
-use naga_interface::error::EntryPointError;
-use naga_interface::outcome::FunctionOutcome;
-use naga_ir::module::{EntryPoint, Module};
+use check_entry::error::EntryPointError;
+use check_entry::outcome::FunctionOutcome;
+use check_errors::below::Below;
+use ir_arena::span::Refusal;
+use ir_facts::valid::info::{FunctionInfo, ModuleInfo};
+use ir_module::module::{EntryPoint, Module};
 use std::alloc::Global;
 
 impl<B: Below> Validator<B> {

@@ -1,25 +1,25 @@
 //! The checks of a function's expressions, each by the lower layer.
 
 ghost use Rattle.std.specs.Prelude.{◌≡◌, OnOk, Result};
-ghost use Rattle.naga_below.specs.declared.valid.expression_error.ExpressionError.{ExpressionError as Source};
-ghost use Rattle.naga_flags.specs.declared.valid.ShaderStages.{ShaderStages as Mask};
-ghost use Rattle.naga_errors.specs.Answers.{Refuses};
-ghost use Rattle.naga_context.specs.walk.Answers.{AnswersLeaving};
-ghost use Rattle.naga_statements.specs.Expressions.{with_stages, of_expression};
-ghost use Rattle.naga_statements.specs.walk.Asked.{asked_by, stages_of_all};
+ghost use Rattle.ir_facts.specs.declared.valid.expression_error.ExpressionError.{ExpressionError as Source};
+ghost use Rattle.ir_flags.specs.declared.valid.ShaderStages.{ShaderStages as Mask};
+ghost use Rattle.check_errors.specs.Answers.{Refuses};
+ghost use Rattle.check_scope.specs.walk.Answers.{AnswersLeaving};
+ghost use Rattle.check_statement.specs.Expressions.{with_stages, of_expression};
+ghost use Rattle.check_statement.specs.walk.Asked.{asked_by, stages_of_all};
 
 use crate::validator::Validator;
 use crate::validator::judge::Subject;
 use bitflags::Flags;
-use naga_arena::handle::Handle;
-use naga_arena::span::Refusal;
-use naga_arena::tag;
-use naga_below::proc::expression_kinds::ExpressionKindTracker;
-use naga_below::valid::expression_error::ExpressionError;
-use naga_below::valid::info::FunctionInfo;
-use naga_errors::below::Below;
-use naga_errors::function::FunctionError;
-use naga_flags::valid::ShaderStages;
+use check_errors::below::Below;
+use check_errors::function::FunctionError;
+use ir_arena::handle::Handle;
+use ir_arena::span::Refusal;
+use ir_arena::tag;
+use ir_facts::proc::expression_kinds::ExpressionKindTracker;
+use ir_facts::valid::expression_error::ExpressionError;
+use ir_facts::valid::info::FunctionInfo;
+use ir_flags::valid::ShaderStages;
 use std::alloc::Global;
 
 /// The refusal of an expression by the lower layer, as one of its function. It keeps the places.

@@ -2,25 +2,25 @@
 
 ghost use Rattle.std.specs.Prelude.{◌≡◌, Contains, length};
 ghost use Rattle.std.specs.Result.{result_err};
-ghost use Rattle.naga_below.specs.Fits.{FitsTypes, FitsGlobals};
-ghost use Rattle.naga_below.specs.Points.{first_fault};
-ghost use Rattle.naga_interface.specs.GlobalPoints.{module_global_points};
-ghost use Rattle.naga_statements.specs.Parts.{AreInfosOf};
+ghost use Rattle.ir_facts.specs.Fits.{FitsTypes, FitsGlobals};
+ghost use Rattle.ir_facts.specs.Points.{first_fault};
+ghost use Rattle.check_entry.specs.GlobalPoints.{module_global_points};
+ghost use Rattle.check_statement.specs.Parts.{AreInfosOf};
 
 use crate::validator::Validator;
-use naga_below::proc::expression_kinds::ExpressionKindTracker;
-use naga_below::valid::info::ModuleInfo;
-use naga_below::valid::settings::Settings;
-use naga_errors::below::Below;
-use naga_errors::interface::GlobalVariableError;
-use naga_ir::module::{GlobalVariable, Module};
-use naga_rules::global::check_global;
+use check_errors::below::Below;
+use check_errors::interface::GlobalVariableError;
+use check_variables::global::check_global;
+use ir_facts::proc::expression_kinds::ExpressionKindTracker;
+use ir_facts::valid::info::ModuleInfo;
+use ir_facts::valid::settings::Settings;
+use ir_module::module::{GlobalVariable, Module};
 
 impl<B: Below> Validator<B> {
     /// Judges a global variable of a module: naga 30.0.1's `validate_global_var`. `kinds` are those of the module's global
     /// expressions, whose types are in `mod_info`. The fault is the first of `check_global`, asked with the size of the
     /// variable's type that the lower layer knows. It takes no memory, and leaves the validator as it is.
-    #[tactic(auto, using(naga_below::proofs::Callers::types_name_each_other, crate::proofs::GlobalFits::global_fits))]
+    #[tactic(auto, using(ir_facts::proofs::Callers::types_name_each_other, crate::proofs::GlobalFits::global_fits))]
     pub fn validate_global_var(
         &self,
         var: &GlobalVariable,

@@ -1,28 +1,28 @@
 //! The checks of the globals that an entry point uses which ask the lower layer for a size.
 
 ghost use Rattle.std.specs.Prelude.{◌≡◌, ◌↔◌, ◌<◌, IsTrue, IsSome, Some, [], slice_get, length};
-ghost use Rattle.naga_below.specs.Points.{points_of_each};
-ghost use Rattle.naga_types.specs.declared.types.AddressSpace.TheVariants as space;
-ghost use Rattle.naga_context.specs.walk.Answers.{Finds};
-ghost use Rattle.naga_interface.specs.Bindings.{AreTaken};
-ghost use Rattle.naga_interface.specs.Globals.{used_payload_points, use_points, points_if_used, global_points, globals_points};
-ghost use Rattle.naga_interface.specs.Judged.{HasPayloadSizes};
-ghost use Rattle.naga_interface.specs.Points.{Meets};
+ghost use Rattle.ir_facts.specs.Points.{points_of_each};
+ghost use Rattle.ir_types.specs.declared.types.AddressSpace.TheVariants as space;
+ghost use Rattle.check_scope.specs.walk.Answers.{Finds};
+ghost use Rattle.check_entry.specs.Bindings.{AreTaken};
+ghost use Rattle.check_entry.specs.Globals.{used_payload_points, use_points, points_if_used, global_points, globals_points};
+ghost use Rattle.check_entry.specs.Judged.{HasPayloadSizes};
+ghost use Rattle.check_entry.specs.Points.{Meets};
 
 use crate::validator::Validator;
 use bitflags::Flags;
-use naga_arena::handle::Handle;
-use naga_arena::span::Refusal;
-use naga_arena::tag;
-use naga_below::valid::info::FunctionInfo;
-use naga_errors::below::Below;
-use naga_flags::valid::GlobalUse;
-use naga_interface::answers::answer;
-use naga_interface::bindings::{check_binding, take_binding};
-use naga_interface::error::EntryPointError;
-use naga_interface::globals::{check_allowed, check_immediates, is_task_payload, uses_of};
-use naga_ir::module::{EntryPoint, GlobalVariable, Module, ResourceBinding};
-use naga_types::types::AddressSpace;
+use check_entry::answers::answer;
+use check_entry::bindings::{check_binding, take_binding};
+use check_entry::error::EntryPointError;
+use check_entry::globals::{check_allowed, check_immediates, is_task_payload, uses_of};
+use check_errors::below::Below;
+use ir_arena::handle::Handle;
+use ir_arena::span::Refusal;
+use ir_arena::tag;
+use ir_facts::valid::info::FunctionInfo;
+use ir_flags::valid::GlobalUse;
+use ir_module::module::{EntryPoint, GlobalVariable, Module, ResourceBinding};
+use ir_types::types::AddressSpace;
 use std::alloc::Global;
 use std::collections::BTreeSet;
 

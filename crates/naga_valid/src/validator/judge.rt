@@ -1,28 +1,28 @@
 //! The judgement of a function: naga's `validate_function`, step by step.
 
 ghost use Rattle.std.specs.Prelude.{length};
-ghost use Rattle.naga_below.specs.Fits.{FitsTypes, FitsFunction};
-ghost use Rattle.naga_below.specs.Points.{and_then};
-ghost use Rattle.naga_errors.specs.Answers.{Answers};
-ghost use Rattle.naga_context.specs.Context.{ContextFits};
-ghost use Rattle.naga_statements.specs.Judged.{judged_with};
-ghost use Rattle.naga_statements.specs.Parts.{AreInfosOf};
-ghost use Rattle.naga_statements.specs.walk.Asked.{asked_by, known_by, judgement_by};
+ghost use Rattle.ir_facts.specs.Fits.{FitsTypes, FitsFunction};
+ghost use Rattle.ir_facts.specs.Points.{and_then};
+ghost use Rattle.check_errors.specs.Answers.{Answers};
+ghost use Rattle.check_scope.specs.Context.{ContextFits};
+ghost use Rattle.check_statement.specs.Judged.{judged_with};
+ghost use Rattle.check_statement.specs.Parts.{AreInfosOf};
+ghost use Rattle.check_statement.specs.walk.Asked.{asked_by, known_by, judgement_by};
 
 use crate::validator::Validator;
-use naga_arena::span::Refusal;
-use naga_below::proc::expression_kinds::ExpressionKindTracker;
-use naga_below::valid::info::{FunctionInfo, ModuleInfo};
-use naga_context::context::BlockContext;
-use naga_context::table::Table;
-use naga_errors::below::Below;
-use naga_errors::function::FunctionError;
-use naga_flags::valid::ValidationFlags;
-use naga_function::declarations::check_declarations;
-use naga_function::function::validate_function_body;
-use naga_interface::outcome::FunctionOutcome;
-use naga_ir::functions::Function;
-use naga_ir::module::Module;
+use check_body::declarations::check_declarations;
+use check_body::function::validate_function_body;
+use check_entry::outcome::FunctionOutcome;
+use check_errors::below::Below;
+use check_errors::function::FunctionError;
+use check_scope::context::BlockContext;
+use check_scope::table::Table;
+use ir_arena::span::Refusal;
+use ir_facts::proc::expression_kinds::ExpressionKindTracker;
+use ir_facts::valid::info::{FunctionInfo, ModuleInfo};
+use ir_flags::valid::ValidationFlags;
+use ir_module::functions::Function;
+use ir_module::module::Module;
 use std::alloc::Global;
 
 /// A function that is judged: the module that it is of, the infos of the functions before it, and whether it is an entry

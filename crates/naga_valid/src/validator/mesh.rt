@@ -1,19 +1,19 @@
 //! The checks of a mesh that ask the lower layer for what the output variable implies.
 
 ghost use Rattle.std.specs.Prelude.{◌≡◌};
-ghost use Rattle.naga_below.specs.Points.{within};
-ghost use Rattle.naga_interface.specs.Faults.{Judges};
-ghost use Rattle.naga_interface.specs.Mesh.{said_points};
-ghost use Rattle.naga_interface.specs.Points.{Meets};
+ghost use Rattle.ir_facts.specs.Points.{within};
+ghost use Rattle.check_entry.specs.Faults.{Judges};
+ghost use Rattle.check_entry.specs.Mesh.{said_points};
+ghost use Rattle.check_entry.specs.Points.{Meets};
 
 use crate::validator::Validator;
-use naga_arena::span::Refusal;
-use naga_errors::below::Below;
-use naga_errors::mesh::MeshAnalysis;
-use naga_interface::answers::answer;
-use naga_interface::error::EntryPointError;
-use naga_interface::mesh::{check_stated, mesh_error};
-use naga_ir::module::{MeshStageInfo, Module};
+use check_entry::answers::answer;
+use check_entry::error::EntryPointError;
+use check_entry::mesh::{check_stated, mesh_error};
+use check_errors::below::Below;
+use check_errors::mesh::MeshAnalysis;
+use ir_arena::span::Refusal;
+use ir_module::module::{MeshStageInfo, Module};
 use std::alloc::Global;
 
 impl<B: Below> Validator<B> {

@@ -1,38 +1,38 @@
 //! The checks of what an entry point puts in and out: its arguments, its result and the outputs of a mesh.
 
 ghost use Rattle.std.specs.Prelude.{◌≡◌, ◌<◌, ◌∷◌, ◌++◌, [], None, OnOk, true, false, length};
-ghost use Rattle.naga_below.specs.Fits.{FitsTypes, FitsEntry};
-ghost use Rattle.naga_below.specs.FitsBody.{SignatureFits};
-ghost use Rattle.naga_below.specs.Points.{within};
-ghost use Rattle.naga_types.specs.TypeTests.{it_is};
-ghost use Rattle.naga_types.specs.Types.{inner_at};
-ghost use Rattle.naga_types.specs.declared.built_in.BuiltIn.TheVariants.{Position};
-ghost use Rattle.naga_varyings.specs.Varyings.{nothing_seen, parts_of, placed_parts, points_from, seen_at, seen_in, seen_with};
-ghost use Rattle.naga_varyings.specs.declared.varying.MeshOutputType.TheVariants as which;
-ghost use Rattle.naga_interface.specs.Faults.{Judges, OfArgument, OfResult, Other};
-ghost use Rattle.naga_interface.specs.Mesh.{mesh_points};
-ghost use Rattle.naga_interface.specs.Varyings.{argument_points, declared_points, has_built_in, is_struct, output_item, output_points, outputs_points, place_of, primitive_points, result_parts, result_points, vertex_points};
-ghost use Rattle.naga_statements.specs.Parts.{AreInfosOf};
-ghost use Rattle.naga_interface.specs.declared.error.EntryPointError.TheVariants as fault;
+ghost use Rattle.ir_facts.specs.Fits.{FitsTypes, FitsEntry};
+ghost use Rattle.ir_facts.specs.FitsBody.{SignatureFits};
+ghost use Rattle.ir_facts.specs.Points.{within};
+ghost use Rattle.ir_types.specs.TypeTests.{it_is};
+ghost use Rattle.ir_types.specs.Types.{inner_at};
+ghost use Rattle.ir_types.specs.declared.built_in.BuiltIn.TheVariants.{Position};
+ghost use Rattle.check_varyings.specs.Varyings.{nothing_seen, parts_of, placed_parts, points_from, seen_at, seen_in, seen_with};
+ghost use Rattle.check_varyings.specs.declared.varying.MeshOutputType.TheVariants as which;
+ghost use Rattle.check_entry.specs.Faults.{Judges, OfArgument, OfResult, Other};
+ghost use Rattle.check_entry.specs.Mesh.{mesh_points};
+ghost use Rattle.check_entry.specs.Varyings.{argument_points, declared_points, has_built_in, is_struct, output_item, output_points, outputs_points, place_of, primitive_points, result_parts, result_points, vertex_points};
+ghost use Rattle.check_statement.specs.Parts.{AreInfosOf};
+ghost use Rattle.check_entry.specs.declared.error.EntryPointError.TheVariants as fault;
 
 use crate::validator::Validator;
-use naga_arena::handle::Handle;
-use naga_arena::span::Refusal;
-use naga_arena::tag;
-use naga_errors::below::Below;
-use naga_interface::answers::{answer, judged, refusal};
-use naga_interface::error::EntryPointError;
-use naga_interface::globals::inner_at;
-use naga_interface::mesh::check_variable;
-use naga_interface::varyings::{
+use check_entry::answers::{answer, judged, refusal};
+use check_entry::error::EntryPointError;
+use check_entry::globals::inner_at;
+use check_entry::mesh::check_variable;
+use check_entry::varyings::{
     argument_refused, check_returned, has_one_of_indices, is_struct, result_refused,
 };
-use naga_ir::functions::FunctionArgument;
-use naga_ir::module::{EntryPoint, MeshStageInfo, Module};
-use naga_types::built_in::BuiltIn;
-use naga_types::types::Binding;
-use naga_varyings::item::check_varying_item;
-use naga_varyings::varying::{MeshOutputType, VaryingPlace, VaryingState};
+use check_errors::below::Below;
+use check_varyings::item::check_varying_item;
+use check_varyings::varying::{MeshOutputType, VaryingPlace, VaryingState};
+use ir_arena::handle::Handle;
+use ir_arena::span::Refusal;
+use ir_arena::tag;
+use ir_module::functions::FunctionArgument;
+use ir_module::module::{EntryPoint, MeshStageInfo, Module};
+use ir_types::built_in::BuiltIn;
+use ir_types::types::Binding;
 use std::alloc::Global;
 
 /// An argument of a function, with its index, which counts from 0.

@@ -1,27 +1,27 @@
 //! The validation of a function.
 
 ghost use Rattle.std.specs.Prelude.{◌≡◌, true, OnOk, OnErr, IfOk, length};
-ghost use Rattle.naga_below.specs.Fits.{FitsTypes, FitsFunction};
+ghost use Rattle.ir_facts.specs.Fits.{FitsTypes, FitsFunction};
 ghost use Rattle.naga_runs.specs.Soundness.{RunsAreSure};
-ghost use Rattle.naga_errors.specs.Answers.{Answers};
-ghost use Rattle.naga_function.specs.Accepted.{ResultsAreFilledOnce, StagesAreOfAll};
-ghost use Rattle.naga_context.specs.Blocks.{body_of};
-ghost use Rattle.naga_context.specs.Context.{pre_emitted_of};
-ghost use Rattle.naga_context.specs.WhatIsChecked.{checks_blocks, checks_expressions};
-ghost use Rattle.naga_statements.specs.Judged.{function_judgement, AnswersTracing};
-ghost use Rattle.naga_statements.specs.Parts.{AreInfosOf};
-ghost use Rattle.naga_function.specs.Shapes.{HasNoReturnInContinuing, HasWholeSwitches};
-ghost use Rattle.naga_statements.specs.walk.Asked.{judgement_by};
+ghost use Rattle.check_errors.specs.Answers.{Answers};
+ghost use Rattle.check_body.specs.Accepted.{ResultsAreFilledOnce, StagesAreOfAll};
+ghost use Rattle.check_scope.specs.Blocks.{body_of};
+ghost use Rattle.check_scope.specs.Context.{pre_emitted_of};
+ghost use Rattle.check_scope.specs.WhatIsChecked.{checks_blocks, checks_expressions};
+ghost use Rattle.check_statement.specs.Judged.{function_judgement, AnswersTracing};
+ghost use Rattle.check_statement.specs.Parts.{AreInfosOf};
+ghost use Rattle.check_body.specs.Shapes.{HasNoReturnInContinuing, HasWholeSwitches};
+ghost use Rattle.check_statement.specs.walk.Asked.{judgement_by};
 
 use crate::validator::Validator;
 use crate::validator::judge::Subject;
-use naga_arena::span::Refusal;
-use naga_below::valid::info::{FunctionInfo, ModuleInfo};
-use naga_errors::below::Below;
-use naga_errors::function::FunctionError;
-use naga_interface::outcome::FunctionOutcome;
-use naga_ir::functions::Function;
-use naga_ir::module::Module;
+use check_entry::outcome::FunctionOutcome;
+use check_errors::below::Below;
+use check_errors::function::FunctionError;
+use ir_arena::span::Refusal;
+use ir_facts::valid::info::{FunctionInfo, ModuleInfo};
+use ir_module::functions::Function;
+use ir_module::module::Module;
 use std::alloc::Global;
 
 impl<B: Below> Validator<B> {

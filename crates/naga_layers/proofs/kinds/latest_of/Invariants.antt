@@ -1,5 +1,5 @@
 use Rattle.std.proofs.Common.{◌≡◌, drop}
-use Rattle.naga_below.specs.declared.proc.expression_kinds.ExpressionKind.TheVariants.{Const}
+use Rattle.ir_facts.specs.declared.proc.expression_kinds.ExpressionKind.TheVariants.{Const}
 use Rattle.naga_layers.specs.Kinds.{latest_of}
 use Rattle.naga_layers.proofs.kinds.latest_of.Given as goal
 

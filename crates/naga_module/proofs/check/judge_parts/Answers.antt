@@ -1,6 +1,6 @@
 use Rattle.std.proofs.Common.{◌⊎◌, ◌≡◌, Ok, Err, subst}
 use Rattle.std.specs.Prelude.{OnOk, IfErr}
-use Rattle.naga_statements.specs.Parts.{Parts}
+use Rattle.check_statement.specs.Parts.{Parts}
 use Rattle.naga_module.specs.ModuleJudgement.{BehindFunctions}
 use Rattle.naga_module.specs.declared.check.ModuleFault.TheVariants as fault
 use Rattle.naga_module.proofs.ModuleSteps.{behind_judged, behind_refused}

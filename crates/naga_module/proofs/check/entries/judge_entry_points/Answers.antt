@@ -1,8 +1,8 @@
 use Rattle.std.proofs.Common.{◌+◌, ◌∙◌, List, drop, length, refl, sym, ap, subst}
 use Rattle.std.proofs.lemmas.Result.{err_from_is_err_and}
-use Rattle.naga_ir.specs.declared.module.EntryPoint.{EntryPoint}
-use Rattle.naga_statements.specs.Parts.{Parts, AreInfosOf}
-use Rattle.naga_interface.specs.Judged.{HasPayloadSizes}
+use Rattle.ir_module.specs.declared.module.EntryPoint.{EntryPoint}
+use Rattle.check_statement.specs.Parts.{Parts, AreInfosOf}
+use Rattle.check_entry.specs.Judged.{HasPayloadSizes}
 use Rattle.naga_module.specs.CodeModule.{EntriesLead, EntriesStop}
 use Rattle.naga_module.proofs.Modules.{entries_lead_on, entries_stop_behind, entries_judged, none_left}
 use Rattle.naga_module.proofs.check.entries.judge_entry_points.Goals as goal

@@ -1,6 +1,6 @@
 use Rattle.std.proofs.Common.{◌+◌, List, Err, inr, drop, length, refl, sym, subst}
-use Rattle.naga_below.specs.Fits.{FitsFunction}
-use Rattle.naga_below.specs.declared.valid.info.FunctionInfo.{FunctionInfo}
+use Rattle.ir_facts.specs.Fits.{FitsFunction}
+use Rattle.ir_facts.specs.declared.valid.info.FunctionInfo.{FunctionInfo}
 use Rattle.naga_module.specs.CodeModule.{Leads}
 use Rattle.naga_module.specs.ModuleJudgement.{FunctionsAnswer}
 use Rattle.naga_module.specs.declared.check.ModuleFault.TheVariants as fault

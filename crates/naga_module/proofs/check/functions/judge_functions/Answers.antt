@@ -1,7 +1,7 @@
 use Rattle.std.proofs.Common.{◌+◌, ◌∙◌, List, drop, length, refl, sym, ap, subst}
 use Rattle.std.proofs.lemmas.Result.{err_from_is_err_and}
-use Rattle.naga_ir.specs.declared.functions.Function.{Function}
-use Rattle.naga_statements.specs.Parts.{Parts, AreInfosOf}
+use Rattle.ir_module.specs.declared.functions.Function.{Function}
+use Rattle.check_statement.specs.Parts.{Parts, AreInfosOf}
 use Rattle.naga_module.specs.CodeModule.{Leads, Stops}
 use Rattle.naga_module.proofs.Modules.{leads_on, stops_behind, none_left}
 use Rattle.naga_module.proofs.check.functions.judge_functions.Goals as goal

@@ -2,7 +2,7 @@ use Rattle.std.proofs.Common.{◌≡◌, Some, None, refl, sym, subst}
 use Rattle.std.proofs.lemmas.Option.{get_or_from_slice_get}
 use Rattle.std.proofs.lemmas.Result.{err_from_is_err_and}
 use Rattle.std.specs.Prelude.{slice_get}
-use Rattle.naga_below.specs.Points.{first_fault}
+use Rattle.ir_facts.specs.Points.{first_fault}
 use Rattle.naga_module.specs.ModuleJudgement.{points_of_global}
 use Rattle.naga_module.proofs.Modules.{item_stops, item_passes, items_end}
 use Rattle.naga_module.proofs.check.globals.check_each_global.Goals as goal

@@ -1,15 +1,15 @@
 use Rattle.std.proofs.Common.{rules, ◌≡◌, ◌<◌, ◌≤◌, ◌+◌, List, None, false, length, map, take, get_or, sym, ap, ◌∙◌, subst}
 use Rattle.std.proofs.Math.ListN.{get_or-map}
 use Rattle.std.proofs.lemmas.List.{length-map}
-use Rattle.naga_below.specs.Points.{first_fault, within}
-use Rattle.naga_ir.specs.declared.functions.FunctionArgument.{FunctionArgument}
-use Rattle.naga_varyings.proofs.Seeing.{leaves_the_next}
-use Rattle.naga_varyings.specs.Seen.{Seen}
-use Rattle.naga_varyings.specs.Varyings.{group_points, parts_of, points_from, seen_at, seen_in, seen_with, group_parts}
-use Rattle.naga_varyings.specs.declared.varying.MeshOutputType.TheVariants.{Neither}
-use Rattle.naga_varyings.specs.declared.varying.VaryingPlace.{VaryingPlace}
-use Rattle.naga_interface.specs.Faults.{OfArgument, Judges}
-use Rattle.naga_interface.specs.Varyings.{argument_item, place_of}
+use Rattle.ir_facts.specs.Points.{first_fault, within}
+use Rattle.ir_module.specs.declared.functions.FunctionArgument.{FunctionArgument}
+use Rattle.check_varyings.proofs.Seeing.{leaves_the_next}
+use Rattle.check_varyings.specs.Seen.{Seen}
+use Rattle.check_varyings.specs.Varyings.{group_points, parts_of, points_from, seen_at, seen_in, seen_with, group_parts}
+use Rattle.check_varyings.specs.declared.varying.MeshOutputType.TheVariants.{Neither}
+use Rattle.check_varyings.specs.declared.varying.VaryingPlace.{VaryingPlace}
+use Rattle.check_entry.specs.Faults.{OfArgument, Judges}
+use Rattle.check_entry.specs.Varyings.{argument_item, place_of}
 use Rattle.naga_valid.proofs.Groups.{group_stops, group_goes_on, group_ends, parts_taken, seen_by_position}
 use Rattle.naga_valid.proofs.validator.Validator.check_arguments.Goals as goal
 

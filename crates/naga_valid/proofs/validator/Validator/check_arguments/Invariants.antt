@@ -1,8 +1,8 @@
 use Rattle.std.proofs.Common.{◌≡◌, [], drop, map, take}
-use Rattle.naga_below.specs.Points.{first_fault}
-use Rattle.naga_varyings.specs.Varyings.{group_points_from, seen_at, seen_in, group_parts}
-use Rattle.naga_interface.specs.Faults.{OfArgument}
-use Rattle.naga_interface.specs.Varyings.{argument_item}
+use Rattle.ir_facts.specs.Points.{first_fault}
+use Rattle.check_varyings.specs.Varyings.{group_points_from, seen_at, seen_in, group_parts}
+use Rattle.check_entry.specs.Faults.{OfArgument}
+use Rattle.check_entry.specs.Varyings.{argument_item}
 use Rattle.naga_valid.proofs.validator.Validator.check_arguments.Given as goal
 
 -- what is left decides, and the state has seen what is seen behind the arguments so far

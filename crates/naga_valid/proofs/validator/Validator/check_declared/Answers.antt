@@ -1,13 +1,13 @@
 use Rattle.std.proofs.Common.{true, false, [], sym, ap, ◌∙◌, subst}
 use Rattle.std.proofs.lemmas.Result.{on_ok_weaker}
-use Rattle.naga_below.specs.Points.{within}
-use Rattle.naga_types.specs.declared.built_in.BuiltIn.TheVariants.{Position}
-use Rattle.naga_varyings.specs.Seen.{Seen}
-use Rattle.naga_varyings.specs.Varyings.{points_from, parts_of, seen_in, seen_with}
-use Rattle.naga_varyings.specs.declared.varying.VaryingPlace.{VaryingPlace}
-use Rattle.naga_varyings.specs.declared.varying.MeshOutputType.TheVariants.{Neither}
-use Rattle.naga_interface.specs.Faults.{OfResult, Judges}
-use Rattle.naga_interface.specs.Varyings.{declared_points, has_built_in, place_of, result_item, result_parts}
+use Rattle.ir_facts.specs.Points.{within}
+use Rattle.ir_types.specs.declared.built_in.BuiltIn.TheVariants.{Position}
+use Rattle.check_varyings.specs.Seen.{Seen}
+use Rattle.check_varyings.specs.Varyings.{points_from, parts_of, seen_in, seen_with}
+use Rattle.check_varyings.specs.declared.varying.VaryingPlace.{VaryingPlace}
+use Rattle.check_varyings.specs.declared.varying.MeshOutputType.TheVariants.{Neither}
+use Rattle.check_entry.specs.Faults.{OfResult, Judges}
+use Rattle.check_entry.specs.Varyings.{declared_points, has_built_in, place_of, result_item, result_parts}
 use Rattle.naga_valid.proofs.Groups.{one_item, seen_by_position}
 use Rattle.naga_valid.proofs.validator.Validator.check_declared.Goals as goal
 

@@ -1,8 +1,8 @@
 use Rattle.std.proofs.Common.{rules, ◌≡◌, subst, None}
-use Rattle.naga_below.specs.Points.{first_fault, points_of_each}
-use Rattle.naga_interface.specs.Globals.{global_points}
-use Rattle.naga_interface.specs.Points.{Meets}
-use Rattle.naga_interface.proofs.EntrySteps.{each_meets, each_goes_on}
+use Rattle.ir_facts.specs.Points.{first_fault, points_of_each}
+use Rattle.check_entry.specs.Globals.{global_points}
+use Rattle.check_entry.specs.Points.{Meets}
+use Rattle.check_entry.proofs.EntrySteps.{each_meets, each_goes_on}
 use Rattle.naga_valid.proofs.validator.Validator.check_each_global.Goals as goal
 
 pub returns-in_err-answer : goal.returns-in_err-answer

@@ -1,7 +1,7 @@
 use Rattle.std.proofs.Common.{◌≡◌, drop}
-use Rattle.naga_below.specs.Points.{first_fault, points_from}
-use Rattle.naga_interface.specs.Bindings.{AreTaken}
-use Rattle.naga_interface.specs.Globals.{global_points}
+use Rattle.ir_facts.specs.Points.{first_fault, points_from}
+use Rattle.check_entry.specs.Bindings.{AreTaken}
+use Rattle.check_entry.specs.Globals.{global_points}
 use Rattle.naga_valid.proofs.validator.Validator.check_each_global.Given as goal
 
 -- what is left decides, and the set has what is taken

@@ -1,7 +1,7 @@
 use Rattle.std.proofs.Common.{rules, ◌≡◌, ◌==◌, false, [], Some, None, slice_get, sym}
-use Rattle.naga_below.specs.Points.{first_fault}
-use Rattle.naga_context.specs.walk.Answers.{Finds}
-use Rattle.naga_interface.specs.Globals.{binding_points, use_points}
+use Rattle.ir_facts.specs.Points.{first_fault}
+use Rattle.check_scope.specs.walk.Answers.{Finds}
+use Rattle.check_entry.specs.Globals.{binding_points, use_points}
 use Rattle.naga_valid.proofs.EntryGlobals.{use_refused, binding_decides}
 use Rattle.naga_valid.proofs.validator.Validator.check_global.Goals as goal
 

@@ -1,8 +1,8 @@
 use Rattle.std.proofs.Common.{rules}
-use Rattle.naga_interface.specs.Globals.{immediate_points, global_points}
-use Rattle.naga_below.specs.Points.{points_of_each}
-use Rattle.naga_interface.specs.Points.{Meets}
-use Rattle.naga_interface.proofs.EntrySteps.{meets_first, meets_second}
+use Rattle.check_entry.specs.Globals.{immediate_points, global_points}
+use Rattle.ir_facts.specs.Points.{points_of_each}
+use Rattle.check_entry.specs.Points.{Meets}
+use Rattle.check_entry.proofs.EntrySteps.{meets_first, meets_second}
 use Rattle.naga_valid.proofs.validator.Validator.check_globals.Goals as goal
 
 pub returns-in_err-answer : goal.returns-in_err-answer

@@ -1,11 +1,11 @@
 use Rattle.std.proofs.Common.{rules, ◌++◌}
-use Rattle.naga_below.specs.Points.{within}
-use Rattle.naga_interface.specs.Faults.{fault_of, Judges}
-use Rattle.naga_interface.specs.Globals.{globals_points}
-use Rattle.naga_interface.specs.Mesh.{mesh_points}
-use Rattle.naga_interface.specs.Uses.{stage_points}
-use Rattle.naga_interface.specs.Varyings.{argument_points, result_points}
-use Rattle.naga_interface.proofs.EntrySteps.{judges_first, judges_second}
+use Rattle.ir_facts.specs.Points.{within}
+use Rattle.check_entry.specs.Faults.{fault_of, Judges}
+use Rattle.check_entry.specs.Globals.{globals_points}
+use Rattle.check_entry.specs.Mesh.{mesh_points}
+use Rattle.check_entry.specs.Uses.{stage_points}
+use Rattle.check_entry.specs.Varyings.{argument_points, result_points}
+use Rattle.check_entry.proofs.EntrySteps.{judges_first, judges_second}
 use Rattle.naga_valid.proofs.validator.Validator.check_interface.Goals as goal
 
 pub returns-in_err-judged : goal.returns-in_err-judged

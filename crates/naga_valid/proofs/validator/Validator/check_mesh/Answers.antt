@@ -1,9 +1,9 @@
 use Rattle.std.proofs.Common.{rules, ◌++◌, sym, subst}
-use Rattle.naga_below.specs.Points.{within}
-use Rattle.naga_interface.specs.Faults.{fault_of, Judges}
-use Rattle.naga_interface.specs.Mesh.{variable_points, said_points, mesh_points}
-use Rattle.naga_interface.specs.Varyings.{outputs_points}
-use Rattle.naga_interface.proofs.EntrySteps.{judges_first, judges_second}
+use Rattle.ir_facts.specs.Points.{within}
+use Rattle.check_entry.specs.Faults.{fault_of, Judges}
+use Rattle.check_entry.specs.Mesh.{variable_points, said_points, mesh_points}
+use Rattle.check_entry.specs.Varyings.{outputs_points}
+use Rattle.check_entry.proofs.EntrySteps.{judges_first, judges_second}
 use Rattle.naga_valid.proofs.validator.Validator.check_mesh.Goals as goal
 
 pub returns-in_err-judged : goal.returns-in_err-judged

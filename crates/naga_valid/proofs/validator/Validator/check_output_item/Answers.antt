@@ -1,9 +1,9 @@
 use Rattle.std.proofs.Common.{◌≡◌, List, None, subst}
-use Rattle.naga_below.specs.Points.{first_fault}
-use Rattle.naga_below.specs.declared.valid.types.TypeInfo.{TypeInfo}
-use Rattle.naga_varyings.specs.VaryingFaults.{IsFirstVaryingFault}
-use Rattle.naga_varyings.specs.Varyings.{points_from, seen_in}
-use Rattle.naga_interface.specs.Faults.{OfResult}
+use Rattle.ir_facts.specs.Points.{first_fault}
+use Rattle.ir_facts.specs.declared.valid.types.TypeInfo.{TypeInfo}
+use Rattle.check_varyings.specs.VaryingFaults.{IsFirstVaryingFault}
+use Rattle.check_varyings.specs.Varyings.{points_from, seen_in}
+use Rattle.check_entry.specs.Faults.{OfResult}
 use Rattle.naga_valid.proofs.Groups.{passes_within}
 use Rattle.naga_valid.proofs.validator.Validator.check_output_item.Goals as goal
 

@@ -1,10 +1,10 @@
 use Rattle.std.proofs.Common.{rules, true, None, refl, sym, ap, ◌∙◌}
-use Rattle.naga_varyings.proofs.Seeing.{sees_locations_alone}
-use Rattle.naga_varyings.specs.Varyings.{parts_of, placed_parts, without_built_ins}
-use Rattle.naga_varyings.specs.declared.varying.MeshOutputType.TheVariants.{VertexOutput, PrimitiveOutput}
-use Rattle.naga_interface.specs.Faults.{Judges}
-use Rattle.naga_interface.specs.Varyings.{output_item, place_of, primitive_points, vertex_points}
-use Rattle.naga_interface.proofs.EntrySteps.{judges_first, judges_second}
+use Rattle.check_varyings.proofs.Seeing.{sees_locations_alone}
+use Rattle.check_varyings.specs.Varyings.{parts_of, placed_parts, without_built_ins}
+use Rattle.check_varyings.specs.declared.varying.MeshOutputType.TheVariants.{VertexOutput, PrimitiveOutput}
+use Rattle.check_entry.specs.Faults.{Judges}
+use Rattle.check_entry.specs.Varyings.{output_item, place_of, primitive_points, vertex_points}
+use Rattle.check_entry.proofs.EntrySteps.{judges_first, judges_second}
 use Rattle.naga_valid.proofs.validator.Validator.check_outputs.Goals as goal
 
 pub returns-in_err-check_vertex_output : goal.returns-in_err-check_vertex_output

@@ -1,16 +1,16 @@
 use Rattle.std.proofs.Common.{rules, ◌≡◌, ◌∷◌, true, false, None, [], refl, sym, ap, ◌∙◌, subst}
-use Rattle.naga_below.specs.Points.{first_fault, within}
-use Rattle.naga_types.specs.TypeTests.{it_is}
-use Rattle.naga_types.specs.Types.{inner_at}
-use Rattle.naga_types.specs.declared.built_in.BuiltIn.TheVariants.{PointIndex, LineIndices, TriangleIndices}
-use Rattle.naga_varyings.proofs.Seeing.{sees_locations_alone}
-use Rattle.naga_varyings.specs.Seen.{Seen}
-use Rattle.naga_varyings.specs.Varyings.{parts_of, placed_parts, points_from, seen_in, seen_with}
-use Rattle.naga_varyings.specs.declared.varying.MeshOutputType.TheVariants.{VertexOutput, PrimitiveOutput}
-use Rattle.naga_interface.specs.Faults.{OfResult, Other, Judges}
-use Rattle.naga_interface.specs.Varyings.{has_one_of_indices, is_one_of_three, is_struct, output_item, output_points, place_of}
-use Rattle.naga_interface.specs.declared.error.EntryPointError.TheVariants as fault
-use Rattle.naga_interface.proofs.EntrySteps.{judges_first}
+use Rattle.ir_facts.specs.Points.{first_fault, within}
+use Rattle.ir_types.specs.TypeTests.{it_is}
+use Rattle.ir_types.specs.Types.{inner_at}
+use Rattle.ir_types.specs.declared.built_in.BuiltIn.TheVariants.{PointIndex, LineIndices, TriangleIndices}
+use Rattle.check_varyings.proofs.Seeing.{sees_locations_alone}
+use Rattle.check_varyings.specs.Seen.{Seen}
+use Rattle.check_varyings.specs.Varyings.{parts_of, placed_parts, points_from, seen_in, seen_with}
+use Rattle.check_varyings.specs.declared.varying.MeshOutputType.TheVariants.{VertexOutput, PrimitiveOutput}
+use Rattle.check_entry.specs.Faults.{OfResult, Other, Judges}
+use Rattle.check_entry.specs.Varyings.{has_one_of_indices, is_one_of_three, is_struct, output_item, output_points, place_of}
+use Rattle.check_entry.specs.declared.error.EntryPointError.TheVariants as fault
+use Rattle.check_entry.proofs.EntrySteps.{judges_first}
 use Rattle.naga_valid.proofs.Groups.{last_fails, last_holds, output_by_position}
 use Rattle.naga_valid.proofs.validator.Validator.check_primitive_output.Goals as goal
 

@@ -1,10 +1,10 @@
 use Rattle.std.proofs.Common.{rules, ◌∙◌, false, Bool, subst}
-use Rattle.naga_below.specs.Points.{within}
-use Rattle.naga_types.specs.declared.built_in.BuiltIn.TheVariants.{Position}
-use Rattle.naga_context.specs.walk.Answers.{Finds}
-use Rattle.naga_interface.specs.Faults.{fault_of, Judges}
-use Rattle.naga_interface.specs.Varyings.{declared_points, has_built_in, result_parts, returned_points}
-use Rattle.naga_interface.proofs.EntrySteps.{judges_first, judges_second}
+use Rattle.ir_facts.specs.Points.{within}
+use Rattle.ir_types.specs.declared.built_in.BuiltIn.TheVariants.{Position}
+use Rattle.check_scope.specs.walk.Answers.{Finds}
+use Rattle.check_entry.specs.Faults.{fault_of, Judges}
+use Rattle.check_entry.specs.Varyings.{declared_points, has_built_in, result_parts, returned_points}
+use Rattle.check_entry.proofs.EntrySteps.{judges_first, judges_second}
 use Rattle.naga_valid.proofs.validator.Validator.check_result.Goals as goal
 
 pub returns-in_err-check_declared : goal.returns-in_err-check_declared

@@ -1,8 +1,8 @@
 use Rattle.std.proofs.Common.{rules, ◌≡◌, ◌++◌, None, Option, sym, subst}
-use Rattle.naga_errors.specs.declared.mesh.MeshAnalysis.{MeshAnalysis}
-use Rattle.naga_errors.specs.declared.mesh.MeshFault.{MeshFault}
-use Rattle.naga_interface.specs.Mesh.{analysis_points, stated_points, said_points}
-use Rattle.naga_interface.specs.Points.{EntryPoints, Meets}
+use Rattle.check_errors.specs.declared.mesh.MeshAnalysis.{MeshAnalysis}
+use Rattle.check_errors.specs.declared.mesh.MeshFault.{MeshFault}
+use Rattle.check_entry.specs.Mesh.{analysis_points, stated_points, said_points}
+use Rattle.check_entry.specs.Points.{EntryPoints, Meets}
 use Rattle.naga_valid.proofs.validator.Validator.check_said.Goals as goal
 
 pub returns : goal.returns

@@ -1,4 +1,4 @@
-use Rattle.naga_statements.proofs.Parts.{ready}
+use Rattle.check_statement.proofs.Parts.{ready}
 use Rattle.naga_valid.proofs.validator.Validator.judge_body.Goals as goal
 
 pub validate_function_body-requires-clause-ready :

@@ -1,7 +1,7 @@
 use Rattle.std.proofs.Common.{rules, ◌≡◌, true, None, Some}
-use Rattle.naga_below.specs.Points.{first_fault}
-use Rattle.naga_interface.specs.Start.{start_points}
-use Rattle.naga_statements.specs.Judged.{function_judgement}
+use Rattle.ir_facts.specs.Points.{first_fault}
+use Rattle.check_entry.specs.Start.{start_points}
+use Rattle.check_statement.specs.Judged.{function_judgement}
 use Rattle.naga_valid.proofs.EntryJudgement.{start_refuses, function_refuses, interface_decides, function_passes}
 use Rattle.naga_valid.proofs.EntryUses.{one_use_each}
 use Rattle.naga_valid.proofs.validator.Validator.judge_entry_point.Goals as goal

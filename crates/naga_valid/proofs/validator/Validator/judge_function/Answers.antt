@@ -1,6 +1,6 @@
 use Rattle.std.proofs.Common.{rules, length, ap, ◌∙◌}
-use Rattle.naga_context.specs.Context.{ContextFits}
-use Rattle.naga_statements.specs.walk.Asked.{asked_context}
+use Rattle.check_scope.specs.Context.{ContextFits}
+use Rattle.check_statement.specs.walk.Asked.{asked_context}
 use Rattle.naga_valid.proofs.FunctionSteps.{lower_refuses, known_refuses, body_decides, known_is, fits_with}
 use Rattle.naga_valid.proofs.validator.Validator.judge_function.Goals as goal
 

@@ -1,10 +1,10 @@
 use Rattle.std.proofs.Common.{rules, ◌++◌}
-use Rattle.naga_below.specs.Points.{within}
-use Rattle.naga_interface.specs.Faults.{fault_of, Judges}
-use Rattle.naga_interface.specs.Judged.{used_points, entry_outcome}
-use Rattle.naga_interface.specs.Uses.{payload_points, with_own_uses}
+use Rattle.ir_facts.specs.Points.{within}
+use Rattle.check_entry.specs.Faults.{fault_of, Judges}
+use Rattle.check_entry.specs.Judged.{used_points, entry_outcome}
+use Rattle.check_entry.specs.Uses.{payload_points, with_own_uses}
 use Rattle.naga_valid.proofs.EntryJudgement.{points_refuse}
-use Rattle.naga_interface.proofs.EntrySteps.{judges_first}
+use Rattle.check_entry.proofs.EntrySteps.{judges_first}
 use Rattle.naga_valid.proofs.validator.Validator.judge_interface.Goals as goal
 
 pub returns-in_err-judged : goal.returns-in_err-judged

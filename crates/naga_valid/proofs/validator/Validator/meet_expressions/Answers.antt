@@ -1,9 +1,9 @@
 use Rattle.std.proofs.Common.{rules, ◌≡◌, Ok, Err, length, ap}
-use Rattle.naga_below.specs.declared.valid.info.FunctionInfo.{FunctionInfo}
-use Rattle.naga_errors.specs.Answers.{Answers}
-use Rattle.naga_statements.specs.Expressions.{of_expression}
-use Rattle.naga_statements.specs.walk.Asked.{asked_context}
-use Rattle.naga_statements.specs.Stages.{meet}
+use Rattle.ir_facts.specs.declared.valid.info.FunctionInfo.{FunctionInfo}
+use Rattle.check_errors.specs.Answers.{Answers}
+use Rattle.check_statement.specs.Expressions.{of_expression}
+use Rattle.check_statement.specs.walk.Asked.{asked_context}
+use Rattle.check_statement.specs.Stages.{meet}
 use Rattle.naga_valid.proofs.ExpressionSteps.{asked_is, mask_met, mask_refused, masks_end}
 use Rattle.naga_valid.proofs.validator.Validator.meet_expressions.Goals as goal
 

@@ -1,6 +1,6 @@
 use Rattle.std.proofs.Common.{◌≡◌, ◌-◌, length}
-use Rattle.naga_statements.specs.Expressions.{with_stages, stages_from}
-use Rattle.naga_statements.specs.walk.Asked.{asked_context}
+use Rattle.check_statement.specs.Expressions.{with_stages, stages_from}
+use Rattle.check_statement.specs.walk.Asked.{asked_context}
 use Rattle.naga_valid.proofs.validator.Validator.meet_expressions.Given as goal
 
 -- what is left decides, and nothing but the stages changed

@@ -1,15 +1,15 @@
 use Rattle.std.proofs.Common.{sym, ap, ◌∙◌, subst}
-use Rattle.naga_flags.specs.declared.valid.ShaderStages.{ShaderStages}
-use Rattle.naga_function.specs.Accepted.{StagesAreOfAll}
-use Rattle.naga_context.specs.Blocks.{body_of}
-use Rattle.naga_statements.specs.Judged.{FunctionOutcome}
-use Rattle.naga_function.proofs.Chains.{fits_calls_below}
+use Rattle.ir_flags.specs.declared.valid.ShaderStages.{ShaderStages}
+use Rattle.check_body.specs.Accepted.{StagesAreOfAll}
+use Rattle.check_scope.specs.Blocks.{body_of}
+use Rattle.check_statement.specs.Judged.{FunctionOutcome}
+use Rattle.check_body.proofs.Chains.{fits_calls_below}
 use Rattle.naga_valid.proofs.EntryAccepted.{accepted_entry, stages_are}
 use Rattle.naga_valid.proofs.EntryBuiltIns.{accepted_built_ins}
 use Rattle.naga_valid.proofs.EntryChains.{entry_keeps_its_stage}
 use Rattle.naga_valid.proofs.EntryGroups.{accepted_locations}
 use Rattle.naga_valid.proofs.EntryFacts.{accepted_bindings, accepted_position}
-use Rattle.naga_function.proofs.FunctionLaw.{is_sound, fills_once, is_of_all_stages}
+use Rattle.check_body.proofs.FunctionLaw.{is_sound, fills_once, is_of_all_stages}
 use Rattle.naga_valid.proofs.validator.Validator.validate_entry_point.Goals as goal
 
 pub returns-clause-sound : goal.returns-clause-sound

@@ -1,4 +1,4 @@
-use Rattle.naga_function.proofs.FunctionLaw.{is_sound, fills_once, is_of_all_stages, has_no_return_in_continuing, has_whole_switches}
+use Rattle.check_body.proofs.FunctionLaw.{is_sound, fills_once, is_of_all_stages, has_no_return_in_continuing, has_whole_switches}
 use Rattle.naga_valid.proofs.validator.Validator.validate_function.Goals as goal
 
 pub returns-clause-sound : goal.returns-clause-sound

@@ -1,0 +1,12 @@
+use Rattle.std.proofs.Common.{ap, ◌∙◌, arith}
+use Rattle.case_notation.specs.Blocks.{block_from}
+use Rattle.case_notation.proofs.Reading.Stack.{moved, turn_closed, no_turn}
+use Rattle.case_notation.proofs.reader.Reader.close_turn.Goals as goal
+
+pub returns-in-Turn : goal.returns-in-Turn
+returns-in-Turn c =
+    moved _ _ _ _ (turn_closed c.args.self.now.opened.items _ c.in-Some.frame.now (omega (arith, c.args.self.now.opened.ok.0, c.in-Some.ensures.item.3.0)) c.in-Some.ensures.value _ _ _ c.in-Turn.is (c.block_of.ensures ∙ ap block_from c.replace-list.ensures.value) (c.replace-list.ensures.after ∙ c.new.ensures)) c.want.ensures
+
+pub returns-in_default-kind : goal.returns-in_default-kind
+returns-in_default-kind c =
+    no_turn c.args.self.now.opened.items _ c.in-Some.frame.now (omega (arith, c.args.self.now.opened.ok.0, c.in-Some.ensures.item.3.0)) c.in-Some.ensures.value _ c.in_default-kind.not-Turn

@@ -1,0 +1,23 @@
+-- What the reader holds, as the state of its definitions: the newest open part stands first.
+use Rattle.std.specs.Prelude.{List, Option, Result, map, reverse}
+use Rattle.ir_module.specs.declared.statements.Located.{Located}
+use Rattle.case_notation.specs.declared.case.ReadError.{ReadError}
+use Rattle.case_notation.specs.declared.reader.parts.Frame.{Frame}
+use Rattle.case_notation.specs.declared.reader.Reader.{Reader}
+use Rattle.case_notation.specs.Feeding.{Steps}
+use Rattle.case_notation.specs.Parts.{Part, part_as}
+use Rattle.case_notation.specs.Reading.{State}
+
+abbrev pub part_of : Frame → Part
+part_of f = part_as f.kind f.outer
+
+-- the open parts, the newest first
+unfoldable pub newest_first : List Frame → List Part
+newest_first fs = map part_of (reverse fs)
+
+abbrev pub state_of : Reader → State
+state_of r = record { opened = newest_first r.opened.items; list = r.list; wants = r.wants }
+
+-- what a call answers and leaves, against the state that is to come of the reader's open parts and its list
+abbrev pub Moves : (List Part → List Located → Option State) → Reader → Result Unit ReadError → Reader → Type 0
+Moves to old answer new = Steps (to (state_of old).opened (state_of old).list) answer (state_of new)

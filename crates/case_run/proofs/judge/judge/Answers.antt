@@ -1,0 +1,15 @@
+use Rattle.case_run.specs.Judged.{settings_of}
+use Rattle.case_notation.specs.Case.{case_of}
+use Rattle.case_run.proofs.Benches.{told_of_bench}
+use Rattle.case_run.proofs.Cases.{judged_as}
+use Rattle.case_run.proofs.judge.judge.Goals as goal
+
+pub returns-clause-judged : goal.returns-clause-judged
+returns-clause-judged c =
+    judged_as c.args.case c.in_ok-module.module c.check_module.result c.requires.block c.in_ok-module.ensures
+    (rw (c.without_mesh_shaders.ensures, c.settings_of-settings.ensures, c.in_ok-given.ensures.0, c.in_ok-given.ensures.1) at c.check_module.ensures.judged)
+
+pub returns-clause-told : goal.returns-clause-told
+returns-clause-told c =
+    told_of_bench c.module_law.ensures.told (settings_of (case_of c.args.case)) c.args.case.bench c.args.case.body c.requires.sayable c.check_module.result
+    (rw (c.without_mesh_shaders.ensures, c.settings_of-settings.ensures, c.in_ok-given.ensures.0, c.in_ok-given.ensures.1, c.in_ok-module.ensures) at c.check_module.ensures.judged)

@@ -1,0 +1,69 @@
+//! One case, from a reader to a writer.
+
+ghost use Rattle.std.specs.Prelude.{◌≡◌, ◌≤◌, ◌+◌, length, take, IfOk, IfSome};
+ghost use Rattle.case_run.specs.Line.{Replies, Writes};
+
+use crate::judge::reply_to;
+use crate::line::Reply;
+use case_notation::case::MOST_BYTES;
+use std::alloc::{AllocError, Global};
+use std::io;
+use std::io::{Read, Write};
+
+/// Reads until the end, or until the buffer is full, and says how many bytes.
+fn fill<R: Read>(reader: &mut R, buffer: &mut [u8]) -> io::Result<usize>
+    ensures count { IfOk result (λ n. n ≤ length buffer.new) }
+    ensures bytes { IfOk result (λ n. IfSome (R.remaining reader.old) (λ input.
+        take n buffer.new ≡ take (length buffer.new) input)) }
+{
+    let mut at = 0;
+    while at < buffer.len() {
+        let count = reader.read(&mut buffer[at..])?;
+        if count == 0 {
+            break;
+        }
+        at += count;
+    }
+    Ok(at)
+}
+
+/// Room for a case, and for one byte more.
+fn room(alloc: Global) -> Result<Vec<u8>, AllocError>
+    ensures { IfOk result (λ v. length v.items ≡ MOST_BYTES + 1) }
+{
+    vec![in alloc; 0u8; MOST_BYTES + 1]
+}
+
+/// Reads one case into the buffer, and replies to it.
+fn reply_within<R: Read>(alloc: Global, reader: &mut R, buffer: &mut [u8]) -> io::Result<Reply>
+    requires { length buffer.old ≡ MOST_BYTES + 1 }
+    ensures { IfOk result (λ reply. IfSome (R.remaining reader.old) (λ input. Replies input reply)) }
+{
+    let count = fill(reader, buffer)?;
+    Ok(reply_to(alloc, &buffer[..count]))
+}
+
+/// Reads one case, and replies to it.
+#[tactic(auto, using(crate::proofs::Cases::memory_any))]
+fn reply<R: Read>(alloc: Global, reader: &mut R) -> io::Result<Reply>
+    ensures { IfOk result (λ reply. IfSome (R.remaining reader.old) (λ input. Replies input reply)) }
+{
+    match room(alloc) {
+        Ok(mut buffer) => reply_within(alloc, reader, buffer.as_mut_slice()),
+        Err(_) => Ok(Reply::Memory),
+    }
+}
+
+/// Reads one case, writes one line, and answers the exit status. It reads at most one byte more than a case may have
+/// ([`MOST_BYTES`]). An Err is that of the read or the write that failed: before a failed read nothing is written, and
+/// of a failed write nothing is said of how much went out.
+#[tactic(auto, using(crate::proofs::Cases::reply_writes))]
+pub fn run_case<R: Read, W: Write>(alloc: Global, reader: &mut R, writer: &mut W) -> io::Result<u8>
+    ensures { IfOk result (λ status. IfSome (R.remaining reader.old) (λ input.
+        Writes input (W.contents writer.old) (W.contents writer.new) status)) }
+{
+    let reply = reply(alloc, reader)?;
+    reply.write(writer)?;
+    writer.flush()?;
+    Ok(reply.status())
+}

@@ -1,0 +1,10 @@
+use Rattle.std.proofs.Common.{◌≡◌, drop}
+use Rattle.ir_facts.specs.Points.{first_fault, points_from}
+use Rattle.check_statement.specs.Declarations.{variable_points}
+use Rattle.check_scope.specs.walk.Seen.{context_of}
+use Rattle.check_body.proofs.declarations.check_locals.Given as goal
+
+-- what is left decides
+abbrev pub invariant-loop-index : goal.invariant-loop-index
+invariant-loop-index l =
+    first_fault (points_from (variable_points (context_of l.context) l.infos) l.index (drop l.index (context_of l.context).fun.local_variables)) ≡ first_fault (points_from (variable_points (context_of l.context) l.infos) 0 (context_of l.context).fun.local_variables)

@@ -1,0 +1,82 @@
+-- What an answer says of an entry point's points that stand one behind another.
+use Rattle.std.proofs.Common.{◌≡◌, ℕ, ◌+◌, ◌<◌, ◌≤◌, List, None, Some, Ok, Err, Result, ◌++◌, length, drop, get_or, sym, ap, ◌∙◌}
+use Rattle.std.specs.Prelude.{IsErr}
+use Rattle.std.specs.Option.{option_map, option_or}
+use Rattle.ir_facts.proofs.Points.{first_of_both, first_within, first_turn, first_end}
+use Rattle.ir_facts.specs.Points.{Point, first_fault, points_from, within}
+use Rattle.ir_arena.specs.declared.span.Refusal.{Refusal}
+use Rattle.ir_arena.specs.declared.span.Refusal.TheVariants as refusal
+use Rattle.check_varyings.specs.VaryingFaults.{VaryingFault}
+use Rattle.check_varyings.specs.VaryingFaults as varying
+use Rattle.check_errors.specs.declared.interface.VaryingError.{VaryingError}
+use Rattle.check_entry.specs.Faults.{EntryFault, OfArgument, OfResult, fault_of, Judges}
+use Rattle.check_entry.specs.Points.{EntryPoints, Meets}
+use Rattle.check_entry.specs.declared.error.EntryPointError.{EntryPointError}
+use Rattle.check_entry.specs.declared.error.EntryPointError.TheVariants as fault
+use Rattle.check_scope.proofs.Refusals.{fault_first, fault_second}
+
+pub ruleset finding = (fault_first, fault_second)
+
+-- a refusal at the first of them
+pub meets_first : {T : Type 0} (r : Result T (Refusal EntryPointError)) (first second : EntryPoints) → IsErr r → Meets first r → Meets (first ++ second) r
+meets_first (Err (refusal.Fault f)) first second e h = first_of_both first second ∙ ap (λ o. option_or o (first_fault second)) h
+meets_first (Err refusal.Memory) first second e h = tt
+meets_first (Ok t) first second e h = cc
+
+-- an answer at the second, where no point of the first fails
+pub meets_second : {T : Type 0} (r : Result T (Refusal EntryPointError)) (first second : EntryPoints) → first_fault first ≡ None → Meets second r → Meets (first ++ second) r
+meets_second (Ok t) first second e h = first_of_both first second ∙ ap (λ o. option_or o (first_fault second)) e ∙ h
+meets_second (Err (refusal.Fault f)) first second e h = first_of_both first second ∙ ap (λ o. option_or o (first_fault second)) e ∙ h
+meets_second (Err refusal.Memory) first second e h = tt
+
+pub ruleset meeting = (meets_first, meets_second)
+
+-- a refusal at the first of them, and an answer at the second
+pub judges_first : {T : Type 0} (r : Result T (Refusal EntryPointError)) (first second : List (Point EntryFault)) → IsErr r → Judges first r → Judges (first ++ second) r
+judges_first (Err (refusal.Fault f)) first second e h = first_of_both first second ∙ ap (λ o. option_or o (first_fault second)) h
+judges_first (Err refusal.Memory) first second e h = tt
+judges_first (Ok t) first second e h = cc
+
+pub judges_second : {T : Type 0} (r : Result T (Refusal EntryPointError)) (first second : List (Point EntryFault)) → first_fault first ≡ None → Judges second r → Judges (first ++ second) r
+judges_second (Ok t) first second e h = first_of_both first second ∙ ap (λ o. option_or o (first_fault second)) e ∙ h
+judges_second (Err (refusal.Fault f)) first second e h = first_of_both first second ∙ ap (λ o. option_or o (first_fault second)) e ∙ h
+judges_second (Err refusal.Memory) first second e h = tt
+
+pub ruleset judging = (judges_first, judges_second)
+
+-- an answer about points, as one about the faults that they are
+pub judges_within : {T : Type 0} (r : Result T (Refusal EntryPointError)) (points : EntryPoints) → Meets points r → Judges (within fault_of points) r
+judges_within (Ok t) points h = first_within fault_of points ∙ ap (option_map fault_of) h
+judges_within (Err (refusal.Fault f)) points h = first_within fault_of points ∙ ap (option_map fault_of) h
+judges_within (Err refusal.Memory) points h = tt
+
+module _ {A : Type 0} (points : ℕ → A → EntryPoints) (xs : List A) (i : ℕ) where
+  -- the fault of this item is that of all, where those before it have none
+  pub each_meets : {T : Type 0} (r : Result T (Refusal EntryPointError)) (x : A) → i < length xs → x ≡ get_or xs i x →
+      first_fault (points_from points i (drop i xs)) ≡ first_fault (points_from points 0 xs) →
+      IsErr r → Meets (points i x) r → Meets (points_from points 0 xs) r
+  each_meets (Ok t) x lt is left err h = cc
+  each_meets (Err (refusal.Fault f)) x lt is left err h =
+      sym left ∙ first_turn points xs i x lt is ∙ ap (λ o. option_or o (first_fault (points_from points (i + 1) (drop (i + 1) xs)))) h
+  each_meets (Err refusal.Memory) x lt is left err h = tt
+
+  -- an item without a fault leaves what is behind it
+  pub each_goes_on : (x : A) → i < length xs → x ≡ get_or xs i x →
+      first_fault (points_from points i (drop i xs)) ≡ first_fault (points_from points 0 xs) →
+      first_fault (points i x) ≡ None → first_fault (points_from points (i + 1) (drop (i + 1) xs)) ≡ first_fault (points_from points 0 xs)
+  each_goes_on x lt is left h =
+      sym (first_turn points xs i x lt is ∙ ap (λ o. option_or o (first_fault (points_from points (i + 1) (drop (i + 1) xs)))) h) ∙ left
+
+  -- behind the last there is none
+  pub each_has_ended : length xs ≤ i → first_fault (points_from points i (drop i xs)) ≡ first_fault (points_from points 0 xs) →
+      first_fault (points_from points 0 xs) ≡ None
+  each_has_ended le left = sym left ∙ first_end points xs i le
+
+-- a fault of an input or an output, as one of the entry point
+pub argument_fault : (index : ℕ) (points : List (Point VaryingFault)) (error : VaryingError) → first_fault points ≡ Some (varying.fault_of error) →
+    first_fault (within (OfArgument index) points) ≡ Some (fault_of (fault.Argument index error))
+argument_fault index points error h = first_within (OfArgument index) points ∙ ap (option_map (OfArgument index)) h
+
+pub result_fault : (points : List (Point VaryingFault)) (error : VaryingError) → first_fault points ≡ Some (varying.fault_of error) →
+    first_fault (within OfResult points) ≡ Some (fault_of (fault.Result error))
+result_fault points error h = first_within OfResult points ∙ ap (option_map OfResult) h

@@ -1,0 +1,66 @@
+//! The bindings of the globals that an entry point uses.
+
+ghost use Rattle.std.specs.Prelude.{◌≡◌, ◌+◌, OnOk};
+ghost use Rattle.check_scope.specs.walk.Answers.{Finds};
+ghost use Rattle.check_entry.specs.Bindings.{AreTaken};
+ghost use Rattle.check_entry.specs.Globals.{binding_at, binding_points};
+
+use crate::error::EntryPointError;
+use crate::globals::is_used;
+use ir_arena::handle::Handle;
+use ir_arena::tag;
+use ir_facts::valid::info::FunctionInfo;
+use ir_flags::valid::ValidationFlags;
+use ir_module::module::{Module, ResourceBinding};
+use std::alloc::AllocError;
+use std::collections::BTreeSet;
+
+/// The binding of a global.
+fn binding_at(module: &Module, index: usize) -> Option<ResourceBinding>
+    ensures { result ≡ binding_at «module».now.global_variables index }
+{
+    match module.global_variables.as_slice().get(index) {
+        Some(global) => global.binding,
+        None => None,
+    }
+}
+
+/// Where bindings are looked at, no earlier global that is used has this one.
+pub fn check_binding(
+    flags: ValidationFlags,
+    module: &Module,
+    info: &FunctionInfo,
+    taken: &BTreeSet<ResourceBinding>,
+    handle: Handle<tag::GlobalVariable>,
+    binding: Option<ResourceBinding>,
+) -> Result<(), EntryPointError>
+    requires { AreTaken taken.now info.now.global_uses «module».now.global_variables handle }
+    ensures { Finds (binding_points flags info.now.global_uses «module».now.global_variables handle binding) result }
+{
+    let Some(binding) = binding else {
+        return Ok(());
+    };
+    if flags.contains(ValidationFlags::BINDINGS) && taken.contains(&binding) {
+        return Err(EntryPointError::BindingCollision(handle));
+    }
+    Ok(())
+}
+
+/// The bindings with that of one global more, where it is used.
+pub fn take_binding(
+    module: &Module,
+    info: &FunctionInfo,
+    taken: &mut BTreeSet<ResourceBinding>,
+    index: usize,
+) -> Result<(), AllocError>
+    requires { AreTaken taken.old info.now.global_uses «module».now.global_variables index }
+    ensures { OnOk result (AreTaken taken.new info.now.global_uses «module».now.global_variables (index + 1)) }
+{
+    if !is_used(info, index) {
+        return Ok(());
+    }
+    if let Some(binding) = binding_at(module, index) {
+        taken.insert(binding)?;
+    }
+    Ok(())
+}

@@ -1,0 +1,157 @@
+//! The checks of the globals that an entry point uses.
+
+ghost use Rattle.std.specs.Prelude.{◌≡◌, ◌++◌, length, slice_get};
+ghost use Rattle.std.specs.Option.{option_copied};
+ghost use Rattle.ir_types.specs.Types.{inner_at};
+ghost use Rattle.check_scope.specs.walk.Answers.{Finds};
+ghost use Rattle.check_entry.specs.Globals.{is_used, is_used_immediate, used_immediates, immediate_points, image_access, access_in, ray_points, is_within, allowed_points};
+ghost use Rattle.check_variables.specs.Spaces.{is_task_payload};
+
+use crate::error::EntryPointError;
+use bitflags::Flags;
+use check_variables::allowed::{allowed_use, hands_payload, takes_payload};
+use ir_arena::handle::Handle;
+use ir_arena::tag;
+use ir_facts::valid::info::FunctionInfo;
+use ir_flags::ir::StorageAccess;
+use ir_flags::valid::GlobalUse;
+use ir_module::module::{GlobalVariable, Module, ShaderStage};
+use ir_types::types::{AddressSpace, ImageClass, TypeInner};
+
+/// How a global is used.
+pub fn uses_of(info: &FunctionInfo, index: usize) -> Option<GlobalUse>
+    ensures { result ≡ slice_get info.now.global_uses index }
+{
+    info.global_uses.as_slice().get(index).copied()
+}
+
+/// Whether a global is used.
+pub fn is_used(info: &FunctionInfo, index: usize) -> bool
+    ensures { result ≡ is_used info.now.global_uses index }
+{
+    match info.global_uses.as_slice().get(index) {
+        Some(uses) => !uses.is_empty(),
+        None => false,
+    }
+}
+
+/// Of immediates at most one is used.
+pub fn check_immediates(module: &Module, info: &FunctionInfo) -> Result<(), EntryPointError>
+    ensures { Finds (immediate_points info.now.global_uses «module».now.global_variables) result }
+{
+    if count_used_immediates(module, info) > 1 {
+        return Err(EntryPointError::MoreThanOneImmediateUsed);
+    }
+    Ok(())
+}
+
+fn count_used_immediates(module: &Module, info: &FunctionInfo) -> usize
+    ensures { result ≡ used_immediates info.now.global_uses «module».now.global_variables (length «module».now.global_variables) }
+{
+    let mut count = 0;
+    for index in 0..module.global_variables.len() {
+        if is_used_immediate(module, info, index) {
+            count += 1;
+        }
+    }
+    count
+}
+
+fn is_used_immediate(module: &Module, info: &FunctionInfo, index: usize) -> bool
+    ensures { result ≡ is_used_immediate info.now.global_uses «module».now.global_variables index }
+{
+    match module.global_variables.as_slice().get(index) {
+        Some(global) => matches!(global.space, AddressSpace::Immediate) && is_used(info, index),
+        None => false,
+    }
+}
+
+/// Whether a space is that of task payloads.
+pub fn is_task_payload(space: AddressSpace) -> bool
+    ensures { result ≡ is_task_payload space }
+{
+    matches!(space, AddressSpace::TaskPayload)
+}
+
+/// A ray payload is used at a stage that has one, and every use of a global is one that is allowed.
+#[tactic(auto, using(crate::proofs::EntrySteps::finding))]
+pub fn check_allowed(
+    module: &Module,
+    stage: ShaderStage,
+    handle: Handle<tag::GlobalVariable>,
+    var: &GlobalVariable,
+    uses: GlobalUse,
+) -> Result<(), EntryPointError>
+    ensures { Finds (ray_points stage var.now.space ++ allowed_points «module».now.types stage handle var.now uses) result }
+{
+    check_ray(stage, var.space)?;
+    let storage = access_in(module, inner_at(module, var.ty));
+    if !is_within(allowed_use(var.space, storage, stage), uses) {
+        return Err(EntryPointError::InvalidGlobalUsage(handle, uses));
+    }
+    Ok(())
+}
+
+fn check_ray(stage: ShaderStage, space: AddressSpace) -> Result<(), EntryPointError>
+    ensures { Finds (ray_points stage space) result }
+{
+    match space {
+        AddressSpace::RayPayload if !hands_payload(stage) => Err(
+            EntryPointError::RayPayloadInInvalidStage(stage),
+        ),
+        AddressSpace::IncomingRayPayload if !takes_payload(stage) => Err(
+            EntryPointError::IncomingRayPayloadInInvalidStage(stage),
+        ),
+        AddressSpace::Function
+        | AddressSpace::Private
+        | AddressSpace::WorkGroup
+        | AddressSpace::Uniform
+        | AddressSpace::Storage { .. }
+        | AddressSpace::Handle
+        | AddressSpace::Immediate
+        | AddressSpace::TaskPayload
+        | AddressSpace::RayPayload
+        | AddressSpace::IncomingRayPayload => Ok(()),
+    }
+}
+
+fn is_within(allowed: Option<GlobalUse>, uses: GlobalUse) -> bool
+    ensures { result ≡ is_within allowed uses }
+{
+    match allowed {
+        Some(allowed) => Flags::contains(&allowed, uses),
+        None => false,
+    }
+}
+
+/// The type at a handle.
+pub fn inner_at(module: &Module, ty: Handle<tag::Type>) -> Option<&TypeInner>
+    ensures { option_copied result ≡ inner_at «module».now.types ty }
+{
+    match module.types.as_slice().get(ty.index()) {
+        Some(ty) => Some(&ty.inner),
+        None => None,
+    }
+}
+
+/// The access of a storage image, or of a binding array of such images.
+fn access_in(module: &Module, inner: Option<&TypeInner>) -> Option<StorageAccess>
+    ensures { result ≡ access_in «module».now.types (option_copied inner.entry) }
+{
+    match inner {
+        Some(TypeInner::BindingArray { base, .. }) => image_access(inner_at(module, *base)),
+        _ => image_access(inner),
+    }
+}
+
+fn image_access(inner: Option<&TypeInner>) -> Option<StorageAccess>
+    ensures { result ≡ image_access (option_copied inner.entry) }
+{
+    match inner {
+        Some(TypeInner::Image { class, .. }) => match class {
+            ImageClass::Storage { access, .. } => Some(*access),
+            _ => None,
+        },
+        _ => None,
+    }
+}

@@ -1,0 +1,165 @@
+//! The checks of what an entry point puts in and out.
+
+ghost use Rattle.std.specs.Prelude.{◌≡◌, List};
+ghost use Rattle.std.specs.Option.{option_copied};
+ghost use Rattle.ir_flags.specs.Bits.{IO_SHAREABLE};
+ghost use Rattle.ir_facts.specs.Points.{Point, within};
+ghost use Rattle.ir_types.specs.TypeTests.{it_is};
+ghost use Rattle.ir_types.specs.declared.built_in.BuiltIn.TheVariants.{PointIndex, LineIndices, TriangleIndices};
+ghost use Rattle.check_errors.specs.TypeInfos.{type_has};
+ghost use Rattle.check_varyings.specs.VaryingFaults.{IsFirstVaryingFault, VaryingFault as Given};
+ghost use Rattle.check_varyings.specs.Varyings.{seen_in};
+ghost use Rattle.check_scope.specs.walk.Answers.{Finds};
+ghost use Rattle.check_entry.specs.Faults.{IsForFirstFault, OfArgument, OfResult};
+ghost use Rattle.check_entry.specs.Varyings.{is_struct, is_three_counts, returns_counts, is_one_of_three, returned_points, are_blend_sources, with_blending};
+
+use crate::answers::refusal;
+use crate::error::EntryPointError;
+use crate::globals::inner_at;
+use check_errors::interface::VaryingError;
+use check_varyings::varying::VaryingState;
+use ir_arena::handle::Handle;
+use ir_arena::span::Refusal;
+use ir_arena::tag;
+use ir_facts::valid::info::FunctionInfo;
+use ir_facts::valid::types::TypeInfo;
+use ir_flags::valid::TypeFlags;
+use ir_module::functions::FunctionResult;
+use ir_module::module::{EntryPoint, Module, ShaderStage};
+use ir_types::built_in::BuiltIn;
+use ir_types::types::{Scalar, TypeInner, VectorSize};
+use std::alloc::Global;
+
+/// Whether a type is a struct.
+pub fn is_struct(inner: Option<&TypeInner>) -> bool
+    ensures { result ≡ it_is is_struct (option_copied inner.entry) }
+{
+    matches!(inner, Some(TypeInner::Struct { .. }))
+}
+
+/// Whether a type is a vector of three u32.
+pub fn is_three_counts(inner: Option<&TypeInner>) -> bool
+    ensures { result ≡ it_is is_three_counts (option_copied inner.entry) }
+{
+    match inner {
+        Some(inner) => *inner
+            == TypeInner::Vector {
+                size: VectorSize::Tri,
+                scalar: Scalar::U32,
+            },
+        None => false,
+    }
+}
+
+/// What a stage has to return, where a position is among its outputs or not.
+pub fn check_returned(
+    module: &Module,
+    stage: ShaderStage,
+    position: bool,
+    declared: Option<FunctionResult>,
+) -> Result<(), EntryPointError>
+    ensures { Finds (returned_points «module».now.types stage position declared) result }
+{
+    match stage {
+        ShaderStage::Vertex if !position => Err(EntryPointError::MissingVertexOutputPosition),
+        ShaderStage::Mesh if declared.is_some() => Err(
+            EntryPointError::UnexpectedMeshShaderEntryResult,
+        ),
+        ShaderStage::Task if !returns_counts(module, declared) => Err(
+            EntryPointError::WrongTaskShaderEntryResult,
+        ),
+        ShaderStage::Vertex
+        | ShaderStage::Fragment
+        | ShaderStage::Compute
+        | ShaderStage::Mesh
+        | ShaderStage::Task
+        | ShaderStage::RayGeneration
+        | ShaderStage::AnyHit
+        | ShaderStage::ClosestHit
+        | ShaderStage::Miss => Ok(()),
+    }
+}
+
+/// Whether a result is three counts.
+fn returns_counts(module: &Module, declared: Option<FunctionResult>) -> bool
+    ensures { result ≡ returns_counts «module».now.types declared }
+{
+    match declared {
+        Some(declared) => is_three_counts(inner_at(module, declared.ty)),
+        None => false,
+    }
+}
+
+/// The refusal of an argument, counted from 0.
+pub fn argument_refused(
+    alloc: Global,
+    index: u32,
+    refused: Refusal<VaryingError>,
+) -> Refusal<EntryPointError>
+    ensures { (points : List (Point Given)) → IsFirstVaryingFault points refused →
+        IsForFirstFault (within (OfArgument index) points) result }
+{
+    match refused {
+        Refusal::Fault(fault) => refusal(
+            alloc,
+            EntryPointError::Argument(index, fault.into_inner()),
+        ),
+        Refusal::Memory => Refusal::Memory,
+    }
+}
+
+/// The refusal of the result, or of an output of a mesh.
+pub fn result_refused(refused: Refusal<VaryingError>) -> Refusal<EntryPointError>
+    ensures { (points : List (Point Given)) → IsFirstVaryingFault points refused →
+        IsForFirstFault (within OfResult points) result }
+{
+    match refused {
+        Refusal::Fault(fault) => Refusal::Fault(fault.into_other()),
+        Refusal::Memory => Refusal::Memory,
+    }
+}
+
+/// Whether exactly one of the three built-ins of indices is there.
+pub fn has_one_of_indices(state: &VaryingState) -> bool
+    ensures { result ≡ is_one_of_three ((seen_in state.now).built_ins PointIndex)
+        ((seen_in state.now).built_ins LineIndices) ((seen_in state.now).built_ins TriangleIndices) }
+{
+    let points = state.has_built_in(BuiltIn::PointIndex);
+    let lines = state.has_built_in(BuiltIn::LineIndices);
+    let triangles = state.has_built_in(BuiltIn::TriangleIndices);
+    match (points, lines, triangles) {
+        (true, false, false) | (false, true, false) | (false, false, true) => true,
+        _ => false,
+    }
+}
+
+/// Whether a type is shared between stages.
+fn is_shareable(infos: &[TypeInfo], ty: Handle<tag::Type>) -> bool
+    ensures { result ≡ type_has infos.now ty IO_SHAREABLE }
+{
+    match infos.get(ty.index()) {
+        Some(info) => info.flags.contains(TypeFlags::IO_SHAREABLE),
+        None => false,
+    }
+}
+
+/// Whether a result is the two sources of a blend: a struct without binding that is shared between stages.
+fn are_blend_sources(module: &Module, infos: &[TypeInfo], declared: Option<FunctionResult>) -> bool
+    ensures { result ≡ are_blend_sources «module».now.types infos.now declared }
+{
+    match declared {
+        Some(declared) => declared.binding.is_none()
+            && is_shareable(infos, declared.ty)
+            && is_struct(inner_at(module, declared.ty)),
+        None => false,
+    }
+}
+
+/// Says in an info that two sources of a blend are put out, where the result is that.
+pub fn set_blending(info: &mut FunctionInfo, ep: &EntryPoint, module: &Module, infos: &[TypeInfo])
+    ensures { info.new ≡ with_blending «module».now.types infos.now ep.now info.old }
+{
+    if are_blend_sources(module, infos, ep.function.result) {
+        info.dual_source_blending = true;
+    }
+}

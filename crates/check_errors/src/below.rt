@@ -1,0 +1,99 @@
+//! The lower layer that a validator stands on: types and uses, checks of expressions, analysis of meshes, kinds
+//! and sizes.
+
+ghost use Rattle.std.specs.Prelude.{◌≡◌, IfOk};
+ghost use Rattle.check_errors.specs.Answers.{Answers};
+ghost use Rattle.check_errors.specs.Meaning.{Meaning, HasOneTypeEach, HasOneUseEach, HasTypesInRange, HasNoStructValues, HasOneKindEach};
+
+use crate::function::FunctionError;
+use crate::mesh::MeshAnalysis;
+use ir_arena::arena::Arena;
+use ir_arena::handle::Handle;
+use ir_arena::span::Refusal;
+use ir_arena::tag;
+use ir_facts::proc::expression_kinds::ExpressionKindTracker;
+use ir_facts::valid::expression_error::ExpressionError;
+use ir_facts::valid::info::{FunctionInfo, ModuleInfo};
+use ir_facts::valid::settings::Settings;
+use ir_flags::capabilities::Capabilities;
+use ir_flags::valid::{ShaderStages, ValidationFlags};
+use ir_module::expressions::Expression;
+use ir_module::functions::Function;
+use ir_module::module::Module;
+use std::alloc::{AllocError, Global};
+
+/// A lower layer: what naga 30.0.1's validation of functions and entry points asks of naga's other layers. Each
+/// call answers the value of a meaning, which is a function of the arguments, or, where it is passed an allocator,
+/// want of memory. No call has a condition: an implementation answers for every module, and refuses what it
+/// can't read.
+pub trait Below {
+    /// The right answers of the five calls.
+    ghost meaning: { Self → Meaning };
+
+    /// Types the expressions of a function, and finds which globals it uses and how and the stages that this
+    /// leaves it (naga's `ModuleInfo::process_function`). `mod_info` has the infos of the functions before it.
+    fn process_function(
+        &self,
+        alloc: Global,
+        fun: &Function,
+        module: &Module,
+        mod_info: &ModuleInfo,
+        flags: ValidationFlags,
+        capabilities: Capabilities,
+    ) -> Result<FunctionInfo, Refusal<FunctionError>>
+        ensures { Answers ((meaning self.now).function_info fun.now «module».now mod_info.now flags capabilities) result };
+
+    /// Checks an expression of a function by itself, and answers the stages that it may run in (naga's
+    /// `Validator::validate_expression`). The stages of `info` are those that the expressions before it leave.
+    fn validate_expression(
+        &self,
+        alloc: Global,
+        settings: Settings,
+        handle: Handle<tag::Expression>,
+        fun: &Function,
+        module: &Module,
+        info: &FunctionInfo,
+        mod_info: &ModuleInfo,
+        kinds: &ExpressionKindTracker,
+    ) -> Result<ShaderStages, Refusal<ExpressionError>>
+        ensures { Answers ((meaning self.now).expression_stages settings handle fun.now «module».now info.now mod_info.now
+            kinds.now) result };
+
+    /// Reads off the type of a mesh shader's output variable what the shader puts out (naga's
+    /// `Module::analyze_mesh_shader_info`).
+    fn analyze_mesh_shader_info(
+        &self,
+        alloc: Global,
+        module: &Module,
+        output: Handle<tag::GlobalVariable>,
+    ) -> Result<MeshAnalysis, AllocError>
+        ensures { IfOk result (λ analysis. analysis ≡ (meaning self.now).mesh_analysis «module».now output) };
+
+    /// Finds when the value of each expression is known (naga's `ExpressionKindTracker::from_arena`). The
+    /// expressions are those of a function, or of the module.
+    fn kinds(
+        &self,
+        alloc: Global,
+        expressions: &Arena<Expression>,
+    ) -> Result<ExpressionKindTracker, AllocError>
+        ensures { IfOk result (λ kinds. kinds ≡ (meaning self.now).kinds_of expressions.now) };
+
+    /// The size of a type in bytes, where it is known and fits 32 bits (naga's `TypeInner::size`).
+    fn type_size(&self, module: &Module, ty: Handle<tag::Type>) -> Option<u32>
+        ensures { result ≡ (meaning self.now).size_of «module».now ty };
+
+    /// An info has one type for each expression of its function.
+    ghost one_type_each: { (below : Self) → HasOneTypeEach (meaning below) };
+
+    /// An info has one use for each global of the module.
+    ghost one_use_each: { (below : Self) → HasOneUseEach (meaning below) };
+
+    /// The types of an info name types of the module alone.
+    ghost types_in_range: { (below : Self) → HasTypesInRange (meaning below) };
+
+    /// A type that an info gives as a value is no struct.
+    ghost no_struct_values: { (below : Self) → HasNoStructValues (meaning below) };
+
+    /// There is one kind for each expression.
+    ghost one_kind_each: { (below : Self) → HasOneKindEach (meaning below) };
+}

@@ -1,0 +1,20 @@
+use Rattle.std.proofs.Common.{rules, ◌≡◌, false}
+use Rattle.std.specs.Option.{option_copied}
+use Rattle.check_scope.specs.Results.{is_result}
+use Rattle.check_scope.specs.walk.Place.{place_at}
+use Rattle.check_scope.specs.walk.Seen.{context_of}
+use Rattle.check_scope.specs.walk.Table.{known}
+use Rattle.check_flow.proofs.Emits.{emitted_passes, emitted_fails}
+use Rattle.check_flow.proofs.control.emitted_holds.Goals as goal
+
+pub returns : goal.returns
+returns c =
+    let o = option_copied c.expression-expression.result in
+    let emitted : is_result o ≡ false = search rules in
+    rw c.contains.ensures (emitted_passes (context_of c.args.context.now) (place_at (known c.args.scope.now)) c.args.handle o c.expression-expression.ensures emitted c.operands_hold.result c.operands_hold.ensures (search rules))
+
+pub returns-then-not-operands_hold : goal.returns-then-not-operands_hold
+returns-then-not-operands_hold c =
+    let o = option_copied c.expression-expression.result in
+    let emitted : is_result o ≡ false = search rules in
+    emitted_fails (context_of c.args.context.now) (place_at (known c.args.scope.now)) c.args.handle o c.expression-expression.ensures emitted c.operands_hold.result c.operands_hold.ensures (search rules)

@@ -1,0 +1,13 @@
+use Rattle.std.proofs.Common.{◌≡◌, [], take, drop}
+use Rattle.ir_facts.specs.Points.{first_fault}
+use Rattle.check_scope.specs.Blocks.{case_list}
+use Rattle.check_flow.specs.Switch.{value_points, values_of}
+use Rattle.check_flow.proofs.Rising.{AreBelow}
+use Rattle.check_flow.proofs.switch.are_rising.Given as goal
+
+-- what is left decides, and the values so far are below what comes
+abbrev pub invariant-loop-case : goal.invariant-loop-case
+invariant-loop-case l = record {
+  faults : first_fault (value_points l.selector (values_of (case_list (take l.case-index l.cases))) (values_of (case_list (drop l.case-index l.cases)))) ≡ first_fault (value_points l.selector [] (values_of (case_list l.cases)));
+  below : AreBelow l.so_far (values_of (case_list (take l.case-index l.cases)));
+}

@@ -1,0 +1,4 @@
+pub mod Control
+pub mod Switch
+pub mod Call
+pub mod walk

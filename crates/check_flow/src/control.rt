@@ -1,0 +1,428 @@
+//! The check lists of Emit, If, Return, Break and Continue, and of a break condition.
+
+ghost use Rattle.std.specs.Prelude.{◌≡◌, ◌≤◌, ◌↔◌, IsTrue, OnOk, map};
+ghost use Rattle.std.specs.Option.{option_copied};
+ghost use Rattle.check_flow.specs.Control.{emit_points, emitted_points, is_bool_scalar, condition_points, declared_type, is_returned_as, return_points, break_points, continue_points};
+ghost use Rattle.check_scope.specs.Results.{is_result};
+ghost use Rattle.check_scope.specs.walk.Place.{no_sets, place_at};
+ghost use Rattle.check_flow.specs.walk.Emitted.{handles_between, place};
+ghost use Rattle.check_errors.specs.declared.function.FunctionError.TheVariants.{BreakOutsideOfLoopOrSwitch, ContinueOutsideOfLoop, InvalidReturnType};
+ghost use Rattle.check_scope.specs.walk.Answers.{AllHold, Finds, IsRefusalFor, RefusesFaultsAlone};
+ghost use Rattle.check_errors.specs.Answers.{AnswersPoints};
+ghost use Rattle.check_scope.specs.Context.{ContextFits};
+ghost use Rattle.check_scope.specs.walk.Seen.{context_of};
+ghost use Rattle.check_scope.specs.Blocks.{operands_if};
+ghost use Rattle.check_scope.specs.Points.{use_point};
+ghost use Rattle.check_scope.specs.walk.Table.{HasPut, count, known};
+
+use check_errors::function::FunctionError;
+use check_scope::context::BlockContext;
+use check_scope::refuse::{answer, check_put, check_use, not_in_scope};
+use check_scope::refused::Refused;
+use check_scope::table::ScopeColumn;
+use check_scope::types::is_of_type;
+use ir_arena::handle::Handle;
+use ir_arena::range::Range;
+use ir_arena::span::Span;
+use ir_arena::tag;
+use ir_module::expressions::Expression;
+use ir_module::operands::listed_operands;
+use ir_types::types::{Scalar, ScalarKind, TypeInner};
+use ir_types::typifier::TypeResolution;
+use naga_runs::Abilities;
+use std::alloc::Global;
+
+/// Emit: puts the expressions of a range in scope, one by one, each behind its operands.
+pub fn validate_emit(
+    scope: &mut ScopeColumn,
+    context: &BlockContext,
+    range: Range,
+    span: Span,
+) -> Result<(), Refused>
+    requires { range.end ≤ count scope.old }
+    ensures fault { AnswersPoints
+        (emit_points (context_of context.now) (place_at (known scope.old)) range.start range.end) result }
+    ensures refused { RefusesFaultsAlone
+        (emit_points (context_of context.now) (place_at (known scope.old)) range.start range.end) result }
+    ensures scope { OnOk result (HasPut scope.old scope.new (handles_between range.start range.end)) }
+{
+    for index in range.start..range.end {
+        let handle = Handle::new(index);
+        check_emitted(scope, context, handle, span)?;
+        scope.put(handle);
+    }
+    Ok(())
+}
+
+/// An expression that is emitted: no result of another statement, its operands put by every run, and itself not in scope yet.
+fn check_emitted(
+    scope: &ScopeColumn,
+    context: &BlockContext,
+    handle: Handle<tag::Expression>,
+    span: Span,
+) -> Result<(), Refused>
+    ensures fault { AnswersPoints
+        (emitted_points (context_of context.now) (place_at (known scope.now)) (place_at (known scope.now)) handle)
+        result }
+    ensures refused { RefusesFaultsAlone
+        (emitted_points (context_of context.now) (place_at (known scope.now)) (place_at (known scope.now)) handle)
+        result }
+{
+    if emitted_holds(scope, context, handle) {
+        return Ok(());
+    }
+    refuse_emitted(scope, context, handle, span)
+}
+
+/// Whether no point of an expression that is emitted fails.
+fn emitted_holds(
+    scope: &ScopeColumn,
+    context: &BlockContext,
+    handle: Handle<tag::Expression>,
+) -> bool
+    ensures { IsTrue result ↔ AllHold
+        (emitted_points (context_of context.now) (place_at (known scope.now)) (place_at (known scope.now)) handle) }
+{
+    let expression = context.expression(handle);
+    if is_result(expression) {
+        return false;
+    }
+    if !operands_hold(scope, expression) {
+        return false;
+    }
+    !scope.contains(handle)
+}
+
+/// Whether every run has put the operands of an expression.
+fn operands_hold(scope: &ScopeColumn, expression: Option<&Expression>) -> bool
+    ensures { IsTrue result ↔ AllHold
+        (map (use_point (place_at (known scope.now))) (operands_if (option_copied expression.entry))) }
+{
+    match expression {
+        Some(Expression::Load { pointer }) => scope.may_use(*pointer),
+        Some(Expression::AccessIndex { base, .. }) => scope.may_use(*base),
+        Some(Expression::Access { base, index }) => scope.may_use(*base) && scope.may_use(*index),
+        Some(expression) => listed_hold(scope, listed_operands(expression)),
+        None => true,
+    }
+}
+
+/// Whether every run has put the operands of a list.
+fn listed_hold(scope: &ScopeColumn, operands: &[Handle<tag::Expression>]) -> bool
+    ensures { IsTrue result ↔ AllHold (map (use_point (place_at (known scope.now))) operands.now) }
+{
+    for index in 0..operands.len() {
+        if !scope.may_use(operands[index]) {
+            return false;
+        }
+    }
+    true
+}
+
+/// The refusal of an expression of which a point fails.
+#[cold]
+#[inline(never)]
+fn refuse_emitted(
+    scope: &ScopeColumn,
+    context: &BlockContext,
+    handle: Handle<tag::Expression>,
+    span: Span,
+) -> Result<(), Refused>
+    ensures fault { AnswersPoints
+        (emitted_points (context_of context.now) (place_at (known scope.now)) (place_at (known scope.now)) handle)
+        result }
+    ensures refused { RefusesFaultsAlone
+        (emitted_points (context_of context.now) (place_at (known scope.now)) (place_at (known scope.now)) handle)
+        result }
+{
+    let checked = check_emitted_points(scope, context, handle);
+    answer(scope.allocator(), checked, span)
+}
+
+/// The list of an expression that is emitted, with the fault of each point.
+fn check_emitted_points(
+    scope: &ScopeColumn,
+    context: &BlockContext,
+    handle: Handle<tag::Expression>,
+) -> Result<(), FunctionError>
+    ensures { Finds
+        (emitted_points (context_of context.now) (place_at (known scope.now)) (place_at (known scope.now)) handle)
+        result }
+{
+    let expression = context.expression(handle);
+    if is_result(expression) {
+        return Err(FunctionError::EmitResult(handle));
+    }
+    check_operands(scope, expression)?;
+    check_put(scope, handle)
+}
+
+/// The operands of an expression, each put by every run.
+fn check_operands(scope: &ScopeColumn, expression: Option<&Expression>) -> Result<(), FunctionError>
+    ensures { Finds (map (use_point (place_at (known scope.now))) (operands_if (option_copied expression.entry))) result }
+{
+    match expression {
+        Some(Expression::Load { pointer }) => check_use(scope, *pointer),
+        Some(Expression::AccessIndex { base, .. }) => check_use(scope, *base),
+        Some(Expression::Access { base, index }) => {
+            check_use(scope, *base)?;
+            check_use(scope, *index)
+        }
+        Some(expression) => check_listed(scope, listed_operands(expression)),
+        None => Ok(()),
+    }
+}
+
+/// The operands of a list, in order.
+fn check_listed(
+    scope: &ScopeColumn,
+    operands: &[Handle<tag::Expression>],
+) -> Result<(), FunctionError>
+    ensures { Finds (map (use_point (place_at (known scope.now))) operands.now) result }
+{
+    for index in 0..operands.len() {
+        check_use(scope, operands[index])?;
+    }
+    Ok(())
+}
+
+/// Whether an expression is of a kind that another statement than Emit puts.
+fn is_result(expression: Option<&Expression>) -> bool
+    ensures { result ≡ is_result (option_copied expression.entry) }
+{
+    matches!(
+        expression,
+        Some(
+            Expression::CallResult(_)
+                | Expression::AtomicResult { .. }
+                | Expression::WorkGroupUniformLoadResult { .. }
+                | Expression::RayQueryProceedResult
+                | Expression::SubgroupBallotResult
+                | Expression::SubgroupOperationResult { .. }
+        )
+    )
+}
+
+/// If, and the break condition of a Loop: a boolean that every run has put.
+pub fn check_condition(
+    scope: &ScopeColumn,
+    context: &BlockContext,
+    condition: Handle<tag::Expression>,
+    span: Span,
+) -> Result<(), Refused>
+    ensures fault { AnswersPoints (condition_points (context_of context.now) (place_at (known scope.now)) condition) result }
+    ensures refused { RefusesFaultsAlone
+        (condition_points (context_of context.now) (place_at (known scope.now)) condition) result }
+{
+    if condition_holds(scope, context, condition) {
+        return Ok(());
+    }
+    refuse_condition(scope, context, condition, span)
+}
+
+/// Whether no point of a condition fails.
+fn condition_holds(
+    scope: &ScopeColumn,
+    context: &BlockContext,
+    condition: Handle<tag::Expression>,
+) -> bool
+    ensures { IsTrue result ↔ AllHold (condition_points (context_of context.now) (place_at (known scope.now)) condition) }
+{
+    scope.may_use(condition) && is_bool_scalar(context.type_inner(condition))
+}
+
+/// The list of a condition, with the fault of each point, where one fails.
+#[cold]
+#[inline(never)]
+fn refuse_condition(
+    scope: &ScopeColumn,
+    context: &BlockContext,
+    condition: Handle<tag::Expression>,
+    span: Span,
+) -> Result<(), Refused>
+    ensures fault { AnswersPoints (condition_points (context_of context.now) (place_at (known scope.now)) condition) result }
+    ensures refused { RefusesFaultsAlone
+        (condition_points (context_of context.now) (place_at (known scope.now)) condition) result }
+{
+    if !scope.may_use(condition) {
+        return Err(not_in_scope(scope.allocator(), condition, span));
+    }
+    if !is_bool_scalar(context.type_inner(condition)) {
+        let fault = FunctionError::InvalidIfType(condition);
+        return Err(Refused::placed(scope.allocator(), fault, span));
+    }
+    Ok(())
+}
+
+fn is_bool_scalar(inner: Option<&TypeInner>) -> bool
+    ensures { result ≡ is_bool_scalar (option_copied inner.entry) }
+{
+    matches!(
+        inner,
+        Some(TypeInner::Scalar(Scalar {
+            kind: ScalarKind::Bool,
+            ..
+        },),)
+    )
+}
+
+/// Return: allowed here, and its value put by every run and of the function's result type.
+pub fn check_return(
+    scope: &ScopeColumn,
+    context: &BlockContext,
+    abilities: Abilities,
+    value: Option<Handle<tag::Expression>>,
+    span: Span,
+) -> Result<(), Refused>
+    requires { ContextFits (context_of context.now) }
+    ensures fault { AnswersPoints (return_points (context_of context.now) (place abilities (known scope.now)) value) result }
+    ensures refused { RefusesFaultsAlone
+        (return_points (context_of context.now) (place abilities (known scope.now)) value) result }
+{
+    if return_holds(scope, context, abilities, &value) {
+        return Ok(());
+    }
+    refuse_return(scope, context, abilities, &value, span)
+}
+
+/// Whether no point of a Return fails.
+fn return_holds(
+    scope: &ScopeColumn,
+    context: &BlockContext,
+    abilities: Abilities,
+    value: &Option<Handle<tag::Expression>>,
+) -> bool
+    requires { ContextFits (context_of context.now) }
+    ensures { IsTrue result ↔ AllHold (return_points (context_of context.now) (place abilities (known scope.now)) value.now) }
+{
+    let declared = declared_type(context);
+    match value {
+        Some(handle) => {
+            abilities.can_return
+                && scope.may_use(*handle)
+                && is_returned_as(context, *handle, declared)
+        }
+        None => abilities.can_return && declared.is_none(),
+    }
+}
+
+/// The list of a Return, with the fault of each point, where one fails.
+#[cold]
+#[inline(never)]
+fn refuse_return(
+    scope: &ScopeColumn,
+    context: &BlockContext,
+    abilities: Abilities,
+    value: &Option<Handle<tag::Expression>>,
+    span: Span,
+) -> Result<(), Refused>
+    requires { ContextFits (context_of context.now) }
+    ensures fault { AnswersPoints (return_points (context_of context.now) (place abilities (known scope.now)) value.now) result }
+    ensures refused { RefusesFaultsAlone
+        (return_points (context_of context.now) (place abilities (known scope.now)) value.now) result }
+{
+    let alloc = scope.allocator();
+    if !abilities.can_return {
+        let fault = FunctionError::InvalidReturnSpot;
+        return Err(Refused::placed(alloc, fault, span));
+    }
+    match value {
+        Some(handle) => {
+            if !scope.may_use(*handle) {
+                return Err(not_in_scope(alloc, *handle, span));
+            }
+            if !is_returned_as(context, *handle, declared_type(context)) {
+                return Err(invalid_return_type(alloc, context, value, span));
+            }
+            Ok(())
+        }
+        None => {
+            if declared_type(context).is_some() {
+                return Err(invalid_return_type(alloc, context, value, span));
+            }
+            Ok(())
+        }
+    }
+}
+
+/// The type that the function's result is declared with.
+fn declared_type(context: &BlockContext) -> Option<Handle<tag::Type>>
+    ensures { result ≡ declared_type (context_of context.now) }
+{
+    match context.fun.result {
+        Some(declared) => Some(declared.ty),
+        None => None,
+    }
+}
+
+/// Whether an expression is of the type that the function's result is declared with.
+fn is_returned_as(
+    context: &BlockContext,
+    value: Handle<tag::Expression>,
+    declared: Option<Handle<tag::Type>>,
+) -> bool
+    requires fits { ContextFits (context_of context.now) }
+    requires declared { declared ≡ declared_type (context_of context.now) }
+    ensures { result ≡ is_returned_as (context_of context.now) value declared }
+{
+    match declared {
+        None => false,
+        Some(declared) => is_of_type(context, value, &TypeResolution::Handle(declared)),
+    }
+}
+
+/// Break: allowed here.
+pub fn check_break(alloc: Global, abilities: Abilities, span: Span) -> Result<(), Refused>
+    ensures fault { AnswersPoints (break_points (place abilities no_sets)) result }
+    ensures refused { RefusesFaultsAlone (break_points (place abilities no_sets)) result }
+{
+    if !abilities.can_break {
+        return Err(break_outside_of_loop_or_switch(alloc, span));
+    }
+    Ok(())
+}
+
+/// Continue: allowed here.
+pub fn check_continue(alloc: Global, abilities: Abilities, span: Span) -> Result<(), Refused>
+    ensures fault { AnswersPoints (continue_points (place abilities no_sets)) result }
+    ensures refused { RefusesFaultsAlone (continue_points (place abilities no_sets)) result }
+{
+    if !abilities.can_continue {
+        return Err(continue_outside_of_loop(alloc, span));
+    }
+    Ok(())
+}
+
+/// The refusal of a Break that is in no body of a Loop and in no case.
+#[cold]
+#[inline(never)]
+fn break_outside_of_loop_or_switch(alloc: Global, span: Span) -> Refused
+    ensures { IsRefusalFor BreakOutsideOfLoopOrSwitch result }
+{
+    Refused::placed(alloc, FunctionError::BreakOutsideOfLoopOrSwitch, span)
+}
+
+/// The refusal of a Continue that is in no body of a Loop.
+#[cold]
+#[inline(never)]
+fn continue_outside_of_loop(alloc: Global, span: Span) -> Refused
+    ensures { IsRefusalFor ContinueOutsideOfLoop result }
+{
+    Refused::placed(alloc, FunctionError::ContinueOutsideOfLoop, span)
+}
+
+/// The refusal of a Return of another type than is declared, or of a value where none is declared, or of none where one is.
+fn invalid_return_type(
+    alloc: Global,
+    context: &BlockContext,
+    value: &Option<Handle<tag::Expression>>,
+    span: Span,
+) -> Refused
+    ensures { IsRefusalFor (InvalidReturnType value.now (declared_type (context_of context.now))) result }
+{
+    let fault = FunctionError::InvalidReturnType {
+        expression: *value,
+        expected_ty: declared_type(context),
+    };
+    Refused::placed(alloc, fault, span)
+}

@@ -1,0 +1,262 @@
+//! The check list of Switch.
+
+ghost use Rattle.std.specs.Prelude.{◌≡◌, [], None, IsTrue, IfOk};
+ghost use Rattle.std.specs.List.{list_any};
+ghost use Rattle.ir_facts.specs.Points.{first_fault};
+ghost use Rattle.ir_module.specs.declared.statements.SwitchCase.{out-SwitchCase};
+ghost use Rattle.check_scope.specs.Blocks.{case_list};
+ghost use Rattle.check_flow.specs.Switch.{has_signedness_of, is_default, repeated_fault, value_points, values_of, last_falls_through, switch_points};
+ghost use Rattle.check_scope.specs.walk.Answers.{Finds};
+ghost use Rattle.check_errors.specs.Answers.{AnswersPoints};
+ghost use Rattle.check_scope.specs.walk.Place.{place_at};
+ghost use Rattle.check_scope.specs.walk.Seen.{context_of};
+ghost use Rattle.check_flow.specs.walk.Switch.{StandOnce, selector_points, cases_points, number_of, risen, risen_to};
+ghost use Rattle.check_scope.specs.walk.Table.{known};
+
+use check_errors::function::FunctionError;
+use check_scope::context::BlockContext;
+use check_scope::refuse::{answer, check_use};
+use check_scope::refused::Refused;
+use check_scope::table::ScopeColumn;
+use check_scope::types::is_integer;
+use ir_arena::handle::Handle;
+use ir_arena::span::Span;
+use ir_arena::tag;
+use ir_module::statements::{SwitchCase, SwitchValue};
+use ir_types::types::ScalarKind;
+use std::alloc::{AllocError, Global};
+use std::collections::BTreeSet;
+
+/// Switch: its selector, each case value, and the cases as a whole.
+#[inline(never)]
+pub fn check_switch(
+    scope: &ScopeColumn,
+    context: &BlockContext,
+    selector: Handle<tag::Expression>,
+    cases: &[SwitchCase],
+    span: Span,
+) -> Result<(), Refused>
+    ensures { AnswersPoints
+        (switch_points (context_of context.now) (place_at (known scope.now)) selector (case_list cases.now)) result }
+{
+    let alloc = scope.allocator();
+    answer(alloc, check_selector(scope, context, selector), span)?;
+    check_values(alloc, context.scalar_kind(selector), cases, span)?;
+    answer(alloc, check_cases(cases), span)
+}
+
+fn check_selector(
+    scope: &ScopeColumn,
+    context: &BlockContext,
+    selector: Handle<tag::Expression>,
+) -> Result<(), FunctionError>
+    ensures { Finds (selector_points (context_of context.now) (place_at (known scope.now)) selector) result }
+{
+    check_use(scope, selector)?;
+    if !is_integer(context.scalar_kind(selector)) {
+        return Err(FunctionError::InvalidSwitchType(selector));
+    }
+    Ok(())
+}
+
+/// The case values in order: of the selector's signedness, and not that of an earlier case.
+fn check_values(
+    alloc: Global,
+    selector: Option<ScalarKind>,
+    cases: &[SwitchCase],
+    span: Span,
+) -> Result<(), Refused>
+    ensures { AnswersPoints (value_points selector [] (values_of (case_list cases.now))) result }
+{
+    if are_rising(selector, cases) || are_distinct(alloc, selector, cases)? {
+        return Ok(());
+    }
+    check_each_value(alloc, selector, cases, span)
+}
+
+/// What the values so far have shown where their numbers rise: the last of these, and whether there was a default.
+#[derive(Clone, Copy)]
+pub struct Rising {
+    last: i64,
+    has_default: bool,
+}
+
+/// Whether all values have the selector's signedness, their numbers rise, and there is one default at most: then no value stands
+/// twice. Cases are mostly written so, and need no set.
+fn are_rising(selector: Option<ScalarKind>, cases: &[SwitchCase]) -> bool
+    ensures { IsTrue result → first_fault (value_points selector [] (values_of (case_list cases.now))) ≡ None }
+{
+    let mut so_far = Rising {
+        last: i64::MIN,
+        has_default: false,
+    };
+    for case in cases {
+        if !has_signedness_of(selector, case.value) {
+            return false;
+        }
+        let Some(next) = risen(so_far, case.value) else {
+            return false;
+        };
+        so_far = next;
+    }
+    true
+}
+
+/// What is known behind a value, if its number is above those before it, or it is the first default.
+fn risen(so_far: Rising, value: SwitchValue) -> Option<Rising>
+    ensures { result ≡ risen so_far value }
+{
+    match value {
+        SwitchValue::I32(number) => risen_to(so_far, i64::from(number)),
+        SwitchValue::U32(number) => risen_to(so_far, i64::from(number)),
+        SwitchValue::Default => {
+            if so_far.has_default {
+                return None;
+            }
+            Some(Rising {
+                last: so_far.last,
+                has_default: true,
+            })
+        }
+    }
+}
+
+fn risen_to(so_far: Rising, number: i64) -> Option<Rising>
+    ensures { result ≡ risen_to so_far number }
+{
+    if number <= so_far.last {
+        return None;
+    }
+    Some(Rising {
+        last: number,
+        has_default: so_far.has_default,
+    })
+}
+
+/// Whether all values have the selector's signedness and no two of them have one number: then no value stands twice.
+fn are_distinct(
+    alloc: Global,
+    selector: Option<ScalarKind>,
+    cases: &[SwitchCase],
+) -> Result<bool, AllocError>
+    ensures { IfOk result (λ distinct. IsTrue distinct →
+        first_fault (value_points selector [] (values_of (case_list cases.now))) ≡ None) }
+{
+    let mut numbers = Vec::with_capacity(alloc, cases.len())?;
+    for case in cases {
+        if !has_signedness_of(selector, case.value) {
+            return Ok(false);
+        }
+        numbers.push(number_of(case.value))?;
+    }
+    numbers.sort_unstable();
+    Ok(rise(numbers.as_slice()))
+}
+
+/// The number, from 1 on, that tells a value from others of its sign.
+fn number_of(value: SwitchValue) -> u64
+    ensures { result ≡ number_of value }
+{
+    match value {
+        SwitchValue::I32(number) => u64::from(number.cast_unsigned()) + 1,
+        SwitchValue::U32(number) => u64::from(number) + 1,
+        SwitchValue::Default => u64::MAX,
+    }
+}
+
+/// Whether the first number is above 0, and each other above the one before it: then none stands twice.
+fn rise(numbers: &[u64]) -> bool
+    ensures { IsTrue result → StandOnce numbers.now }
+{
+    let mut last = 0;
+    for number in numbers {
+        if *number <= last {
+            return false;
+        }
+        last = *number;
+    }
+    true
+}
+
+/// The case values in order, those of the earlier cases kept in a set, for the fault of the first that has one.
+#[cold]
+#[inline(never)]
+fn check_each_value(
+    alloc: Global,
+    selector: Option<ScalarKind>,
+    cases: &[SwitchCase],
+    span: Span,
+) -> Result<(), Refused>
+    ensures { AnswersPoints (value_points selector [] (values_of (case_list cases.now))) result }
+{
+    let mut earlier = BTreeSet::new(alloc);
+    for case in cases {
+        if !has_signedness_of(selector, case.value) {
+            return Err(Refused::placed(alloc, FunctionError::ConflictingCaseType, span));
+        }
+        let is_new = earlier.insert(case.value)?;
+        if !is_new {
+            return Err(Refused::placed(alloc, repeated_fault(case.value), span));
+        }
+    }
+    Ok(())
+}
+
+fn has_signedness_of(selector: Option<ScalarKind>, value: SwitchValue) -> bool
+    ensures { result ≡ has_signedness_of selector value }
+{
+    match (selector, value) {
+        (_, SwitchValue::Default) => true,
+        (Some(ScalarKind::Sint), SwitchValue::I32(_)) => true,
+        (Some(ScalarKind::Uint), SwitchValue::U32(_)) => true,
+        _ => false,
+    }
+}
+
+fn repeated_fault(value: SwitchValue) -> FunctionError
+    ensures { result ≡ repeated_fault value }
+{
+    match value {
+        SwitchValue::Default => FunctionError::MultipleDefaultCases,
+        _ => FunctionError::ConflictingSwitchCase(value),
+    }
+}
+
+/// The cases as a whole: a default among them, and no fall through of the last.
+#[tactic(auto, using(crate::proofs::Lists::any_value))]
+fn check_cases(cases: &[SwitchCase]) -> Result<(), FunctionError>
+    ensures { Finds (cases_points (case_list cases.now)) result }
+{
+    if !has_default(cases) {
+        return Err(FunctionError::MissingDefaultCase);
+    }
+    if last_falls_through(cases) {
+        return Err(FunctionError::LastCaseFallTrough);
+    }
+    Ok(())
+}
+
+fn has_default(cases: &[SwitchCase]) -> bool
+    ensures { result ≡ list_any (λ case. is_default (out-SwitchCase case).value) cases.now }
+{
+    cases.iter().any(|case| is_default(case.value))
+}
+
+fn is_default(value: SwitchValue) -> bool
+    ensures { result ≡ is_default value }
+{
+    match value {
+        SwitchValue::Default => true,
+        _ => false,
+    }
+}
+
+#[tactic(auto, using(crate::proofs::Lists::last_case))]
+fn last_falls_through(cases: &[SwitchCase]) -> bool
+    ensures { result ≡ last_falls_through (case_list cases.now) }
+{
+    match cases.last() {
+        Some(case) => case.fall_through,
+        None => false,
+    }
+}

@@ -1,0 +1,54 @@
+-- The check list of WorkGroupUniformLoad.
+use Rattle.std.specs.Prelude.{ℕ, Bool, true, false, ◌||◌, [], ◌∷◌, Option, None, Some, is_some}
+use Rattle.ir_types.specs.Types.{inner_at}
+use Rattle.ir_module.specs.declared.expressions.Expression.{Expression}
+use Rattle.ir_module.specs.declared.expressions.Expression.TheVariants as e
+use Rattle.ir_types.specs.declared.types.AddressSpace.{AddressSpace}
+use Rattle.ir_types.specs.declared.types.AddressSpace.TheVariants as space
+use Rattle.ir_types.specs.declared.types.Scalar.{Scalar}
+use Rattle.ir_types.specs.declared.types.TypeInner.{TypeInner}
+use Rattle.ir_types.specs.declared.types.TypeInner.TheVariants as inner
+use Rattle.check_errors.specs.declared.function.FunctionError.TheVariants.{WorkgroupUniformLoadExpressionMismatch, WorkgroupUniformLoadInvalidPointer}
+use Rattle.naga_runs.specs.Visits.{Place}
+use Rattle.check_memory.specs.Atomic.{atomic_scalar_at}
+use Rattle.check_scope.specs.Context.{Context}
+use Rattle.check_scope.specs.Points.{Points, use_point, put_point}
+use Rattle.check_scope.specs.Pointers.{space_at}
+use Rattle.ir_types.specs.TypeTests.{is_scalar, both_are, is_equivalent}
+use Rattle.check_scope.specs.Types.{expression_at, type_at}
+
+abbrev pub is_work_group : Option AddressSpace → Bool
+is_work_group (Some space.WorkGroup) = true
+is_work_group _ = false
+
+-- the type that the result of a load is declared with
+abbrev pub loaded_type_of : Option Expression → Option ℕ
+loaded_type_of (Some (e.WorkGroupUniformLoadResult ty)) = Some ty
+loaded_type_of _ = None
+
+abbrev pub loaded_type_at : Context → ℕ → Option ℕ
+loaded_type_at context r = loaded_type_of (expression_at context r)
+
+abbrev pub has_scalar : Option TypeInner → Option Scalar → Bool
+has_scalar ty None = false
+has_scalar ty (Some s) = is_scalar s ty
+
+-- a pointer in the work group to this type, or to an atomic of this scalar
+abbrev pub points_to : Context → ℕ → ℕ → Bool
+points_to context pointer ty =
+    both_are (is_equivalent context.program.types) (type_at context pointer) (Some (inner.Pointer ty space.WorkGroup))
+    || has_scalar (inner_at context.program.types ty) (atomic_scalar_at context pointer)
+
+abbrev pub is_loaded_as : Context → ℕ → Option ℕ → Bool
+is_loaded_as context pointer None = false
+is_loaded_as context pointer (Some ty) = points_to context pointer ty
+
+-- WorkGroupUniformLoad: its pointer, into the work group; its result is put, and then looked at
+abbrev pub load_points : Context → Place → ℕ → ℕ → Points
+load_points context place pointer r =
+    use_point place pointer
+    ∷ (is_work_group (space_at context pointer), WorkgroupUniformLoadInvalidPointer pointer)
+    ∷ put_point place r
+    ∷ (is_some (loaded_type_at context r), WorkgroupUniformLoadExpressionMismatch r)
+    ∷ (is_loaded_as context pointer (loaded_type_at context r), WorkgroupUniformLoadInvalidPointer pointer)
+    ∷ []

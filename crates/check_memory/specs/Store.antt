@@ -1,0 +1,71 @@
+-- The check list of Store.
+use Rattle.std.specs.Prelude.{ℕ, zero, suc, Bool, true, false, not, List, [], ◌∷◌, Option, None, Some, slice_get, unwrap_or}
+use Rattle.std.specs.Option.{option_map}
+use Rattle.ir_types.specs.Types.{resolved}
+use Rattle.ir_module.specs.declared.expressions.Expression.{Expression}
+use Rattle.ir_module.specs.declared.expressions.Expression.TheVariants as e
+use Rattle.ir_types.specs.declared.types.TypeInner.{TypeInner}
+use Rattle.ir_types.specs.declared.types.TypeInner.TheVariants as inner
+use Rattle.ir_types.specs.declared.typifier.TypeResolution.{TypeResolution}
+use Rattle.check_errors.specs.declared.function.FunctionError.{FunctionError}
+use Rattle.check_errors.specs.declared.function.FunctionError.TheVariants.{InvalidStorePointer, InvalidStoreTexture, InvalidStoreTypes}
+use Rattle.naga_runs.specs.Visits.{Place}
+use Rattle.check_scope.specs.Context.{Context}
+use Rattle.check_scope.specs.Pointers.{base_type_at, is_writable}
+use Rattle.check_scope.specs.Points.{Points, use_point}
+use Rattle.ir_facts.specs.Points.{Point}
+use Rattle.ir_types.specs.TypeTests.{is_scalar}
+use Rattle.check_scope.specs.Types.{expression_at, is_of_type, type_at, named_type}
+
+-- the expression of which an access takes a part
+abbrev pub access_base : Option Expression → Option ℕ
+access_base (Some (e.Access base index)) = Some base
+access_base (Some (e.AccessIndex base index)) = Some base
+access_base _ = None
+
+-- where n steps from an expression lead, each from an access to its base
+unfoldable pub root_within : List Expression → ℕ → ℕ → ℕ
+root_within expressions zero h = h
+root_within expressions (suc n) h =
+    unwrap_or (option_map (root_within expressions n) (access_base (slice_get expressions h))) h
+
+-- where the walk from an expression stops. A base stands before its access, so that h steps reach the end
+abbrev pub root_at : Context → ℕ → ℕ
+root_at context h = root_within context.fun.expressions h h
+
+-- a variable, or an argument
+abbrev pub is_variable : Option Expression → Bool
+is_variable (Some (e.LocalVariable v)) = true
+is_variable (Some (e.GlobalVariable g)) = true
+is_variable (Some (e.FunctionArgument i)) = true
+is_variable _ = false
+
+-- an image or a sampler
+abbrev pub is_texture : Option TypeInner → Bool
+is_texture (Some (inner.Image dim arrayed class)) = true
+is_texture (Some (inner.Sampler comparison)) = true
+is_texture _ = false
+
+-- what is stored is none
+abbrev pub texture_point : ℕ → Option TypeInner → Point FunctionError
+texture_point value ty = (not (is_texture ty), InvalidStoreTexture value (named_type ty))
+
+-- whether a value is what this type holds: an atomic its scalar, any other a value of the type
+abbrev pub is_held_by : Context → ℕ → TypeResolution → Option TypeInner → Bool
+is_held_by context value base (Some (inner.Atomic s)) = is_scalar s (type_at context value)
+is_held_by context value base _ = is_of_type context value base
+
+abbrev pub is_stored_as : Context → ℕ → Option TypeResolution → Bool
+is_stored_as context value None = false
+is_stored_as context value (Some base) = is_held_by context value base (resolved context.program.types base)
+
+-- Store: its pointer leads back to a variable or an argument; its value, which is no texture; the type that is pointed to
+-- holds it, and its space takes stores
+abbrev pub store_points : Context → Place → ℕ → ℕ → Points
+store_points context place pointer value =
+    (is_variable (expression_at context (root_at context pointer)), InvalidStorePointer (root_at context pointer))
+    ∷ use_point place value
+    ∷ texture_point value (type_at context value)
+    ∷ (is_stored_as context value (base_type_at context pointer), InvalidStoreTypes pointer value)
+    ∷ (is_writable context pointer, InvalidStorePointer pointer)
+    ∷ []

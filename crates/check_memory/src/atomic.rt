@@ -1,0 +1,358 @@
+//! The check list of Atomic.
+
+ghost use Rattle.std.specs.Prelude.{◌≡◌, ◌<◌, OnOk, IfSome, Some, is_some};
+ghost use Rattle.std.specs.Option.{option_copied};
+ghost use Rattle.ir_module.specs.View.{put_if};
+ghost use Rattle.naga_runs.specs.PutsAndUses.{puts_of};
+ghost use Rattle.check_scope.specs.walk.Answers.{Finds, RefusesFaultsAlone};
+ghost use Rattle.check_errors.specs.Answers.{AnswersPoints};
+ghost use Rattle.check_memory.specs.Atomic.{atomic_scalar_at, is_int64, is_float32, is_min_or_max, is_plain_exchange, is_done_on_floats, int64_capability, scalar_points, is_atomic_result, is_comparison, result_type_at, atomic_result_points, atomic_points};
+ghost use Rattle.check_variables.specs.Spaces.{is_storage};
+ghost use Rattle.check_memory.specs.walk.Atomic.{operated_points, compared_points, uncompared_points};
+ghost use Rattle.check_scope.specs.Context.{ContextFits};
+ghost use Rattle.check_scope.specs.walk.Place.{place_at};
+ghost use Rattle.check_scope.specs.walk.Seen.{context_of};
+ghost use Rattle.check_scope.specs.walk.Table.{HasPut, count, filled_in, known};
+
+use check_errors::function::{AtomicError, FunctionError};
+use check_scope::context::BlockContext;
+use check_scope::refuse::{answer, check_put, check_use};
+use check_scope::refused::Refused;
+use check_scope::results::is_fresh;
+use check_scope::table::{FilledColumn, ScopeColumn};
+use check_scope::types::{inner_at, is_equivalent, is_exchange_struct, is_integer, is_scalar};
+use ir_arena::handle::Handle;
+use ir_arena::span::Span;
+use ir_arena::tag;
+use ir_flags::capabilities::Capabilities;
+use ir_module::expressions::Expression;
+use ir_module::operations::AtomicFunction;
+use ir_types::types::{AddressSpace, Scalar, ScalarKind, TypeInner};
+
+/// An atomic operation: where the atomic is, what is done to it, with which value, and the result that is named, if one is.
+#[derive(Clone, Copy)]
+pub struct AtomicOperation {
+    pub pointer: Handle<tag::Expression>,
+    pub fun: AtomicFunction,
+    pub value: Handle<tag::Expression>,
+    pub named: Option<Handle<tag::Expression>>,
+}
+
+/// Atomic: its pointer, its value and its result, which is in scope afterwards.
+pub fn validate_atomic(
+    scope: &mut ScopeColumn,
+    filled: &FilledColumn,
+    context: &BlockContext,
+    operation: &AtomicOperation,
+    span: Span,
+) -> Result<(), Refused>
+    requires context { ContextFits (context_of context.now) }
+    requires result { IfSome operation.now.named (λ r. r < count scope.old) }
+    ensures fault { AnswersPoints
+        (atomic_points (context_of context.now) (filled_in filled.now) (place_at (known scope.old)) operation.now.pointer
+        operation.now.fun operation.now.value operation.now.named)
+        result }
+    ensures refused { RefusesFaultsAlone
+        (atomic_points (context_of context.now) (filled_in filled.now) (place_at (known scope.old)) operation.now.pointer
+        operation.now.fun operation.now.value operation.now.named)
+        result }
+    ensures scope { OnOk result (HasPut scope.old scope.new (puts_of (put_if operation.now.named))) }
+{
+    let alloc = scope.allocator();
+    let checked = check_atomic(scope, filled, context, operation);
+    answer(alloc, checked, span)?;
+    if let Some(handle) = &operation.named {
+        scope.put(*handle);
+    }
+    Ok(())
+}
+
+/// All that is checked of an atomic operation. Its result stays out of scope.
+fn check_atomic(
+    scope: &ScopeColumn,
+    filled: &FilledColumn,
+    context: &BlockContext,
+    operation: &AtomicOperation,
+) -> Result<(), FunctionError>
+    requires { ContextFits (context_of context.now) }
+    ensures { Finds
+        (atomic_points (context_of context.now) (filled_in filled.now) (place_at (known scope.now)) operation.now.pointer
+        operation.now.fun operation.now.value operation.now.named)
+        result }
+{
+    let AtomicOperation { pointer, value, .. } = *operation;
+    check_use(scope, pointer)?;
+    let Some(TypeInner::Pointer { base, space }) = context.type_inner(pointer) else {
+        return Err(FunctionError::InvalidAtomic(AtomicError::InvalidPointer(pointer)));
+    };
+    let Some(TypeInner::Atomic(scalar)) = inner_at(context, *base) else {
+        return Err(FunctionError::InvalidAtomic(AtomicError::InvalidPointer(pointer)));
+    };
+    check_use(scope, value)?;
+    if !is_scalar(*scalar, context.type_inner(value)) {
+        return Err(FunctionError::InvalidAtomic(AtomicError::InvalidOperand(value)));
+    }
+    check_operation(scope, filled, context, *scalar, *space, operation)
+}
+
+/// The scalar of the atomic that an expression points to.
+pub fn atomic_scalar(context: &BlockContext, pointer: Handle<tag::Expression>) -> Option<Scalar>
+    ensures { result ≡ atomic_scalar_at (context_of context.now) pointer }
+{
+    let Some(TypeInner::Pointer { base, .. }) = context.type_inner(pointer) else {
+        return None;
+    };
+    match inner_at(context, *base) {
+        Some(TypeInner::Atomic(scalar)) => Some(*scalar),
+        _ => None,
+    }
+}
+
+/// What the atomic's scalar asks for, and the result.
+#[tactic(auto, using(ir_facts::proofs::Points::first_of_both))]
+fn check_operation(
+    scope: &ScopeColumn,
+    filled: &FilledColumn,
+    context: &BlockContext,
+    scalar: Scalar,
+    space: AddressSpace,
+    operation: &AtomicOperation,
+) -> Result<(), FunctionError>
+    requires { ContextFits (context_of context.now) }
+    ensures { Finds
+        (operated_points (context_of context.now) (filled_in filled.now) (place_at (known scope.now)) scalar space
+        operation.now.fun operation.now.value operation.now.named)
+        result }
+{
+    check_scalar(
+        context.settings.capabilities,
+        scalar,
+        &space,
+        &operation.fun,
+        operation.named.is_some(),
+    )?;
+    check_atomic_result(scope, filled, context, scalar, operation)
+}
+
+/// What the atomic's scalar asks for.
+fn check_scalar(
+    capabilities: Capabilities,
+    scalar: Scalar,
+    space: &AddressSpace,
+    fun: &AtomicFunction,
+    has_result: bool,
+) -> Result<(), FunctionError>
+    ensures { Finds (scalar_points capabilities scalar space.now fun.now has_result) result }
+{
+    if is_int64(scalar) {
+        let needed = int64_capability(fun, space, has_result);
+        let all_ops = Capabilities::SHADER_INT64_ATOMIC_ALL_OPS;
+        if !capabilities.contains(all_ops) && !capabilities.contains(needed) {
+            return Err(FunctionError::InvalidAtomic(AtomicError::MissingCapability(needed)));
+        }
+    } else if is_float32(scalar) {
+        let needed = Capabilities::SHADER_FLOAT32_ATOMIC;
+        if !capabilities.contains(needed) {
+            return Err(FunctionError::InvalidAtomic(AtomicError::MissingCapability(needed)));
+        }
+        if !is_done_on_floats(fun) {
+            return Err(FunctionError::InvalidAtomic(AtomicError::InvalidOperator(*fun)));
+        }
+        if !is_storage(space) {
+            return Err(FunctionError::InvalidAtomic(AtomicError::InvalidAddressSpace(*space)));
+        }
+    }
+    Ok(())
+}
+
+fn is_int64(scalar: Scalar) -> bool
+    ensures { result ≡ is_int64 scalar }
+{
+    is_integer(Some(scalar.kind)) && scalar.width == 8
+}
+
+fn is_float32(scalar: Scalar) -> bool
+    ensures { result ≡ is_float32 scalar }
+{
+    matches!(scalar.kind, ScalarKind::Float) && scalar.width == 4
+}
+
+/// The weakest capability that lets an operation be done on an integer of 64 bits.
+fn int64_capability(fun: &AtomicFunction, space: &AddressSpace, has_result: bool) -> Capabilities
+    ensures { result ≡ int64_capability fun.now space.now has_result }
+{
+    if is_min_or_max(fun) && is_storage(space) && !has_result {
+        Capabilities::SHADER_INT64_ATOMIC_MIN_MAX
+    } else {
+        Capabilities::SHADER_INT64_ATOMIC_ALL_OPS
+    }
+}
+
+pub fn is_min_or_max(fun: &AtomicFunction) -> bool
+    ensures { result ≡ is_min_or_max fun.now }
+{
+    matches!(fun, AtomicFunction::Min | AtomicFunction::Max)
+}
+
+fn is_storage(space: &AddressSpace) -> bool
+    ensures { result ≡ is_storage space.now }
+{
+    matches!(space, AddressSpace::Storage { .. })
+}
+
+fn is_done_on_floats(fun: &AtomicFunction) -> bool
+    ensures { result ≡ is_done_on_floats fun.now }
+{
+    matches!(
+        fun,
+        AtomicFunction::Add | AtomicFunction::Subtract | AtomicFunction::Exchange { compare: None }
+    )
+}
+
+/// The result. An exchange that compares nothing has one.
+fn check_atomic_result(
+    scope: &ScopeColumn,
+    filled: &FilledColumn,
+    context: &BlockContext,
+    scalar: Scalar,
+    operation: &AtomicOperation,
+) -> Result<(), FunctionError>
+    requires { ContextFits (context_of context.now) }
+    ensures { Finds
+        (atomic_result_points (context_of context.now) (filled_in filled.now) (place_at (known scope.now)) scalar
+        operation.now.fun operation.now.value operation.now.named)
+        result }
+{
+    match operation.named {
+        Some(handle) => check_named(scope, filled, context, scalar, operation, handle),
+        None => {
+            if is_plain_exchange(&operation.fun) {
+                return Err(FunctionError::InvalidAtomic(AtomicError::MissingReturnValue));
+            }
+            Ok(())
+        }
+    }
+}
+
+/// Whether an operation is an exchange that compares nothing.
+fn is_plain_exchange(fun: &AtomicFunction) -> bool
+    ensures { result ≡ is_plain_exchange fun.now }
+{
+    matches!(fun, AtomicFunction::Exchange { compare: None })
+}
+
+/// The result that is named: an atomic result, fresh, of the right type, and not in scope yet.
+fn check_named(
+    scope: &ScopeColumn,
+    filled: &FilledColumn,
+    context: &BlockContext,
+    scalar: Scalar,
+    operation: &AtomicOperation,
+    handle: Handle<tag::Expression>,
+) -> Result<(), FunctionError>
+    requires { ContextFits (context_of context.now) }
+    ensures { Finds
+        (atomic_result_points (context_of context.now) (filled_in filled.now) (place_at (known scope.now)) scalar
+        operation.now.fun operation.now.value (Some handle))
+        result }
+{
+    if !is_atomic_result(context.expression(handle)) {
+        let error = AtomicError::InvalidResultExpression(handle);
+        return Err(FunctionError::InvalidAtomic(error));
+    }
+    if !is_fresh(filled, context, handle) {
+        return Err(FunctionError::InvalidAtomic(AtomicError::ResultAlreadyPopulated(handle)));
+    }
+    let value = operation.value;
+    match &operation.fun {
+        AtomicFunction::Exchange {
+            compare: Some(compare),
+        } => check_compared(scope, context, scalar, *compare, value, handle),
+        _ => check_uncompared(scope, context, value, handle),
+    }
+}
+
+fn is_atomic_result(expression: Option<&Expression>) -> bool
+    ensures { result ≡ is_atomic_result (option_copied expression.entry) }
+{
+    matches!(expression, Some(Expression::AtomicResult { .. }))
+}
+
+/// Of a compare exchange: what is compared with, and a result of the struct that it gives, not in scope yet.
+fn check_compared(
+    scope: &ScopeColumn,
+    context: &BlockContext,
+    scalar: Scalar,
+    compare: Handle<tag::Expression>,
+    value: Handle<tag::Expression>,
+    handle: Handle<tag::Expression>,
+) -> Result<(), FunctionError>
+    requires { ContextFits (context_of context.now) }
+    ensures { Finds (compared_points (context_of context.now) (place_at (known scope.now)) scalar compare value handle) result }
+{
+    check_use(scope, compare)?;
+    let program = context.program;
+    if !is_equivalent(
+        program,
+        context.type_inner(compare),
+        context.type_inner(value),
+    ) {
+        return Err(FunctionError::InvalidAtomic(AtomicError::InvalidOperand(compare)));
+    }
+    if !is_exchange_struct(program, scalar, result_type(context, handle)) {
+        return Err(FunctionError::InvalidAtomic(AtomicError::ResultTypeMismatch(handle)));
+    }
+    if !is_comparison(context.expression(handle)) {
+        let error = AtomicError::ResultExpressionNotExchange(handle);
+        return Err(FunctionError::InvalidAtomic(error));
+    }
+    check_put(scope, handle)
+}
+
+/// Of any other operation: a result of the value's type, not in scope yet.
+fn check_uncompared(
+    scope: &ScopeColumn,
+    context: &BlockContext,
+    value: Handle<tag::Expression>,
+    handle: Handle<tag::Expression>,
+) -> Result<(), FunctionError>
+    requires { ContextFits (context_of context.now) }
+    ensures { Finds (uncompared_points (context_of context.now) (place_at (known scope.now)) value handle) result }
+{
+    let program = context.program;
+    if !is_equivalent(
+        program,
+        result_type(context, handle),
+        context.type_inner(value),
+    ) {
+        return Err(FunctionError::InvalidAtomic(AtomicError::ResultTypeMismatch(handle)));
+    }
+    if is_comparison(context.expression(handle)) {
+        let error = AtomicError::ResultExpressionExchange(handle);
+        return Err(FunctionError::InvalidAtomic(error));
+    }
+    check_put(scope, handle)
+}
+
+/// The type that an atomic result is declared with.
+fn result_type<'a>(
+    context: &BlockContext<'a>,
+    handle: Handle<tag::Expression>,
+) -> Option<&'a TypeInner>
+    ensures { option_copied result ≡ result_type_at (context_of context.now) handle }
+{
+    match context.expression(handle) {
+        Some(Expression::AtomicResult { ty, .. }) => inner_at(context, *ty),
+        _ => None,
+    }
+}
+
+/// Whether an atomic result is that of a compare exchange.
+fn is_comparison(expression: Option<&Expression>) -> bool
+    ensures { result ≡ is_comparison (option_copied expression.entry) }
+{
+    match expression {
+        Some(Expression::AtomicResult { comparison, .. }) => *comparison,
+        _ => false,
+    }
+}

@@ -1,0 +1,181 @@
+//! The check list of WorkGroupUniformLoad.
+
+ghost use Rattle.std.specs.Prelude.{◌≡◌, ◌<◌, ◌↔◌, ◌∷◌, [], IsTrue, OnOk, IfSome, length};
+ghost use Rattle.std.specs.Option.{option_copied};
+ghost use Rattle.check_scope.specs.walk.Answers.{AllHold, Finds, RefusesFaultsAlone};
+ghost use Rattle.check_errors.specs.Answers.{AnswersPoints};
+ghost use Rattle.check_scope.specs.Context.{ContextFits};
+ghost use Rattle.check_memory.specs.Load.{is_work_group, is_loaded_as, loaded_type_at, points_to, load_points};
+ghost use Rattle.check_scope.specs.walk.Place.{place_at};
+ghost use Rattle.check_scope.specs.walk.Seen.{context_of};
+ghost use Rattle.check_scope.specs.walk.Table.{HasPut, count, known};
+
+use crate::atomic::atomic_scalar;
+use check_errors::function::FunctionError;
+use check_scope::context::BlockContext;
+use check_scope::pointers::space;
+use check_scope::refuse::{answer, check_put, check_use};
+use check_scope::refused::Refused;
+use check_scope::table::ScopeColumn;
+use check_scope::types::{is_equivalent, is_scalar};
+use ir_arena::handle::Handle;
+use ir_arena::span::Span;
+use ir_arena::tag;
+use ir_module::expressions::Expression;
+use ir_types::types::{AddressSpace, TypeInner};
+
+/// WorkGroupUniformLoad: its pointer and its result, which is in scope afterwards.
+pub fn validate_load(
+    scope: &mut ScopeColumn,
+    context: &BlockContext,
+    pointer: Handle<tag::Expression>,
+    loaded: Handle<tag::Expression>,
+    span: Span,
+) -> Result<(), Refused>
+    requires context { ContextFits (context_of context.now) }
+    requires result { loaded < count scope.old }
+    ensures fault { AnswersPoints (load_points (context_of context.now) (place_at (known scope.old)) pointer loaded) result }
+    ensures refused { RefusesFaultsAlone
+        (load_points (context_of context.now) (place_at (known scope.old)) pointer loaded) result }
+    ensures scope { OnOk result (HasPut scope.old scope.new (loaded ∷ [])) }
+{
+    check_load(scope, context, pointer, loaded, span)?;
+    scope.put(loaded);
+    Ok(())
+}
+
+/// All that is checked of a load. Its result stays out of scope.
+fn check_load(
+    scope: &ScopeColumn,
+    context: &BlockContext,
+    pointer: Handle<tag::Expression>,
+    loaded: Handle<tag::Expression>,
+    span: Span,
+) -> Result<(), Refused>
+    requires { ContextFits (context_of context.now) }
+    ensures fault { AnswersPoints (load_points (context_of context.now) (place_at (known scope.now)) pointer loaded) result }
+    ensures refused { RefusesFaultsAlone
+        (load_points (context_of context.now) (place_at (known scope.now)) pointer loaded) result }
+{
+    if load_holds(scope, context, pointer, loaded) {
+        return Ok(());
+    }
+    refuse_load(scope, context, pointer, loaded, span)
+}
+
+/// Whether no point of a load fails.
+fn load_holds(
+    scope: &ScopeColumn,
+    context: &BlockContext,
+    pointer: Handle<tag::Expression>,
+    loaded: Handle<tag::Expression>,
+) -> bool
+    requires { ContextFits (context_of context.now) }
+    ensures { IsTrue result ↔ AllHold (load_points (context_of context.now) (place_at (known scope.now)) pointer loaded) }
+{
+    scope.may_use(pointer)
+        && is_work_group(space(context, pointer))
+        && !scope.contains(loaded)
+        && is_loaded_as(context, pointer, loaded_type(context, loaded))
+}
+
+/// The refusal of a load of which a point fails.
+#[cold]
+#[inline(never)]
+fn refuse_load(
+    scope: &ScopeColumn,
+    context: &BlockContext,
+    pointer: Handle<tag::Expression>,
+    loaded: Handle<tag::Expression>,
+    span: Span,
+) -> Result<(), Refused>
+    requires { ContextFits (context_of context.now) }
+    ensures fault { AnswersPoints (load_points (context_of context.now) (place_at (known scope.now)) pointer loaded) result }
+    ensures refused { RefusesFaultsAlone
+        (load_points (context_of context.now) (place_at (known scope.now)) pointer loaded) result }
+{
+    let checked = check_load_points(scope, context, pointer, loaded);
+    answer(scope.allocator(), checked, span)
+}
+
+/// The list of a load, with the fault of each point.
+fn check_load_points(
+    scope: &ScopeColumn,
+    context: &BlockContext,
+    pointer: Handle<tag::Expression>,
+    loaded: Handle<tag::Expression>,
+) -> Result<(), FunctionError>
+    requires { ContextFits (context_of context.now) }
+    ensures { Finds (load_points (context_of context.now) (place_at (known scope.now)) pointer loaded) result }
+{
+    check_use(scope, pointer)?;
+    if !is_work_group(space(context, pointer)) {
+        return Err(FunctionError::WorkgroupUniformLoadInvalidPointer(pointer));
+    }
+    check_put(scope, loaded)?;
+    let Some(ty) = loaded_type(context, loaded) else {
+        return Err(FunctionError::WorkgroupUniformLoadExpressionMismatch(loaded));
+    };
+    if !points_to(context, pointer, ty) {
+        return Err(FunctionError::WorkgroupUniformLoadInvalidPointer(pointer));
+    }
+    Ok(())
+}
+
+fn is_work_group(space: Option<AddressSpace>) -> bool
+    ensures { result ≡ is_work_group space }
+{
+    matches!(space, Some(AddressSpace::WorkGroup))
+}
+
+/// The type that the result of a load is declared with.
+fn loaded_type(context: &BlockContext, loaded: Handle<tag::Expression>) -> Option<Handle<tag::Type>>
+    requires { ContextFits (context_of context.now) }
+    ensures is { result ≡ loaded_type_at (context_of context.now) loaded }
+    ensures fits { IfSome result (λ ty. ty < length (context_of context.now).program.types) }
+{
+    match context.expression(loaded) {
+        Some(Expression::WorkGroupUniformLoadResult { ty }) => Some(*ty),
+        _ => None,
+    }
+}
+
+/// Whether a pointer in the work group is one to the type that a result is declared with, if it is declared with one.
+fn is_loaded_as(
+    context: &BlockContext,
+    pointer: Handle<tag::Expression>,
+    declared: Option<Handle<tag::Type>>,
+) -> bool
+    requires context { ContextFits (context_of context.now) }
+    requires declared { IfSome declared (λ ty. ty < length (context_of context.now).program.types) }
+    ensures { result ≡ is_loaded_as (context_of context.now) pointer declared }
+{
+    match declared {
+        Some(ty) => points_to(context, pointer, ty),
+        None => false,
+    }
+}
+
+/// Whether a pointer in the work group is one to this type, or to an atomic of this scalar.
+fn points_to(
+    context: &BlockContext,
+    pointer: Handle<tag::Expression>,
+    ty: Handle<tag::Type>,
+) -> bool
+    requires context { ContextFits (context_of context.now) }
+    requires ty { ty < length (context_of context.now).program.types }
+    ensures { result ≡ points_to (context_of context.now) pointer ty }
+{
+    let program = context.program;
+    let expected = TypeInner::Pointer {
+        base: ty,
+        space: AddressSpace::WorkGroup,
+    };
+    if is_equivalent(program, context.type_inner(pointer), Some(&expected)) {
+        return true;
+    }
+    match atomic_scalar(context, pointer) {
+        Some(scalar) => is_scalar(scalar, Some(&program.types[ty].inner)),
+        None => false,
+    }
+}

@@ -1,0 +1,64 @@
+-- What an answer says of points that stand one behind another, and of judgements that follow each other.
+use Rattle.std.proofs.Common.{◌≡◌, List, Option, None, Some, Ok, Err, Result, ◌++◌, sym, ap, ◌∙◌}
+use Rattle.std.specs.Prelude.{IsErr}
+use Rattle.std.specs.Option.{option_or}
+use Rattle.std.specs.Result.{result_err}
+use Rattle.ir_arena.specs.declared.span.Refusal.{Refusal}
+use Rattle.ir_arena.specs.declared.span.Refusal.TheVariants as refusal
+use Rattle.check_errors.specs.Answers.{AnswersPoints, IsFirstFault, Refuses}
+use Rattle.check_errors.specs.declared.function.FunctionError.{FunctionError}
+use Rattle.ir_facts.specs.Points.{and_then, Point, first_fault}
+use Rattle.check_scope.specs.walk.Answers.{AnswersLeaving, IsRefusalFor}
+use Rattle.check_scope.specs.Points.{Points}
+use Rattle.ir_facts.proofs.Points.{first_of_both}
+
+-- the refusal for the first fault
+pub refuses_fault : (fault : FunctionError) (given : Refusal FunctionError) (points : Points) → IsRefusalFor fault given → Some fault ≡ first_fault points → IsFirstFault points given
+refuses_fault fault (refusal.Fault f) points e h = sym h ∙ ap Some (sym e)
+refuses_fault fault refusal.Memory points e h = tt
+
+-- a refusal at the first points of what is left, which decide the whole
+pub first_refused : (given : Refusal FunctionError) (here behind whole : Points) → first_fault (here ++ behind) ≡ first_fault whole → IsFirstFault here given → IsFirstFault whole given
+first_refused (refusal.Fault f) here behind whole e first =
+    sym e ∙ first_of_both here behind ∙ ap (λ o. option_or o (first_fault behind)) first
+first_refused refusal.Memory here behind whole e first = tt
+
+-- a refusal at the first of them
+pub refuses_first : {T : Type 0} (r : Result T (Refusal FunctionError)) (first second : Points) → IsErr r → AnswersPoints first r → AnswersPoints (first ++ second) r
+refuses_first (Err (refusal.Fault f)) first second e h = first_of_both first second ∙ ap (λ o. option_or o (first_fault second)) h
+refuses_first (Err refusal.Memory) first second e h = tt
+refuses_first (Ok t) first second e h = cc
+
+-- an answer at the second, where no point of the first fails
+pub refuses_second : {T : Type 0} (r : Result T (Refusal FunctionError)) (first second : Points) → first_fault first ≡ None → AnswersPoints second r → AnswersPoints (first ++ second) r
+refuses_second (Ok t) first second e h = first_of_both first second ∙ ap (λ o. option_or o (first_fault second)) e ∙ h
+refuses_second (Err (refusal.Fault f)) first second e h = first_of_both first second ∙ ap (λ o. option_or o (first_fault second)) e ∙ h
+refuses_second (Err refusal.Memory) first second e h = tt
+
+pub passes : {S : Type 0} (o : Result S FunctionError) (f : S → Result S FunctionError) (st end : S) → o ≡ Ok st → f st ≡ Ok end → and_then o f ≡ Ok end
+passes o f st end e g = ap (λ z. and_then z f) e ∙ g
+
+pub stops_first : {S : Type 0} (e : Refusal FunctionError) (o : Result S FunctionError) (f : S → Result S FunctionError) → Refuses o e → Refuses (and_then o f) e
+stops_first (refusal.Fault x) o f h = ap (λ z. and_then z f) h
+stops_first refusal.Memory o f h = tt
+
+pub stops_next : {S : Type 0} (e : Refusal FunctionError) (o : Result S FunctionError) (f : S → Result S FunctionError) (st : S) → o ≡ Ok st → Refuses (f st) e → Refuses (and_then o f) e
+stops_next (refusal.Fault x) o f st e h = ap (λ z. and_then z f) e ∙ h
+stops_next refusal.Memory o f st e h = tt
+
+pub answers_next : {S T : Type 0} (r : Result T (Refusal FunctionError)) (o : Result S FunctionError) (f : S → Result S FunctionError) (st end : S) → o ≡ Ok st → AnswersLeaving (f st) end r → AnswersLeaving (and_then o f) end r
+answers_next (Ok n) o f st end e h = ap (λ z. and_then z f) e ∙ h
+answers_next (Err x) o f st end e h = stops_next x o f st e h
+
+-- where the first leaves a state, the next from there is the whole
+pub next_is : {S : Type 0} (whole o : Result S FunctionError) (f : S → Result S FunctionError) (st : S) → whole ≡ and_then o f → o ≡ Ok st → f st ≡ whole
+next_is whole o f st e n = sym (e ∙ ap (λ z. and_then z f) n)
+
+-- a fault of the first points, and one behind them
+pub fault_first : {T Fault : Type 0} (r : Result T Fault) (ps qs : List (Point Fault)) → IsErr r → result_err r ≡ first_fault ps → result_err r ≡ first_fault (ps ++ qs)
+fault_first (Ok t) ps qs err e = cc
+fault_first (Err f) ps qs err e = ap (λ o. option_or o (first_fault qs)) e ∙ sym (first_of_both ps qs)
+
+pub fault_second : {Fault : Type 0} (o : Option Fault) (ps qs : List (Point Fault)) → first_fault ps ≡ None → o ≡ first_fault qs → o ≡ first_fault (ps ++ qs)
+fault_second o ps qs none e =
+    e ∙ sym (first_of_both ps qs ∙ ap (λ z. option_or z (first_fault qs)) none)

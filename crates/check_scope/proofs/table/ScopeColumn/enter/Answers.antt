@@ -1,0 +1,17 @@
+use Rattle.std.proofs.Common.{rules, ◌≡◌, length}
+use Rattle.check_scope.specs.walk.Table.{known, shown}
+use Rattle.check_scope.proofs.Columns.{known_entered, entered}
+use Rattle.check_scope.proofs.table.ScopeColumn.enter.Goals as goal
+
+pub returns-clause-known : goal.returns-clause-known
+unfolding known shown
+returns-clause-known c =
+    let t = c.args.self.now in
+    known_entered t.numbers.items t.states.items t.innermost t.sound _ c.in_ok-push.ensures.items c.len-number.result
+
+pub returns-clause-outside : goal.returns-clause-outside
+unfolding known shown
+returns-clause-outside c =
+    let t = c.args.self.now in
+    let next : c.len-number.result ≡ length t.states.items = search rules in
+    entered t.numbers.items t.states.items t.innermost t.sound _ c.in_ok-push.ensures.items _ next

@@ -1,0 +1,80 @@
+//! Uses, and refusals with the place of their statement.
+
+ghost use Rattle.std.specs.Prelude.{[], ◌∷◌};
+ghost use Rattle.ir_facts.specs.declared.valid.expression_error.ExpressionError.TheVariants.{NotInScope};
+ghost use Rattle.check_errors.specs.declared.function.FunctionError.TheVariants.{Expression};
+ghost use Rattle.check_scope.specs.walk.Answers.{Finds, IsRefusalFor, RefusesFaultsAlone};
+ghost use Rattle.check_errors.specs.Answers.{AnswersPoints};
+ghost use Rattle.check_scope.specs.Points.{Points, use_point, put_point};
+ghost use Rattle.check_scope.specs.walk.Place.{place_at};
+ghost use Rattle.check_scope.specs.walk.Table.{known};
+
+use crate::refused::Refused;
+use crate::table::ScopeColumn;
+use check_errors::function::FunctionError;
+use ir_arena::handle::Handle;
+use ir_arena::span::Span;
+use ir_arena::tag;
+use ir_facts::valid::expression_error::ExpressionError;
+use std::alloc::Global;
+
+/// A use: every run has put the expression where it comes here.
+pub fn check_use(scope: &ScopeColumn, handle: Handle<tag::Expression>) -> Result<(), FunctionError>
+    ensures { Finds (use_point (place_at (known scope.now)) handle ∷ []) result }
+{
+    if !scope.may_use(handle) {
+        return Err(FunctionError::Expression {
+            handle,
+            source: ExpressionError::NotInScope,
+        });
+    }
+    Ok(())
+}
+
+/// A put, before it is made: the expression is not in scope.
+pub fn check_put(scope: &ScopeColumn, handle: Handle<tag::Expression>) -> Result<(), FunctionError>
+    ensures { Finds (put_point (place_at (known scope.now)) handle ∷ []) result }
+{
+    if scope.contains(handle) {
+        return Err(FunctionError::ExpressionAlreadyInScope(handle));
+    }
+    Ok(())
+}
+
+/// The refusal of a use. What makes refusals stands apart from the checks that are asked most often, so that these hold no
+/// fault while all is well.
+#[cold]
+#[inline(never)]
+pub fn not_in_scope(alloc: Global, handle: Handle<tag::Expression>, span: Span) -> Refused
+    ensures { IsRefusalFor (Expression handle NotInScope) result }
+{
+    let fault = FunctionError::Expression {
+        handle,
+        source: ExpressionError::NotInScope,
+    };
+    Refused::placed(alloc, fault, span)
+}
+
+/// The answer of a check of the statement at a place.
+#[tactic(auto, using(crate::proofs::Refusals::refuses_fault))]
+pub fn answer(alloc: Global, checked: Result<(), FunctionError>, span: Span) -> Result<(), Refused>
+    ensures fault { (points : Points) → Finds points checked → AnswersPoints points result }
+    ensures refused { (points : Points) → Finds points checked → RefusesFaultsAlone points result }
+{
+    match checked {
+        Ok(()) => Ok(()),
+        Err(fault) => Err(Refused::placed(alloc, fault, span)),
+    }
+}
+
+/// The answer of a check of the function as a whole.
+#[tactic(auto, using(crate::proofs::Refusals::refuses_fault))]
+pub fn answer_of_function(alloc: Global, checked: Result<(), FunctionError>) -> Result<(), Refused>
+    ensures fault { (points : Points) → Finds points checked → AnswersPoints points result }
+    ensures refused { (points : Points) → Finds points checked → RefusesFaultsAlone points result }
+{
+    match checked {
+        Ok(()) => Ok(()),
+        Err(fault) => Err(Refused::of_function(alloc, fault)),
+    }
+}

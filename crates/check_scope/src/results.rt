@@ -1,0 +1,47 @@
+//! Results of calls and of atomic operations that are still to be filled.
+
+ghost use Rattle.std.specs.Prelude.{◌≡◌};
+ghost use Rattle.std.specs.Option.{option_copied};
+ghost use Rattle.check_scope.specs.Results.{is_to_fill, is_unfilled, is_fresh};
+ghost use Rattle.check_scope.specs.walk.Seen.{context_of};
+ghost use Rattle.check_scope.specs.walk.Table.{filled_in};
+
+use crate::context::BlockContext;
+use crate::table::FilledColumn;
+use ir_arena::handle::Handle;
+use ir_arena::tag;
+use ir_flags::valid::ValidationFlags;
+use ir_module::expressions::Expression;
+
+/// Whether an expression is of a kind that a Call or an Atomic fills.
+pub fn is_to_fill(expression: Option<&Expression>) -> bool
+    ensures { result ≡ is_to_fill (option_copied expression.entry) }
+{
+    matches!(
+        expression,
+        Some(Expression::CallResult(_) | Expression::AtomicResult { .. })
+    )
+}
+
+/// Whether an expression is a result that nothing filled so far.
+pub fn is_unfilled(
+    filled: &FilledColumn,
+    context: &BlockContext,
+    handle: Handle<tag::Expression>,
+) -> bool
+    ensures { result ≡ is_unfilled (context_of context.now) (filled_in filled.now) handle }
+{
+    is_to_fill(context.expression(handle)) && !filled.contains(handle)
+}
+
+/// Whether a result is still to be filled.
+pub fn is_fresh(
+    filled: &FilledColumn,
+    context: &BlockContext,
+    handle: Handle<tag::Expression>,
+) -> bool
+    ensures { result ≡ is_fresh (context_of context.now) (filled_in filled.now) handle }
+{
+    let flags = context.settings.flags;
+    flags.contains(ValidationFlags::EXPRESSIONS) && is_unfilled(filled, context, handle)
+}

@@ -1,0 +1,72 @@
+//! The table of a function's expressions: by expression, which scope put it, and whether it is a result that is filled.
+
+ghost use Rattle.check_scope.specs.walk.Numbers.{IsSound};
+
+mod filled;
+mod scope;
+
+use std::alloc::{AllocError, Global};
+
+/// Whether what a scope put may be used.
+#[derive(Clone, Copy, PartialEq, Eq, Debug)]
+pub enum ScopeState {
+    /// It is left, or no scope has this number.
+    Closed,
+    /// It is entered, and not left yet.
+    Open,
+    /// It has what a Loop's body puts behind its first Continue, and that body is left: what it put is in scope in the
+    /// continuing part and at the break condition, and may not be used there, since a Continue may have skipped it.
+    Skipped,
+}
+
+/// Which expressions are in scope (naga's `valid_expression_set` and `valid_expression_list`). Scopes have numbers, none of
+/// which is used twice in a function: 0 is never open, 1 is that of the function's body and of what needs no emission, and
+/// each scope that is entered takes the next. An expression is in scope where the scope that put it is not closed, and may be used
+/// where it is open.
+#[derive(Drop)]
+pub struct ScopeColumn {
+    // by expression, the scope that put it, 0 where none did
+    numbers: Vec<usize>,
+    // by number
+    states: Vec<ScopeState>,
+    innermost: usize,
+    ghost sound: { IsSound numbers.items states.items innermost },
+}
+
+/// What is known of an expression as a result of a Call or an Atomic.
+#[derive(Clone, Copy, PartialEq, Eq, Debug)]
+pub enum ResultState {
+    /// It is none.
+    NoResult,
+    /// It is one, and nothing filled it so far.
+    Unfilled,
+    /// A statement named it, and so filled it.
+    Filled,
+}
+
+/// Which results are filled, and which are still to be filled (naga's `needs_visit`).
+#[derive(Drop)]
+pub struct FilledColumn {
+    // by expression
+    marks: Vec<ResultState>,
+}
+
+/// Both columns, which grow to the size of the largest function that they were begun for.
+#[derive(Drop)]
+pub struct Table {
+    pub scope: ScopeColumn,
+    pub filled: FilledColumn,
+}
+
+impl Table {
+    /// The table that is kept, which is taken, or one of no expression.
+    pub fn take_or_new(alloc: Global, kept: &mut Option<Table>) -> Result<Table, AllocError> {
+        match kept.take() {
+            Some(table) => Ok(table),
+            None => Ok(Table {
+                scope: ScopeColumn::new(alloc)?,
+                filled: FilledColumn::new(alloc),
+            }),
+        }
+    }
+}

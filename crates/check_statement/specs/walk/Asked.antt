@@ -1,0 +1,56 @@
+-- What a validator asks of a function, as the definitions have it: work of lemmas, cited by functions that the validator alone
+-- calls.
+use Rattle.std.specs.Prelude.{Bool, List, Result, length}
+use Rattle.ir_facts.specs.Points.{and_then}
+use Rattle.ir_module.specs.declared.functions.Function.{Function}
+use Rattle.ir_module.specs.declared.module.Module.{Module}
+use Rattle.ir_facts.specs.declared.proc.expression_kinds.ExpressionKind.{ExpressionKind}
+use Rattle.ir_flags.specs.declared.valid.ShaderStages.{ShaderStages}
+use Rattle.ir_facts.specs.declared.valid.info.FunctionInfo.{FunctionInfo}
+use Rattle.ir_facts.specs.declared.valid.info.ModuleInfo.{ModuleInfo}
+use Rattle.ir_facts.specs.declared.valid.settings.Settings.{Settings}
+use Rattle.ir_facts.specs.declared.valid.types.TypeInfo.{TypeInfo}
+use Rattle.check_errors.specs.Meaning.{Meaning}
+use Rattle.check_errors.specs.declared.function.FunctionError.{FunctionError}
+use Rattle.check_scope.specs.Context.{Context}
+use Rattle.check_statement.specs.Judged.{FunctionOutcome, declarations_step, expressions_known, function_judgement}
+use Rattle.check_statement.specs.Expressions.{stages_from}
+use Rattle.check_statement.specs.Parts.{Parts}
+use Rattle.check_scope.specs.declared.trace.TraceState.{TraceState}
+
+-- the context that a validator with these settings and this trace state judges a function in
+abbrev pub asked_context : Settings → TraceState → Module → ModuleInfo → Function → List ExpressionKind → FunctionInfo → Context
+asked_context settings trace program earlier fun kinds info =
+    record {
+      program = program;
+      earlier = earlier;
+      fun = fun;
+      info = info;
+      kinds = kinds;
+      settings = settings;
+      trace = trace;
+    }
+
+-- what is known of a function behind its declarations and its expressions
+abbrev pub known_behind : Meaning → List TypeInfo → Bool → Context → Result FunctionInfo FunctionError
+known_behind below infos entry_point context =
+    and_then (declarations_step infos entry_point context) (λ info. expressions_known below (record context { info = info }))
+
+-- the stages that all expressions of a function leave of those that its info has
+abbrev pub stages_of_all : Meaning → Context → Result ShaderStages FunctionError
+stages_of_all below context = stages_from below context context.info.available_stages 0 (length context.fun.expressions)
+
+-- of a validator of these parts, over a lower layer that means this
+module _ {B : Type 0} (parts : Parts B) where
+  -- the context that it judges a function in
+  abbrev pub asked_by : Module → ModuleInfo → Function → List ExpressionKind → FunctionInfo → Context
+  asked_by program earlier fun kinds info = asked_context parts.settings parts.trace program earlier fun kinds info
+
+  -- what it knows of a function behind its declarations and its expressions
+  abbrev pub known_by : Meaning → Bool → Context → Result FunctionInfo FunctionError
+  known_by below entry_point context = known_behind below parts.types entry_point context
+
+  -- its judgement of a function
+  abbrev pub judgement_by : Meaning → Module → ModuleInfo → Function → Bool → Result FunctionOutcome FunctionError
+  judgement_by below program earlier fun entry_point =
+      function_judgement below parts.settings parts.types parts.trace program earlier fun entry_point

@@ -1,0 +1,75 @@
+//! What goes along the statements of a body, beside the table.
+
+ghost use Rattle.std.specs.Prelude.{◌≡◌, ◌<◌, ℕ, List, IfSome};
+ghost use Rattle.naga_runs.specs.Positions.{StatementNode};
+ghost use Rattle.ir_module.specs.View.{tree_of};
+ghost use Rattle.check_scope.specs.Blocks as in_context;
+ghost use Rattle.check_scope.specs.Context.{Context};
+ghost use Rattle.check_scope.specs.Results.{result_of};
+ghost use Rattle.check_scope.specs.walk.Seen.{context_of};
+ghost use Rattle.check_statement.specs.walk.State.{kept, with_result, with_statement};
+ghost use Rattle.check_scope.specs.walk.Table.{KnowsResults, filled_in, marked};
+
+use crate::stages::stages_of;
+use bitflags::Flags;
+use check_rays::ray_trace::advance_trace;
+use check_scope::context::BlockContext;
+use check_scope::table::FilledColumn;
+use check_scope::trace::TraceState;
+use ir_arena::handle::Handle;
+use ir_arena::tag;
+use ir_flags::valid::ShaderStages;
+use ir_module::statements::{Located, Statement};
+
+/// What the statements so far leave, and behind the last one what an accepted body leaves.
+#[derive(Clone, Copy)]
+pub struct BodyOutcome {
+    /// The stages that all of them may run in.
+    pub stages: ShaderStages,
+    /// What ray traces leave, those of earlier functions too.
+    pub trace: TraceState,
+}
+
+/// The result that a Call or an Atomic names.
+fn result_of(located: &Located) -> Option<Handle<tag::Expression>>
+    ensures { (operands : ℕ → List ℕ) →
+        result ≡ result_of (StatementNode (tree_of operands located.now.statement located.now.span)) }
+{
+    match &located.statement {
+        Statement::Call { result, .. } | Statement::Atomic { result, .. } => *result,
+        _ => None,
+    }
+}
+
+/// Marks the result that a Call or an Atomic names, if it names one, as filled.
+pub fn fill_named(filled: &mut FilledColumn, named: &Option<Handle<tag::Expression>>)
+    requires { IfSome named.now (λ r. r < marked filled.old) }
+    ensures filled { filled_in filled.new ≡ with_result (filled_in filled.old) named.now }
+    ensures results { (context : Context) → KnowsResults context filled.old → KnowsResults context filled.new }
+    ensures count { marked filled.new ≡ marked filled.old }
+{
+    if let Some(handle) = named {
+        filled.fill(*handle);
+    }
+}
+
+/// What a statement leaves where none of its checks fails.
+pub fn advance(
+    filled: &mut FilledColumn,
+    state: &mut BodyOutcome,
+    context: &BlockContext,
+    located: &Located,
+)
+    requires { IfSome
+        (result_of (StatementNode (in_context.tree_of (context_of context.now) located.now)))
+        (λ r. r < marked filled.old) }
+    ensures state { kept filled.new state.new
+        ≡ with_statement (context_of context.now) (kept filled.old state.old)
+        (in_context.tree_of (context_of context.now) located.now) }
+    ensures results { KnowsResults (context_of context.now) filled.old → KnowsResults (context_of context.now) filled.new }
+    ensures count { marked filled.new ≡ marked filled.old }
+{
+    fill_named(filled, &result_of(located));
+    state.stages = state.stages.intersection(stages_of(context, located));
+    advance_trace(&mut state.trace, context, located);
+}

@@ -1,0 +1,188 @@
+//! A statement itself, without its parts; and a break condition.
+
+ghost use Rattle.std.specs.Prelude.{◌≡◌, false, IfOk, OnOk};
+ghost use Rattle.check_scope.specs.walk.Answers.{RefusesFaultsAlone};
+ghost use Rattle.check_errors.specs.Answers.{AnswersPoints};
+ghost use Rattle.check_scope.specs.Blocks.{tree_of};
+ghost use Rattle.check_scope.specs.Context.{ContextFits};
+ghost use Rattle.check_flow.specs.Control.{break_if_points};
+ghost use Rattle.check_statement.specs.Ready.{IsStatementReady};
+ghost use Rattle.check_statement.specs.Rules.{statement_points};
+ghost use Rattle.check_scope.specs.walk.Place.{place_at};
+ghost use Rattle.check_scope.specs.walk.Seen.{context_of};
+ghost use Rattle.check_statement.specs.walk.Frequent.{is_frequent, is_whole};
+ghost use Rattle.check_statement.specs.walk.State.{kept, seen, with_statement};
+ghost use Rattle.check_statement.specs.walk.Walk.{puts};
+ghost use Rattle.check_flow.specs.walk.Emitted.{place};
+ghost use Rattle.check_scope.specs.walk.Table.{HasPut, IsTableOf, known};
+
+use crate::leaf::validate_rarer_leaf;
+use crate::stages::callee_stages;
+use crate::state::{BodyOutcome, advance, fill_named};
+use bitflags::Flags;
+use check_flow::call::{CallSite, validate_call};
+use check_flow::{control, switch};
+use check_memory::store::check_store;
+use check_scope::context::BlockContext;
+use check_scope::refused::Refused;
+use check_scope::table::{ScopeColumn, Table};
+use ir_arena::handle::Handle;
+use ir_arena::span::Span;
+use ir_arena::tag;
+use ir_flags::valid::ShaderStages;
+use ir_module::statements::{Located, Statement};
+use naga_runs::Abilities;
+
+/// A statement itself: its check list, what it puts, which is in scope afterwards, and what it leaves; its parts are left out.
+/// Answers whether that is all of it: true for Emit, Store, Call and Kill, false for all others, whether they hold statements
+/// or not.
+pub fn validate_own(
+    table: &mut Table,
+    state: &mut BodyOutcome,
+    context: &BlockContext,
+    abilities: &Abilities,
+    located: &Located,
+) -> Result<bool, Refused>
+    requires context { ContextFits (context_of context.now) }
+    requires statement { IsStatementReady (context_of context.now) (tree_of (context_of context.now) located.now) }
+    requires table { IsTableOf (context_of context.now) table.old }
+    ensures fault { AnswersPoints
+        (statement_points (context_of context.now) (seen (kept table.old.filled state.old))
+        (place abilities.now (known table.old.scope)) (tree_of (context_of context.now) located.now))
+        result }
+    ensures scope { OnOk result (HasPut table.old.scope table.new.scope (puts (tree_of (context_of context.now) located.now))) }
+    ensures state { OnOk result (kept table.new.filled state.new
+        ≡ with_statement (context_of context.now) (kept table.old.filled state.old)
+        (tree_of (context_of context.now) located.now)) }
+    ensures table { OnOk result (IsTableOf (context_of context.now) table.new) }
+    ensures all { IfOk result (λ all. all ≡ is_whole located.now.statement) }
+{
+    let span = located.span;
+    match &located.statement {
+        Statement::Emit(range) => {
+            control::validate_emit(&mut table.scope, context, *range, span)?;
+            // it runs in every stage, and bits that stand for none go
+            state.stages = state.stages.intersection(ShaderStages::ALL);
+            Ok(true)
+        }
+        Statement::Store { pointer, value } => {
+            check_store(&table.scope, context, *pointer, *value, span)?;
+            state.stages = state.stages.intersection(ShaderStages::ALL);
+            Ok(true)
+        }
+        Statement::Call {
+            function,
+            arguments,
+            result,
+        } => {
+            let site = CallSite {
+                function: *function,
+                named: *result,
+                span,
+            };
+            let arguments = arguments.as_slice();
+            validate_call(&mut table.scope, &table.filled, context, &site, arguments)?;
+            fill_named(&mut table.filled, result);
+            state.stages = state.stages.intersection(callee_stages(context, *function));
+            Ok(true)
+        }
+        Statement::If { condition, .. } => {
+            control::check_condition(&table.scope, context, *condition, span)?;
+            state.stages = state.stages.intersection(ShaderStages::ALL);
+            Ok(false)
+        }
+        Statement::Block(_) | Statement::Loop { .. } => {
+            state.stages = state.stages.intersection(ShaderStages::ALL);
+            Ok(false)
+        }
+        Statement::Kill => {
+            state.stages = state.stages.intersection(ShaderStages::FRAGMENT);
+            Ok(true)
+        }
+        _ => {
+            validate_rarer(table, state, context, abilities, located)?;
+            Ok(false)
+        }
+    }
+}
+
+/// The same of a statement of any other kind. It stands apart from these, so that nothing is set up for it where one of them is
+/// judged.
+#[inline(never)]
+fn validate_rarer(
+    table: &mut Table,
+    state: &mut BodyOutcome,
+    context: &BlockContext,
+    abilities: &Abilities,
+    located: &Located,
+) -> Result<(), Refused>
+    requires context { ContextFits (context_of context.now) }
+    requires statement { IsStatementReady (context_of context.now) (tree_of (context_of context.now) located.now) }
+    requires kind { is_frequent located.now.statement ≡ false }
+    requires table { IsTableOf (context_of context.now) table.old }
+    ensures fault { AnswersPoints
+        (statement_points (context_of context.now) (seen (kept table.old.filled state.old))
+        (place abilities.now (known table.old.scope)) (tree_of (context_of context.now) located.now))
+        result }
+    ensures scope { OnOk result (HasPut table.old.scope table.new.scope (puts (tree_of (context_of context.now) located.now))) }
+    ensures state { OnOk result (kept table.new.filled state.new
+        ≡ with_statement (context_of context.now) (kept table.old.filled state.old)
+        (tree_of (context_of context.now) located.now)) }
+    ensures table { OnOk result (IsTableOf (context_of context.now) table.new) }
+{
+    validate_points(table, state, context, abilities, located)?;
+    advance(&mut table.filled, state, context, located);
+    Ok(())
+}
+
+/// The check list of a statement of such a kind. What it puts is in scope afterwards.
+fn validate_points(
+    table: &mut Table,
+    state: &BodyOutcome,
+    context: &BlockContext,
+    abilities: &Abilities,
+    located: &Located,
+) -> Result<(), Refused>
+    requires context { ContextFits (context_of context.now) }
+    requires statement { IsStatementReady (context_of context.now) (tree_of (context_of context.now) located.now) }
+    requires kind { is_frequent located.now.statement ≡ false }
+    requires table { IsTableOf (context_of context.now) table.old }
+    ensures fault { AnswersPoints
+        (statement_points (context_of context.now) (seen (kept table.old.filled state.now))
+        (place abilities.now (known table.old.scope)) (tree_of (context_of context.now) located.now))
+        result }
+    ensures scope { OnOk result (HasPut table.old.scope table.new.scope (puts (tree_of (context_of context.now) located.now))) }
+    ensures filled { table.new.filled ≡ table.old.filled }
+{
+    let span = located.span;
+    let scope = &table.scope;
+    let alloc = scope.allocator();
+    match &located.statement {
+        Statement::Switch { selector, cases } => {
+            switch::check_switch(scope, context, *selector, cases.as_slice(), span)
+        }
+        Statement::Break => control::check_break(alloc, *abilities, span),
+        Statement::Continue => control::check_continue(alloc, *abilities, span),
+        Statement::Return { value } => {
+            control::check_return(scope, context, *abilities, *value, span)
+        }
+        Statement::If { .. } => unreachable!(),
+        _ => validate_rarer_leaf(table, state, context, located),
+    }
+}
+
+/// The break condition of a Loop, if it has one. A fault has the place of the Loop.
+pub fn check_break_if(
+    scope: &ScopeColumn,
+    context: &BlockContext,
+    break_if: Option<Handle<tag::Expression>>,
+    span: Span,
+) -> Result<(), Refused>
+    ensures fault { AnswersPoints (break_if_points (context_of context.now) (place_at (known scope.now)) break_if) result }
+    ensures refused { RefusesFaultsAlone (break_if_points (context_of context.now) (place_at (known scope.now)) break_if) result }
+{
+    match break_if {
+        Some(condition) => control::check_condition(scope, context, condition, span),
+        None => Ok(()),
+    }
+}

@@ -1,0 +1,5 @@
+pub mod Subgroup
+pub mod SubgroupCollective
+pub mod SubgroupGather
+pub mod Barrier
+pub mod walk

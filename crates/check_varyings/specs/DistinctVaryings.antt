@@ -1,0 +1,33 @@
+-- What is known of a group where no point of it fails: no location is taken twice, and no built-in is there twice.
+use Rattle.std.specs.Prelude.{◌≡◌, ℕ, true, false, ◌&&◌, List, ◌∷◌, ◌++◌, None, []}
+use Rattle.std.specs.List.{list_any}
+use Rattle.ir_facts.specs.Points.{first_fault}
+use Rattle.ir_types.specs.declared.built_in.BuiltIn.{BuiltIn}
+use Rattle.ir_types.specs.declared.types.Type.{«Type» as IrType}
+use Rattle.ir_facts.specs.declared.valid.types.TypeInfo.{TypeInfo}
+use Rattle.check_errors.specs.WhatIsChecked.{checks_bindings}
+use Rattle.check_varyings.specs.Varyings.{Placed, go_same_way, is_at, is_built_in, placed_points}
+
+-- where bindings are looked at, no part has the location of an earlier one
+abbrev pub LocationsAreDistinct : List Placed → Type 0
+LocationsAreDistinct parts =
+    (before behind : List Placed) (p : Placed) (location : ℕ) → parts ≡ before ++ p ∷ behind →
+    checks_bindings p.place.flags ≡ true → is_at location p.part ≡ true → list_any (λ q. is_at location q.part) before ≡ false
+
+-- no part is the built-in that an earlier one is, once both are cleared, which goes the same way
+abbrev pub BuiltInsAreDistinct : List Placed → Type 0
+BuiltInsAreDistinct parts =
+    (before behind : List Placed) (p : Placed) (b : BuiltIn) → parts ≡ before ++ p ∷ behind →
+    is_built_in b p.part ≡ true → list_any (λ q. go_same_way p.place q.place && is_built_in b q.part) before ≡ false
+
+-- the locations of an accepted group are distinct
+abbrev pub AcceptedLocationsAreDistinct : Type 0
+AcceptedLocationsAreDistinct =
+    (types : List IrType) (infos : List TypeInfo) (parts : List Placed) →
+    first_fault (placed_points types infos [] parts) ≡ None → LocationsAreDistinct parts
+
+-- so are its built-ins, under every set of flags
+abbrev pub AcceptedBuiltInsAreDistinct : Type 0
+AcceptedBuiltInsAreDistinct =
+    (types : List IrType) (infos : List TypeInfo) (parts : List Placed) →
+    first_fault (placed_points types infos [] parts) ≡ None → BuiltInsAreDistinct parts

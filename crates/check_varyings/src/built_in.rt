@@ -1,0 +1,125 @@
+//! The check list of a built-in.
+
+ghost use Rattle.std.specs.Prelude.{◌≡◌, ◌<◌, ◌||◌, not, None, length, if◌then◌else◌};
+ghost use Rattle.ir_flags.specs.Capabilities.{MESH_SHADER, has_capability};
+ghost use Rattle.ir_types.specs.Types.{NamesTypesBelow, NameEachOther, inner_at};
+ghost use Rattle.check_errors.specs.Answers.{AnswersPoints};
+ghost use Rattle.check_varyings.specs.Varyings.{built_in_points, has_built_in_type, has_one_dimension, has_required, is_distances, is_of_one_dimension, seen_in};
+
+use crate::context::VaryingContext;
+use crate::rule::{BuiltInType, builtin_rule};
+use crate::varying::{VaryingPlace, VaryingState, canonical};
+use check_errors::interface::VaryingError;
+use ir_arena::handle::Handle;
+use ir_arena::span::Refusal;
+use ir_arena::tag;
+use ir_flags::capabilities::Capabilities;
+use ir_types::built_in::BuiltIn;
+use ir_types::types::{ArraySize, Scalar, Type, TypeInner};
+use ir_types::unique_arena::UniqueArena;
+
+/// What is bound to a built-in: it isn't there, the target has what it needs, it is visible at the place, and of its type.
+pub(crate) fn check_built_in(
+    context: &VaryingContext,
+    state: &VaryingState,
+    ty: Handle<tag::Type>,
+    built_in: BuiltIn,
+) -> Result<(), Refusal<VaryingError>>
+    requires ty { ty < length context.now.types.now }
+    requires types { NameEachOther context.now.types.now }
+    ensures { AnswersPoints
+        (built_in_points context.now.place.now context.now.types.now (seen_in state.now)
+        (inner_at context.now.types.now ty) built_in)
+        result }
+{
+    let place = context.place;
+    if state.has_built_in(canonical(built_in)) {
+        return Err(context.refusal(VaryingError::DuplicateBuiltIn(built_in)));
+    }
+    let rule = builtin_rule(built_in, place);
+    if let Some(required) = missing(place.capabilities, rule.required) {
+        return Err(context.refusal(VaryingError::UnsupportedCapability(required)));
+    }
+    if !suits_work_group(place, built_in) {
+        return Err(context.refusal(VaryingError::InvalidMultiDimensionalSubgroupBuiltIn));
+    }
+    if !has_mesh_shader(place, rule.mesh_shader) {
+        let fault = VaryingError::UnsupportedCapability(Capabilities::MESH_SHADER);
+        return Err(context.refusal(fault));
+    }
+    if !rule.visible {
+        return Err(context.refusal(VaryingError::InvalidBuiltInStage(built_in)));
+    }
+    let inner = context.inner(ty);
+    if !has_type(context.types, inner, &rule.ty) {
+        let fault = VaryingError::InvalidBuiltInType(built_in, inner.clone(context.alloc)?);
+        return Err(context.refusal(fault));
+    }
+    Ok(())
+}
+
+/// The capability that is required, where the target lacks it.
+fn missing(capabilities: Capabilities, required: Option<Capabilities>) -> Option<Capabilities>
+    ensures { result ≡ (if has_required capabilities required then None else required) }
+{
+    match required {
+        Some(required) => if capabilities.contains(required) {
+            None
+        } else {
+            Some(required)
+        },
+        None => None,
+    }
+}
+
+/// Whether the target has mesh shaders, or they aren't asked for.
+pub(crate) fn has_mesh_shader(place: &VaryingPlace, wanted: bool) -> bool
+    ensures { result ≡ (not wanted || has_capability place.now.capabilities MESH_SHADER) }
+{
+    !wanted || place.capabilities.contains(Capabilities::MESH_SHADER)
+}
+
+/// Whether the work group has one dimension, or the built-in is there for others too.
+fn suits_work_group(place: &VaryingPlace, built_in: BuiltIn) -> bool
+    ensures { result ≡ (not (is_of_one_dimension built_in) || has_one_dimension place.now) }
+{
+    let [_, second, third] = place.workgroup_size;
+    !is_of_one_dimension(built_in) || second <= 1 && third <= 1
+}
+
+/// Whether the built-in is for work groups of one dimension alone.
+fn is_of_one_dimension(built_in: BuiltIn) -> bool
+    ensures { result ≡ is_of_one_dimension built_in }
+{
+    matches!(
+        built_in,
+        BuiltIn::SubgroupId | BuiltIn::SubgroupInvocationId
+    )
+}
+
+/// Whether a type is the one that a built-in has.
+fn has_type(types: &UniqueArena<Type>, inner: &TypeInner, ty: &BuiltInType) -> bool
+    requires { NamesTypesBelow (length types.now) inner.now }
+    ensures { result ≡ has_built_in_type types.now inner.now ty.now }
+{
+    match ty {
+        BuiltInType::Inner(wanted) => *inner == *wanted,
+        BuiltInType::Distances => is_distances(types, inner),
+        BuiltInType::Any => true,
+    }
+}
+
+/// Whether a type is an array of at most 8 floats of 32 bits.
+fn is_distances(types: &UniqueArena<Type>, inner: &TypeInner) -> bool
+    requires { NamesTypesBelow (length types.now) inner.now }
+    ensures { result ≡ is_distances types.now inner.now }
+{
+    match inner {
+        TypeInner::Array {
+            base,
+            size: ArraySize::Constant(count),
+            ..
+        } => types[*base].inner == TypeInner::Scalar(Scalar::F32) && count.get() <= 8,
+        _ => false,
+    }
+}

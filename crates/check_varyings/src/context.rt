@@ -1,0 +1,58 @@
+//! What the checks of an item read.
+
+ghost use Rattle.std.specs.Prelude.{◌≡◌, ◌<◌, length};
+ghost use Rattle.std.specs.Prelude.{Some};
+ghost use Rattle.ir_flags.specs.Bits.{IO_SHAREABLE};
+ghost use Rattle.check_errors.specs.TypeInfos.{type_has};
+ghost use Rattle.ir_types.specs.Types.{NamesTypesBelow, NameEachOther, inner_at};
+
+use crate::varying::VaryingPlace;
+use check_errors::interface::VaryingError;
+use ir_arena::handle::Handle;
+use ir_arena::span::{Refusal, WithSpan};
+use ir_arena::tag;
+use ir_facts::valid::types::TypeInfo;
+use ir_flags::valid::TypeFlags;
+use ir_types::types::{Type, TypeInner};
+use ir_types::unique_arena::UniqueArena;
+use std::alloc::Global;
+
+/// The place of an item, the types of the module, and their infos.
+#[derive(Drop)]
+pub(crate) struct VaryingContext<'a> {
+    pub(crate) alloc: Global,
+    pub(crate) place: &'a VaryingPlace,
+    pub(crate) types: &'a UniqueArena<Type>,
+    pub(crate) infos: &'a [TypeInfo],
+}
+
+impl<'a> VaryingContext<'a> {
+    /// A type of the module, without its name.
+    #[tactic(auto, using(crate::proofs::TypesAt::named_at, crate::proofs::TypesAt::inner_is))]
+    pub(crate) fn inner(&self, ty: Handle<tag::Type>) -> &'a TypeInner
+        requires ty { ty < length self.now.types.now }
+        requires types { NameEachOther self.now.types.now }
+        ensures inner { inner_at self.now.types.now ty ≡ Some result.now }
+        ensures named { NamesTypesBelow (length self.now.types.now) result.now }
+    {
+        &self.types[ty].inner
+    }
+
+    /// Whether a type of the module is shared between stages.
+    pub(crate) fn is_shareable(&self, ty: Handle<tag::Type>) -> bool
+        requires ty { ty < length self.now.types.now }
+        requires infos { length self.now.infos.now ≡ length self.now.types.now }
+        ensures { result ≡ type_has self.now.infos.now ty IO_SHAREABLE }
+    {
+        self.infos[ty.index()]
+            .flags
+            .contains(TypeFlags::IO_SHAREABLE)
+    }
+
+    /// The refusal for a fault.
+    pub(crate) fn refusal(&self, fault: VaryingError) -> Refusal<VaryingError>
+        ensures { result ≡ Refusal.Fault fault }
+    {
+        Refusal::Fault(WithSpan::new(self.alloc, fault))
+    }
+}

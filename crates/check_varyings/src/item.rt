@@ -1,0 +1,296 @@
+//! The check of an item: naga 30.0.1's `VaryingContext::validate`.
+
+ghost use Rattle.std.specs.Prelude.{◌≡◌, ◌<◌, All, None, [], ◌∷◌, OnOk, OnErr, length, not};
+ghost use Rattle.ir_facts.specs.Fits.{MemberCountFits};
+ghost use Rattle.ir_facts.specs.FitsBody.{FitsCount};
+ghost use Rattle.ir_types.specs.Types.{NameEachOther};
+ghost use Rattle.check_errors.specs.Answers.{AnswersPoints};
+ghost use Rattle.check_varyings.specs.CodeVaryings.{seen_less, seen_more, with_location};
+ghost use Rattle.check_errors.specs.WhatIsChecked.{checks_bindings};
+ghost use Rattle.check_errors.specs.declared.interface.VaryingError.TheVariants.{MissingBinding};
+ghost use Rattle.check_varyings.specs.VaryingFaults.{AnswersVaryings, Itself};
+ghost use Rattle.check_varyings.specs.Varyings.{Bound, bound_points, blend_points, member_part, member_parts, part_points, parts_of, points_behind, points_from, seen_in, seen_with};
+
+use crate::built_in::check_built_in;
+use crate::context::VaryingContext;
+use crate::location::{Location, check_location, may_take};
+use crate::varying::{VaryingPlace, VaryingState};
+use check_errors::interface::VaryingError;
+use ir_arena::handle::Handle;
+use ir_arena::span::Refusal;
+use ir_arena::tag;
+use ir_facts::valid::types::TypeInfo;
+use ir_flags::valid::ValidationFlags;
+use ir_module::module::ShaderStage;
+use ir_types::types::{Binding, StructMember, Type, TypeInner};
+use ir_types::unique_arena::UniqueArena;
+use std::alloc::{AllocError, Global};
+
+/// Checks an argument, a result or an output of a mesh, an item, at its place: itself where it has a binding; its members
+/// where it is a struct without one; as the two sources of a blend where such a struct is shared between stages. The fault
+/// is that of the first of its parts that fails, where `state` has what the items of the group so far have taken. What the
+/// item takes goes into the state. A refused call, for want of memory too, leaves the state as it was. `infos` is indexed by
+/// the types of the module.
+///
+/// - A built-in: `DuplicateBuiltIn`, `UnsupportedCapability`, `InvalidMultiDimensionalSubgroupBuiltIn`,
+///   `InvalidBuiltInStage`, `InvalidBuiltInType`, which carries the part's own type and so may find no memory.
+/// - A location: `UnsupportedCapability`, `InvalidInterpolationInStage`, `InvalidPerVertexSampling`,
+///   `PerVertexNotArrayOfThree`, `NotIOShareableType`, `MissingPerPrimitive`, `InvalidPerPrimitive`,
+///   `BlendSrcNotOnStructMember`, `BindingCollision`, `InvalidInterpolationSamplingCombination`, `InvalidType`,
+///   `MissingInterpolation`, `InvalidInterpolationForInteger`.
+/// - The sources of a blend: `InvalidAttributeInStage`, `InvalidInputAttributeInStage`, `BindingCollision`.
+/// - Nothing that is bound: `MissingBinding`, `MemberMissingBinding`.
+pub fn check_varying_item(
+    alloc: Global,
+    place: &VaryingPlace,
+    state: &mut VaryingState,
+    types: &UniqueArena<Type>,
+    infos: &[TypeInfo],
+    ty: Handle<tag::Type>,
+    binding: Option<Binding>,
+) -> Result<(), Refusal<VaryingError>>
+    requires ty { ty < length types.now }
+    requires one_info_each { length infos.now ≡ length types.now }
+    requires types { NameEachOther types.now }
+    requires counts { All (λ t. MemberCountFits t.inner) types.now }
+    ensures fault { AnswersVaryings (points_from place.now types.now infos.now (seen_in state.old) ty binding) result }
+    ensures seen { OnOk result (seen_in state.new ≡ seen_with (seen_in state.old) (parts_of types.now infos.now ty binding)) }
+    ensures refused { OnErr result (seen_in state.new ≡ seen_in state.old) }
+{
+    let context = VaryingContext {
+        alloc,
+        place,
+        types,
+        infos,
+    };
+    match binding {
+        Some(binding) => check_bound_item(&context, state, ty, binding),
+        None => check_unbound_item(&context, state, ty),
+    }
+}
+
+/// An item with a binding. A refused call leaves the state as it was.
+fn check_bound_item(
+    context: &VaryingContext,
+    state: &mut VaryingState,
+    ty: Handle<tag::Type>,
+    binding: Binding,
+) -> Result<(), Refusal<VaryingError>>
+    requires ty { ty < length context.now.types.now }
+    requires infos { length context.now.infos.now ≡ length context.now.types.now }
+    requires types { NameEachOther context.now.types.now }
+    ensures fault { AnswersVaryings
+        (part_points context.now.place.now context.now.types.now context.now.infos.now (seen_in state.old)
+        (Bound ty binding)) result }
+    ensures seen { OnOk result (seen_in state.new ≡ seen_more (seen_in state.old) binding) }
+    ensures refused { OnErr result (seen_in state.new ≡ seen_in state.old) }
+{
+    check_bound(context, state, ty, binding)?;
+    state.put(binding)?;
+    Ok(())
+}
+
+/// An item without binding. A refused call leaves the state as it was.
+fn check_unbound_item(
+    context: &VaryingContext,
+    state: &mut VaryingState,
+    ty: Handle<tag::Type>,
+) -> Result<(), Refusal<VaryingError>>
+    requires ty { ty < length context.now.types.now }
+    requires infos { length context.now.infos.now ≡ length context.now.types.now }
+    requires types { NameEachOther context.now.types.now }
+    requires counts { All (λ t. MemberCountFits t.inner) context.now.types.now }
+    ensures fault { AnswersVaryings
+        (points_from context.now.place.now context.now.types.now context.now.infos.now (seen_in state.old)
+        ty None) result }
+    ensures seen { OnOk result
+        (seen_in state.new ≡ seen_with (seen_in state.old) (parts_of context.now.types.now context.now.infos.now ty None)) }
+    ensures refused { OnErr result (seen_in state.new ≡ seen_in state.old) }
+{
+    let TypeInner::Struct { members, .. } = context.inner(ty) else {
+        return check_unbound(context);
+    };
+    if context.is_shareable(ty) {
+        check_blend_sources(context, state)
+    } else {
+        check_struct(context, state, members.as_slice())
+    }
+}
+
+/// An item without binding that is no struct.
+fn check_unbound(context: &VaryingContext) -> Result<(), Refusal<VaryingError>>
+    ensures { AnswersVaryings ((not (checks_bindings context.now.place.now.flags), Itself MissingBinding) ∷ []) result }
+{
+    if context.place.flags.contains(ValidationFlags::BINDINGS) {
+        return Err(context.refusal(VaryingError::MissingBinding));
+    }
+    Ok(())
+}
+
+/// What is bound, where the state has seen these.
+fn check_bound(
+    context: &VaryingContext,
+    state: &VaryingState,
+    ty: Handle<tag::Type>,
+    binding: Binding,
+) -> Result<(), Refusal<VaryingError>>
+    requires ty { ty < length context.now.types.now }
+    requires infos { length context.now.infos.now ≡ length context.now.types.now }
+    requires types { NameEachOther context.now.types.now }
+    ensures { AnswersPoints
+        (bound_points context.now.place.now context.now.types.now context.now.infos.now (seen_in state.now) ty binding)
+        result }
+{
+    match binding {
+        Binding::BuiltIn(built_in) => check_built_in(context, state, ty, built_in),
+        Binding::Location {
+            location,
+            interpolation,
+            sampling,
+            blend_src,
+            per_primitive,
+        } => {
+            let at = Location {
+                location,
+                interpolation,
+                sampling,
+                blend_src,
+                per_primitive,
+            };
+            match check_location(context, state, ty, at) {
+                Ok(()) => Ok(()),
+                Err(fault) => Err(context.refusal(fault)),
+            }
+        }
+    }
+}
+
+/// A member of a struct, with its index. What it puts into the state and wasn't there goes last into `added`, before it is
+/// put there.
+fn check_member(
+    context: &VaryingContext,
+    state: &mut VaryingState,
+    added: &mut Vec<Binding>,
+    index: u32,
+    member: &StructMember,
+) -> Result<(), Refusal<VaryingError>>
+    requires ty { member.now.ty < length context.now.types.now }
+    requires infos { length context.now.infos.now ≡ length context.now.types.now }
+    requires types { NameEachOther context.now.types.now }
+    ensures fault { AnswersVaryings
+        (part_points context.now.place.now context.now.types.now context.now.infos.now (seen_in state.old)
+        (member_part index member.now.ty member.now.binding)) result }
+    ensures seen { OnOk result
+        (seen_in state.new ≡ seen_with (seen_in state.old) (member_part index member.now.ty member.now.binding ∷ [])) }
+    ensures added { seen_less (seen_in state.new) added.new.items ≡ seen_less (seen_in state.old) added.old.items }
+{
+    let Some(binding) = member.binding else {
+        if context.place.flags.contains(ValidationFlags::BINDINGS) {
+            return Err(context.refusal(VaryingError::MemberMissingBinding(index)));
+        }
+        return Ok(());
+    };
+    check_bound(context, state, member.ty, binding)?;
+    hold(state, added, binding)?;
+    Ok(())
+}
+
+/// Puts in what is bound. What wasn't there goes last into `added`, before it is put there.
+fn hold(
+    state: &mut VaryingState,
+    added: &mut Vec<Binding>,
+    binding: Binding,
+) -> Result<(), AllocError>
+    ensures seen { OnOk result (seen_in state.new ≡ seen_with (seen_in state.old) (Bound 0 binding ∷ [])) }
+    ensures added { seen_less (seen_in state.new) added.new.items ≡ seen_less (seen_in state.old) added.old.items }
+{
+    if state.has(binding) {
+        return Ok(());
+    }
+    added.push(binding)?;
+    state.put(binding)
+}
+
+/// The members of a struct, each behind those before it. What they put into the state goes into `added`.
+fn check_members(
+    context: &VaryingContext,
+    state: &mut VaryingState,
+    added: &mut Vec<Binding>,
+    members: &[StructMember],
+) -> Result<(), Refusal<VaryingError>>
+    requires members { All (λ m. m.ty < length context.now.types.now) members.now }
+    requires count { FitsCount (length members.now) }
+    requires infos { length context.now.infos.now ≡ length context.now.types.now }
+    requires types { NameEachOther context.now.types.now }
+    ensures fault { AnswersVaryings
+        (points_behind context.now.place.now context.now.types.now context.now.infos.now (seen_in state.old)
+        [] (member_parts 0 members.now)) result }
+    ensures seen { OnOk result (seen_in state.new ≡ seen_with (seen_in state.old) (member_parts 0 members.now)) }
+    ensures added { seen_less (seen_in state.new) added.new.items ≡ seen_less (seen_in state.old) added.old.items }
+{
+    for (index, member) in members.iter().enumerate() {
+        check_member(context, state, added, index as u32, member)?;
+    }
+    Ok(())
+}
+
+/// A struct without binding that isn't shared between stages. A refused call leaves the state as it was.
+fn check_struct(
+    context: &VaryingContext,
+    state: &mut VaryingState,
+    members: &[StructMember],
+) -> Result<(), Refusal<VaryingError>>
+    requires members { All (λ m. m.ty < length context.now.types.now) members.now }
+    requires count { FitsCount (length members.now) }
+    requires infos { length context.now.infos.now ≡ length context.now.types.now }
+    requires types { NameEachOther context.now.types.now }
+    ensures fault { AnswersVaryings
+        (points_behind context.now.place.now context.now.types.now context.now.infos.now (seen_in state.old)
+        [] (member_parts 0 members.now)) result }
+    ensures seen { OnOk result (seen_in state.new ≡ seen_with (seen_in state.old) (member_parts 0 members.now)) }
+    ensures refused { OnErr result (seen_in state.new ≡ seen_in state.old) }
+{
+    let mut added = Vec::new(context.alloc);
+    match check_members(context, state, &mut added, members) {
+        Ok(()) => Ok(()),
+        Err(refused) => {
+            take_back(state, added.as_slice());
+            Err(refused)
+        }
+    }
+}
+
+/// A struct without binding that is shared between stages, the two sources of a blend. A refused call leaves the state as
+/// it was.
+fn check_blend_sources(
+    context: &VaryingContext,
+    state: &mut VaryingState,
+) -> Result<(), Refusal<VaryingError>>
+    ensures fault { AnswersVaryings (blend_points context.now.place.now (seen_in state.old)) result }
+    ensures seen { OnOk result (seen_in state.new ≡ with_location (seen_in state.old) 0) }
+    ensures refused { OnErr result (seen_in state.new ≡ seen_in state.old) }
+{
+    let place = context.place;
+    if place.stage != ShaderStage::Fragment {
+        let fault = VaryingError::InvalidAttributeInStage("blend_src", place.stage);
+        return Err(context.refusal(fault));
+    }
+    if !place.output {
+        let fault = VaryingError::InvalidInputAttributeInStage("blend_src", place.stage);
+        return Err(context.refusal(fault));
+    }
+    if !may_take(place, state, 0) {
+        return Err(context.refusal(VaryingError::BindingCollision { location: 0 }));
+    }
+    state.put_location(0)?;
+    Ok(())
+}
+
+/// Takes back what is bound.
+fn take_back(state: &mut VaryingState, added: &[Binding])
+    ensures { seen_in state.new ≡ seen_less (seen_in state.old) added.now }
+{
+    for &binding in added {
+        state.take(binding);
+    }
+}

@@ -1,0 +1,11 @@
+//! What is known of the shader IR below function validation: kinds of expressions, infos of types, functions and modules, settings.
+#![tactic(auto)]
+
+pub mod proc;
+pub mod valid;
+
+pub use crate::proc::expression_kinds::{ExpressionKind, ExpressionKindTracker};
+pub use crate::valid::expression_error::ExpressionError;
+pub use crate::valid::info::{FunctionInfo, ModuleInfo};
+pub use crate::valid::settings::Settings;
+pub use crate::valid::types::{Disalignment, ImmediateError, TypeInfo};

@@ -1,0 +1,175 @@
+//! Sets of named bits in the IR. `bitflags` gives the operations; contracts see the bits as field `0`.
+
+ghost use Rattle.std.specs.Prelude.{◌≡◌, ⊤, [], ◌∷◌, codes};
+
+use crate::set_text::write_set;
+use bitflags::{Flag, Flags, bitflag_items};
+use std::fmt;
+
+/// What may be done with storage: bit 0 load, bit 1 store, bit 2 atomic operations.
+#[derive(Clone, Copy, PartialEq, Eq, PartialOrd, Ord, Hash)]
+pub struct StorageAccess(pub u8);
+
+bitflag_items! {
+    impl StorageAccess: u8 {
+        const LOAD = 0x1;
+        const STORE = 0x2;
+        const ATOMIC = 0x4;
+    }
+}
+
+impl fmt::Debug for StorageAccess {
+    fn fmt<W: fmt::Write>(&self, f: &mut fmt::Formatter<W>) -> fmt::Result {
+        write_set("StorageAccess", self, f)
+    }
+}
+
+impl Flags for StorageAccess {
+    ghost use Rattle.ir_flags.specs.Bits as bit;
+
+    type Bits = u8;
+
+    ghost exact = { ⊤ };
+
+    ghost table = { (codes "LOAD", bit.LOAD.0) ∷
+        (codes "STORE", bit.STORE.0) ∷
+        (codes "ATOMIC", bit.ATOMIC.0) ∷ [] };
+
+    ghost set_of = { λ p. p.0 };
+
+    fn flags<'a>() -> &'a [Flag<StorageAccess>] {
+        StorageAccess::FLAGS
+    }
+
+    fn bits(&self) -> u8 {
+        self.0
+    }
+
+    fn from_bits_retain(bits: u8) -> StorageAccess {
+        StorageAccess(bits)
+    }
+}
+
+impl StorageAccess {
+    ghost use Rattle.ir_flags.specs.Bits.{contains};
+
+    /// Whether it has all of these.
+    pub fn contains(self, some: StorageAccess) -> bool
+        ensures { result ≡ contains self.0 some.0 }
+    {
+        Flags::contains(&self, some)
+    }
+}
+
+/// Which memory a barrier orders: bit 0 storage, bit 1 work group, bit 2 subgroup, bit 3 textures.
+#[derive(Clone, Copy, PartialEq, Eq, PartialOrd, Ord, Hash)]
+pub struct Barrier(pub u8);
+
+bitflag_items! {
+    impl Barrier: u8 {
+        const STORAGE = 0x1;
+        const WORK_GROUP = 0x2;
+        const SUB_GROUP = 0x4;
+        const TEXTURE = 0x8;
+    }
+}
+
+impl fmt::Debug for Barrier {
+    fn fmt<W: fmt::Write>(&self, f: &mut fmt::Formatter<W>) -> fmt::Result {
+        write_set("Barrier", self, f)
+    }
+}
+
+impl Flags for Barrier {
+    ghost use Rattle.ir_flags.specs.Bits as bit;
+
+    type Bits = u8;
+
+    ghost exact = { ⊤ };
+
+    ghost table = { (codes "STORAGE", bit.STORAGE.0) ∷
+        (codes "WORK_GROUP", bit.WORK_GROUP.0) ∷
+        (codes "SUB_GROUP", bit.SUB_GROUP.0) ∷
+        (codes "TEXTURE", bit.TEXTURE.0) ∷ [] };
+
+    ghost set_of = { λ p. p.0 };
+
+    fn flags<'a>() -> &'a [Flag<Barrier>] {
+        Barrier::FLAGS
+    }
+
+    fn bits(&self) -> u8 {
+        self.0
+    }
+
+    fn from_bits_retain(bits: u8) -> Barrier {
+        Barrier(bits)
+    }
+}
+
+impl Barrier {
+    ghost use Rattle.ir_flags.specs.Bits.{contains};
+
+    /// Whether it has all of these.
+    pub fn contains(self, some: Barrier) -> bool
+        ensures { result ≡ contains self.0 some.0 }
+    {
+        Flags::contains(&self, some)
+    }
+}
+
+/// How a global is decorated in SPIR-V's terms: bit 0 `Coherent`, bit 1 `Volatile`.
+#[derive(Clone, Copy, PartialEq, Eq, PartialOrd, Ord, Hash)]
+pub struct MemoryDecorations(pub u8);
+
+bitflag_items! {
+    impl MemoryDecorations: u8 {
+        const COHERENT = 0x1;
+        const VOLATILE = 0x2;
+    }
+}
+
+impl fmt::Debug for MemoryDecorations {
+    fn fmt<W: fmt::Write>(&self, f: &mut fmt::Formatter<W>) -> fmt::Result {
+        write_set("MemoryDecorations", self, f)
+    }
+}
+
+impl Flags for MemoryDecorations {
+    ghost use Rattle.ir_flags.specs.Bits as bit;
+
+    type Bits = u8;
+
+    ghost exact = { ⊤ };
+
+    ghost table = { (codes "COHERENT", bit.COHERENT.0) ∷
+        (codes "VOLATILE", bit.VOLATILE.0) ∷ [] };
+
+    ghost set_of = { λ p. p.0 };
+
+    fn flags<'a>() -> &'a [Flag<MemoryDecorations>] {
+        MemoryDecorations::FLAGS
+    }
+
+    fn bits(&self) -> u8 {
+        self.0
+    }
+
+    fn from_bits_retain(bits: u8) -> MemoryDecorations {
+        MemoryDecorations(bits)
+    }
+}
+
+impl MemoryDecorations {
+    /// Both.
+    pub const ALL: MemoryDecorations = MemoryDecorations(0x3);
+
+    ghost use Rattle.ir_flags.specs.Bits.{contains};
+
+    /// Whether it has all of these.
+    pub fn contains(self, some: MemoryDecorations) -> bool
+        ensures { result ≡ contains self.0 some.0 }
+    {
+        Flags::contains(&self, some)
+    }
+}

@@ -1,0 +1,330 @@
+//! Sets of named bits of the validator. `bitflags` gives the operations; contracts see the bits as field `0`.
+
+ghost use Rattle.std.specs.Prelude.{◌≡◌, ⊤, [], ◌∷◌, codes};
+
+use crate::set_text::write_set;
+use bitflags::{Flag, Flags, bitflag_items};
+use std::fmt;
+
+/// Which checks are made, bit k for the k-th name from 0.
+#[derive(Clone, Copy, PartialEq, Eq, PartialOrd, Ord, Hash)]
+pub struct ValidationFlags(pub u8);
+
+bitflag_items! {
+    impl ValidationFlags: u8 {
+        const EXPRESSIONS = 0x1;
+        const BLOCKS = 0x2;
+        const STRUCT_LAYOUTS = 0x4;
+        const BINDINGS = 0x8;
+    }
+}
+
+impl fmt::Debug for ValidationFlags {
+    fn fmt<W: fmt::Write>(&self, f: &mut fmt::Formatter<W>) -> fmt::Result {
+        write_set("ValidationFlags", self, f)
+    }
+}
+
+impl Flags for ValidationFlags {
+    ghost use Rattle.ir_flags.specs.Bits as bit;
+
+    type Bits = u8;
+
+    ghost exact = { ⊤ };
+
+    ghost table = { (codes "EXPRESSIONS", bit.EXPRESSIONS.0) ∷
+        (codes "BLOCKS", bit.BLOCKS.0) ∷
+        (codes "STRUCT_LAYOUTS", bit.STRUCT_LAYOUTS.0) ∷
+        (codes "BINDINGS", bit.BINDINGS.0) ∷ [] };
+
+    ghost set_of = { λ p. p.0 };
+
+    fn flags<'a>() -> &'a [Flag<ValidationFlags>] {
+        ValidationFlags::FLAGS
+    }
+
+    fn bits(&self) -> u8 {
+        self.0
+    }
+
+    fn from_bits_retain(bits: u8) -> ValidationFlags {
+        ValidationFlags(bits)
+    }
+}
+
+impl ValidationFlags {
+    /// Every check.
+    pub const ALL: ValidationFlags = ValidationFlags(0xf);
+
+    ghost use Rattle.ir_flags.specs.Bits.{contains};
+
+    /// Whether it has all of these.
+    pub fn contains(self, some: ValidationFlags) -> bool
+        ensures { result ≡ contains self.0 some.0 }
+    {
+        Flags::contains(&self, some)
+    }
+}
+
+/// What a type can be used for, bit k for the k-th name from 0.
+#[derive(Clone, Copy, PartialEq, Eq, PartialOrd, Ord, Hash)]
+pub struct TypeFlags(pub u8);
+
+bitflag_items! {
+    impl TypeFlags: u8 {
+        const DATA = 0x1;
+        const SIZED = 0x2;
+        const COPY = 0x4;
+        const IO_SHAREABLE = 0x8;
+        const HOST_SHAREABLE = 0x10;
+        const CREATION_RESOLVED = 0x20;
+        const ARGUMENT = 0x40;
+        const CONSTRUCTIBLE = 0x80;
+    }
+}
+
+impl fmt::Debug for TypeFlags {
+    fn fmt<W: fmt::Write>(&self, f: &mut fmt::Formatter<W>) -> fmt::Result {
+        write_set("TypeFlags", self, f)
+    }
+}
+
+impl Flags for TypeFlags {
+    ghost use Rattle.ir_flags.specs.Bits as bit;
+
+    type Bits = u8;
+
+    ghost exact = { ⊤ };
+
+    ghost table = { (codes "DATA", bit.DATA.0) ∷
+        (codes "SIZED", bit.SIZED.0) ∷
+        (codes "COPY", bit.COPY.0) ∷
+        (codes "IO_SHAREABLE", bit.IO_SHAREABLE.0) ∷
+        (codes "HOST_SHAREABLE", bit.HOST_SHAREABLE.0) ∷
+        (codes "CREATION_RESOLVED", bit.CREATION_RESOLVED.0) ∷
+        (codes "ARGUMENT", bit.ARGUMENT.0) ∷
+        (codes "CONSTRUCTIBLE", bit.CONSTRUCTIBLE.0) ∷ [] };
+
+    ghost set_of = { λ p. p.0 };
+
+    fn flags<'a>() -> &'a [Flag<TypeFlags>] {
+        TypeFlags::FLAGS
+    }
+
+    fn bits(&self) -> u8 {
+        self.0
+    }
+
+    fn from_bits_retain(bits: u8) -> TypeFlags {
+        TypeFlags(bits)
+    }
+}
+
+impl TypeFlags {
+    /// Every flag.
+    pub const ALL: TypeFlags = TypeFlags(0xff);
+
+    ghost use Rattle.ir_flags.specs.Bits.{contains};
+
+    /// Whether it has all of these.
+    pub fn contains(self, some: TypeFlags) -> bool
+        ensures { result ≡ contains self.0 some.0 }
+    {
+        Flags::contains(&self, some)
+    }
+}
+
+/// How a function uses a global, bit k for the k-th name from 0.
+#[derive(Clone, Copy, PartialEq, Eq, PartialOrd, Ord, Hash)]
+pub struct GlobalUse(pub u8);
+
+bitflag_items! {
+    impl GlobalUse: u8 {
+        const READ = 0x1;
+        const WRITE = 0x2;
+        const QUERY = 0x4;
+        const ATOMIC = 0x8;
+    }
+}
+
+impl fmt::Debug for GlobalUse {
+    fn fmt<W: fmt::Write>(&self, f: &mut fmt::Formatter<W>) -> fmt::Result {
+        write_set("GlobalUse", self, f)
+    }
+}
+
+impl Flags for GlobalUse {
+    ghost use Rattle.ir_flags.specs.Bits as bit;
+
+    type Bits = u8;
+
+    ghost exact = { ⊤ };
+
+    ghost table = { (codes "READ", bit.READ.0) ∷
+        (codes "WRITE", bit.WRITE.0) ∷
+        (codes "QUERY", bit.QUERY.0) ∷
+        (codes "ATOMIC", bit.ATOMIC_USE.0) ∷ [] };
+
+    ghost set_of = { λ p. p.0 };
+
+    fn flags<'a>() -> &'a [Flag<GlobalUse>] {
+        GlobalUse::FLAGS
+    }
+
+    fn bits(&self) -> u8 {
+        self.0
+    }
+
+    fn from_bits_retain(bits: u8) -> GlobalUse {
+        GlobalUse(bits)
+    }
+}
+
+impl GlobalUse {
+    ghost use Rattle.ir_flags.specs.Bits.{contains};
+
+    /// Whether it has all of these.
+    pub fn contains(self, some: GlobalUse) -> bool
+        ensures { result ≡ contains self.0 some.0 }
+    {
+        Flags::contains(&self, some)
+    }
+}
+
+/// The groups of subgroup operations that a target has, bit k for the k-th name from 0.
+#[derive(Clone, Copy, PartialEq, Eq, PartialOrd, Ord, Hash)]
+pub struct SubgroupOperationSet(pub u8);
+
+bitflag_items! {
+    impl SubgroupOperationSet: u8 {
+        const BASIC = 0x1;
+        const VOTE = 0x2;
+        const ARITHMETIC = 0x4;
+        const BALLOT = 0x8;
+        const SHUFFLE = 0x10;
+        const SHUFFLE_RELATIVE = 0x20;
+        const QUAD = 0x40;
+    }
+}
+
+impl fmt::Debug for SubgroupOperationSet {
+    fn fmt<W: fmt::Write>(&self, f: &mut fmt::Formatter<W>) -> fmt::Result {
+        write_set("SubgroupOperationSet", self, f)
+    }
+}
+
+impl Flags for SubgroupOperationSet {
+    ghost use Rattle.ir_flags.specs.Bits as bit;
+
+    type Bits = u8;
+
+    ghost exact = { ⊤ };
+
+    ghost table = { (codes "BASIC", bit.BASIC.0) ∷
+        (codes "VOTE", bit.VOTE.0) ∷
+        (codes "ARITHMETIC", bit.ARITHMETIC.0) ∷
+        (codes "BALLOT", bit.BALLOT.0) ∷
+        (codes "SHUFFLE", bit.SHUFFLE.0) ∷
+        (codes "SHUFFLE_RELATIVE", bit.SHUFFLE_RELATIVE.0) ∷
+        (codes "QUAD", bit.QUAD.0) ∷ [] };
+
+    ghost set_of = { λ p. p.0 };
+
+    fn flags<'a>() -> &'a [Flag<SubgroupOperationSet>] {
+        SubgroupOperationSet::FLAGS
+    }
+
+    fn bits(&self) -> u8 {
+        self.0
+    }
+
+    fn from_bits_retain(bits: u8) -> SubgroupOperationSet {
+        SubgroupOperationSet(bits)
+    }
+}
+
+impl SubgroupOperationSet {
+    /// Every group of operations.
+    pub const ALL: SubgroupOperationSet = SubgroupOperationSet(0x7f);
+
+    ghost use Rattle.ir_flags.specs.Bits.{contains};
+
+    /// Whether it has all of these.
+    pub fn contains(self, some: SubgroupOperationSet) -> bool
+        ensures { result ≡ contains self.0 some.0 }
+    {
+        Flags::contains(&self, some)
+    }
+}
+
+/// The stages that a function may run in, bit k for the k-th stage from 0; COMPUTE_LIKE are compute, mesh and task.
+#[derive(Clone, Copy, PartialEq, Eq, PartialOrd, Ord, Hash)]
+pub struct ShaderStages(pub u16);
+
+bitflag_items! {
+    impl ShaderStages: u16 {
+        const VERTEX = 0x1;
+        const FRAGMENT = 0x2;
+        const COMPUTE = 0x4;
+        const MESH = 0x8;
+        const TASK = 0x10;
+        const RAY_GENERATION = 0x20;
+        const ANY_HIT = 0x40;
+        const CLOSEST_HIT = 0x80;
+        const MISS = 0x100;
+        const COMPUTE_LIKE = 0x1c;
+    }
+}
+
+impl fmt::Debug for ShaderStages {
+    fn fmt<W: fmt::Write>(&self, f: &mut fmt::Formatter<W>) -> fmt::Result {
+        write_set("ShaderStages", self, f)
+    }
+}
+
+impl Flags for ShaderStages {
+    ghost use Rattle.ir_flags.specs.Bits as bit;
+
+    type Bits = u16;
+
+    ghost exact = { ⊤ };
+
+    ghost table = { (codes "VERTEX", bit.VERTEX.0) ∷
+        (codes "FRAGMENT", bit.FRAGMENT.0) ∷
+        (codes "COMPUTE", bit.COMPUTE.0) ∷
+        (codes "MESH", bit.MESH.0) ∷
+        (codes "TASK", bit.TASK.0) ∷
+        (codes "RAY_GENERATION", bit.RAY_GENERATION.0) ∷
+        (codes "ANY_HIT", bit.ANY_HIT.0) ∷
+        (codes "CLOSEST_HIT", bit.CLOSEST_HIT.0) ∷
+        (codes "MISS", bit.MISS.0) ∷
+        (codes "COMPUTE_LIKE", bit.COMPUTE_LIKE.0) ∷ [] };
+
+    ghost set_of = { λ p. p.0 };
+
+    fn flags<'a>() -> &'a [Flag<ShaderStages>] {
+        ShaderStages::FLAGS
+    }
+
+    fn bits(&self) -> u16 {
+        self.0
+    }
+
+    fn from_bits_retain(bits: u16) -> ShaderStages {
+        ShaderStages(bits)
+    }
+}
+
+impl ShaderStages {
+    /// Every stage.
+    pub const ALL: ShaderStages = ShaderStages(0x1ff);
+
+    ghost use Rattle.ir_flags.specs.Bits.{contains};
+
+    /// Whether it has all of these.
+    pub fn contains(self, some: ShaderStages) -> bool
+        ensures { result ≡ contains self.0 some.0 }
+    {
+        Flags::contains(&self, some)
+    }
+}

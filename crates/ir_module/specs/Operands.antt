@@ -1,0 +1,48 @@
+-- The expressions that an expression is made from.
+use Rattle.std.specs.Prelude.{ℕ, List, [], ◌∷◌}
+use Rattle.ir_module.specs.declared.expressions.Expression.{Expression}
+use Rattle.ir_module.specs.declared.expressions.Expression.TheVariants as e
+
+-- in the order in which they are written
+abbrev pub operands_of : Expression → List ℕ
+operands_of (e.Compose t hs) = hs
+operands_of (e.Access b i) = b ∷ i ∷ []
+operands_of (e.AccessIndex b i) = b ∷ []
+operands_of (e.Load p) = p ∷ []
+operands_of (e.Splat hs d) = hs
+operands_of (e.Swizzle hs d) = hs
+operands_of (e.ImageSample hs d) = hs
+operands_of (e.ImageLoad hs d) = hs
+operands_of (e.ImageQuery hs d) = hs
+operands_of (e.Unary hs d) = hs
+operands_of (e.Binary hs d) = hs
+operands_of (e.Select hs d) = hs
+operands_of (e.Derivative hs d) = hs
+operands_of (e.Relational hs d) = hs
+operands_of (e.Math hs d) = hs
+operands_of (e.As hs d) = hs
+operands_of (e.ArrayLength hs d) = hs
+operands_of (e.RayQueryGetIntersection hs d) = hs
+operands_of (e.RayQueryVertexPositions hs d) = hs
+operands_of (e.CooperativeLoad hs d) = hs
+operands_of (e.CooperativeMultiplyAdd hs d) = hs
+operands_of (e.Literal l) = []
+operands_of (e.Constant h) = []
+operands_of (e.Override h) = []
+operands_of (e.ZeroValue t) = []
+operands_of (e.FunctionArgument i) = []
+operands_of (e.GlobalVariable h) = []
+operands_of (e.LocalVariable h) = []
+operands_of (e.CallResult f) = []
+operands_of (e.AtomicResult t c) = []
+operands_of (e.WorkGroupUniformLoadResult t) = []
+operands_of e.RayQueryProceedResult = []
+operands_of e.SubgroupBallotResult = []
+operands_of (e.SubgroupOperationResult t) = []
+
+-- those that an expression holds as a list
+abbrev pub listed_operands : Expression → List ℕ
+listed_operands (e.Access b i) = []
+listed_operands (e.AccessIndex b i) = []
+listed_operands (e.Load p) = []
+listed_operands x = operands_of x

@@ -1,0 +1,134 @@
+//! Functions.
+
+ghost use Rattle.std.specs.Prelude.{◌≡◌, IfOk};
+ghost use Rattle.ir_module.specs.Empty.{empty_function};
+
+use crate::expressions::Expression;
+use crate::statements::Block;
+use ir_arena::arena::Arena;
+use ir_arena::duplicate::{Duplicate, duplicates};
+use ir_arena::handle::{Handle, Tagged};
+use ir_arena::sequence::Sequence;
+use ir_arena::tag;
+use ir_types::name::{Name, clone_name};
+use ir_types::types::Binding;
+use std::alloc::{AllocError, Global};
+
+/// A variable of a function, of a type of the module. `init` is an expression of the function; in a module that passed,
+/// one that is known before the function runs, and of the variable's type.
+#[derive(PartialEq, Debug, Drop)]
+pub struct LocalVariable {
+    pub name: Option<Name>,
+    pub ty: Handle<tag::Type>,
+    pub init: Option<Handle<tag::Expression>>,
+}
+
+impl Tagged for LocalVariable {
+    type Tag = tag::LocalVariable;
+}
+
+/// An argument of a function, of a type of the module.
+#[derive(PartialEq, Debug, Drop)]
+pub struct FunctionArgument {
+    pub name: Option<Name>,
+    pub ty: Handle<tag::Type>,
+    /// In a module that passed, only an argument of an entry point's function has one.
+    pub binding: Option<Binding>,
+}
+
+/// What a function returns: a value of a type of the module.
+#[derive(Clone, Copy, PartialEq, Eq, Hash, Debug)]
+pub struct FunctionResult {
+    pub ty: Handle<tag::Type>,
+    /// In a module that passed, only the result of an entry point's function has one.
+    pub binding: Option<Binding>,
+}
+
+/// A function, of a module or of an entry point.
+#[derive(Drop)]
+pub struct Function {
+    /// `Expression::FunctionArgument` has the place in this list, from 0.
+    pub arguments: Sequence<FunctionArgument>,
+    pub result: Option<FunctionResult>,
+    pub local_variables: Arena<LocalVariable>,
+    /// In a module that passed, each names only earlier ones.
+    pub expressions: Arena<Expression>,
+    pub body: Block,
+}
+
+impl Tagged for Function {
+    type Tag = tag::Function;
+}
+
+impl LocalVariable {
+    /// An equal variable.
+    pub fn clone(&self, alloc: Global) -> Result<Self, AllocError>
+        ensures { IfOk result (λ made. made ≡ self.now) }
+    {
+        Ok(LocalVariable {
+            name: clone_name(alloc, &self.name)?,
+            ty: self.ty,
+            init: self.init,
+        })
+    }
+}
+
+impl FunctionArgument {
+    /// An equal argument.
+    pub fn clone(&self, alloc: Global) -> Result<Self, AllocError>
+        ensures { IfOk result (λ made. made ≡ self.now) }
+    {
+        Ok(FunctionArgument {
+            name: clone_name(alloc, &self.name)?,
+            ty: self.ty,
+            binding: self.binding,
+        })
+    }
+}
+
+impl Duplicate for LocalVariable {
+    fn duplicate(&self, alloc: Global) -> Result<Self, AllocError> {
+        self.clone(alloc)
+    }
+}
+
+impl Duplicate for FunctionArgument {
+    fn duplicate(&self, alloc: Global) -> Result<Self, AllocError> {
+        self.clone(alloc)
+    }
+}
+
+impl Function {
+    /// A function without arguments, result, variables, expressions and statements, which keeps the allocator.
+    pub fn new(alloc: Global) -> Self
+        ensures { result ≡ empty_function }
+    {
+        Function {
+            arguments: Sequence::new(alloc),
+            result: None,
+            local_variables: Arena::new(alloc),
+            expressions: Arena::new(alloc),
+            body: Block::new(alloc),
+        }
+    }
+
+    /// An equal function.
+    pub fn clone(&self, alloc: Global) -> Result<Self, AllocError>
+        ensures { IfOk result (λ made. made ≡ self.now) }
+    {
+        let arguments = duplicates(alloc, self.arguments.as_slice())?;
+        Ok(Function {
+            arguments: Sequence::from(arguments),
+            result: self.result,
+            local_variables: self.local_variables.clone(alloc)?,
+            expressions: self.expressions.clone(alloc)?,
+            body: self.body.clone(alloc)?,
+        })
+    }
+}
+
+impl Duplicate for Function {
+    fn duplicate(&self, alloc: Global) -> Result<Self, AllocError> {
+        self.clone(alloc)
+    }
+}

@@ -1,0 +1,301 @@
+//! Questions about types. None takes memory.
+
+ghost use Rattle.std.specs.Prelude.{◌≡◌, ◌<◌, length, unwrap_or};
+ghost use Rattle.ir_types.specs.Types.{scalar_of, scalar_kind_of, pointer_space_of, pointer_base_of, image_coordinates_of, access_of, NamesTypesBelow, NameEachOther, ResolutionFits, value_pointer_of};
+ghost use Rattle.ir_types.specs.TypeTests.{is_equivalent, is_exchange_struct, is_scalar_member, is_same_type, SameIsDecided, EquivalentIsDecided, ExchangeStructIsDecided, ScalarIsDecided, ScalarMemberIsDecided};
+ghost use Rattle.ir_types.specs.Formats.{format_kind, format_scalar};
+
+use crate::types::{
+    AddressSpace, ImageDimension, Scalar, ScalarKind, StorageFormat, StructMember, Type, TypeInner,
+    VectorSize,
+};
+use crate::typifier::TypeResolution;
+use crate::unique_arena::UniqueArena;
+use bitflags::Flags;
+use ir_flags::ir::StorageAccess;
+
+impl TypeInner {
+    /// The scalar that a scalar, a vector or a matrix is made of.
+    pub fn scalar(&self) -> Option<Scalar>
+        ensures { result ≡ scalar_of self.now }
+    {
+        match self {
+            TypeInner::Scalar(scalar)
+            | TypeInner::Vector { scalar, .. }
+            | TypeInner::Matrix { scalar, .. }
+            | TypeInner::CooperativeMatrix { scalar, .. } => Some(*scalar),
+            _ => None,
+        }
+    }
+
+    /// The kind of that scalar.
+    pub fn scalar_kind(&self) -> Option<ScalarKind>
+        ensures { result ≡ scalar_kind_of self.now }
+    {
+        match self.scalar() {
+            Some(scalar) => Some(scalar.kind),
+            None => None,
+        }
+    }
+
+    /// The address space that a pointer points into.
+    pub fn pointer_space(&self) -> Option<AddressSpace>
+        ensures { result ≡ pointer_space_of self.now }
+    {
+        match self {
+            TypeInner::Pointer { space, .. } | TypeInner::ValuePointer { space, .. } => Some(
+                *space,
+            ),
+            _ => None,
+        }
+    }
+
+    /// The type that a pointer points to.
+    pub fn pointer_base_type(&self) -> Option<TypeResolution>
+        ensures { result ≡ pointer_base_of self.now }
+    {
+        match *self {
+            TypeInner::Pointer { base, .. } => Some(TypeResolution::Handle(base)),
+            TypeInner::ValuePointer {
+                size: None,
+                scalar,
+                ..
+            } => Some(TypeResolution::Value(TypeInner::Scalar(scalar))),
+            TypeInner::ValuePointer {
+                size: Some(size),
+                scalar,
+                ..
+            } => Some(TypeResolution::Value(TypeInner::Vector { size, scalar })),
+            _ => None,
+        }
+    }
+
+    /// The dimension of the storage images that this type can be the coordinate of.
+    pub fn image_storage_coordinates(&self) -> Option<ImageDimension>
+        ensures { result ≡ image_coordinates_of self.now }
+    {
+        match *self {
+            TypeInner::Scalar(
+                Scalar {
+                    kind: ScalarKind::Sint | ScalarKind::Uint,
+                    ..
+                },
+            ) => Some(ImageDimension::D1),
+            TypeInner::Vector {
+                size: VectorSize::Bi,
+                scalar: Scalar {
+                    kind: ScalarKind::Sint | ScalarKind::Uint,
+                    ..
+                },
+            } => Some(ImageDimension::D2),
+            TypeInner::Vector {
+                size: VectorSize::Tri,
+                scalar: Scalar {
+                    kind: ScalarKind::Sint | ScalarKind::Uint,
+                    ..
+                },
+            } => Some(ImageDimension::D3),
+            _ => None,
+        }
+    }
+
+    /// The value pointer that stands for a pointer to a scalar or a vector; `None` where the type is its own
+    /// canonical form.
+    pub fn canonical_form(&self, types: &UniqueArena<Type>) -> Option<TypeInner>
+        requires { NamesTypesBelow (length types.now) self.now }
+        ensures { result ≡ value_pointer_of types.now self.now }
+    {
+        let TypeInner::Pointer { base, space } = self else {
+            return None;
+        };
+        match types[*base].inner {
+            TypeInner::Scalar(scalar) => Some(TypeInner::ValuePointer {
+                size: None,
+                scalar,
+                space: *space,
+            }),
+            TypeInner::Vector { size, scalar } => Some(TypeInner::ValuePointer {
+                size: Some(size),
+                scalar,
+                space: *space,
+            }),
+            _ => None,
+        }
+    }
+
+    /// Whether the canonical forms are equal. Only a pointer may have another than itself.
+    pub fn equivalent(&self, other: &TypeInner, types: &UniqueArena<Type>) -> bool
+        requires first { NamesTypesBelow (length types.now) self.now }
+        requires second { NamesTypesBelow (length types.now) other.now }
+        ensures { result ≡ is_equivalent types.now self.now other.now }
+    {
+        match self {
+            TypeInner::Pointer { .. } => self.has_form_of(other, types),
+            _ => match other {
+                TypeInner::Pointer { .. } => self.has_form_of(other, types),
+                _ => *self == *other,
+            },
+        }
+    }
+
+    /// Whether the canonical forms, which are made, are equal.
+    #[inline(never)]
+    fn has_form_of(&self, other: &TypeInner, types: &UniqueArena<Type>) -> bool
+        requires first { NamesTypesBelow (length types.now) self.now }
+        requires second { NamesTypesBelow (length types.now) other.now }
+        ensures { result ≡ is_equivalent types.now self.now other.now }
+    {
+        let own_form = self.canonical_form(types);
+        let other_form = other.canonical_form(types);
+        *self.or_form(&own_form) == *other.or_form(&other_form)
+    }
+
+    /// A form that was made, or else the type itself.
+    fn or_form<'a>(&'a self, form: &'a Option<TypeInner>) -> &'a TypeInner
+        ensures { result.now ≡ unwrap_or form.now self.now }
+    {
+        match form {
+            Some(form) => form,
+            None => self,
+        }
+    }
+
+    /// Whether this is the struct that an atomic compare exchange of `scalar` gives: `old_value` of that scalar and
+    /// `exchanged`, a bool, in this order and nothing else.
+    #[tactic(auto, unfolding(crate::specs::TypeTests::is_exchange_struct))]
+    pub fn is_compare_exchange_struct(&self, scalar: Scalar, types: &UniqueArena<Type>) -> bool
+        requires { NamesTypesBelow (length types.now) self.now }
+        ensures { result ≡ is_exchange_struct types.now scalar self.now }
+    {
+        let TypeInner::Struct { members, .. } = self else {
+            return false;
+        };
+        match members.as_slice() {
+            [old, exchanged] => {
+                is_scalar_member(old, "old_value", scalar, types)
+                    && is_scalar_member(exchanged, "exchanged", Scalar::BOOL, types)
+            }
+            _ => false,
+        }
+    }
+}
+
+/// Whether a member has this name and this scalar as its type.
+fn is_scalar_member(
+    member: &StructMember,
+    name: &str,
+    scalar: Scalar,
+    types: &UniqueArena<Type>,
+) -> bool
+    requires { member.now.ty < length types.now }
+    ensures { result ≡ is_scalar_member types.now name.now scalar member.now }
+{
+    match &member.name {
+        Some(member_name) => member_name.as_str() == name
+            && types[member.ty].inner == TypeInner::Scalar(scalar),
+        None => false,
+    }
+}
+
+/// Whether two resolved types are the same: where the first is the handle of a struct the handles are equal, else
+/// the canonical forms.
+#[inline]
+#[tactic(auto, unfolding(crate::specs::TypeTests::is_same_type))]
+pub fn compare_types(
+    first: &TypeResolution,
+    second: &TypeResolution,
+    types: &UniqueArena<Type>,
+) -> bool
+    requires first { ResolutionFits (length types.now) first.now }
+    requires second { ResolutionFits (length types.now) second.now }
+    requires types { NameEachOther types.now }
+    ensures { result ≡ is_same_type types.now first.now second.now }
+{
+    let inner = match first {
+        TypeResolution::Value(inner) => inner,
+        TypeResolution::Handle(handle) => match &types[*handle].inner {
+            TypeInner::Struct { .. } => return match second {
+                TypeResolution::Handle(other) => handle == other,
+                TypeResolution::Value(_) => false,
+            },
+            inner => inner,
+        },
+    };
+    inner.equivalent(second.inner_with(types), types)
+}
+
+/// The tests of types that compute say what the words for them say.
+pub fn type_tests_law()
+    ensures same { SameIsDecided }
+    ensures equivalent { EquivalentIsDecided }
+    ensures exchange_struct { ExchangeStructIsDecided }
+    ensures scalar { ScalarIsDecided }
+    ensures scalar_member { ScalarMemberIsDecided }
+{}
+
+impl AddressSpace {
+    /// What may be done in the address space.
+    pub fn access(self) -> StorageAccess
+        ensures { result ≡ access_of self }
+    {
+        match self {
+            AddressSpace::Function
+            | AddressSpace::Private
+            | AddressSpace::WorkGroup
+            | AddressSpace::TaskPayload
+            | AddressSpace::RayPayload
+            | AddressSpace::IncomingRayPayload => StorageAccess::LOAD.union(StorageAccess::STORE),
+            AddressSpace::Uniform | AddressSpace::Handle | AddressSpace::Immediate => {
+                StorageAccess::LOAD
+            }
+            AddressSpace::Storage { access } => access,
+        }
+    }
+}
+
+/// The kind of what a texel of a storage image holds.
+impl From<StorageFormat> for ScalarKind {
+    ghost from_gives = { λ format kind. kind ≡ format_kind format };
+
+    fn from(format: StorageFormat) -> ScalarKind {
+        use StorageFormat as F;
+        match format {
+            F::R8Uint
+            | F::Rg8Uint
+            | F::Rgba8Uint
+            | F::R16Uint
+            | F::Rg16Uint
+            | F::Rgba16Uint
+            | F::R32Uint
+            | F::Rg32Uint
+            | F::Rgba32Uint
+            | F::Rgb10a2Uint
+            | F::R64Uint => ScalarKind::Uint,
+            F::R8Sint
+            | F::Rg8Sint
+            | F::Rgba8Sint
+            | F::R16Sint
+            | F::Rg16Sint
+            | F::Rgba16Sint
+            | F::R32Sint
+            | F::Rg32Sint
+            | F::Rgba32Sint => ScalarKind::Sint,
+            _ => ScalarKind::Float,
+        }
+    }
+}
+
+/// The scalar that a texel of a storage image holds.
+impl From<StorageFormat> for Scalar {
+    ghost from_gives = { λ format scalar. scalar ≡ format_scalar format };
+
+    fn from(format: StorageFormat) -> Scalar {
+        Scalar {
+            kind: ScalarKind::from(format),
+            width: match format {
+                StorageFormat::R64Uint => 8,
+                _ => 4,
+            },
+        }
+    }
+}

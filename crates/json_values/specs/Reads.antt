@@ -1,0 +1,26 @@
+-- What a reading answers.
+use Rattle.std.specs.Borrow.{Bor}
+use Rattle.std.specs.Prelude.{◌≡◌, ℕ, List, map, Option, Some, None, Result, Ok, Err}
+use Rattle.serde_json.specs.Data.{Items}
+use Rattle.serde_json.specs.View.{items_view}
+use Rattle.serde_json.specs.declared.value.Value.{Value}
+use Rattle.json_values.specs.declared.read.error.ReadError.{ReadError}
+use Rattle.json_values.specs.Failures.{IsUnreadable}
+
+-- It is what the value stands for, and the value is unreadable only where it stands for nothing; or there was no memory.
+abbrev pub Reads : {T : Type 0} → Option T → Result T ReadError → Type 0
+Reads o (Ok x) = o ≡ Some x
+Reads o (Err e) = IsUnreadable e → o ≡ None
+
+-- the same of the values of a list
+abbrev pub ReadsElements : Option Items → Result (Bor (List Value)) ReadError → Type 0
+ReadsElements o (Ok x) = o ≡ Some (items_view x.now)
+ReadsElements o (Err e) = IsUnreadable e → o ≡ None
+
+-- the texts of a list
+abbrev pub texts_of : List (Bor (List ℕ)) → List (List ℕ)
+texts_of names = map (λ n. n.now) names
+
+-- a table as its texts and what stands beside them
+abbrev pub rows_of : {T : Type 0} → List (Bor (List ℕ) × T) → List (List ℕ × T)
+rows_of rows = map (λ r. (r.0.now, r.1)) rows

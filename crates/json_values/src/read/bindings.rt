@@ -1,0 +1,175 @@
+//! What inputs and outputs of stages are bound to.
+
+ghost use Rattle.serde_json.specs.View.{view};
+ghost use Rattle.json_values.specs.Reads.{Reads};
+ghost use Rattle.json_values.specs.Document.Bindings.{binding_of, built_in_of, interpolation_of, location_of, sampling_of};
+
+use crate::read::error::ReadError;
+use crate::read::from_json::FromJson;
+use crate::read::variant::{Held, NO_NAMES, Variant, read_name, read_variant};
+use ir_types::{Binding, BuiltIn, Interpolation, Sampling};
+use serde_json::Value;
+use std::alloc::Global;
+
+/// The built-ins of which no more is said.
+const BUILT_INS: [(&str, BuiltIn); 47] = [
+    ("BaseInstance", BuiltIn::BaseInstance),
+    ("BaseVertex", BuiltIn::BaseVertex),
+    ("VertexIndex", BuiltIn::VertexIndex),
+    ("InstanceIndex", BuiltIn::InstanceIndex),
+    ("DrawIndex", BuiltIn::DrawIndex),
+    ("ClipDistances", BuiltIn::ClipDistances),
+    ("CullDistance", BuiltIn::CullDistance),
+    ("PointSize", BuiltIn::PointSize),
+    ("PointCoord", BuiltIn::PointCoord),
+    ("ViewIndex", BuiltIn::ViewIndex),
+    ("FragDepth", BuiltIn::FragDepth),
+    ("FrontFacing", BuiltIn::FrontFacing),
+    ("PrimitiveIndex", BuiltIn::PrimitiveIndex),
+    ("SampleIndex", BuiltIn::SampleIndex),
+    ("SampleMask", BuiltIn::SampleMask),
+    ("LocalInvocationIndex", BuiltIn::LocalInvocationIndex),
+    ("GlobalInvocationId", BuiltIn::GlobalInvocationId),
+    ("LocalInvocationId", BuiltIn::LocalInvocationId),
+    ("WorkGroupId", BuiltIn::WorkGroupId),
+    ("WorkGroupSize", BuiltIn::WorkGroupSize),
+    ("NumWorkGroups", BuiltIn::NumWorkGroups),
+    ("NumSubgroups", BuiltIn::NumSubgroups),
+    ("SubgroupId", BuiltIn::SubgroupId),
+    ("SubgroupSize", BuiltIn::SubgroupSize),
+    ("SubgroupInvocationId", BuiltIn::SubgroupInvocationId),
+    ("CullPrimitive", BuiltIn::CullPrimitive),
+    ("PointIndex", BuiltIn::PointIndex),
+    ("LineIndices", BuiltIn::LineIndices),
+    ("TriangleIndices", BuiltIn::TriangleIndices),
+    ("MeshTaskSize", BuiltIn::MeshTaskSize),
+    ("RayInvocationId", BuiltIn::RayInvocationId),
+    ("NumRayInvocations", BuiltIn::NumRayInvocations),
+    ("InstanceCustomData", BuiltIn::InstanceCustomData),
+    ("GeometryIndex", BuiltIn::GeometryIndex),
+    ("HitKind", BuiltIn::HitKind),
+    ("WorldRayOrigin", BuiltIn::WorldRayOrigin),
+    ("WorldRayDirection", BuiltIn::WorldRayDirection),
+    ("ObjectRayOrigin", BuiltIn::ObjectRayOrigin),
+    ("ObjectRayDirection", BuiltIn::ObjectRayDirection),
+    ("RayTmin", BuiltIn::RayTmin),
+    ("RayTCurrentMax", BuiltIn::RayTCurrentMax),
+    ("ObjectToWorld", BuiltIn::ObjectToWorld),
+    ("WorldToObject", BuiltIn::WorldToObject),
+    ("VertexCount", BuiltIn::VertexCount),
+    ("PrimitiveCount", BuiltIn::PrimitiveCount),
+    ("Vertices", BuiltIn::Vertices),
+    ("Primitives", BuiltIn::Primitives),
+];
+
+/// The built-ins of which more is said.
+#[derive(Clone, Copy)]
+enum BuiltInName {
+    Position,
+    Barycentric,
+}
+
+/// Their names.
+const HOLDING_BUILT_INS: [(&str, BuiltInName); 2] = [
+    ("Position", BuiltInName::Position),
+    ("Barycentric", BuiltInName::Barycentric),
+];
+
+impl FromJson for BuiltIn {
+    ghost stands_for = { built_in_of };
+
+    fn from_json(alloc: Global, value: &Value) -> Result<Self, ReadError> {
+        match read_variant(alloc, value, &BUILT_INS, &HOLDING_BUILT_INS)? {
+            Variant::Plain(found) => Ok(found),
+            Variant::Holding(BuiltInName::Position, held) => {
+                let fields = held.fields(&["invariant"])?;
+                Ok(BuiltIn::Position {
+                    invariant: fields.get("invariant")?,
+                })
+            }
+            Variant::Holding(BuiltInName::Barycentric, held) => {
+                let fields = held.fields(&["perspective"])?;
+                Ok(BuiltIn::Barycentric {
+                    perspective: fields.get("perspective")?,
+                })
+            }
+        }
+    }
+}
+
+/// The interpolations.
+const INTERPOLATIONS: [(&str, Interpolation); 4] = [
+    ("Perspective", Interpolation::Perspective),
+    ("Linear", Interpolation::Linear),
+    ("Flat", Interpolation::Flat),
+    ("PerVertex", Interpolation::PerVertex),
+];
+
+impl FromJson for Interpolation {
+    ghost stands_for = { interpolation_of };
+
+    fn from_json(alloc: Global, value: &Value) -> Result<Self, ReadError> {
+        read_name(alloc, value, &INTERPOLATIONS)
+    }
+}
+
+/// The samplings.
+const SAMPLINGS: [(&str, Sampling); 5] = [
+    ("Center", Sampling::Center),
+    ("Centroid", Sampling::Centroid),
+    ("Sample", Sampling::Sample),
+    ("First", Sampling::First),
+    ("Either", Sampling::Either),
+];
+
+impl FromJson for Sampling {
+    ghost stands_for = { sampling_of };
+
+    fn from_json(alloc: Global, value: &Value) -> Result<Self, ReadError> {
+        read_name(alloc, value, &SAMPLINGS)
+    }
+}
+
+/// The bindings.
+#[derive(Clone, Copy)]
+enum BindingName {
+    BuiltIn,
+    Location,
+}
+
+/// Their names.
+const BINDINGS: [(&str, BindingName); 2] = [
+    ("BuiltIn", BindingName::BuiltIn),
+    ("Location", BindingName::Location),
+];
+
+fn read_location(held: Held) -> Result<Binding, ReadError>
+    ensures { Reads (location_of (view held.entry.value.now)) result }
+{
+    let fields = held.fields(&[
+        "location",
+        "interpolation",
+        "sampling",
+        "blend_src",
+        "per_primitive",
+    ])?;
+    Ok(Binding::Location {
+        location: fields.get("location")?,
+        interpolation: fields.get("interpolation")?,
+        sampling: fields.get("sampling")?,
+        blend_src: fields.get("blend_src")?,
+        per_primitive: fields.get("per_primitive")?,
+    })
+}
+
+impl FromJson for Binding {
+    ghost stands_for = { binding_of };
+
+    fn from_json(alloc: Global, value: &Value) -> Result<Self, ReadError> {
+        match read_variant(alloc, value, &NO_NAMES, &BINDINGS)? {
+            Variant::Plain(()) => Err(ReadError::expected(alloc, "a binding")),
+            Variant::Holding(BindingName::BuiltIn, held) => Ok(Binding::BuiltIn(held.read()?)),
+            Variant::Holding(BindingName::Location, held) => read_location(held),
+        }
+    }
+}

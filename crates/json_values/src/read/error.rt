@@ -1,0 +1,88 @@
+//! Why a document can't be read.
+
+ghost use Rattle.std.specs.Prelude.{◌≡◌};
+ghost use Rattle.json_values.specs.Failures.{IsUnreadable};
+ghost use Rattle.json_values.specs.declared.read.error.ReadError.TheVariants.{Memory};
+
+use std::alloc::{AllocError, AllocFailed, Global};
+use std::fmt;
+
+/// A step from a value of the document to one inside it: to a field, to what a variant holds, or to a place in a list.
+#[derive(Clone, Copy, PartialEq, Eq, Debug)]
+pub enum Step {
+    Name(&'static str),
+    Index(usize),
+}
+
+/// Where reading stopped, and what was expected there.
+#[derive(Debug, Drop)]
+pub struct Unreadable {
+    /// It never quotes the document.
+    pub expected: &'static str,
+    /// The way from the whole document to the value that was being read, the last step first.
+    pub steps: Vec<Step>,
+}
+
+/// Why nothing was read.
+#[derive(Debug, Drop)]
+pub enum ReadError {
+    Unreadable(Unreadable),
+    Memory,
+}
+
+impl ReadError {
+    /// This was expected of the value that is being read.
+    pub fn expected(alloc: Global, expected: &'static str) -> Self {
+        ReadError::Unreadable(Unreadable {
+            expected,
+            steps: Vec::new(alloc),
+        })
+    }
+
+    /// The error of a value inside the one that is being read, to which this step leads; or want of memory.
+    pub fn within(self, step: Step) -> Self
+        ensures { IsUnreadable result → IsUnreadable self }
+    {
+        match self {
+            ReadError::Unreadable(
+                Unreadable {
+                    expected,
+                    mut steps,
+                },
+            ) => match steps.push(step) {
+                Ok(()) => ReadError::Unreadable(Unreadable { expected, steps }),
+                Err(_) => ReadError::Memory,
+            },
+            ReadError::Memory => ReadError::Memory,
+        }
+    }
+}
+
+impl From<AllocError> for ReadError {
+    ghost from_gives = { λ _ e. e ≡ Memory };
+
+    fn from(_e: AllocError) -> Self {
+        ReadError::Memory
+    }
+}
+
+impl<T: Drop> From<AllocFailed<T>> for ReadError {
+    ghost from_gives = { λ _ e. e ≡ Memory };
+
+    fn from(_e: AllocFailed<T>) -> Self {
+        ReadError::Memory
+    }
+}
+
+/// Writes the way from the whole document as a JSON pointer: a slash before each step, and nothing for the whole.
+impl fmt::Display for Unreadable {
+    fn fmt<W: fmt::Write>(&self, f: &mut fmt::Formatter<W>) -> fmt::Result {
+        for step in self.steps.iter().rev() {
+            match step {
+                Step::Name(name) => write!(f, "/{name}")?,
+                Step::Index(index) => write!(f, "/{index}")?,
+            }
+        }
+        Ok(())
+    }
+}

@@ -1,0 +1,99 @@
+//! Lists, arrays of a fixed length, and what may be null.
+
+ghost use Rattle.std.specs.Prelude.{◌≡◌};
+ghost use Rattle.serde_json.specs.Find.{as_array};
+ghost use Rattle.serde_json.specs.View.{view};
+ghost use Rattle.json_values.specs.Form.{list_of, optional, two_of, three_of};
+ghost use Rattle.json_values.specs.Reads.{Reads, ReadsElements};
+
+use crate::read::error::{ReadError, Step};
+use crate::read::from_json::{FromJson, read_at};
+use ir_arena::{Arena, Sequence, Span, Tagged};
+use serde_json::Value;
+use std::alloc::Global;
+
+/// The values of a list.
+pub fn elements<'v>(alloc: Global, value: &'v Value) -> Result<&'v [Value], ReadError>
+    ensures { ReadsElements (as_array (view value.now)) result }
+{
+    match value.as_array() {
+        Some(items) => Ok(items.as_slice()),
+        None => Err(ReadError::expected(alloc, "a list")),
+    }
+}
+
+/// A list, item by item.
+impl<T: FromJson> FromJson for Sequence<T> {
+    ghost stands_for = { list_of T.stands_for };
+
+    fn from_json(alloc: Global, value: &Value) -> Result<Self, ReadError> {
+        let mut list = Sequence::new(alloc);
+        for (index, value) in elements(alloc, value)?.iter().enumerate() {
+            list.push(read_at(alloc, Step::Index(index), value)?)?;
+        }
+        Ok(list)
+    }
+}
+
+/// The values of an arena, each with the span 0..0. No document has so many that an arena can't hold them.
+impl<T: FromJson + Tagged> FromJson for Arena<T> {
+    ghost stands_for = { list_of T.stands_for };
+
+    fn from_json(alloc: Global, value: &Value) -> Result<Self, ReadError> {
+        let mut arena = Arena::new(alloc);
+        for (index, value) in elements(alloc, value)?.iter().enumerate() {
+            let read = read_at(alloc, Step::Index(index), value)?;
+            if arena.is_full() {
+                return Err(ReadError::Memory);
+            }
+            arena.append(read, Span::UNDEFINED)?;
+        }
+        Ok(arena)
+    }
+}
+
+/// Null, or a value.
+impl<T: FromJson> FromJson for Option<T> {
+    ghost stands_for = { optional T.stands_for };
+
+    fn from_json(alloc: Global, value: &Value) -> Result<Self, ReadError> {
+        if value.is_null() {
+            return Ok(None);
+        }
+        match T::from_json(alloc, value) {
+            Ok(read) => Ok(Some(read)),
+            Err(error) => Err(error),
+        }
+    }
+}
+
+/// A list of two.
+impl<A: FromJson, B: FromJson> FromJson for (A, B) {
+    ghost stands_for = { two_of A.stands_for B.stands_for };
+
+    fn from_json(alloc: Global, value: &Value) -> Result<Self, ReadError> {
+        let items = elements(alloc, value)?;
+        if items.len() != 2 {
+            return Err(ReadError::expected(alloc, "a list of two"));
+        }
+        let first = read_at(alloc, Step::Index(0), &items[0])?;
+        let second = read_at(alloc, Step::Index(1), &items[1])?;
+        Ok((first, second))
+    }
+}
+
+/// A list of three.
+impl<A: FromJson, B: FromJson, C: FromJson> FromJson for (A, B, C) {
+    ghost stands_for = { three_of A.stands_for B.stands_for C.stands_for };
+
+    fn from_json(alloc: Global, value: &Value) -> Result<Self, ReadError> {
+        let items = elements(alloc, value)?;
+        if items.len() != 3 {
+            return Err(ReadError::expected(alloc, "a list of three"));
+        }
+        let first = read_at(alloc, Step::Index(0), &items[0])?;
+        let second = read_at(alloc, Step::Index(1), &items[1])?;
+        let third = read_at(alloc, Step::Index(2), &items[2])?;
+        Ok((first, second, third))
+    }
+}

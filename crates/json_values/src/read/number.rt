@@ -1,0 +1,100 @@
+//! Numbers, texts and handles.
+
+ghost use Rattle.serde_json.specs.Find.{as_bool, as_str};
+ghost use Rattle.json_values.specs.Numbers.{u8_of, u32_of, u64_of, i32_of, nonzero_of};
+
+use crate::read::error::ReadError;
+use crate::read::from_json::FromJson;
+use ir_arena::Handle;
+use ir_types::Name;
+use serde_json::Value;
+use std::alloc::Global;
+use std::num::NonZeroU32;
+
+impl FromJson for bool {
+    ghost stands_for = { as_bool };
+
+    fn from_json(alloc: Global, value: &Value) -> Result<Self, ReadError> {
+        match value.as_bool() {
+            Some(truth) => Ok(truth),
+            None => Err(ReadError::expected(alloc, "true or false")),
+        }
+    }
+}
+
+impl FromJson for u8 {
+    ghost stands_for = { u8_of };
+
+    fn from_json(alloc: Global, value: &Value) -> Result<Self, ReadError> {
+        match value.as_u64() {
+            Some(n) if n <= 255 => Ok(n as u8),
+            _ => Err(ReadError::expected(alloc, "an integer from 0 to 255")),
+        }
+    }
+}
+
+impl FromJson for u32 {
+    ghost stands_for = { u32_of };
+
+    fn from_json(alloc: Global, value: &Value) -> Result<Self, ReadError> {
+        match value.as_u64() {
+            Some(n) if n <= 4294967295 => Ok(n as u32),
+            _ => Err(ReadError::expected(alloc, "an integer from 0 to 4294967295")),
+        }
+    }
+}
+
+impl FromJson for u64 {
+    ghost stands_for = { u64_of };
+
+    fn from_json(alloc: Global, value: &Value) -> Result<Self, ReadError> {
+        match value.as_u64() {
+            Some(n) => Ok(n),
+            None => Err(ReadError::expected(alloc, "an integer from 0 to 18446744073709551615")),
+        }
+    }
+}
+
+impl FromJson for i32 {
+    ghost stands_for = { i32_of };
+
+    fn from_json(alloc: Global, value: &Value) -> Result<Self, ReadError> {
+        match value.as_i64() {
+            Some(n) if -2147483648 <= n && n <= 2147483647 => Ok(n as i32),
+            _ => Err(ReadError::expected(alloc, "an integer from -2147483648 to 2147483647")),
+        }
+    }
+}
+
+impl FromJson for NonZeroU32 {
+    ghost stands_for = { nonzero_of };
+
+    fn from_json(alloc: Global, value: &Value) -> Result<Self, ReadError> {
+        let n = u32::from_json(alloc, value)?;
+        match NonZeroU32::new(n) {
+            Some(count) => Ok(count),
+            None => Err(ReadError::expected(alloc, "an integer from 1 to 4294967295")),
+        }
+    }
+}
+
+/// A text, whatever it is.
+impl FromJson for Name {
+    ghost stands_for = { as_str };
+
+    fn from_json(alloc: Global, value: &Value) -> Result<Self, ReadError> {
+        match value.as_str() {
+            Some(text) => Ok(Name::from(String::from_str(alloc, text)?)),
+            None => Err(ReadError::expected(alloc, "a text")),
+        }
+    }
+}
+
+/// A handle is its index, which need not be in range.
+impl<T> FromJson for Handle<T> {
+    ghost stands_for = { u32_of };
+
+    fn from_json(alloc: Global, value: &Value) -> Result<Self, ReadError> {
+        Ok(Handle::new(u32::from_json(alloc, value)?))
+    }
+}

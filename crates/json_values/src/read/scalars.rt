@@ -1,0 +1,55 @@
+//! Scalars, and sizes of vectors.
+
+ghost use Rattle.json_values.specs.Document.Scalars.{scalar_kind_of, scalar_of, vector_size_of};
+
+use crate::read::error::ReadError;
+use crate::read::from_json::{Fields, FromJson};
+use crate::read::variant::read_name;
+use ir_types::{Scalar, ScalarKind, VectorSize};
+use serde_json::Value;
+use std::alloc::Global;
+
+/// The kinds of scalars.
+const SCALAR_KINDS: [(&str, ScalarKind); 6] = [
+    ("Sint", ScalarKind::Sint),
+    ("Uint", ScalarKind::Uint),
+    ("Float", ScalarKind::Float),
+    ("Bool", ScalarKind::Bool),
+    ("AbstractInt", ScalarKind::AbstractInt),
+    ("AbstractFloat", ScalarKind::AbstractFloat),
+];
+
+impl FromJson for ScalarKind {
+    ghost stands_for = { scalar_kind_of };
+
+    fn from_json(alloc: Global, value: &Value) -> Result<Self, ReadError> {
+        read_name(alloc, value, &SCALAR_KINDS)
+    }
+}
+
+impl FromJson for Scalar {
+    ghost stands_for = { scalar_of };
+
+    fn from_json(alloc: Global, value: &Value) -> Result<Self, ReadError> {
+        let fields = Fields::of(alloc, value, &["kind", "width"])?;
+        Ok(Scalar {
+            kind: fields.get("kind")?,
+            width: fields.get("width")?,
+        })
+    }
+}
+
+/// The sizes of vectors.
+const VECTOR_SIZES: [(&str, VectorSize); 3] = [
+    ("Bi", VectorSize::Bi),
+    ("Tri", VectorSize::Tri),
+    ("Quad", VectorSize::Quad),
+];
+
+impl FromJson for VectorSize {
+    ghost stands_for = { vector_size_of };
+
+    fn from_json(alloc: Global, value: &Value) -> Result<Self, ReadError> {
+        read_name(alloc, value, &VECTOR_SIZES)
+    }
+}

@@ -1,0 +1,124 @@
+//! Sets of named bits: lists of names, each at most once.
+
+ghost use Rattle.std.specs.Prelude.{◌≡◌};
+ghost use Rattle.serde_json.specs.View.{view};
+ghost use Rattle.json_values.specs.Sets.{bits_of, bit_of};
+ghost use Rattle.json_values.specs.Sets as sets;
+ghost use Rattle.json_values.specs.ReadsSets.{ReadsBits};
+
+use crate::read::error::{ReadError, Step};
+use crate::read::from_json::FromJson;
+use crate::read::list::elements;
+use bitflags::Flags;
+use ir_flags::{
+    Barrier, Capabilities, GlobalUse, MemoryDecorations, ShaderStages, StorageAccess,
+    SubgroupOperationSet, TypeFlags, ValidationFlags,
+};
+use serde_json::Value;
+use std::alloc::Global;
+
+/// The bit that a text names. A name of several bits, which may be given, is none.
+fn read_bit<B: Flags + Copy>(alloc: Global, value: &Value, joined: &str) -> Result<B, ReadError>
+    ensures { B.exact → ReadsBits B.set_of (bit_of B.table joined.now (view value.now)) result }
+{
+    if let Some(name) = value.as_str() {
+        if name != joined {
+            if let Some(bit) = B::from_name(name) {
+                return Ok(bit);
+            }
+        }
+    }
+    Err(ReadError::expected(alloc, "one of the names of the set"))
+}
+
+/// The set of the bits that a list names.
+fn read_set<B: Flags + Copy>(alloc: Global, value: &Value, joined: &str) -> Result<B, ReadError>
+    ensures { B.exact → ReadsBits B.set_of (bits_of B.table joined.now (view value.now)) result }
+{
+    let mut set = B::empty();
+    for (index, value) in elements(alloc, value)?.iter().enumerate() {
+        let bit = match read_bit(alloc, value, joined) {
+            Ok(bit) => bit,
+            Err(error) => return Err(error.within(Step::Index(index))),
+        };
+        if set.contains(bit) {
+            let error = ReadError::expected(alloc, "a name that the set doesn't have yet");
+            return Err(error.within(Step::Index(index)));
+        }
+        set.insert(bit);
+    }
+    Ok(set)
+}
+
+impl FromJson for ValidationFlags {
+    ghost stands_for = { sets.validation_flags_of };
+
+    fn from_json(alloc: Global, value: &Value) -> Result<Self, ReadError> {
+        read_set(alloc, value, "")
+    }
+}
+
+impl FromJson for Capabilities {
+    ghost stands_for = { sets.capabilities_of };
+
+    fn from_json(alloc: Global, value: &Value) -> Result<Self, ReadError> {
+        read_set(alloc, value, "")
+    }
+}
+
+impl FromJson for SubgroupOperationSet {
+    ghost stands_for = { sets.subgroup_operations_of };
+
+    fn from_json(alloc: Global, value: &Value) -> Result<Self, ReadError> {
+        read_set(alloc, value, "")
+    }
+}
+
+impl FromJson for TypeFlags {
+    ghost stands_for = { sets.type_flags_of };
+
+    fn from_json(alloc: Global, value: &Value) -> Result<Self, ReadError> {
+        read_set(alloc, value, "")
+    }
+}
+
+impl FromJson for GlobalUse {
+    ghost stands_for = { sets.global_use_of };
+
+    fn from_json(alloc: Global, value: &Value) -> Result<Self, ReadError> {
+        read_set(alloc, value, "")
+    }
+}
+
+impl FromJson for StorageAccess {
+    ghost stands_for = { sets.storage_access_of };
+
+    fn from_json(alloc: Global, value: &Value) -> Result<Self, ReadError> {
+        read_set(alloc, value, "")
+    }
+}
+
+impl FromJson for Barrier {
+    ghost stands_for = { sets.barrier_of };
+
+    fn from_json(alloc: Global, value: &Value) -> Result<Self, ReadError> {
+        read_set(alloc, value, "")
+    }
+}
+
+impl FromJson for MemoryDecorations {
+    ghost stands_for = { sets.memory_decorations_of };
+
+    fn from_json(alloc: Global, value: &Value) -> Result<Self, ReadError> {
+        read_set(alloc, value, "")
+    }
+}
+
+/// The nine single stages; the name of three of them together is none.
+impl FromJson for ShaderStages {
+    ghost stands_for = { sets.stages_of };
+
+    fn from_json(alloc: Global, value: &Value) -> Result<Self, ReadError> {
+        read_set(alloc, value, "COMPUTE_LIKE")
+    }
+}

@@ -1,0 +1,55 @@
+//! Address spaces, and where resources are bound.
+
+ghost use Rattle.json_values.specs.Document.Spaces.{address_space_of, resource_binding_of};
+
+use crate::read::error::ReadError;
+use crate::read::from_json::{Fields, FromJson};
+use crate::read::variant::{Variant, read_variant};
+use ir_module::ResourceBinding;
+use ir_types::AddressSpace;
+use serde_json::Value;
+use std::alloc::Global;
+
+/// The spaces of which no more is said.
+const ADDRESS_SPACES: [(&str, AddressSpace); 9] = [
+    ("Function", AddressSpace::Function),
+    ("Private", AddressSpace::Private),
+    ("WorkGroup", AddressSpace::WorkGroup),
+    ("Uniform", AddressSpace::Uniform),
+    ("Handle", AddressSpace::Handle),
+    ("Immediate", AddressSpace::Immediate),
+    ("TaskPayload", AddressSpace::TaskPayload),
+    ("RayPayload", AddressSpace::RayPayload),
+    ("IncomingRayPayload", AddressSpace::IncomingRayPayload),
+];
+
+/// The space of which more is said.
+const STORAGE_SPACE: [(&str, ()); 1] = [("Storage", ())];
+
+impl FromJson for AddressSpace {
+    ghost stands_for = { address_space_of };
+
+    fn from_json(alloc: Global, value: &Value) -> Result<Self, ReadError> {
+        match read_variant(alloc, value, &ADDRESS_SPACES, &STORAGE_SPACE)? {
+            Variant::Plain(found) => Ok(found),
+            Variant::Holding((), held) => {
+                let fields = held.fields(&["access"])?;
+                Ok(AddressSpace::Storage {
+                    access: fields.get("access")?,
+                })
+            }
+        }
+    }
+}
+
+impl FromJson for ResourceBinding {
+    ghost stands_for = { resource_binding_of };
+
+    fn from_json(alloc: Global, value: &Value) -> Result<Self, ReadError> {
+        let fields = Fields::of(alloc, value, &["group", "binding"])?;
+        Ok(ResourceBinding {
+            group: fields.get("group")?,
+            binding: fields.get("binding")?,
+        })
+    }
+}

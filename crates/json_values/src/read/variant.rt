@@ -1,0 +1,158 @@
+//! Variants: a name alone, or an object with one member, a name and what it holds.
+
+ghost use Rattle.std.specs.Prelude.{◌≡◌, option_map, option_and_then};
+ghost use Rattle.serde_json.specs.Find.{as_str};
+ghost use Rattle.serde_json.specs.View.{view, members_view};
+ghost use Rattle.json_values.specs.Form.{lookup, only_member, tagged_of};
+ghost use Rattle.json_values.specs.Reads.{Reads, rows_of};
+ghost use Rattle.json_values.specs.Variants.{variant_of};
+ghost use Rattle.json_values.specs.ReadsVariants.{ReadsVariant, tag_of};
+
+use crate::read::error::{ReadError, Step};
+use crate::read::from_json::{Fields, FromJson, read_at};
+use serde_json::{Map, Value};
+use std::alloc::Global;
+
+/// What stands beside a name in a table, the first time.
+fn look_up<T: Copy>(table: &[(&'static str, T)], name: &str) -> Option<T>
+    ensures { result ≡ lookup (rows_of table.now) name.now }
+{
+    for row in table {
+        if name == row.0 {
+            return Some(row.1);
+        }
+    }
+    None
+}
+
+/// What a text names in a table.
+pub fn read_name<T: Copy>(
+    alloc: Global,
+    value: &Value,
+    table: &[(&'static str, T)],
+) -> Result<T, ReadError>
+    ensures { Reads (option_and_then (lookup (rows_of table.now)) (as_str (view value.now))) result }
+{
+    match value.as_str() {
+        Some(name) => match look_up(table, name) {
+            Some(named) => Ok(named),
+            None => Err(ReadError::expected(alloc, "one of the names of its form")),
+        },
+        None => Err(ReadError::expected(alloc, "a text, which is one of the names of its form")),
+    }
+}
+
+/// The table of an enum of which each variant holds something.
+pub const NO_NAMES: [(&str, ()); 0] = [];
+
+/// A variant before its name is looked up.
+#[derive(Clone, Copy)]
+pub enum Tagged<'v> {
+    Plain(&'v str),
+    Holding(&'v str, &'v Value),
+}
+
+/// The only member of an object.
+fn only_member<'v>(map: &'v Map<String, Value>) -> Option<Tagged<'v>>
+    ensures { option_map tag_of result ≡ only_member (members_view map.now.entries) }
+{
+    if map.len() != 1 {
+        return None;
+    }
+    match map.first_key_value() {
+        Some((name, value)) => Some(Tagged::Holding(name.as_str(), value)),
+        None => None,
+    }
+}
+
+/// The variant that a value is, if it can be one.
+fn tag<'v>(value: &'v Value) -> Option<Tagged<'v>>
+    ensures { option_map tag_of result ≡ tagged_of (view value.now) }
+{
+    if let Some(name) = value.as_str() {
+        return Some(Tagged::Plain(name));
+    }
+    match value.as_object() {
+        Some(map) => only_member(map),
+        None => None,
+    }
+}
+
+/// The static text that is equal to a name of a table.
+fn name_in<T: Copy>(table: &[(&'static str, T)], name: &str) -> &'static str {
+    for row in table {
+        if name == row.0 {
+            return row.0;
+        }
+    }
+    ""
+}
+
+/// What a variant holds, and the variant's name.
+#[derive(Clone, Copy)]
+pub struct Held<'v> {
+    pub alloc: Global,
+    pub name: &'static str,
+    pub value: &'v Value,
+}
+
+impl<'v> Held<'v> {
+    ghost use Rattle.json_values.specs.Form.{fields_of};
+    ghost use Rattle.json_values.specs.Reads.{texts_of};
+    ghost use Rattle.json_values.specs.ReadsFields.{ReadsFields};
+
+    /// What it stands for.
+    pub fn read<T: FromJson>(self) -> Result<T, ReadError>
+        ensures { Reads (T.stands_for (view self.entry.value.now)) result }
+    {
+        read_at(self.alloc, Step::Name(self.name), self.value)
+    }
+
+    /// The fields of an object that has exactly these.
+    pub fn fields(self, names: &[&'static str]) -> Result<Fields<'v>, ReadError>
+        ensures { ReadsFields (fields_of (texts_of names.now) (view self.entry.value.now)) result }
+    {
+        match Fields::of(self.alloc, self.value, names) {
+            Ok(fields) => Ok(Fields {
+                alloc: fields.alloc,
+                value: fields.value,
+                variant: Some(self.name),
+            }),
+            Err(error) => Err(error.within(Step::Name(self.name))),
+        }
+    }
+}
+
+/// A variant: one that holds nothing, as the table of these has it, or one that holds something, which is still to be
+/// read.
+#[derive(Clone, Copy)]
+pub enum Variant<'v, P, H> {
+    Plain(P),
+    Holding(H, Held<'v>),
+}
+
+/// The variant that a value is, by a table of those that hold nothing and one of those that hold something.
+pub fn read_variant<'v, P: Copy, H: Copy>(
+    alloc: Global,
+    value: &'v Value,
+    plain: &[(&'static str, P)],
+    holding: &[(&'static str, H)],
+) -> Result<Variant<'v, P, H>, ReadError>
+    ensures { ReadsVariant (variant_of (rows_of plain.now) (rows_of holding.now) (view value.now)) result }
+{
+    match tag(value) {
+        Some(Tagged::Plain(name)) => {
+            if let Some(found) = look_up(plain, name) {
+                return Ok(Variant::Plain(found));
+            }
+        }
+        Some(Tagged::Holding(name, value)) => {
+            if let Some(found) = look_up(holding, name) {
+                let name = name_in(holding, name);
+                return Ok(Variant::Holding(found, Held { alloc, name, value }));
+            }
+        }
+        None => {}
+    }
+    Err(ReadError::expected(alloc, "one of the variants of its form"))
+}

@@ -1,6 +1,0 @@
-//! The tests of `naga_flags`, `naga_below` and `naga_fits`, over their public calls. A crate by itself, so that the gate does not
-//! prove these twice, and proves the tests beside the crates above.
-#![tactic(auto)]
-
-#[cfg(test)]
-mod tests;

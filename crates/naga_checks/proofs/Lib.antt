@@ -1,8 +1,0 @@
-pub mod Lists
-pub mod Emits
-pub mod Calls
-pub mod Values
-pub mod Subgroups
-pub mod Rising
-pub mod Once
-pub mod Distinct

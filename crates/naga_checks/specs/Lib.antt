@@ -1,2 +1,0 @@
-pub mod walk
-pub mod checks

@@ -1,6 +1,0 @@
-//! The tests of entry points and of whole modules, over public calls alone: a crate by itself, so that the gate proves them beside
-//! those of `naga_rows`.
-#![tactic(auto)]
-
-#[cfg(test)]
-mod tests;

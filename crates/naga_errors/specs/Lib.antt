@@ -1,7 +1,0 @@
-pub mod Answers
-pub mod Lawful
-pub mod Meaning
-pub mod TypeInfos
-pub mod WhatIsChecked
-pub use Rattle.naga_errors.specs.Answers.{Refuses}
-pub use Rattle.naga_errors.specs.Meaning.{HasOneTypeEach, HasOneUseEach, HasTypesInRange, HasNoStructValues, HasOneKindEach}

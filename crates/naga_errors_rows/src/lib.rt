@@ -1,6 +1,0 @@
-//! The tests of `naga_errors`, over its public calls. A crate by itself, so that the gate does not prove `naga_errors` twice, and
-//! proves these beside the crates above it.
-#![tactic(auto)]
-
-#[cfg(test)]
-mod tests;

@@ -1,6 +1,0 @@
-use Rattle.naga_types.specs.Types.{NamesTypesBelow}
-use Rattle.naga_below.proofs.Each.{each_from}
-use Rattle.naga_fits.proofs.types.name_earlier_types.Goals as goal
-
-pub loop-place-init : goal.loop-place-init
-loop-place-init c = each_from (λ k t. NamesTypesBelow k t.inner) c.args.types.now

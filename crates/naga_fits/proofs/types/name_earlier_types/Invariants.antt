@@ -1,9 +1,0 @@
-use Rattle.std.proofs.Common.{◌↔◌, drop}
-use Rattle.naga_below.specs.Each.{EachAt}
-use Rattle.naga_types.specs.Types.{NamesTypesBelow}
-use Rattle.naga_below.proofs.Each.{EachFrom}
-use Rattle.naga_fits.proofs.types.name_earlier_types.Given as goal
-
-abbrev pub invariant-loop-place : goal.invariant-loop-place
-invariant-loop-place l =
-    EachAt (λ k t. NamesTypesBelow k t.inner) l.types ↔ EachFrom (λ k t. NamesTypesBelow k t.inner) l.place (drop l.place l.types)

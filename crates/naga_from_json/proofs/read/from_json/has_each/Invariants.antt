@@ -1,8 +1,0 @@
-use Rattle.std.proofs.Common.{◌≡◌, drop}
-use Rattle.serde_json.specs.View.{view}
-use Rattle.naga_from_json.specs.Form.{has_each}
-use Rattle.naga_from_json.specs.Reads.{texts_of}
-use Rattle.naga_from_json.proofs.read.from_json.has_each.Given as goal
-
-abbrev pub invariant-loop-name : goal.invariant-loop-name
-invariant-loop-name l = has_each (texts_of (drop l.name-index l.names)) (view l.value) ≡ has_each (texts_of l.names) (view l.value)

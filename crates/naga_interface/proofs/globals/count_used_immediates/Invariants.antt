@@ -1,9 +1,0 @@
-use Rattle.std.proofs.Common.{◌≡◌, ◌≤◌}
-use Rattle.naga_interface.specs.Globals.{used_immediates}
-use Rattle.naga_interface.proofs.globals.count_used_immediates.Given as goal
-
-abbrev pub invariant-loop-index : goal.invariant-loop-index
-invariant-loop-index l = record {
-  counted : l.count ≡ used_immediates l.info.global_uses l.module.global_variables l.index;
-  small : l.count ≤ l.index;
-}

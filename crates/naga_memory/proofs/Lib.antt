@@ -1,6 +1,0 @@
-pub mod Lists
-pub mod ResultsInRange
-pub mod Atomics
-pub mod Stores
-pub mod Loads
-pub mod CooperativeStores

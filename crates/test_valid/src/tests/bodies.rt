@@ -1,0 +1,138 @@
+//! What the tests of statements share: places, targets, and what the validator answers over the plain layer.
+
+use naga_below::{
+    Capabilities, Function, FunctionInfo, Module, ModuleInfo, Refusal, ShaderStages, Span,
+    SubgroupOperationSet, Type, TypeFlags, TypeInfo, TypeInner, UniqueArena, ValidationFlags,
+    WithSpan, fits_function, fits_types,
+};
+use naga_layers::plain::Plain;
+use naga_rules::FunctionError;
+use naga_valid::validator::Validator;
+use std::process::Abort;
+
+/// Where nothing is.
+pub const NOWHERE: Span = Span::UNDEFINED;
+
+/// Where statements are.
+pub const HERE: Span = Span { start: 3, end: 7 };
+
+/// What is known of a type that can be used for everything, and whose layouts are good.
+pub const GOOD: TypeInfo = TypeInfo {
+    flags: TypeFlags::ALL,
+    storage_layout: Ok(4),
+    uniform_layout: Ok(4),
+    immediates_compatibility: Ok(()),
+};
+
+/// Every check.
+pub const ALL_CHECKS: ValidationFlags = ValidationFlags::ALL;
+
+/// All capabilities, all stages and all groups of operations.
+pub const EVERYTHING: Target = Target {
+    capabilities: Capabilities::ALL,
+    stages: ShaderStages::ALL,
+    operations: SubgroupOperationSet::ALL,
+};
+
+/// What the target can do.
+#[derive(Clone, Copy)]
+pub struct Target {
+    pub capabilities: Capabilities,
+    pub stages: ShaderStages,
+    pub operations: SubgroupOperationSet,
+}
+
+/// What there was memory for.
+pub fn made<T, E>(rt: &impl Abort, answer: Result<T, E>) -> T {
+    match answer {
+        Ok(value) => value,
+        Err(_) => panic!(rt; "no memory"),
+    }
+}
+
+/// Puts a type without a name last.
+pub fn add_type(rt: &impl Abort, types: &mut UniqueArena<Type>, inner: TypeInner) {
+    assert!(rt; !types.is_full());
+    made(rt, types.insert(Type { name: None, inner }, NOWHERE));
+}
+
+/// A validator with all flags for this target, and with a good info for each type of a module.
+pub fn validator_for(
+    rt: &(impl Abort + AllocGlobal),
+    target: Target,
+    module: &Module,
+) -> Validator<Plain> {
+    let infos = made(rt, vec![in rt.alloc(); GOOD; module.types.len()]);
+    let below = Plain::without_mesh_shaders();
+    let mut validator = Validator::new(below, ALL_CHECKS, target.capabilities).with_types(infos);
+    validator.subgroup_stages(target.stages);
+    validator.subgroup_operations(target.operations);
+    validator
+}
+
+/// What is judged: the stages, or the fault.
+pub type Answer = Result<ShaderStages, FunctionError>;
+
+/// One call of the validator.
+fn ask_once(
+    rt: &(impl Abort + AllocGlobal),
+    validator: &mut Validator<Plain>,
+    fun: &Function,
+    module: &Module,
+    infos: &ModuleInfo,
+) -> Result<FunctionInfo, Refusal<FunctionError>> {
+    assert!(rt; validator.has_types_of(module));
+    assert!(rt; fits_types(module));
+    assert!(rt; fits_function(fun, module, infos.functions.len()));
+    validator.validate_function(rt.alloc(), fun, module, infos, false)
+}
+
+/// What a validator answers: where memory is refused it stays as it was, and answers when it is asked again.
+fn ask(
+    rt: &(impl Abort + AllocGlobal),
+    validator: &mut Validator<Plain>,
+    fun: &Function,
+    module: &Module,
+    infos: &ModuleInfo,
+) -> Result<FunctionInfo, Refusal<FunctionError>> {
+    let before = validator.trace_state();
+    match ask_once(rt, validator, fun, module, infos) {
+        Err(Refusal::Memory) => {
+            assert!(rt; validator.trace_state() == before);
+            ask_once(rt, validator, fun, module, infos)
+        }
+        answer => answer,
+    }
+}
+
+/// A fault is at this place, or at none.
+fn expect_at(rt: &impl Abort, fault: &WithSpan<FunctionError>, place: Option<Span>) {
+    match place {
+        Some(span) => assert!(rt; fault.spans() == [span].as_slice()),
+        None => assert!(rt; fault.spans().is_empty()),
+    }
+}
+
+/// The stages that a validator leaves a function, or its fault, which must be at this place, or at none.
+pub fn judge(
+    rt: &(impl Abort + AllocGlobal),
+    validator: &mut Validator<Plain>,
+    fun: &Function,
+    module: &Module,
+    infos: &ModuleInfo,
+    place: Option<Span>,
+) -> Answer {
+    match ask(rt, validator, fun, module, infos) {
+        Ok(info) => Ok(info.available_stages),
+        Err(Refusal::Fault(fault)) => {
+            expect_at(rt, &fault, place);
+            Err(fault.into_inner())
+        }
+        Err(Refusal::Memory) => panic!(rt; "refused twice"),
+    }
+}
+
+/// An answer is the expected one.
+pub fn expect(rt: &impl Abort, answer: Answer, expected: Answer) {
+    assert!(rt; answer == expected);
+}

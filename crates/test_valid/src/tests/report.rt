@@ -1,0 +1,299 @@
+//! What is told of refusals, and that they pass into `anyhow`.
+
+use crate::tests::bodies::{EVERYTHING, HERE, made, validator_for};
+use naga_below::{
+    AddressSpace, Capabilities, Expression, ExpressionError, Function, FunctionInfo, Handle,
+    Literal, Module, ModuleInfo, Name, Refusal, Scalar, Span, Statement, TypeInner, WithSpan,
+    fits_function, fits_types,
+};
+use naga_module::check::ModuleFault;
+use naga_module::report::{Subject, write_fault, write_module_fault, write_refusal};
+use naga_rules::{CallError, Explain, FunctionError, GlobalVariableError, LocalVariableError};
+use naga_valid::EntryPointError;
+use std::process::Abort;
+
+/// The refusal of a function with this handle is told so.
+fn assert_told(
+    rt: &(impl Abort + AllocGlobal),
+    function: u32,
+    refusal: &Refusal<FunctionError>,
+    expected: &str,
+) {
+    let mut told = String::new(rt.alloc());
+    made(
+        rt,
+        write_refusal(&mut told, Subject::Function(Handle::new(function)), refusal),
+    );
+    assert!(rt; told.as_str() == expected, "{told}");
+}
+
+/// The refusal for a fault at this place.
+fn at(
+    rt: &(impl Abort + AllocGlobal),
+    place: Span,
+    fault: FunctionError,
+) -> Refusal<FunctionError> {
+    Refusal::Fault(made(rt, WithSpan::new(rt.alloc(), fault).with_span(place)))
+}
+
+/// Faults, and what is told of them between 50 and 55 in function 2.
+fn rows(name: Name) -> [(FunctionError, &'static str); 7] {
+    [
+        (
+            FunctionError::InvalidStoreTypes {
+                pointer: Handle::new(4),
+                value: Handle::new(1),
+            },
+            "function [2]: 50..55: InvalidStoreTypes { pointer: [4], value: [1] }: the value is not of the type that the pointer points to",
+        ),
+        (
+            FunctionError::MissingCapability(Capabilities::SUBGROUP),
+            "function [2]: 50..55: MissingCapability(Capabilities(SUBGROUP)): the target lacks what a statement needs",
+        ),
+        (
+            FunctionError::InvalidPayloadAddressSpace(AddressSpace::Private),
+            "function [2]: 50..55: InvalidPayloadAddressSpace(Private): the payload of a ray lies in this space and not in one for ray payloads",
+        ),
+        (
+            FunctionError::InvalidStoreTexture {
+                actual: Handle::new(3),
+                actual_ty: TypeInner::Sampler { comparison: true },
+            },
+            "function [2]: 50..55: InvalidStoreTexture { actual: [3], actual_ty: Sampler { comparison: true } }: the value of a store is an image or a sampler",
+        ),
+        (
+            FunctionError::InvalidReturnType {
+                expression: None,
+                expected_ty: Some(Handle::new(1)),
+            },
+            "function [2]: 50..55: InvalidReturnType { expression: None, expected_ty: Some([1]) }: what is returned, if anything, doesn't match the declared type, if any",
+        ),
+        (
+            FunctionError::LocalVariable {
+                handle: Handle::new(0),
+                name,
+                source: LocalVariableError::InitializerType,
+            },
+            "function [2]: 50..55: LocalVariable { handle: [0], name: \"color\", source: InitializerType }: a local variable has a fault: the initializer is of another type than the variable",
+        ),
+        (
+            FunctionError::InvalidCall {
+                function: Handle::new(1),
+                error: CallError::Argument {
+                    index: 0,
+                    source: ExpressionError::NotInScope,
+                },
+            },
+            "function [2]: 50..55: InvalidCall { function: [1], error: Argument { index: 0, source: NotInScope } }: a call of the function has a fault: an argument has a fault: it is not in scope where it is used",
+        ),
+    ]
+}
+
+#[test]
+fn faults_are_told_with_their_fields(rt: HostRuntime) {
+    let place = Span { start: 50, end: 55 };
+    let name = Name::from(made(&rt, String::from_str(rt.alloc(), "color")));
+    for (fault, expected) in rows(name) {
+        assert_told(&rt, 2, &at(&rt, place, fault), expected);
+    }
+}
+
+/// A refusal without a place, one with two, and want of memory, and what is told of them in function 0.
+fn placed(rt: &(impl Abort + AllocGlobal)) -> [(Refusal<FunctionError>, &'static str); 3] {
+    let none = WithSpan::new(rt.alloc(), FunctionError::MissingDefaultCase);
+    let two = WithSpan::new(rt.alloc(), FunctionError::MissingDefaultCase);
+    let two = made(rt, two.with_span(Span { start: 3, end: 5 }));
+    let two = made(rt, two.with_span(Span { start: 7, end: 9 }));
+    [
+        (
+            Refusal::Fault(none),
+            "function [0]: MissingDefaultCase: a switch has no default case",
+        ),
+        (
+            Refusal::Fault(two),
+            "function [0]: 3..5, 7..9: MissingDefaultCase: a switch has no default case",
+        ),
+        (
+            Refusal::Memory,
+            "function [0]: Memory: there was not enough memory",
+        ),
+    ]
+}
+
+#[test]
+fn places_stand_before_the_fault(rt: HostRuntime) {
+    for (refusal, expected) in &placed(&rt) {
+        assert_told(&rt, 0, refusal, *expected);
+    }
+}
+
+/// A fault of a subject at these places is told so.
+fn assert_fault_told<E: Explain>(
+    rt: &(impl Abort + AllocGlobal),
+    subject: Subject,
+    places: &[Span],
+    fault: &E,
+    expected: &str,
+) {
+    let mut told = String::new(rt.alloc());
+    made(rt, write_fault(&mut told, subject, places, fault));
+    assert!(rt; told.as_str() == expected, "{told}");
+}
+
+#[test]
+fn subjects_are_told(rt: HostRuntime) {
+    assert_fault_told(
+        &rt,
+        Subject::GlobalVariable(Handle::new(1)),
+        &[],
+        &GlobalVariableError::InvalidBinding,
+        "global [1]: InvalidBinding: a binding is missing where the space is bound, or is there where it isn't",
+    );
+    assert_fault_told(
+        &rt,
+        Subject::EntryPoint(3),
+        &[HERE],
+        &FunctionError::InvalidPayloadType,
+        "entry point 3: 3..7: InvalidPayloadType: the payload of a ray is no pointer",
+    );
+}
+
+/// The number 7.
+const SEVEN: Literal = Literal {
+    scalar: Scalar::U32,
+    bits: 7,
+};
+
+/// A function that returns a number although it declares no result.
+fn function(rt: &(impl Abort + AllocGlobal)) -> Function {
+    let mut fun = Function::new(rt.alloc());
+    assert!(rt; !fun.expressions.is_full());
+    made(
+        rt,
+        fun.expressions
+            .append(Expression::Literal(SEVEN), Span::UNDEFINED),
+    );
+    let ends = Statement::Return {
+        value: Some(Handle::new(0)),
+    };
+    made(rt, fun.body.push(ends, HERE));
+    fun
+}
+
+/// Judges a function, as a program does that only passes errors on.
+fn judged(
+    rt: &(impl Abort + AllocGlobal),
+    fun: &Function,
+    module: &Module,
+) -> anyhow::Result<FunctionInfo> {
+    let infos = ModuleInfo::new(rt.alloc());
+    let mut validator = validator_for(rt, EVERYTHING, module);
+    assert!(rt; validator.has_types_of(module) && fits_types(module));
+    assert!(rt; fits_function(fun, module, infos.functions.len()));
+    let info = validator.validate_function(rt.alloc(), fun, module, &infos, false)?;
+    Ok(info)
+}
+
+/// What the error says that such a program ends with.
+fn passed_text(rt: &(impl Abort + AllocGlobal), fun: &Function, module: &Module) -> String {
+    match judged(rt, fun, module) {
+        Ok(_) => panic!(rt; "accepted"),
+        Err(error) => made(rt, error.to_string(rt.alloc())),
+    }
+}
+
+/// Such a program ends with this error. Where memory is refused, the function is judged again.
+fn expect_passed(rt: &(impl Abort + AllocGlobal), fun: &Function, module: &Module, expected: &str) {
+    let text = passed_text(rt, fun, module);
+    if text.as_str() == "Memory" {
+        let again = passed_text(rt, fun, module);
+        assert!(rt; again.as_str() == expected, "{again}");
+    } else {
+        assert!(rt; text.as_str() == expected, "{text}");
+    }
+}
+
+#[test]
+fn refusals_pass_into_anyhow(rt: HostRuntime) {
+    let fun = function(&rt);
+    let module = Module::new(rt.alloc());
+    expect_passed(&rt, &fun, &module, "InvalidReturnType");
+    drop(fun);
+    drop(module);
+}
+
+/// Passes a fault with its places on.
+fn passed_on(fault: WithSpan<GlobalVariableError>) -> anyhow::Result<()> {
+    let answer: Result<(), WithSpan<GlobalVariableError>> = Err(fault);
+    answer?;
+    Ok(())
+}
+
+#[test]
+fn faults_pass_into_anyhow(rt: HostRuntime) {
+    let fault = WithSpan::new(rt.alloc(), GlobalVariableError::InvalidBinding);
+    match passed_on(fault) {
+        Ok(()) => panic!(rt; "no error"),
+        Err(error) => {
+            let text = made(&rt, error.to_string(rt.alloc()));
+            assert!(rt; text.as_str() == "InvalidBinding", "{text}");
+        }
+    }
+}
+
+/// The fault of a module prints as its name, and is told so.
+fn assert_module_told(
+    rt: &(impl Abort + AllocGlobal),
+    fault: &ModuleFault,
+    name: &str,
+    expected: &str,
+) {
+    let printed = made(rt, fault.to_string(rt.alloc()));
+    assert!(rt; printed.as_str() == name, "{printed}");
+    let mut told = String::new(rt.alloc());
+    made(rt, write_module_fault(&mut told, fault));
+    assert!(rt; told.as_str() == expected, "{told}");
+}
+
+/// The faults of modules, with their names and what is told of them; that of the function is at `HERE`.
+fn module_faults(
+    rt: &(impl Abort + AllocGlobal),
+) -> [(ModuleFault, &'static str, &'static str); 5] {
+    let in_function = WithSpan::new(rt.alloc(), FunctionError::InvalidPayloadType);
+    let in_function = made(rt, in_function.with_span(HERE));
+    let in_entry = WithSpan::new(rt.alloc(), EntryPointError::ExpectedTaskPayload);
+    [
+        (
+            ModuleFault::NotFit,
+            "NotFit",
+            "NotFit: something that is named isn't there, or the size of a task payload isn't known",
+        ),
+        (
+            ModuleFault::Global(Handle::new(1), GlobalVariableError::InvalidBinding),
+            "Global",
+            "global [1]: InvalidBinding: a binding is missing where the space is bound, or is there where it isn't",
+        ),
+        (
+            ModuleFault::Function(Handle::new(2), in_function),
+            "Function",
+            "function [2]: 3..7: InvalidPayloadType: the payload of a ray is no pointer",
+        ),
+        (
+            ModuleFault::EntryPoint(0, in_entry),
+            "EntryPoint",
+            "entry point 0: ExpectedTaskPayload: a task entry point has no payload",
+        ),
+        (
+            ModuleFault::Memory,
+            "Memory",
+            "Memory: there was not enough memory",
+        ),
+    ]
+}
+
+#[test]
+fn faults_of_modules_are_told(rt: HostRuntime) {
+    for (fault, name, expected) in &module_faults(&rt) {
+        assert_module_told(&rt, fault, *name, *expected);
+    }
+}
