@@ -1,5 +1,5 @@
-//! The errors of the validator, with naga 30.0.1's names and fields: of functions, globals, and what a stage takes in and puts out;
-//! what they say; and the lower layer that a validator asks.
+//! The errors of validation with their messages, and the lower layer that a validator asks (the trait `Below`).
+//! Users import these from `naga_rules`.
 #![tactic(auto)]
 
 pub mod analyzer;

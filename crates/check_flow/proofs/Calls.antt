@@ -21,11 +21,11 @@ use Rattle.naga_runs.specs.Soundness.{Fit}
 use Rattle.check_flow.specs.Call.{arguments_of, has_result, is_passed_as, passed_points, passed_points_from, all_passed_points, is_call_result_of, call_result_points, callee_points, call_points}
 use Rattle.check_scope.specs.Context.{Context}
 use Rattle.naga_runs.specs.PutsAndUses.{puts_of}
-use Rattle.check_scope.specs.Points.{Points, may_use, is_in_scope}
+use Rattle.check_scope.specs.ScopePoints.{Points, may_use, is_in_scope}
 use Rattle.check_errors.specs.Answers.{AnswersPoints}
-use Rattle.check_scope.specs.walk.Answers.{AllHold, RefusesFaultsAlone}
+use Rattle.check_scope.specs.walk.Findings.{AllHold, RefusesFaultsAlone}
 use Rattle.check_scope.specs.Results.{is_fresh}
-use Rattle.check_scope.specs.Types.{expression_at}
+use Rattle.check_scope.specs.ExpressionTypes.{expression_at}
 use Rattle.check_flow.proofs.Lists.{within-append}
 use Rattle.check_scope.proofs.Refusals.{refuses_first, refuses_second}
 

@@ -13,10 +13,10 @@ use Rattle.ir_module.specs.declared.statements.SwitchCase.{SwitchCase, out-Switc
 use Rattle.ir_module.specs.declared.statements.SwitchValue.{SwitchValue}
 use Rattle.ir_module.specs.declared.statements.SwitchValue.TheVariants.{I32, U32, Default}
 use Rattle.ir_facts.specs.Points.{first_fault}
-use Rattle.check_scope.specs.Blocks.{case_list}
+use Rattle.check_scope.specs.BodyTrees.{case_list}
 use Rattle.check_errors.specs.declared.function.FunctionError.TheVariants.{ConflictingCaseType}
 use Rattle.check_flow.specs.Switch.{has_signedness_of, repeated_fault, same_value, value_points, values_of}
-use Rattle.check_flow.specs.walk.Switch.{number_of}
+use Rattle.check_flow.specs.walk.SwitchParts.{number_of}
 use Rattle.check_flow.proofs.Values.{earlier as earlier_and_one}
 use Rattle.check_flow.proofs.Once.{times}
 

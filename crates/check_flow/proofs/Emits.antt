@@ -15,13 +15,13 @@ use Rattle.ir_module.specs.declared.expressions.Expression.{Expression}
 use Rattle.naga_runs.specs.Handles.{Handles, with_handle}
 use Rattle.naga_runs.specs.PutsAndUses.{puts_of}
 use Rattle.naga_runs.specs.Visits.{Place}
-use Rattle.check_scope.specs.Blocks.{emitted_operands, operands_if}
+use Rattle.check_scope.specs.BodyTrees.{emitted_operands, operands_if}
 use Rattle.check_scope.specs.Context.{Context}
-use Rattle.check_scope.specs.Points.{Points, use_point, put_point, is_in_scope}
+use Rattle.check_scope.specs.ScopePoints.{Points, use_point, put_point, is_in_scope}
 use Rattle.check_flow.specs.Control.{within_emit, emitted_points, emit_points_from}
 use Rattle.check_scope.specs.Results.{is_result}
-use Rattle.check_scope.specs.Types.{expression_at}
-use Rattle.check_scope.specs.walk.Answers.{AllHold}
+use Rattle.check_scope.specs.ExpressionTypes.{expression_at}
+use Rattle.check_scope.specs.walk.Findings.{AllHold}
 use Rattle.check_errors.specs.Answers.{IsFirstFault}
 use Rattle.check_scope.specs.walk.Place.{Sets, place_at}
 use Rattle.check_scope.specs.walk.Table.{with_all, with_puts}

@@ -11,10 +11,10 @@ use Rattle.ir_facts.specs.Points.{Point, within}
 use Rattle.naga_runs.specs.Handles.{Handles, with_handle}
 use Rattle.ir_module.specs.View.{list_cases}
 use Rattle.naga_runs.specs.Visits.{Place}
-use Rattle.check_scope.specs.Blocks.{case_list}
+use Rattle.check_scope.specs.BodyTrees.{case_list}
 use Rattle.check_scope.specs.Context.{Context}
-use Rattle.check_scope.specs.Points.{Points, use_point}
-use Rattle.check_scope.specs.Types.{is_integer, scalar_kind_at}
+use Rattle.check_scope.specs.ScopePoints.{Points, use_point}
+use Rattle.check_scope.specs.ExpressionTypes.{is_integer, scalar_kind_at}
 use Rattle.check_errors.specs.declared.function.FunctionError.TheVariants.{InvalidSwitchType, MissingDefaultCase, LastCaseFallTrough}
 use Rattle.check_scope.specs.walk.Table.{with_all}
 use Rattle.check_flow.specs.walk.Emitted.{handles_from, handles_between}

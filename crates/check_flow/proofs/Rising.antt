@@ -9,9 +9,9 @@ use Rattle.ir_module.specs.declared.statements.SwitchCase.{SwitchCase, out-Switc
 use Rattle.ir_module.specs.declared.statements.SwitchValue.{SwitchValue}
 use Rattle.ir_module.specs.declared.statements.SwitchValue.TheVariants.{I32, U32, Default}
 use Rattle.check_flow.specs.declared.switch.Rising.{Rising}
-use Rattle.check_scope.specs.Blocks.{case_list}
+use Rattle.check_scope.specs.BodyTrees.{case_list}
 use Rattle.check_flow.specs.Switch.{same_value, values_of}
-use Rattle.check_flow.specs.walk.Switch.{risen, risen_to}
+use Rattle.check_flow.specs.walk.SwitchParts.{risen, risen_to}
 use Rattle.check_flow.proofs.Values.{earlier}
 
 -- the number of a value is not above the last one, or it is the default, and there was one

@@ -12,7 +12,7 @@ use Rattle.ir_module.specs.declared.statements.SwitchCase.{SwitchCase, out-Switc
 use Rattle.ir_module.specs.declared.statements.SwitchValue.{SwitchValue}
 use Rattle.ir_module.specs.declared.statements.SwitchValue.TheVariants.{I32, U32, Default}
 use Rattle.ir_facts.specs.Points.{first_fault}
-use Rattle.check_scope.specs.Blocks.{case_list}
+use Rattle.check_scope.specs.BodyTrees.{case_list}
 use Rattle.ir_types.specs.declared.types.ScalarKind.{ScalarKind}
 use Rattle.check_errors.specs.declared.function.FunctionError.{FunctionError}
 use Rattle.check_errors.specs.declared.function.FunctionError.TheVariants.{ConflictingCaseType}

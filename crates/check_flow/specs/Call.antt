@@ -14,10 +14,10 @@ use Rattle.naga_runs.specs.Handles.{Handles}
 use Rattle.naga_runs.specs.Visits.{Place}
 use Rattle.ir_facts.specs.Points.{Point, within}
 use Rattle.check_scope.specs.Context.{Context}
-use Rattle.check_scope.specs.Points.{Points, may_use, is_in_scope}
+use Rattle.check_scope.specs.ScopePoints.{Points, may_use, is_in_scope}
 use Rattle.check_scope.specs.Results.{is_fresh}
 use Rattle.ir_types.specs.TypeTests.{is_same_type}
-use Rattle.check_scope.specs.Types.{expression_at, resolution_at}
+use Rattle.check_scope.specs.ExpressionTypes.{expression_at, resolution_at}
 
 abbrev pub CallPoints : Type 0
 CallPoints = List (Point CallError)

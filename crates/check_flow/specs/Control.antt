@@ -8,11 +8,11 @@ use Rattle.ir_types.specs.declared.types.TypeInner.TheVariants as inner
 use Rattle.ir_types.specs.declared.typifier.TypeResolution.TheVariants.{Handle}
 use Rattle.check_errors.specs.declared.function.FunctionError.TheVariants.{EmitResult, BreakOutsideOfLoopOrSwitch, ContinueOutsideOfLoop, InvalidReturnSpot, InvalidReturnType, InvalidIfType}
 use Rattle.naga_runs.specs.Visits.{Place}
-use Rattle.check_scope.specs.Blocks.{emitted_operands}
+use Rattle.check_scope.specs.BodyTrees.{emitted_operands}
 use Rattle.check_scope.specs.Context.{Context}
-use Rattle.check_scope.specs.Points.{Points, use_point, put_point}
+use Rattle.check_scope.specs.ScopePoints.{Points, use_point, put_point}
 use Rattle.check_scope.specs.Results.{is_result}
-use Rattle.check_scope.specs.Types.{expression_at, is_bool_kind, is_of_type, type_at}
+use Rattle.check_scope.specs.ExpressionTypes.{expression_at, is_bool_kind, is_of_type, type_at}
 
 -- a place within an Emit whose range begins at `start`: in front of the handle h the earlier handles of the range count too
 abbrev pub within_emit : Place → ℕ → ℕ → Place

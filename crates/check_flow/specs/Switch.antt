@@ -11,8 +11,8 @@ use Rattle.check_errors.specs.declared.function.FunctionError.{FunctionError}
 use Rattle.check_errors.specs.declared.function.FunctionError.TheVariants.{InvalidSwitchType, ConflictingSwitchCase, ConflictingCaseType, MissingDefaultCase, MultipleDefaultCases, LastCaseFallTrough}
 use Rattle.naga_runs.specs.Visits.{Place}
 use Rattle.check_scope.specs.Context.{Context}
-use Rattle.check_scope.specs.Points.{Points, use_point}
-use Rattle.check_scope.specs.Types.{is_integer, scalar_kind_at}
+use Rattle.check_scope.specs.ScopePoints.{Points, use_point}
+use Rattle.check_scope.specs.ExpressionTypes.{is_integer, scalar_kind_at}
 
 -- a case value of the selector's signedness
 abbrev pub has_signedness_of : Option ScalarKind → SwitchValue → Bool

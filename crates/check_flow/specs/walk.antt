@@ -1,3 +1,3 @@
 -- What lemmas cite, and functions that the validator alone calls: the parts of lists, as the code goes through them.
 pub mod Emitted
-pub mod Switch
+pub mod SwitchParts

@@ -9,12 +9,12 @@ ghost use Rattle.ir_facts.specs.declared.valid.expression_error.ExpressionError.
 ghost use Rattle.check_errors.specs.declared.function.CallError.TheVariants.{Argument, ArgumentCount, ArgumentType, ExpressionMismatch, ResultAlreadyInScope, ResultAlreadyPopulated};
 ghost use Rattle.check_errors.specs.declared.function.FunctionError.TheVariants.{InvalidCall};
 ghost use Rattle.naga_runs.specs.PutsAndUses.{puts_of};
-ghost use Rattle.check_scope.specs.walk.Answers.{AllHold, IsRefusalFor, RefusesFaultsAlone};
+ghost use Rattle.check_scope.specs.walk.Findings.{AllHold, IsRefusalFor, RefusesFaultsAlone};
 ghost use Rattle.check_errors.specs.Answers.{AnswersPoints};
 ghost use Rattle.check_flow.specs.Call.{is_passed_as, passed_points, all_passed_points, is_call_result_of, call_result_points, call_points};
 ghost use Rattle.check_scope.specs.Context.{ContextFits};
 ghost use Rattle.check_scope.specs.walk.Place.{place_at};
-ghost use Rattle.check_scope.specs.walk.Seen.{context_of};
+ghost use Rattle.check_scope.specs.walk.SeenContext.{context_of};
 ghost use Rattle.check_scope.specs.walk.Table.{HasPut, count, filled_in, known};
 
 use check_errors::function::{CallError, FunctionError};
@@ -90,7 +90,7 @@ fn check_call(
     if call_holds(scope, filled, context, site, arguments) {
         return Ok(());
     }
-    refuse_call(scope, filled, context, site, arguments)
+    first_fault_of_call(scope, filled, context, site, arguments)
 }
 
 /// Whether no point of a Call fails.
@@ -168,7 +168,7 @@ fn call_result_holds(
 /// The list of a Call, with the fault of each point, where one fails.
 #[cold]
 #[inline(never)]
-fn refuse_call(
+fn first_fault_of_call(
     scope: &ScopeColumn,
     filled: &FilledColumn,
     context: &BlockContext,

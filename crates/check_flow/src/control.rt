@@ -7,12 +7,12 @@ ghost use Rattle.check_scope.specs.Results.{is_result};
 ghost use Rattle.check_scope.specs.walk.Place.{no_sets, place_at};
 ghost use Rattle.check_flow.specs.walk.Emitted.{handles_between, place};
 ghost use Rattle.check_errors.specs.declared.function.FunctionError.TheVariants.{BreakOutsideOfLoopOrSwitch, ContinueOutsideOfLoop, InvalidReturnType};
-ghost use Rattle.check_scope.specs.walk.Answers.{AllHold, Finds, IsRefusalFor, RefusesFaultsAlone};
+ghost use Rattle.check_scope.specs.walk.Findings.{AllHold, Finds, IsRefusalFor, RefusesFaultsAlone};
 ghost use Rattle.check_errors.specs.Answers.{AnswersPoints};
 ghost use Rattle.check_scope.specs.Context.{ContextFits};
-ghost use Rattle.check_scope.specs.walk.Seen.{context_of};
-ghost use Rattle.check_scope.specs.Blocks.{operands_if};
-ghost use Rattle.check_scope.specs.Points.{use_point};
+ghost use Rattle.check_scope.specs.walk.SeenContext.{context_of};
+ghost use Rattle.check_scope.specs.BodyTrees.{operands_if};
+ghost use Rattle.check_scope.specs.ScopePoints.{use_point};
 ghost use Rattle.check_scope.specs.walk.Table.{HasPut, count, known};
 
 use check_errors::function::FunctionError;
@@ -71,7 +71,7 @@ fn check_emitted(
     if emitted_holds(scope, context, handle) {
         return Ok(());
     }
-    refuse_emitted(scope, context, handle, span)
+    first_fault_of_emitted(scope, context, handle, span)
 }
 
 /// Whether no point of an expression that is emitted fails.
@@ -122,7 +122,7 @@ fn listed_hold(scope: &ScopeColumn, operands: &[Handle<tag::Expression>]) -> boo
 /// The refusal of an expression of which a point fails.
 #[cold]
 #[inline(never)]
-fn refuse_emitted(
+fn first_fault_of_emitted(
     scope: &ScopeColumn,
     context: &BlockContext,
     handle: Handle<tag::Expression>,
@@ -217,7 +217,7 @@ pub fn check_condition(
     if condition_holds(scope, context, condition) {
         return Ok(());
     }
-    refuse_condition(scope, context, condition, span)
+    first_fault_of_condition(scope, context, condition, span)
 }
 
 /// Whether no point of a condition fails.
@@ -234,7 +234,7 @@ fn condition_holds(
 /// The list of a condition, with the fault of each point, where one fails.
 #[cold]
 #[inline(never)]
-fn refuse_condition(
+fn first_fault_of_condition(
     scope: &ScopeColumn,
     context: &BlockContext,
     condition: Handle<tag::Expression>,
@@ -268,48 +268,6 @@ fn is_bool_scalar(inner: Option<&TypeInner>) -> bool
 
 /// Return: allowed here, and its value put by every run and of the function's result type.
 pub fn check_return(
-    scope: &ScopeColumn,
-    context: &BlockContext,
-    abilities: Abilities,
-    value: Option<Handle<tag::Expression>>,
-    span: Span,
-) -> Result<(), Refused>
-    requires { ContextFits (context_of context.now) }
-    ensures fault { AnswersPoints (return_points (context_of context.now) (place abilities (known scope.now)) value) result }
-    ensures refused { RefusesFaultsAlone
-        (return_points (context_of context.now) (place abilities (known scope.now)) value) result }
-{
-    if return_holds(scope, context, abilities, &value) {
-        return Ok(());
-    }
-    refuse_return(scope, context, abilities, &value, span)
-}
-
-/// Whether no point of a Return fails.
-fn return_holds(
-    scope: &ScopeColumn,
-    context: &BlockContext,
-    abilities: Abilities,
-    value: &Option<Handle<tag::Expression>>,
-) -> bool
-    requires { ContextFits (context_of context.now) }
-    ensures { IsTrue result ↔ AllHold (return_points (context_of context.now) (place abilities (known scope.now)) value.now) }
-{
-    let declared = declared_type(context);
-    match value {
-        Some(handle) => {
-            abilities.can_return
-                && scope.may_use(*handle)
-                && is_returned_as(context, *handle, declared)
-        }
-        None => abilities.can_return && declared.is_none(),
-    }
-}
-
-/// The list of a Return, with the fault of each point, where one fails.
-#[cold]
-#[inline(never)]
-fn refuse_return(
     scope: &ScopeColumn,
     context: &BlockContext,
     abilities: Abilities,

@@ -1,4 +1,5 @@
-//! The check lists of Emit, If, Switch, Loop, Break, Continue, Return and Call. Part of the validator; no promise to users.
+//! The check lists of Emit, If, Switch, Break, Continue, Return and Call, and of a Loop's break condition.
+//! Part of the validator; no promise to users.
 #![tactic(auto)]
 
 pub mod call;

@@ -4,13 +4,13 @@ ghost use Rattle.std.specs.Prelude.{◌≡◌, [], None, IsTrue, IfOk};
 ghost use Rattle.std.specs.List.{list_any};
 ghost use Rattle.ir_facts.specs.Points.{first_fault};
 ghost use Rattle.ir_module.specs.declared.statements.SwitchCase.{out-SwitchCase};
-ghost use Rattle.check_scope.specs.Blocks.{case_list};
+ghost use Rattle.check_scope.specs.BodyTrees.{case_list};
 ghost use Rattle.check_flow.specs.Switch.{has_signedness_of, is_default, repeated_fault, value_points, values_of, last_falls_through, switch_points};
-ghost use Rattle.check_scope.specs.walk.Answers.{Finds};
+ghost use Rattle.check_scope.specs.walk.Findings.{Finds};
 ghost use Rattle.check_errors.specs.Answers.{AnswersPoints};
 ghost use Rattle.check_scope.specs.walk.Place.{place_at};
-ghost use Rattle.check_scope.specs.walk.Seen.{context_of};
-ghost use Rattle.check_flow.specs.walk.Switch.{StandOnce, selector_points, cases_points, number_of, risen, risen_to};
+ghost use Rattle.check_scope.specs.walk.SeenContext.{context_of};
+ghost use Rattle.check_flow.specs.walk.SwitchParts.{StandOnce, selector_points, cases_points, number_of, risen, risen_to};
 ghost use Rattle.check_scope.specs.walk.Table.{known};
 
 use check_errors::function::FunctionError;

@@ -8,11 +8,11 @@ use Rattle.ir_module.specs.declared.operations.AtomicFunction.{AtomicFunction}
 use Rattle.check_errors.specs.declared.function.FunctionError.TheVariants.{InvalidImageAtomic}
 use Rattle.naga_runs.specs.Soundness.{Fit}
 use Rattle.naga_runs.specs.Visits.{Place}
-use Rattle.check_images.specs.walk.Image.{changed_value_points, changed_class_points}
+use Rattle.check_images.specs.walk.ImageParts.{changed_value_points, changed_class_points}
 use Rattle.check_scope.specs.Context.{Context}
 use Rattle.check_images.specs.ImageAtomic.{changed_shape, format_points, image_atomic_points}
 use Rattle.check_images.specs.Image.{array_index_points, stored_format}
-use Rattle.check_scope.specs.Points.{may_use, is_in_scope}
+use Rattle.check_scope.specs.ScopePoints.{may_use, is_in_scope}
 use Rattle.check_scope.proofs.Flat.{holds_at, holds_behind}
 use Rattle.check_images.proofs.Images.{index_fits}
 

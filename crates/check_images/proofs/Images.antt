@@ -14,12 +14,12 @@ use Rattle.check_errors.specs.declared.function.FunctionError.{FunctionError}
 use Rattle.check_errors.specs.declared.function.FunctionError.TheVariants.{InvalidImageStore}
 use Rattle.naga_runs.specs.Soundness.{Fit}
 use Rattle.naga_runs.specs.Visits.{Place}
-use Rattle.check_images.specs.walk.Image.{texel_value_points}
+use Rattle.check_images.specs.walk.ImageParts.{texel_value_points}
 use Rattle.check_scope.specs.Context.{Context}
 use Rattle.check_images.specs.Image.{array_index_points, stored_format}
 use Rattle.check_images.specs.ImageStore.{stored_shape, texel_type, is_of_type, image_store_points}
-use Rattle.check_scope.specs.Points.{may_use, is_in_scope}
-use Rattle.check_scope.specs.Types.{type_at}
+use Rattle.check_scope.specs.ScopePoints.{may_use, is_in_scope}
+use Rattle.check_scope.specs.ExpressionTypes.{type_at}
 use Rattle.check_scope.proofs.Flat.{holds_at, holds_behind}
 
 texel_has_no_members : (given : Option TypeInner) (format : StorageFormat) → is_of_type (texel_type format) given ≡ true → IfSome given HasNoMembers

@@ -20,9 +20,9 @@ use Rattle.ir_facts.specs.declared.valid.expression_error.ExpressionError.TheVar
 use Rattle.check_errors.specs.declared.function.FunctionError.{FunctionError}
 use Rattle.naga_runs.specs.Visits.{Place}
 use Rattle.check_scope.specs.Context.{Context}
-use Rattle.check_scope.specs.Points.{Points, use_point}
+use Rattle.check_scope.specs.ScopePoints.{Points, use_point}
 use Rattle.check_memory.specs.Store.{access_base}
-use Rattle.check_scope.specs.Types.{is_integer, expression_at, type_at}
+use Rattle.check_scope.specs.ExpressionTypes.{is_integer, expression_at, type_at}
 
 -- the type that the global is declared with which an expression is
 abbrev pub global_type_of : Context → Option Expression → Option ℕ

@@ -25,8 +25,8 @@ use Rattle.naga_runs.specs.Visits.{Place}
 use Rattle.check_memory.specs.Atomic.{is_min_or_max}
 use Rattle.check_scope.specs.Context.{Context}
 use Rattle.check_images.specs.Image.{image_global_at, image_global, ImageShape, is_image, shape_of, is_storage_class, stored_format, stored_access, is_coordinate, array_index_points}
-use Rattle.check_scope.specs.Points.{Points, use_point}
-use Rattle.check_scope.specs.Types.{type_at}
+use Rattle.check_scope.specs.ScopePoints.{Points, use_point}
+use Rattle.check_scope.specs.ExpressionTypes.{type_at}
 
 -- what a binding array has; any other type itself
 abbrev pub element_or_itself : List IrType → Option TypeInner → Option TypeInner

@@ -16,8 +16,8 @@ use Rattle.check_errors.specs.declared.function.FunctionError.{FunctionError}
 use Rattle.check_errors.specs.declared.function.FunctionError.TheVariants.{InvalidImageStore, InvalidStoreValue}
 use Rattle.naga_runs.specs.Visits.{Place}
 use Rattle.check_scope.specs.Context.{Context}
-use Rattle.check_scope.specs.Points.{Points, use_point}
-use Rattle.check_scope.specs.Types.{type_at, named_type_at}
+use Rattle.check_scope.specs.ScopePoints.{Points, use_point}
+use Rattle.check_scope.specs.ExpressionTypes.{type_at, named_type_at}
 use Rattle.check_images.specs.Image.{is_element_at, image_global_at, image_global, ImageShape, is_image, shape_of, is_storage_class, stored_format, is_coordinate, array_index_points}
 
 abbrev pub is_binding_array : Context → ℕ → Bool

@@ -1,2 +1,2 @@
 -- What lemmas and private functions alone cite: the parts of lists, as the code goes through them.
-pub mod Image
+pub mod ImageParts

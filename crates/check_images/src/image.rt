@@ -2,12 +2,12 @@
 
 ghost use Rattle.std.specs.Prelude.{◌≡◌};
 ghost use Rattle.std.specs.Option.{option_copied};
-ghost use Rattle.check_scope.specs.walk.Answers.{Finds};
-ghost use Rattle.check_images.specs.walk.Image.{image_fault, coordinate_points, texel_points};
+ghost use Rattle.check_scope.specs.walk.Findings.{Finds};
+ghost use Rattle.check_images.specs.walk.ImageParts.{image_fault, coordinate_points, texel_points};
 ghost use Rattle.check_variables.specs.Globals.{element_of};
 ghost use Rattle.check_images.specs.Image.{global_type_at, image_global_at, is_dimension, is_integer_scalar, array_index_points};
 ghost use Rattle.check_scope.specs.walk.Place.{place_at};
-ghost use Rattle.check_scope.specs.walk.Seen.{context_of};
+ghost use Rattle.check_scope.specs.walk.SeenContext.{context_of};
 ghost use Rattle.check_scope.specs.walk.Table.{known};
 
 use check_errors::function::FunctionError;
@@ -44,7 +44,7 @@ pub struct ImageShape {
 }
 
 /// The fault of an image, of a coordinate or of an array index, inside that of its statement.
-pub fn image_fault(statement: ImageStatement, error: ExpressionError) -> FunctionError
+pub(crate) fn image_fault(statement: ImageStatement, error: ExpressionError) -> FunctionError
     ensures { result ≡ image_fault statement error }
 {
     match statement {
@@ -54,7 +54,7 @@ pub fn image_fault(statement: ImageStatement, error: ExpressionError) -> Functio
 }
 
 /// The type of the global that an image is, or of which it is an element.
-pub fn image_global(
+pub(crate) fn image_global(
     context: &BlockContext,
     image: Handle<tag::Expression>,
 ) -> Option<Handle<tag::Type>>
@@ -96,7 +96,7 @@ pub fn element_of(inner: Option<&TypeInner>) -> Option<Handle<tag::Type>>
 
 /// Which texel: its coordinate and its array index.
 #[tactic(auto, using(ir_facts::proofs::Points::first_of_both))]
-pub fn check_texel(
+pub(crate) fn check_texel(
     statement: ImageStatement,
     scope: &ScopeColumn,
     context: &BlockContext,

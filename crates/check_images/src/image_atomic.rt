@@ -3,12 +3,12 @@
 ghost use Rattle.std.specs.Prelude.{◌≡◌, ◌++◌};
 ghost use Rattle.std.specs.Option.{option_copied};
 ghost use Rattle.ir_types.specs.Types.{inner_at};
-ghost use Rattle.check_scope.specs.walk.Answers.{Finds, RefusesFaultsAlone};
+ghost use Rattle.check_scope.specs.walk.Findings.{Finds, RefusesFaultsAlone};
 ghost use Rattle.check_errors.specs.Answers.{AnswersPoints};
-ghost use Rattle.check_images.specs.walk.Image.{changed_points, changed_format_points, changed_value_points, changed_class_points};
+ghost use Rattle.check_images.specs.walk.ImageParts.{changed_points, changed_format_points, changed_value_points, changed_class_points};
 ghost use Rattle.check_images.specs.ImageAtomic.{element_or_itself, is_done_on_texels, operation_points, format_points, image_atomic_points};
 ghost use Rattle.check_scope.specs.walk.Place.{place_at};
-ghost use Rattle.check_scope.specs.walk.Seen.{context_of};
+ghost use Rattle.check_scope.specs.walk.SeenContext.{context_of};
 ghost use Rattle.check_scope.specs.walk.Table.{known};
 
 use crate::image::{ImageShape, ImageStatement, Texel, check_texel, image_global};

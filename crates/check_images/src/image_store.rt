@@ -3,13 +3,13 @@
 ghost use Rattle.std.specs.Prelude.{◌≡◌, ◌++◌, IfOk, IfSome, IsOk};
 ghost use Rattle.std.specs.Option.{option_copied};
 ghost use Rattle.ir_types.specs.Members.{HasNoMembers};
-ghost use Rattle.check_scope.specs.walk.Answers.{Finds, RefusesFaultsAlone};
+ghost use Rattle.check_scope.specs.walk.Findings.{Finds, RefusesFaultsAlone};
 ghost use Rattle.check_errors.specs.Answers.{AnswersPoints};
-ghost use Rattle.check_images.specs.walk.Image.{stored_points, texel_value_points};
+ghost use Rattle.check_images.specs.walk.ImageParts.{stored_points, texel_value_points};
 ghost use Rattle.check_images.specs.ImageStore.{stored_type, image_store_points};
 ghost use Rattle.check_scope.specs.walk.Place.{place_at};
-ghost use Rattle.check_scope.specs.walk.Seen.{context_of};
-ghost use Rattle.check_scope.specs.Types.{type_at};
+ghost use Rattle.check_scope.specs.walk.SeenContext.{context_of};
+ghost use Rattle.check_scope.specs.ExpressionTypes.{type_at};
 ghost use Rattle.check_scope.specs.walk.Table.{known};
 
 use crate::image::{ImageShape, ImageStatement, Texel, check_texel, element_of, image_global};

@@ -1,4 +1,5 @@
-//! The check lists of the statements that reach images: image stores and image atomics.
+//! The check lists of ImageStore and ImageAtomic.
+//! Part of the validator; no promise to users.
 #![tactic(auto)]
 
 pub mod image;

@@ -14,9 +14,9 @@ use Rattle.naga_runs.specs.Visits.{Place}
 use Rattle.check_memory.specs.Atomic.{atomic_scalar, atomic_space, scalar_points, is_atomic_result, atomic_result_points, atomic_points}
 use Rattle.check_scope.specs.Context.{Context}
 use Rattle.naga_runs.specs.PutsAndUses.{puts_of}
-use Rattle.check_scope.specs.Points.{may_use, is_in_scope}
+use Rattle.check_scope.specs.ScopePoints.{may_use, is_in_scope}
 use Rattle.check_scope.specs.Results.{is_fresh}
-use Rattle.check_scope.specs.Types.{expression_at}
+use Rattle.check_scope.specs.ExpressionTypes.{expression_at}
 use Rattle.check_scope.proofs.Flat.{holds_at, holds_behind}
 
 -- what holds of a result that is named

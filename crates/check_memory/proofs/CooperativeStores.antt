@@ -6,7 +6,7 @@ use Rattle.naga_runs.specs.Soundness.{Fit}
 use Rattle.naga_runs.specs.Visits.{Place}
 use Rattle.check_scope.specs.Context.{Context}
 use Rattle.check_memory.specs.Cooperative.{cooperative_points}
-use Rattle.check_scope.specs.Points.{may_use, is_in_scope}
+use Rattle.check_scope.specs.ScopePoints.{may_use, is_in_scope}
 use Rattle.check_scope.proofs.Flat.{holds_at}
 
 -- its one use is allowed

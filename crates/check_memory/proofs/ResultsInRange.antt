@@ -6,7 +6,7 @@ use Rattle.ir_module.specs.declared.expressions.Expression.{Expression}
 use Rattle.ir_module.specs.declared.expressions.Expression.TheVariants as e
 use Rattle.check_scope.proofs.InRange.{inner_fits}
 use Rattle.check_scope.specs.Context.{Context, ContextFits}
-use Rattle.check_scope.specs.Types.{expression_at}
+use Rattle.check_scope.specs.ExpressionTypes.{expression_at}
 use Rattle.check_memory.specs.Atomic.{result_type_of, result_type_at}
 
 module _ (context : Context) (fits : ContextFits context) where

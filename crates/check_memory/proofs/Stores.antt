@@ -10,7 +10,7 @@ use Rattle.naga_runs.specs.Visits.{Place}
 use Rattle.ir_facts.specs.Points.{first_fault}
 use Rattle.naga_runs.specs.Soundness.{Fit}
 use Rattle.check_scope.specs.Context.{Context}
-use Rattle.check_scope.specs.Points.{may_use, is_in_scope}
+use Rattle.check_scope.specs.ScopePoints.{may_use, is_in_scope}
 use Rattle.check_memory.specs.Store.{access_base, root_within, store_points}
 use Rattle.check_scope.proofs.Flat.{holds_at}
 

@@ -25,11 +25,11 @@ use Rattle.naga_runs.specs.Handles.{Handles}
 use Rattle.naga_runs.specs.Visits.{Place}
 use Rattle.ir_facts.specs.Points.{Point}
 use Rattle.check_scope.specs.Context.{Context}
-use Rattle.check_scope.specs.Points.{Points, use_point, put_point}
+use Rattle.check_scope.specs.ScopePoints.{Points, use_point, put_point}
 use Rattle.check_scope.specs.Results.{is_fresh}
 use Rattle.check_scope.specs.Pointers.{space_at}
 use Rattle.ir_types.specs.TypeTests.{is_scalar, both_are, is_equivalent, it_is, is_exchange_struct}
-use Rattle.check_scope.specs.Types.{is_integer, expression_at, type_at}
+use Rattle.check_scope.specs.ExpressionTypes.{is_integer, expression_at, type_at}
 
 -- a point whose fault stands inside InvalidAtomic
 abbrev pub atomic_point : Bool → AtomicError → Point FunctionError

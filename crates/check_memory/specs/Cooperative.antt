@@ -8,9 +8,9 @@ use Rattle.ir_types.specs.declared.types.TypeInner.TheVariants as inner
 use Rattle.check_errors.specs.declared.function.FunctionError.TheVariants.{InvalidCooperativeStoreTarget, InvalidCooperativeDataPointer, InvalidStorePointer}
 use Rattle.naga_runs.specs.Visits.{Place}
 use Rattle.check_scope.specs.Context.{Context}
-use Rattle.check_scope.specs.Points.{Points, use_point}
+use Rattle.check_scope.specs.ScopePoints.{Points, use_point}
 use Rattle.check_scope.specs.Pointers.{base_type_at, is_writable}
-use Rattle.check_scope.specs.Types.{type_at}
+use Rattle.check_scope.specs.ExpressionTypes.{type_at}
 
 -- the scalar of a cooperative matrix
 abbrev pub matrix_scalar_of : Option TypeInner → Option Scalar

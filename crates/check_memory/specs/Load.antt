@@ -12,10 +12,10 @@ use Rattle.check_errors.specs.declared.function.FunctionError.TheVariants.{Workg
 use Rattle.naga_runs.specs.Visits.{Place}
 use Rattle.check_memory.specs.Atomic.{atomic_scalar_at}
 use Rattle.check_scope.specs.Context.{Context}
-use Rattle.check_scope.specs.Points.{Points, use_point, put_point}
+use Rattle.check_scope.specs.ScopePoints.{Points, use_point, put_point}
 use Rattle.check_scope.specs.Pointers.{space_at}
 use Rattle.ir_types.specs.TypeTests.{is_scalar, both_are, is_equivalent}
-use Rattle.check_scope.specs.Types.{expression_at, type_at}
+use Rattle.check_scope.specs.ExpressionTypes.{expression_at, type_at}
 
 abbrev pub is_work_group : Option AddressSpace → Bool
 is_work_group (Some space.WorkGroup) = true

@@ -12,10 +12,10 @@ use Rattle.check_errors.specs.declared.function.FunctionError.TheVariants.{Inval
 use Rattle.naga_runs.specs.Visits.{Place}
 use Rattle.check_scope.specs.Context.{Context}
 use Rattle.check_scope.specs.Pointers.{base_type_at, is_writable}
-use Rattle.check_scope.specs.Points.{Points, use_point}
+use Rattle.check_scope.specs.ScopePoints.{Points, use_point}
 use Rattle.ir_facts.specs.Points.{Point}
 use Rattle.ir_types.specs.TypeTests.{is_scalar}
-use Rattle.check_scope.specs.Types.{expression_at, is_of_type, type_at, named_type}
+use Rattle.check_scope.specs.ExpressionTypes.{expression_at, is_of_type, type_at, named_type}
 
 -- the expression of which an access takes a part
 abbrev pub access_base : Option Expression → Option ℕ

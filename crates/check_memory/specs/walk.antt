@@ -1,2 +1,2 @@
 -- What lemmas cite, and functions that the validator alone calls: the parts of lists, as the code goes through them.
-pub mod Atomic
+pub mod AtomicParts

@@ -4,14 +4,14 @@ ghost use Rattle.std.specs.Prelude.{◌≡◌, ◌<◌, OnOk, IfSome, Some, is_s
 ghost use Rattle.std.specs.Option.{option_copied};
 ghost use Rattle.ir_module.specs.View.{put_if};
 ghost use Rattle.naga_runs.specs.PutsAndUses.{puts_of};
-ghost use Rattle.check_scope.specs.walk.Answers.{Finds, RefusesFaultsAlone};
+ghost use Rattle.check_scope.specs.walk.Findings.{Finds, RefusesFaultsAlone};
 ghost use Rattle.check_errors.specs.Answers.{AnswersPoints};
 ghost use Rattle.check_memory.specs.Atomic.{atomic_scalar_at, is_int64, is_float32, is_min_or_max, is_plain_exchange, is_done_on_floats, int64_capability, scalar_points, is_atomic_result, is_comparison, result_type_at, atomic_result_points, atomic_points};
 ghost use Rattle.check_variables.specs.Spaces.{is_storage};
-ghost use Rattle.check_memory.specs.walk.Atomic.{operated_points, compared_points, uncompared_points};
+ghost use Rattle.check_memory.specs.walk.AtomicParts.{operated_points, compared_points, uncompared_points};
 ghost use Rattle.check_scope.specs.Context.{ContextFits};
 ghost use Rattle.check_scope.specs.walk.Place.{place_at};
-ghost use Rattle.check_scope.specs.walk.Seen.{context_of};
+ghost use Rattle.check_scope.specs.walk.SeenContext.{context_of};
 ghost use Rattle.check_scope.specs.walk.Table.{HasPut, count, filled_in, known};
 
 use check_errors::function::{AtomicError, FunctionError};
@@ -96,7 +96,10 @@ fn check_atomic(
 }
 
 /// The scalar of the atomic that an expression points to.
-pub fn atomic_scalar(context: &BlockContext, pointer: Handle<tag::Expression>) -> Option<Scalar>
+pub(crate) fn atomic_scalar(
+    context: &BlockContext,
+    pointer: Handle<tag::Expression>,
+) -> Option<Scalar>
     ensures { result ≡ atomic_scalar_at (context_of context.now) pointer }
 {
     let Some(TypeInner::Pointer { base, .. }) = context.type_inner(pointer) else {

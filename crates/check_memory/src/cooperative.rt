@@ -1,12 +1,12 @@
 //! The check list of CooperativeStore.
 
 ghost use Rattle.std.specs.Prelude.{◌≡◌};
-ghost use Rattle.check_scope.specs.walk.Answers.{Finds, RefusesFaultsAlone};
+ghost use Rattle.check_scope.specs.walk.Findings.{Finds, RefusesFaultsAlone};
 ghost use Rattle.check_errors.specs.Answers.{AnswersPoints};
 ghost use Rattle.check_scope.specs.Context.{ContextFits};
 ghost use Rattle.check_memory.specs.Cooperative.{matrix_scalar_at, base_scalar_at, cooperative_points};
 ghost use Rattle.check_scope.specs.walk.Place.{place_at};
-ghost use Rattle.check_scope.specs.walk.Seen.{context_of};
+ghost use Rattle.check_scope.specs.walk.SeenContext.{context_of};
 ghost use Rattle.check_scope.specs.walk.Table.{known};
 
 use check_errors::function::FunctionError;

@@ -1,4 +1,5 @@
-//! The check lists of the statements that reach memory through a pointer: loads, stores, atomics, cooperative stores.
+//! The check lists of Store, Atomic, WorkGroupUniformLoad and CooperativeStore.
+//! Part of the validator; no promise to users.
 #![tactic(auto)]
 
 pub mod atomic;

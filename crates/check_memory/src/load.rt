@@ -1,13 +1,13 @@
 //! The check list of WorkGroupUniformLoad.
 
-ghost use Rattle.std.specs.Prelude.{◌≡◌, ◌<◌, ◌↔◌, ◌∷◌, [], IsTrue, OnOk, IfSome, length};
+ghost use Rattle.std.specs.Prelude.{◌≡◌, ◌<◌, ◌∷◌, [], OnOk, IfSome, length};
 ghost use Rattle.std.specs.Option.{option_copied};
-ghost use Rattle.check_scope.specs.walk.Answers.{AllHold, Finds, RefusesFaultsAlone};
+ghost use Rattle.check_scope.specs.walk.Findings.{Finds, RefusesFaultsAlone};
 ghost use Rattle.check_errors.specs.Answers.{AnswersPoints};
 ghost use Rattle.check_scope.specs.Context.{ContextFits};
-ghost use Rattle.check_memory.specs.Load.{is_work_group, is_loaded_as, loaded_type_at, points_to, load_points};
+ghost use Rattle.check_memory.specs.Load.{is_work_group, loaded_type_at, points_to, load_points};
 ghost use Rattle.check_scope.specs.walk.Place.{place_at};
-ghost use Rattle.check_scope.specs.walk.Seen.{context_of};
+ghost use Rattle.check_scope.specs.walk.SeenContext.{context_of};
 ghost use Rattle.check_scope.specs.walk.Table.{HasPut, count, known};
 
 use crate::atomic::atomic_scalar;
@@ -39,67 +39,15 @@ pub fn validate_load(
         (load_points (context_of context.now) (place_at (known scope.old)) pointer loaded) result }
     ensures scope { OnOk result (HasPut scope.old scope.new (loaded ∷ [])) }
 {
-    check_load(scope, context, pointer, loaded, span)?;
+    let alloc = scope.allocator();
+    let checked = check_load(scope, context, pointer, loaded);
+    answer(alloc, checked, span)?;
     scope.put(loaded);
     Ok(())
 }
 
-/// All that is checked of a load. Its result stays out of scope.
+/// The check list of a load. Its result stays out of scope.
 fn check_load(
-    scope: &ScopeColumn,
-    context: &BlockContext,
-    pointer: Handle<tag::Expression>,
-    loaded: Handle<tag::Expression>,
-    span: Span,
-) -> Result<(), Refused>
-    requires { ContextFits (context_of context.now) }
-    ensures fault { AnswersPoints (load_points (context_of context.now) (place_at (known scope.now)) pointer loaded) result }
-    ensures refused { RefusesFaultsAlone
-        (load_points (context_of context.now) (place_at (known scope.now)) pointer loaded) result }
-{
-    if load_holds(scope, context, pointer, loaded) {
-        return Ok(());
-    }
-    refuse_load(scope, context, pointer, loaded, span)
-}
-
-/// Whether no point of a load fails.
-fn load_holds(
-    scope: &ScopeColumn,
-    context: &BlockContext,
-    pointer: Handle<tag::Expression>,
-    loaded: Handle<tag::Expression>,
-) -> bool
-    requires { ContextFits (context_of context.now) }
-    ensures { IsTrue result ↔ AllHold (load_points (context_of context.now) (place_at (known scope.now)) pointer loaded) }
-{
-    scope.may_use(pointer)
-        && is_work_group(space(context, pointer))
-        && !scope.contains(loaded)
-        && is_loaded_as(context, pointer, loaded_type(context, loaded))
-}
-
-/// The refusal of a load of which a point fails.
-#[cold]
-#[inline(never)]
-fn refuse_load(
-    scope: &ScopeColumn,
-    context: &BlockContext,
-    pointer: Handle<tag::Expression>,
-    loaded: Handle<tag::Expression>,
-    span: Span,
-) -> Result<(), Refused>
-    requires { ContextFits (context_of context.now) }
-    ensures fault { AnswersPoints (load_points (context_of context.now) (place_at (known scope.now)) pointer loaded) result }
-    ensures refused { RefusesFaultsAlone
-        (load_points (context_of context.now) (place_at (known scope.now)) pointer loaded) result }
-{
-    let checked = check_load_points(scope, context, pointer, loaded);
-    answer(scope.allocator(), checked, span)
-}
-
-/// The list of a load, with the fault of each point.
-fn check_load_points(
     scope: &ScopeColumn,
     context: &BlockContext,
     pointer: Handle<tag::Expression>,
@@ -137,22 +85,6 @@ fn loaded_type(context: &BlockContext, loaded: Handle<tag::Expression>) -> Optio
     match context.expression(loaded) {
         Some(Expression::WorkGroupUniformLoadResult { ty }) => Some(*ty),
         _ => None,
-    }
-}
-
-/// Whether a pointer in the work group is one to the type that a result is declared with, if it is declared with one.
-fn is_loaded_as(
-    context: &BlockContext,
-    pointer: Handle<tag::Expression>,
-    declared: Option<Handle<tag::Type>>,
-) -> bool
-    requires context { ContextFits (context_of context.now) }
-    requires declared { IfSome declared (λ ty. ty < length (context_of context.now).program.types) }
-    ensures { result ≡ is_loaded_as (context_of context.now) pointer declared }
-{
-    match declared {
-        Some(ty) => points_to(context, pointer, ty),
-        None => false,
     }
 }
 

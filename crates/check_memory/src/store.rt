@@ -3,14 +3,14 @@
 ghost use Rattle.std.specs.Prelude.{◌≡◌, ◌<◌, ◌↔◌, true, IsTrue, Some, length};
 ghost use Rattle.std.specs.Option.{option_copied};
 ghost use Rattle.check_errors.specs.declared.function.FunctionError.TheVariants.{InvalidStoreTexture};
-ghost use Rattle.check_scope.specs.walk.Answers.{AllHold, IsRefusalFor, RefusesFaultsAlone};
+ghost use Rattle.check_scope.specs.walk.Findings.{AllHold, IsRefusalFor, RefusesFaultsAlone};
 ghost use Rattle.check_errors.specs.Answers.{AnswersPoints};
 ghost use Rattle.check_scope.specs.Context.{ContextFits};
 ghost use Rattle.check_scope.specs.walk.Place.{place_at};
-ghost use Rattle.check_scope.specs.walk.Seen.{context_of};
+ghost use Rattle.check_scope.specs.walk.SeenContext.{context_of};
 ghost use Rattle.check_memory.specs.Store.{access_base, root_at, is_variable, is_texture, is_stored_as, store_points};
 ghost use Rattle.check_scope.specs.Pointers.{base_type_at};
-ghost use Rattle.check_scope.specs.Types.{named_type};
+ghost use Rattle.check_scope.specs.ExpressionTypes.{named_type};
 ghost use Rattle.ir_types.specs.declared.typifier.TypeResolution.TheVariants.{Handle as OfHandle};
 ghost use Rattle.check_scope.specs.walk.Table.{known};
 
@@ -46,7 +46,7 @@ pub fn check_store(
     if store_holds(scope, context, pointer, value) {
         return Ok(());
     }
-    refuse_store(scope, context, pointer, value, span)
+    first_fault_of_store(scope, context, pointer, value, span)
 }
 
 /// Whether no point of a Store fails.
@@ -69,7 +69,7 @@ fn store_holds(
 /// The list of a Store, with the fault of each point, where one fails.
 #[cold]
 #[inline(never)]
-fn refuse_store(
+fn first_fault_of_store(
     scope: &ScopeColumn,
     context: &BlockContext,
     pointer: Handle<tag::Expression>,

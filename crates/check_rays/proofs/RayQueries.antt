@@ -8,7 +8,7 @@ use Rattle.ir_module.specs.declared.operations.RayQueryFunction.TheVariants as q
 use Rattle.naga_runs.specs.Soundness.{Fit}
 use Rattle.naga_runs.specs.Visits.{Place}
 use Rattle.check_scope.specs.Context.{Context}
-use Rattle.check_scope.specs.Points.{may_use, is_in_scope}
+use Rattle.check_scope.specs.ScopePoints.{may_use, is_in_scope}
 use Rattle.check_rays.specs.RayQuery.{is_set, query_flag_at, query_function_points, ray_query_points}
 use Rattle.check_scope.proofs.Flat.{holds_at, holds_behind}
 

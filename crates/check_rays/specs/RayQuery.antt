@@ -12,9 +12,9 @@ use Rattle.check_errors.specs.declared.function.FunctionError.TheVariants.{Inval
 use Rattle.naga_runs.specs.Visits.{Place}
 use Rattle.check_memory.specs.Atomic.{is_float_kind}
 use Rattle.check_scope.specs.Context.{Context}
-use Rattle.check_scope.specs.Points.{Points, use_point, put_point}
+use Rattle.check_scope.specs.ScopePoints.{Points, use_point, put_point}
 use Rattle.ir_types.specs.TypeTests.{both_are, is_same_inner}
-use Rattle.check_scope.specs.Types.{expression_at, type_at}
+use Rattle.check_scope.specs.ExpressionTypes.{expression_at, type_at}
 
 -- the type that the local is declared with which an expression is
 abbrev pub local_type_of : Context → Option Expression → Option ℕ

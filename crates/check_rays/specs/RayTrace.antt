@@ -7,11 +7,11 @@ use Rattle.ir_types.specs.declared.types.AddressSpace.TheVariants as space
 use Rattle.check_errors.specs.declared.function.FunctionError.TheVariants.{InvalidAccelerationStructure, InvalidPayloadType, InvalidPayloadAddressSpace, PayloadPointerNotGlobal, MismatchedPayloadType}
 use Rattle.naga_runs.specs.Visits.{Place}
 use Rattle.check_scope.specs.Context.{Context}
-use Rattle.check_scope.specs.Points.{Points, use_point}
+use Rattle.check_scope.specs.ScopePoints.{Points, use_point}
 use Rattle.check_rays.specs.RayQuery.{structure_flag_at, descriptor_points}
 use Rattle.check_scope.specs.Pointers.{space_at}
 use Rattle.check_rays.specs.Traces.{payload_type_at}
-use Rattle.check_scope.specs.Types.{expression_at}
+use Rattle.check_scope.specs.ExpressionTypes.{expression_at}
 
 abbrev pub is_payload_space : AddressSpace → Bool
 is_payload_space space.RayPayload = true

@@ -12,7 +12,7 @@ use Rattle.ir_arena.specs.declared.span.Span.{Span}
 use Rattle.naga_runs.specs.Positions.{Node, StatementNode}
 use Rattle.naga_runs.specs.Visits.{Visit}
 use Rattle.check_scope.specs.Context.{Context}
-use Rattle.check_scope.specs.Types.{type_at}
+use Rattle.check_scope.specs.ExpressionTypes.{type_at}
 use Rattle.check_scope.specs.declared.trace.TraceRayVertexReturnState.{TraceRayVertexReturnState}
 use Rattle.check_scope.specs.declared.trace.TraceRayVertexReturnState.TheVariants.{NoTraceRays, VertexReturn, NoVertexReturn}
 use Rattle.check_scope.specs.declared.trace.TraceState.{TraceState}

@@ -1,4 +1,5 @@
-//! The check lists of the statements on rays: ray queries and ray traces, and what ray traces leave.
+//! The check lists of RayQuery and TraceRay, and the state that ray traces leave.
+//! Part of the validator; no promise to users.
 #![tactic(auto)]
 
 pub mod ray_query;

@@ -5,14 +5,14 @@ ghost use Rattle.std.specs.Option.{option_copied};
 ghost use Rattle.ir_facts.specs.FitsBody.{QueryFits};
 ghost use Rattle.ir_module.specs.View.{query_acts};
 ghost use Rattle.naga_runs.specs.PutsAndUses.{puts_of};
-ghost use Rattle.check_scope.specs.walk.Answers.{Finds, RefusesFaultsAlone};
+ghost use Rattle.check_scope.specs.walk.Findings.{Finds, RefusesFaultsAlone};
 ghost use Rattle.check_errors.specs.Answers.{AnswersPoints};
 ghost use Rattle.ir_module.specs.declared.operations.RayQueryFunction.TheVariants.{Initialize};
 ghost use Rattle.check_rays.specs.RayQuery.{local_type_at, query_flag_of, structure_flag_at, descriptor_type, descriptor_points, is_float_scalar, query_function_points, ray_query_points};
 ghost use Rattle.check_scope.specs.walk.Place.{place_at};
-ghost use Rattle.check_scope.specs.walk.Seen.{context_of};
+ghost use Rattle.check_scope.specs.walk.SeenContext.{context_of};
 ghost use Rattle.ir_types.specs.TypeTests.{both_are, is_same_inner};
-ghost use Rattle.check_scope.specs.Types.{type_at};
+ghost use Rattle.check_scope.specs.ExpressionTypes.{type_at};
 ghost use Rattle.check_scope.specs.walk.Table.{HasPut, count, known};
 
 use check_errors::function::FunctionError;
@@ -157,7 +157,10 @@ fn check_initialize(
 }
 
 /// Whether an acceleration structure returns vertices.
-pub fn structure_flag(context: &BlockContext, structure: Handle<tag::Expression>) -> Option<bool>
+pub(crate) fn structure_flag(
+    context: &BlockContext,
+    structure: Handle<tag::Expression>,
+) -> Option<bool>
     ensures { result ≡ structure_flag_at (context_of context.now) structure }
 {
     match context.type_inner(structure) {
@@ -167,7 +170,7 @@ pub fn structure_flag(context: &BlockContext, structure: Handle<tag::Expression>
 }
 
 /// The descriptor of a ray: put by every run, and of the module's type of ray descriptors.
-pub fn check_descriptor(
+pub(crate) fn check_descriptor(
     scope: &ScopeColumn,
     context: &BlockContext,
     descriptor: Handle<tag::Expression>,

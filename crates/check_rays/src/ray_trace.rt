@@ -3,14 +3,14 @@
 ghost use Rattle.std.specs.Prelude.{◌≡◌, true};
 ghost use Rattle.std.specs.Option.{option_copied, option_or};
 ghost use Rattle.naga_runs.specs.Positions.{StatementNode};
-ghost use Rattle.check_scope.specs.walk.Answers.{Finds, RefusesFaultsAlone};
+ghost use Rattle.check_scope.specs.walk.Findings.{Finds, RefusesFaultsAlone};
 ghost use Rattle.check_errors.specs.Answers.{AnswersPoints};
-ghost use Rattle.check_scope.specs.Blocks.{tree_of};
+ghost use Rattle.check_scope.specs.BodyTrees.{tree_of};
 ghost use Rattle.check_rays.specs.RayTrace.{is_payload_space, is_global, trace_ray_points};
 ghost use Rattle.check_scope.specs.walk.Place.{place_at};
-ghost use Rattle.check_scope.specs.walk.Seen.{context_of};
+ghost use Rattle.check_scope.specs.walk.SeenContext.{context_of};
 ghost use Rattle.check_rays.specs.Traces.{payload_type_at, lacks_vertex_return, span_where, vertex_return_by, with_trace};
-ghost use Rattle.check_scope.specs.Types.{type_at};
+ghost use Rattle.check_scope.specs.ExpressionTypes.{type_at};
 ghost use Rattle.check_scope.specs.walk.Table.{known};
 
 use crate::ray_query::{check_descriptor, structure_flag};

@@ -9,7 +9,7 @@ use Rattle.ir_types.specs.declared.types.Type.{«Type» as IrType}
 use Rattle.ir_types.specs.declared.typifier.TypeResolution.{TypeResolution}
 use Rattle.ir_types.specs.declared.typifier.TypeResolution.TheVariants.{Handle, Value}
 use Rattle.check_scope.specs.Context.{Context, ContextFits}
-use Rattle.check_scope.specs.Types.{resolution_at, type_at}
+use Rattle.check_scope.specs.ExpressionTypes.{resolution_at, type_at}
 
 -- what holds of each item holds of the one at an index
 pub all_at : {A : Type 0} (P : A → Type 0) (xs : List A) (k : ℕ) (x : A) → All P xs → slice_get xs k ≡ Some x → P x

@@ -8,8 +8,8 @@ use Rattle.ir_arena.specs.declared.span.Refusal.TheVariants as refusal
 use Rattle.check_errors.specs.Answers.{AnswersPoints, IsFirstFault, Refuses}
 use Rattle.check_errors.specs.declared.function.FunctionError.{FunctionError}
 use Rattle.ir_facts.specs.Points.{and_then, Point, first_fault}
-use Rattle.check_scope.specs.walk.Answers.{AnswersLeaving, IsRefusalFor}
-use Rattle.check_scope.specs.Points.{Points}
+use Rattle.check_scope.specs.walk.Findings.{AnswersLeaving, IsRefusalFor}
+use Rattle.check_scope.specs.ScopePoints.{Points}
 use Rattle.ir_facts.proofs.Points.{first_of_both}
 
 -- the refusal for the first fault

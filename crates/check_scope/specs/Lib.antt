@@ -1,11 +1,10 @@
 pub mod Context
-pub mod Types
+pub mod ExpressionTypes
 pub mod Pointers
-pub mod Points
-pub mod WhatIsChecked
-pub mod Blocks
+pub mod ScopePoints
+pub mod BodyTrees
 pub mod Results
 pub mod walk
-pub use Rattle.check_scope.specs.Blocks.{body_of}
+pub use Rattle.check_scope.specs.BodyTrees.{body_of}
 pub use Rattle.check_scope.specs.Context.{pre_emitted_of}
-pub use Rattle.check_scope.specs.WhatIsChecked.{checks_blocks, checks_expressions}
+pub use Rattle.check_errors.specs.WhatIsChecked.{checks_blocks, checks_expressions}

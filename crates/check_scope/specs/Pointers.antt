@@ -5,7 +5,7 @@ use Rattle.ir_types.specs.Types.{access_of, pointer_base_of, pointer_space_of}
 use Rattle.ir_types.specs.declared.types.AddressSpace.{AddressSpace}
 use Rattle.ir_types.specs.declared.typifier.TypeResolution.{TypeResolution}
 use Rattle.check_scope.specs.Context.{Context}
-use Rattle.check_scope.specs.Types.{type_at}
+use Rattle.check_scope.specs.ExpressionTypes.{type_at}
 
 -- the type that a pointer points to
 abbrev pub base_type_at : Context → ℕ → Option TypeResolution

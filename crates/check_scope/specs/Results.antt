@@ -11,9 +11,9 @@ use Rattle.naga_runs.specs.Handles.{Handles}
 use Rattle.naga_runs.specs.Positions.{Node, NoNode, StatementNode, BreakIfNode}
 use Rattle.naga_runs.specs.Visits.{Visit}
 use Rattle.check_scope.specs.Context.{Context}
-use Rattle.check_scope.specs.WhatIsChecked.{checks_expressions}
-use Rattle.check_scope.specs.Points.{Points}
-use Rattle.check_scope.specs.Types.{expression_at}
+use Rattle.check_errors.specs.WhatIsChecked.{checks_expressions}
+use Rattle.check_scope.specs.ScopePoints.{Points}
+use Rattle.check_scope.specs.ExpressionTypes.{expression_at}
 
 -- which statement puts an expression in scope: an Emit, where it isn't there from the start; a Call or an Atomic, which so
 -- fills it; or another

@@ -1,8 +1,8 @@
 -- What lemmas cite, and functions that the validator alone calls: the table and the context as the code keeps them, and how it
 -- answers.
-pub mod Numbers
+pub mod ScopeNumbers
 pub mod Refused
 pub mod Table
-pub mod Answers
+pub mod Findings
 pub mod Place
-pub mod Seen
+pub mod SeenContext

@@ -34,8 +34,8 @@ pub struct BlockContext<'a> {
 }
 
 impl BlockContext<'_> {
-    ghost use Rattle.check_scope.specs.walk.Seen.{context_of};
-    ghost use Rattle.check_scope.specs.Types.{expression_at, resolution_at, type_at, scalar_kind_at};
+    ghost use Rattle.check_scope.specs.walk.SeenContext.{context_of};
+    ghost use Rattle.check_scope.specs.ExpressionTypes.{expression_at, resolution_at, type_at, scalar_kind_at};
 
     /// The expression at a handle.
     pub fn expression(&self, handle: Handle<tag::Expression>) -> Option<&Expression>

@@ -1,5 +1,5 @@
-//! What the check lists of a body go by: its context, the table of what is in scope and what is filled, what ray traces leave,
-//! and how a statement is refused.
+//! The scope of expressions, the results that are filled, and what else every check list of a body reads.
+//! Part of the validator; no promise to users.
 #![tactic(auto)]
 
 pub mod context;

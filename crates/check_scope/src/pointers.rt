@@ -4,7 +4,7 @@ ghost use Rattle.std.specs.Prelude.{◌≡◌, IfSome, length};
 ghost use Rattle.ir_types.specs.Types.{ResolutionFits};
 ghost use Rattle.check_scope.specs.Context.{ContextFits};
 ghost use Rattle.check_scope.specs.Pointers.{base_type_at, space_at, is_writable};
-ghost use Rattle.check_scope.specs.walk.Seen.{context_of};
+ghost use Rattle.check_scope.specs.walk.SeenContext.{context_of};
 
 use crate::context::BlockContext;
 use ir_arena::handle::Handle;

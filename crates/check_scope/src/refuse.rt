@@ -3,9 +3,9 @@
 ghost use Rattle.std.specs.Prelude.{[], ◌∷◌};
 ghost use Rattle.ir_facts.specs.declared.valid.expression_error.ExpressionError.TheVariants.{NotInScope};
 ghost use Rattle.check_errors.specs.declared.function.FunctionError.TheVariants.{Expression};
-ghost use Rattle.check_scope.specs.walk.Answers.{Finds, IsRefusalFor, RefusesFaultsAlone};
+ghost use Rattle.check_scope.specs.walk.Findings.{Finds, IsRefusalFor, RefusesFaultsAlone};
 ghost use Rattle.check_errors.specs.Answers.{AnswersPoints};
-ghost use Rattle.check_scope.specs.Points.{Points, use_point, put_point};
+ghost use Rattle.check_scope.specs.ScopePoints.{Points, use_point, put_point};
 ghost use Rattle.check_scope.specs.walk.Place.{place_at};
 ghost use Rattle.check_scope.specs.walk.Table.{known};
 

@@ -25,7 +25,7 @@ impl Model for Refused {
 
 impl Refused {
     ghost use Rattle.std.specs.Prelude.{◌≡◌};
-    ghost use Rattle.check_scope.specs.walk.Answers.{IsRefusalFor};
+    ghost use Rattle.check_scope.specs.walk.Findings.{IsRefusalFor};
 
     /// For a fault, which has its places.
     fn new(alloc: Global, fault: WithSpan<FunctionError>) -> Refused

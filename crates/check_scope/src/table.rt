@@ -1,6 +1,6 @@
 //! The table of a function's expressions: by expression, which scope put it, and whether it is a result that is filled.
 
-ghost use Rattle.check_scope.specs.walk.Numbers.{IsSound};
+ghost use Rattle.check_scope.specs.walk.ScopeNumbers.{IsSound};
 
 mod filled;
 mod scope;

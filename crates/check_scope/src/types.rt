@@ -3,9 +3,9 @@
 ghost use Rattle.std.specs.Prelude.{◌≡◌, IfSome, length};
 ghost use Rattle.std.specs.Option.{option_copied};
 ghost use Rattle.ir_types.specs.Types.{NamesTypesBelow, ResolutionFits, inner_at};
-ghost use Rattle.check_scope.specs.walk.Seen.{context_of};
+ghost use Rattle.check_scope.specs.walk.SeenContext.{context_of};
 ghost use Rattle.check_scope.specs.Context.{ContextFits};
-ghost use Rattle.check_scope.specs.Types.{is_integer, is_of_type};
+ghost use Rattle.check_scope.specs.ExpressionTypes.{is_integer, is_of_type};
 ghost use Rattle.ir_types.specs.TypeTests.{both_are, is_same_inner, is_scalar, is_equivalent, it_is, is_exchange_struct};
 
 use crate::context::BlockContext;

@@ -10,8 +10,8 @@ use Rattle.naga_runs.specs.Handles.{Handles}
 use Rattle.ir_facts.specs.Points.{first_fault}
 use Rattle.naga_runs.specs.Visits.{Visit}
 use Rattle.check_scope.specs.Context.{Context}
-use Rattle.check_scope.specs.WhatIsChecked.{checks_expressions}
-use Rattle.check_scope.specs.Types.{expression_at}
+use Rattle.check_errors.specs.WhatIsChecked.{checks_expressions}
+use Rattle.check_scope.specs.ExpressionTypes.{expression_at}
 use Rattle.check_scope.specs.Results.{result_of, is_this, fills, is_to_fill, is_fresh, filled_before, is_unfilled, filled_points_from}
 use Rattle.check_statement.specs.Rules.{stages_behind, stages_left}
 use Rattle.check_statement.specs.walk.State.{with_result}

@@ -10,7 +10,7 @@ use Rattle.ir_module.specs.declared.statements.SwitchCase.{SwitchCase}
 use Rattle.ir_arena.specs.declared.range.Range.{Range}
 use Rattle.ir_arena.specs.declared.span.Span.{Span}
 use Rattle.naga_runs.specs.Visits.{Place}
-use Rattle.check_scope.specs.Blocks.{emitted_operands}
+use Rattle.check_scope.specs.BodyTrees.{emitted_operands}
 use Rattle.check_scope.specs.Context.{Context}
 use Rattle.check_statement.specs.Past.{Past}
 use Rattle.check_statement.specs.Rules.{leaf_points, statement_points}

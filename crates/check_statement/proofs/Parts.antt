@@ -14,7 +14,7 @@ use Rattle.naga_runs.specs.Positions.{StatementNode}
 use Rattle.check_scope.specs.Results.{result_of}
 use Rattle.ir_facts.proofs.OtherOperands.{body_fits-other}
 use Rattle.ir_module.specs.View.{no_operands}
-use Rattle.check_scope.specs.Blocks.{emitted_operands, tree_of, body_of, block_of, list_of, cases_of}
+use Rattle.check_scope.specs.BodyTrees.{emitted_operands, tree_of, body_of, block_of, list_of, cases_of}
 use Rattle.check_scope.specs.Context.{Context}
 use Rattle.check_statement.specs.Ready.{IsStatementReady, IsBodyReady, AreCasesReady}
 

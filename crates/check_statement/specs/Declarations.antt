@@ -13,7 +13,7 @@ use Rattle.check_variables.specs.Locals.{local_points}
 use Rattle.check_errors.specs.TypeInfos.{type_has}
 use Rattle.check_errors.specs.declared.function.FunctionError.TheVariants.{LocalVariable, InvalidArgumentPointerSpace, InvalidArgumentType, PipelineInputRegularFunction, NonConstructibleReturnType, PipelineOutputRegularFunction}
 use Rattle.check_scope.specs.Context.{Context}
-use Rattle.check_scope.specs.Points.{Points}
+use Rattle.check_scope.specs.ScopePoints.{Points}
 
 -- a missing name is the empty text
 abbrev pub name_or_empty : Option (List ℕ) → List ℕ

@@ -23,7 +23,7 @@ use Rattle.check_memory.specs.Cooperative.{cooperative_points}
 use Rattle.check_images.specs.ImageAtomic.{image_atomic_points}
 use Rattle.check_images.specs.ImageStore.{image_store_points}
 use Rattle.check_memory.specs.Load.{load_points}
-use Rattle.check_scope.specs.Points.{Points}
+use Rattle.check_scope.specs.ScopePoints.{Points}
 use Rattle.check_rays.specs.RayQuery.{ray_query_points}
 use Rattle.check_rays.specs.RayTrace.{trace_ray_points}
 use Rattle.check_statement.specs.Stages.{meet}

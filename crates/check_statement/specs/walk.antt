@@ -2,5 +2,5 @@
 -- which kinds of statements it judges apart.
 pub mod State
 pub mod Walk
-pub mod Asked
+pub mod AskedContext
 pub mod Frequent

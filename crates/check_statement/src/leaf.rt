@@ -2,12 +2,12 @@
 
 ghost use Rattle.std.specs.Prelude.{◌≡◌, false, OnOk};
 ghost use Rattle.check_errors.specs.Answers.{AnswersPoints};
-ghost use Rattle.check_scope.specs.Blocks.{tree_of};
+ghost use Rattle.check_scope.specs.BodyTrees.{tree_of};
 ghost use Rattle.check_scope.specs.Context.{ContextFits};
 ghost use Rattle.check_statement.specs.Ready.{IsStatementReady};
 ghost use Rattle.check_statement.specs.Rules.{leaf_points};
 ghost use Rattle.check_scope.specs.walk.Place.{place_at};
-ghost use Rattle.check_scope.specs.walk.Seen.{context_of};
+ghost use Rattle.check_scope.specs.walk.SeenContext.{context_of};
 ghost use Rattle.check_statement.specs.walk.Frequent.{is_frequent};
 ghost use Rattle.check_statement.specs.walk.State.{kept, seen};
 ghost use Rattle.check_statement.specs.walk.Walk.{puts};
@@ -36,7 +36,7 @@ use ir_module::statements::{Located, Statement};
 /// jumps and of what holds others it is empty. What the statement puts is in scope afterwards. It stands apart from the
 /// frequent kinds, so that nothing is set up for it where one of them is judged.
 #[inline(never)]
-pub fn validate_rarer_leaf(
+pub(crate) fn validate_rarer_leaf(
     table: &mut Table,
     state: &BodyOutcome,
     context: &BlockContext,

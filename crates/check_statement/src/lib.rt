@@ -1,5 +1,5 @@
-//! The check lists of all statements of a body, by their kind; the stages that a statement leaves, and the results that are to be
-//! filled behind a body.
+//! One statement of any kind: its check list, its stages and what it leaves; and the definition of a function's judgement.
+//! Part of the validator; no promise to users.
 #![tactic(auto)]
 
 pub mod leaf;

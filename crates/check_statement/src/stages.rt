@@ -1,9 +1,9 @@
 //! The stages that a statement may run in.
 
 ghost use Rattle.std.specs.Prelude.{◌≡◌};
-ghost use Rattle.check_scope.specs.Blocks.{tree_of};
+ghost use Rattle.check_scope.specs.BodyTrees.{tree_of};
 ghost use Rattle.check_statement.specs.Rules.{callee_stages, stages_in};
-ghost use Rattle.check_scope.specs.walk.Seen.{context_of};
+ghost use Rattle.check_scope.specs.walk.SeenContext.{context_of};
 
 use check_scope::context::BlockContext;
 use ir_arena::handle::Handle;
@@ -25,7 +25,20 @@ pub fn stages_of(context: &BlockContext, located: &Located) -> ShaderStages
         Statement::SubgroupBallot { .. }
         | Statement::SubgroupGather { .. }
         | Statement::SubgroupCollectiveOperation { .. } => context.settings.subgroup_stages,
-        _ => ShaderStages::ALL,
+        Statement::Emit(_)
+        | Statement::Block(_)
+        | Statement::If { .. }
+        | Statement::Switch { .. }
+        | Statement::Loop { .. }
+        | Statement::Break
+        | Statement::Continue
+        | Statement::Return { .. }
+        | Statement::Store { .. }
+        | Statement::ImageStore { .. }
+        | Statement::Atomic { .. }
+        | Statement::ImageAtomic { .. }
+        | Statement::RayQuery { .. }
+        | Statement::RayPipelineFunction(_) => ShaderStages::ALL,
     }
 }
 

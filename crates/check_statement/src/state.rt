@@ -3,10 +3,10 @@
 ghost use Rattle.std.specs.Prelude.{◌≡◌, ◌<◌, ℕ, List, IfSome};
 ghost use Rattle.naga_runs.specs.Positions.{StatementNode};
 ghost use Rattle.ir_module.specs.View.{tree_of};
-ghost use Rattle.check_scope.specs.Blocks as in_context;
+ghost use Rattle.check_scope.specs.BodyTrees as in_context;
 ghost use Rattle.check_scope.specs.Context.{Context};
 ghost use Rattle.check_scope.specs.Results.{result_of};
-ghost use Rattle.check_scope.specs.walk.Seen.{context_of};
+ghost use Rattle.check_scope.specs.walk.SeenContext.{context_of};
 ghost use Rattle.check_statement.specs.walk.State.{kept, with_result, with_statement};
 ghost use Rattle.check_scope.specs.walk.Table.{KnowsResults, filled_in, marked};
 
@@ -42,7 +42,7 @@ fn result_of(located: &Located) -> Option<Handle<tag::Expression>>
 }
 
 /// Marks the result that a Call or an Atomic names, if it names one, as filled.
-pub fn fill_named(filled: &mut FilledColumn, named: &Option<Handle<tag::Expression>>)
+pub(crate) fn fill_named(filled: &mut FilledColumn, named: &Option<Handle<tag::Expression>>)
     requires { IfSome named.now (λ r. r < marked filled.old) }
     ensures filled { filled_in filled.new ≡ with_result (filled_in filled.old) named.now }
     ensures results { (context : Context) → KnowsResults context filled.old → KnowsResults context filled.new }

@@ -1,15 +1,15 @@
 //! A statement itself, without its parts; and a break condition.
 
 ghost use Rattle.std.specs.Prelude.{◌≡◌, false, IfOk, OnOk};
-ghost use Rattle.check_scope.specs.walk.Answers.{RefusesFaultsAlone};
+ghost use Rattle.check_scope.specs.walk.Findings.{RefusesFaultsAlone};
 ghost use Rattle.check_errors.specs.Answers.{AnswersPoints};
-ghost use Rattle.check_scope.specs.Blocks.{tree_of};
+ghost use Rattle.check_scope.specs.BodyTrees.{tree_of};
 ghost use Rattle.check_scope.specs.Context.{ContextFits};
 ghost use Rattle.check_flow.specs.Control.{break_if_points};
 ghost use Rattle.check_statement.specs.Ready.{IsStatementReady};
 ghost use Rattle.check_statement.specs.Rules.{statement_points};
 ghost use Rattle.check_scope.specs.walk.Place.{place_at};
-ghost use Rattle.check_scope.specs.walk.Seen.{context_of};
+ghost use Rattle.check_scope.specs.walk.SeenContext.{context_of};
 ghost use Rattle.check_statement.specs.walk.Frequent.{is_frequent, is_whole};
 ghost use Rattle.check_statement.specs.walk.State.{kept, seen, with_statement};
 ghost use Rattle.check_statement.specs.walk.Walk.{puts};
@@ -164,7 +164,7 @@ fn validate_points(
         Statement::Break => control::check_break(alloc, *abilities, span),
         Statement::Continue => control::check_continue(alloc, *abilities, span),
         Statement::Return { value } => {
-            control::check_return(scope, context, *abilities, *value, span)
+            control::check_return(scope, context, *abilities, value, span)
         }
         Statement::If { .. } => unreachable!(),
         _ => validate_rarer_leaf(table, state, context, located),

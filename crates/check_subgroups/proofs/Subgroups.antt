@@ -10,9 +10,9 @@ use Rattle.ir_module.specs.declared.operations.GatherMode.TheVariants as gather
 use Rattle.ir_module.specs.declared.operations.SubgroupOperation.{SubgroupOperation}
 use Rattle.naga_runs.specs.Soundness.{Fit}
 use Rattle.naga_runs.specs.Visits.{Place}
-use Rattle.check_subgroups.specs.walk.Subgroup.{gathered_points}
+use Rattle.check_subgroups.specs.walk.SubgroupParts.{gathered_points}
 use Rattle.check_scope.specs.Context.{Context}
-use Rattle.check_scope.specs.Points.{may_use, is_in_scope}
+use Rattle.check_scope.specs.ScopePoints.{may_use, is_in_scope}
 use Rattle.check_subgroups.specs.Subgroup.{ballot_points}
 use Rattle.check_subgroups.specs.SubgroupCollective.{collective_points}
 use Rattle.check_subgroups.specs.SubgroupGather.{index_of, is_broadcast, index_points, gather_points}

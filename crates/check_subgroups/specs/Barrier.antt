@@ -9,7 +9,7 @@ use Rattle.ir_flags.specs.declared.ir.Barrier.{Barrier}
 use Rattle.ir_flags.specs.declared.capabilities.Capabilities.{Capabilities}
 use Rattle.ir_facts.specs.declared.valid.settings.Settings.{Settings}
 use Rattle.check_errors.specs.declared.function.FunctionError.TheVariants.{MissingCapability}
-use Rattle.check_scope.specs.Points.{Points}
+use Rattle.check_scope.specs.ScopePoints.{Points}
 use Rattle.check_subgroups.specs.Subgroup.{operations_point}
 
 -- whether a barrier is one of a subgroup

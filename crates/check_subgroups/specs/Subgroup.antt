@@ -20,9 +20,9 @@ use Rattle.check_errors.specs.declared.function.SubgroupError.TheVariants as wro
 use Rattle.naga_runs.specs.Visits.{Place}
 use Rattle.ir_facts.specs.Points.{Point}
 use Rattle.check_scope.specs.Context.{Context}
-use Rattle.check_scope.specs.Points.{Points, use_point, put_point}
+use Rattle.check_scope.specs.ScopePoints.{Points, use_point, put_point}
 use Rattle.ir_types.specs.TypeTests.{is_scalar, both_are, is_same_inner}
-use Rattle.check_scope.specs.Types.{expression_at, type_at}
+use Rattle.check_scope.specs.ExpressionTypes.{expression_at, type_at}
 
 -- a point whose fault stands inside InvalidSubgroup
 abbrev pub subgroup_point : Bool → SubgroupError → Point FunctionError

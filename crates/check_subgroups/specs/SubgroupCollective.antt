@@ -11,8 +11,8 @@ use Rattle.ir_types.specs.declared.types.TypeInner.TheVariants as inner
 use Rattle.check_errors.specs.declared.function.SubgroupError.TheVariants as wrong
 use Rattle.naga_runs.specs.Visits.{Place}
 use Rattle.check_scope.specs.Context.{Context}
-use Rattle.check_scope.specs.Points.{Points, use_point, put_point}
-use Rattle.check_scope.specs.Types.{is_bool_kind, is_integer, type_at}
+use Rattle.check_scope.specs.ScopePoints.{Points, use_point, put_point}
+use Rattle.check_scope.specs.ExpressionTypes.{is_bool_kind, is_integer, type_at}
 use Rattle.check_subgroups.specs.Subgroup.{subgroup_point, operations_point, subgroups_point, is_number_kind, is_result_of}
 
 -- an integer of 32 bits or more, of either sign

@@ -12,9 +12,9 @@ use Rattle.ir_facts.specs.declared.proc.expression_kinds.ExpressionKind.TheVaria
 use Rattle.check_errors.specs.declared.function.SubgroupError.TheVariants as wrong
 use Rattle.naga_runs.specs.Visits.{Place}
 use Rattle.check_scope.specs.Context.{Context}
-use Rattle.check_scope.specs.Points.{Points, use_point, put_point}
+use Rattle.check_scope.specs.ScopePoints.{Points, use_point, put_point}
 use Rattle.ir_types.specs.TypeTests.{is_scalar}
-use Rattle.check_scope.specs.Types.{type_at}
+use Rattle.check_scope.specs.ExpressionTypes.{type_at}
 use Rattle.check_subgroups.specs.Subgroup.{subgroup_point, operations_point, subgroups_point, is_number_kind, is_result_of}
 
 abbrev pub u32_scalar : Scalar

@@ -1,7 +1,7 @@
 //! The check list of ControlBarrier and of MemoryBarrier.
 
 ghost use Rattle.std.specs.Prelude.{◌≡◌};
-ghost use Rattle.check_scope.specs.walk.Answers.{Finds, RefusesFaultsAlone};
+ghost use Rattle.check_scope.specs.walk.Findings.{Finds, RefusesFaultsAlone};
 ghost use Rattle.check_errors.specs.Answers.{AnswersPoints};
 ghost use Rattle.check_subgroups.specs.Barrier.{barrier_capabilities, barrier_points};
 

@@ -1,4 +1,5 @@
-//! The check lists of the subgroup statements and of barriers. Part of the validator; no promise to users.
+//! The check lists of the subgroup statements and of barriers.
+//! Part of the validator; no promise to users.
 #![tactic(auto)]
 
 pub mod barrier;

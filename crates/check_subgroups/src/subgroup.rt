@@ -2,11 +2,11 @@
 
 ghost use Rattle.std.specs.Prelude.{◌≡◌, ◌<◌, ◌∷◌, [], OnOk};
 ghost use Rattle.std.specs.Option.{option_copied};
-ghost use Rattle.check_scope.specs.walk.Answers.{Finds, RefusesFaultsAlone};
+ghost use Rattle.check_scope.specs.walk.Findings.{Finds, RefusesFaultsAlone};
 ghost use Rattle.check_errors.specs.Answers.{AnswersPoints};
 ghost use Rattle.check_scope.specs.walk.Place.{place_at};
-ghost use Rattle.check_subgroups.specs.walk.Subgroup.{combined_points};
-ghost use Rattle.check_scope.specs.walk.Seen.{context_of};
+ghost use Rattle.check_subgroups.specs.walk.SubgroupParts.{combined_points};
+ghost use Rattle.check_scope.specs.walk.SeenContext.{context_of};
 ghost use Rattle.check_subgroups.specs.Subgroup.{operations_point, subgroups_point, predicate_points, ballot_points, is_number_kind, combined_type_at};
 ghost use Rattle.check_scope.specs.walk.Table.{HasPut, count, known};
 
@@ -26,7 +26,7 @@ use ir_module::expressions::Expression;
 use ir_types::types::{Scalar, ScalarKind, TypeInner};
 
 /// Groups of operations, which the target has.
-pub fn check_operations(
+pub(crate) fn check_operations(
     settings: &Settings,
     needed: SubgroupOperationSet,
 ) -> Result<(), FunctionError>
@@ -110,7 +110,7 @@ fn check_predicate(
 }
 
 /// Whether a kind is that of integers of either sign, or of floats.
-pub fn is_number_kind(kind: ScalarKind) -> bool
+pub(crate) fn is_number_kind(kind: ScalarKind) -> bool
     ensures { result ≡ is_number_kind kind }
 {
     matches!(
@@ -120,7 +120,7 @@ pub fn is_number_kind(kind: ScalarKind) -> bool
 }
 
 /// The result of a collective operation or a gather: it is not in scope yet, and of the argument's type.
-pub fn check_combined(
+pub(crate) fn check_combined(
     scope: &ScopeColumn,
     context: &BlockContext,
     argument: Handle<tag::Expression>,

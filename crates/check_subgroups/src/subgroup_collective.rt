@@ -2,10 +2,10 @@
 
 ghost use Rattle.std.specs.Prelude.{◌≡◌, ◌<◌, ◌∷◌, [], OnOk};
 ghost use Rattle.std.specs.Option.{option_copied};
-ghost use Rattle.check_scope.specs.walk.Answers.{Finds, RefusesFaultsAlone};
+ghost use Rattle.check_scope.specs.walk.Findings.{Finds, RefusesFaultsAlone};
 ghost use Rattle.check_errors.specs.Answers.{AnswersPoints};
 ghost use Rattle.check_scope.specs.walk.Place.{place_at};
-ghost use Rattle.check_scope.specs.walk.Seen.{context_of};
+ghost use Rattle.check_scope.specs.walk.SeenContext.{context_of};
 ghost use Rattle.check_subgroups.specs.SubgroupCollective.{is_wide_integer, is_combined_by, takes_vectors, is_operand_of, is_scanned, is_done_over, collective_points};
 ghost use Rattle.check_scope.specs.walk.Table.{HasPut, count, known};
 

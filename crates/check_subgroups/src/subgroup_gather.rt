@@ -2,11 +2,11 @@
 
 ghost use Rattle.std.specs.Prelude.{◌≡◌, ◌<◌, ◌∷◌, [], OnOk, Some};
 ghost use Rattle.std.specs.Option.{option_copied};
-ghost use Rattle.check_scope.specs.walk.Answers.{Finds, RefusesFaultsAlone};
+ghost use Rattle.check_scope.specs.walk.Findings.{Finds, RefusesFaultsAlone};
 ghost use Rattle.check_errors.specs.Answers.{AnswersPoints};
 ghost use Rattle.check_scope.specs.walk.Place.{place_at};
-ghost use Rattle.check_subgroups.specs.walk.Subgroup.{indexed_points, gathered_points};
-ghost use Rattle.check_scope.specs.walk.Seen.{context_of};
+ghost use Rattle.check_subgroups.specs.walk.SubgroupParts.{indexed_points, gathered_points};
+ghost use Rattle.check_scope.specs.walk.SeenContext.{context_of};
 ghost use Rattle.check_subgroups.specs.SubgroupGather.{index_of, is_broadcast, is_const_at, index_points, is_gathered, gather_points};
 ghost use Rattle.check_scope.specs.walk.Table.{HasPut, count, known};
 

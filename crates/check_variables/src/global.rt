@@ -117,7 +117,13 @@ fn check_array(
         AddressSpace::Storage { .. } => Some(Capabilities::STORAGE_BUFFER_BINDING_ARRAY),
         AddressSpace::Uniform => Some(Capabilities::BUFFER_BINDING_ARRAY),
         AddressSpace::Handle => resource_array_needs(&types[base].inner),
-        _ => return Err(GlobalVariableError::InvalidUsage(space)),
+        AddressSpace::Function
+        | AddressSpace::Private
+        | AddressSpace::WorkGroup
+        | AddressSpace::Immediate
+        | AddressSpace::TaskPayload
+        | AddressSpace::RayPayload
+        | AddressSpace::IncomingRayPayload => return Err(GlobalVariableError::InvalidUsage(space)),
     };
     check_capability(capabilities, needed)?;
     Ok(base)
@@ -139,7 +145,17 @@ fn resource_array_needs(base: &TypeInner) -> Option<Capabilities>
         TypeInner::AccelerationStructure { .. } => {
             Some(Capabilities::ACCELERATION_STRUCTURE_BINDING_ARRAY)
         }
-        _ => None,
+        TypeInner::Scalar(_)
+        | TypeInner::Vector { .. }
+        | TypeInner::Matrix { .. }
+        | TypeInner::CooperativeMatrix { .. }
+        | TypeInner::Atomic(_)
+        | TypeInner::Pointer { .. }
+        | TypeInner::ValuePointer { .. }
+        | TypeInner::Array { .. }
+        | TypeInner::Struct { .. }
+        | TypeInner::RayQuery { .. }
+        | TypeInner::BindingArray { .. } => None,
     }
 }
 
@@ -248,7 +264,18 @@ fn check_resource(inner: &TypeInner, capabilities: Capabilities) -> Result<(), G
         | TypeInner::Sampler { .. }
         | TypeInner::AccelerationStructure { .. }
         | TypeInner::RayQuery { .. } => Ok(()),
-        _ => Err(GlobalVariableError::InvalidType(AddressSpace::Handle)),
+        TypeInner::Scalar(_)
+        | TypeInner::Vector { .. }
+        | TypeInner::Matrix { .. }
+        | TypeInner::CooperativeMatrix { .. }
+        | TypeInner::Atomic(_)
+        | TypeInner::Pointer { .. }
+        | TypeInner::ValuePointer { .. }
+        | TypeInner::Array { .. }
+        | TypeInner::Struct { .. }
+        | TypeInner::BindingArray { .. } => Err(GlobalVariableError::InvalidType(
+            AddressSpace::Handle,
+        )),
     }
 }
 
@@ -307,10 +334,16 @@ fn required_flags(space: AddressSpace) -> TypeFlags
 fn is_resource_space(space: AddressSpace) -> bool
     ensures { result ≡ (row_of space).is_bound }
 {
-    matches!(
-        space,
-        AddressSpace::Storage { .. } | AddressSpace::Uniform | AddressSpace::Handle
-    )
+    match space {
+        AddressSpace::Storage { .. } | AddressSpace::Uniform | AddressSpace::Handle => true,
+        AddressSpace::Function
+        | AddressSpace::Private
+        | AddressSpace::WorkGroup
+        | AddressSpace::Immediate
+        | AddressSpace::TaskPayload
+        | AddressSpace::RayPayload
+        | AddressSpace::IncomingRayPayload => false,
+    }
 }
 
 /// The binding, the size of a payload, and the decorations.

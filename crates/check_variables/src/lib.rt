@@ -1,5 +1,5 @@
-//! The rules of the validator that need no scope: the checks of local variables and of globals, and the uses that a global may
-//! have at a stage.
+//! The checks of local and global variables, and the uses that a global may have at a stage.
+//! Users import these from `naga_rules`.
 #![tactic(auto)]
 
 pub mod allowed;

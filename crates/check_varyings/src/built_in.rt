@@ -91,10 +91,56 @@ fn suits_work_group(place: &VaryingPlace, built_in: BuiltIn) -> bool
 fn is_of_one_dimension(built_in: BuiltIn) -> bool
     ensures { result ≡ is_of_one_dimension built_in }
 {
-    matches!(
-        built_in,
-        BuiltIn::SubgroupId | BuiltIn::SubgroupInvocationId
-    )
+    match built_in {
+        BuiltIn::SubgroupId | BuiltIn::SubgroupInvocationId => true,
+        BuiltIn::BaseInstance
+        | BuiltIn::BaseVertex
+        | BuiltIn::VertexIndex
+        | BuiltIn::InstanceIndex
+        | BuiltIn::DrawIndex
+        | BuiltIn::ClipDistances
+        | BuiltIn::CullDistance
+        | BuiltIn::PointSize
+        | BuiltIn::PointCoord
+        | BuiltIn::Position { .. }
+        | BuiltIn::ViewIndex
+        | BuiltIn::FragDepth
+        | BuiltIn::FrontFacing
+        | BuiltIn::PrimitiveIndex
+        | BuiltIn::Barycentric { .. }
+        | BuiltIn::SampleIndex
+        | BuiltIn::SampleMask
+        | BuiltIn::LocalInvocationIndex
+        | BuiltIn::GlobalInvocationId
+        | BuiltIn::LocalInvocationId
+        | BuiltIn::WorkGroupId
+        | BuiltIn::WorkGroupSize
+        | BuiltIn::NumWorkGroups
+        | BuiltIn::NumSubgroups
+        | BuiltIn::SubgroupSize
+        | BuiltIn::CullPrimitive
+        | BuiltIn::PointIndex
+        | BuiltIn::LineIndices
+        | BuiltIn::TriangleIndices
+        | BuiltIn::MeshTaskSize
+        | BuiltIn::RayInvocationId
+        | BuiltIn::NumRayInvocations
+        | BuiltIn::InstanceCustomData
+        | BuiltIn::GeometryIndex
+        | BuiltIn::HitKind
+        | BuiltIn::WorldRayOrigin
+        | BuiltIn::WorldRayDirection
+        | BuiltIn::ObjectRayOrigin
+        | BuiltIn::ObjectRayDirection
+        | BuiltIn::RayTmin
+        | BuiltIn::RayTCurrentMax
+        | BuiltIn::ObjectToWorld
+        | BuiltIn::WorldToObject
+        | BuiltIn::VertexCount
+        | BuiltIn::PrimitiveCount
+        | BuiltIn::Vertices
+        | BuiltIn::Primitives => false,
+    }
 }
 
 /// Whether a type is the one that a built-in has.

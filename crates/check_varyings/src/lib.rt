@@ -1,5 +1,5 @@
-//! The checks of what a stage takes in and puts out, its arguments, its result and the outputs of a mesh: naga 30.0.1's
-//! `VaryingContext`.
+//! The checks of stage inputs and outputs, by built-in and by location: naga 30.0.1's `VaryingContext`.
+//! Users import these from `naga_rules`.
 #![tactic(auto)]
 
 mod built_in;

@@ -283,7 +283,9 @@ fn check_kind(
                 return Err(VaryingError::InvalidInterpolationForInteger);
             }
         }
-        _ => return Err(VaryingError::InvalidType(ty)),
+        Some(ScalarKind::Bool | ScalarKind::AbstractInt | ScalarKind::AbstractFloat) | None => {
+            return Err(VaryingError::InvalidType(ty));
+        }
     }
     Ok(())
 }

@@ -53,7 +53,13 @@ fn required(built_in: Bi, stage: St) -> Option<Capabilities>
         Bi::CullDistance => Some(Capabilities::CULL_DISTANCE),
         Bi::PrimitiveIndex => match stage {
             St::AnyHit | St::ClosestHit => None,
-            _ => Some(Capabilities::PRIMITIVE_INDEX),
+            St::Vertex
+            | St::Fragment
+            | St::Compute
+            | St::Mesh
+            | St::Task
+            | St::RayGeneration
+            | St::Miss => Some(Capabilities::PRIMITIVE_INDEX),
         },
         Bi::Barycentric { .. } => Some(Capabilities::SHADER_BARYCENTRICS),
         Bi::ViewIndex => Some(Capabilities::MULTIVIEW),
@@ -62,7 +68,44 @@ fn required(built_in: Bi, stage: St) -> Option<Capabilities>
             Capabilities::SUBGROUP,
         ),
         Bi::DrawIndex => Some(Capabilities::DRAW_INDEX),
-        _ => None,
+        Bi::BaseInstance
+        | Bi::BaseVertex
+        | Bi::VertexIndex
+        | Bi::InstanceIndex
+        | Bi::PointSize
+        | Bi::PointCoord
+        | Bi::Position { .. }
+        | Bi::FragDepth
+        | Bi::FrontFacing
+        | Bi::SampleMask
+        | Bi::LocalInvocationIndex
+        | Bi::GlobalInvocationId
+        | Bi::LocalInvocationId
+        | Bi::WorkGroupId
+        | Bi::WorkGroupSize
+        | Bi::NumWorkGroups
+        | Bi::CullPrimitive
+        | Bi::PointIndex
+        | Bi::LineIndices
+        | Bi::TriangleIndices
+        | Bi::MeshTaskSize
+        | Bi::RayInvocationId
+        | Bi::NumRayInvocations
+        | Bi::InstanceCustomData
+        | Bi::GeometryIndex
+        | Bi::HitKind
+        | Bi::WorldRayOrigin
+        | Bi::WorldRayDirection
+        | Bi::ObjectRayOrigin
+        | Bi::ObjectRayDirection
+        | Bi::RayTmin
+        | Bi::RayTCurrentMax
+        | Bi::ObjectToWorld
+        | Bi::WorldToObject
+        | Bi::VertexCount
+        | Bi::PrimitiveCount
+        | Bi::Vertices
+        | Bi::Primitives => None,
     }
 }
 
@@ -70,18 +113,57 @@ fn required(built_in: Bi, stage: St) -> Option<Capabilities>
 fn is_of_mesh_shaders(built_in: Bi) -> bool
     ensures { result ≡ is_of_mesh_shaders built_in }
 {
-    matches!(
-        built_in,
+    match built_in {
         Bi::CullPrimitive
-            | Bi::PointIndex
-            | Bi::LineIndices
-            | Bi::TriangleIndices
-            | Bi::MeshTaskSize
-            | Bi::VertexCount
-            | Bi::PrimitiveCount
-            | Bi::Vertices
-            | Bi::Primitives
-    )
+        | Bi::PointIndex
+        | Bi::LineIndices
+        | Bi::TriangleIndices
+        | Bi::MeshTaskSize
+        | Bi::VertexCount
+        | Bi::PrimitiveCount
+        | Bi::Vertices
+        | Bi::Primitives => true,
+        Bi::BaseInstance
+        | Bi::BaseVertex
+        | Bi::VertexIndex
+        | Bi::InstanceIndex
+        | Bi::DrawIndex
+        | Bi::ClipDistances
+        | Bi::CullDistance
+        | Bi::PointSize
+        | Bi::PointCoord
+        | Bi::Position { .. }
+        | Bi::ViewIndex
+        | Bi::FragDepth
+        | Bi::FrontFacing
+        | Bi::PrimitiveIndex
+        | Bi::Barycentric { .. }
+        | Bi::SampleIndex
+        | Bi::SampleMask
+        | Bi::LocalInvocationIndex
+        | Bi::GlobalInvocationId
+        | Bi::LocalInvocationId
+        | Bi::WorkGroupId
+        | Bi::WorkGroupSize
+        | Bi::NumWorkGroups
+        | Bi::NumSubgroups
+        | Bi::SubgroupId
+        | Bi::SubgroupSize
+        | Bi::SubgroupInvocationId
+        | Bi::RayInvocationId
+        | Bi::NumRayInvocations
+        | Bi::InstanceCustomData
+        | Bi::GeometryIndex
+        | Bi::HitKind
+        | Bi::WorldRayOrigin
+        | Bi::WorldRayDirection
+        | Bi::ObjectRayOrigin
+        | Bi::ObjectRayDirection
+        | Bi::RayTmin
+        | Bi::RayTCurrentMax
+        | Bi::ObjectToWorld
+        | Bi::WorldToObject => false,
+    }
 }
 
 /// Whether a built-in is visible at a place.

@@ -124,7 +124,53 @@ pub(crate) fn canonical(built_in: BuiltIn) -> BuiltIn
     match built_in {
         BuiltIn::Position { .. } => BuiltIn::Position { invariant: false },
         BuiltIn::Barycentric { .. } => BuiltIn::Barycentric { perspective: false },
-        _ => built_in,
+        BuiltIn::BaseInstance
+        | BuiltIn::BaseVertex
+        | BuiltIn::VertexIndex
+        | BuiltIn::InstanceIndex
+        | BuiltIn::DrawIndex
+        | BuiltIn::ClipDistances
+        | BuiltIn::CullDistance
+        | BuiltIn::PointSize
+        | BuiltIn::PointCoord
+        | BuiltIn::ViewIndex
+        | BuiltIn::FragDepth
+        | BuiltIn::FrontFacing
+        | BuiltIn::PrimitiveIndex
+        | BuiltIn::SampleIndex
+        | BuiltIn::SampleMask
+        | BuiltIn::LocalInvocationIndex
+        | BuiltIn::GlobalInvocationId
+        | BuiltIn::LocalInvocationId
+        | BuiltIn::WorkGroupId
+        | BuiltIn::WorkGroupSize
+        | BuiltIn::NumWorkGroups
+        | BuiltIn::NumSubgroups
+        | BuiltIn::SubgroupId
+        | BuiltIn::SubgroupSize
+        | BuiltIn::SubgroupInvocationId
+        | BuiltIn::CullPrimitive
+        | BuiltIn::PointIndex
+        | BuiltIn::LineIndices
+        | BuiltIn::TriangleIndices
+        | BuiltIn::MeshTaskSize
+        | BuiltIn::RayInvocationId
+        | BuiltIn::NumRayInvocations
+        | BuiltIn::InstanceCustomData
+        | BuiltIn::GeometryIndex
+        | BuiltIn::HitKind
+        | BuiltIn::WorldRayOrigin
+        | BuiltIn::WorldRayDirection
+        | BuiltIn::ObjectRayOrigin
+        | BuiltIn::ObjectRayDirection
+        | BuiltIn::RayTmin
+        | BuiltIn::RayTCurrentMax
+        | BuiltIn::ObjectToWorld
+        | BuiltIn::WorldToObject
+        | BuiltIn::VertexCount
+        | BuiltIn::PrimitiveCount
+        | BuiltIn::Vertices
+        | BuiltIn::Primitives => built_in,
     }
 }
 

@@ -1,4 +1,5 @@
-//! Handles and the arenas that they are of, spans, and lists that are values, as in naga 30.0.1's `arena` and `span`.
+//! Handles, arenas, spans, and lists that contracts compare: naga 30.0.1's `arena` and `span`.
+//! Users import these from `naga_below`.
 #![tactic(auto)]
 
 pub mod arena;

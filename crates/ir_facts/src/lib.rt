@@ -1,4 +1,5 @@
-//! What is known of the shader IR below function validation: kinds of expressions, infos of types, functions and modules, settings.
+//! What is known of a module before its functions are checked: kinds of expressions, infos of types and functions, settings.
+//! Users import these from `naga_below`.
 #![tactic(auto)]
 
 pub mod proc;

@@ -1,5 +1,5 @@
-//! Tests of what the validator's calls ask of their arguments: each is true exactly where what is named is there.
-//! None takes memory.
+//! The tests of conditions: whether all that a module, a function or an entry point names is there. They take no memory.
+//! Users import these from `naga_below`.
 #![tactic(auto)]
 
 pub mod body;

@@ -1,5 +1,5 @@
-//! Sets of named bits: of the shader IR, and of what validation goes by and finds. They follow naga 30.0.1's sets, by name and
-//! by bit.
+//! The sets of named bits of the IR and of the validator, with naga 30.0.1's names and bits.
+//! Users import these from `naga_below`.
 #![tactic(auto)]
 
 pub mod capabilities;

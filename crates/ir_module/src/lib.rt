@@ -1,5 +1,5 @@
-//! The shader IR: expressions, statements, functions, modules; it follows naga 30.0.1 in what naga's function and interface
-//! validation reads of these.
+//! Expressions, statements, functions, entry points and modules of the IR: what naga 30.0.1's validator reads of them.
+//! Users import these from `naga_below`.
 #![tactic(auto)]
 
 pub mod expressions;

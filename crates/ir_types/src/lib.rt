@@ -1,5 +1,5 @@
-//! The types of the shader IR, the arena that holds each once, and questions about them, as in naga 30.0.1's `ir` and
-//! `proc::type_methods`.
+//! The types of the IR, the arena that holds each type once, and questions about types (naga 30.0.1's `ir` and `proc`).
+//! Users import these from `naga_below`.
 #![tactic(auto)]
 
 pub mod built_in;

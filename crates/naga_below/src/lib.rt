@@ -1,5 +1,5 @@
-//! The shader IR and what is known of it: handles and arenas, types, expressions, statements, modules, infos, settings,
-//! questions about types, and the tests of conditions. It holds no code: it passes on the `ir_` crates.
+//! For users: the shader IR, what is known of it, questions about types, and the tests of conditions.
+//! It holds no code: it passes on the `ir_` crates.
 #![tactic(auto)]
 
 pub use ir_arena::{

@@ -1,5 +1,4 @@
-//! Lower layers that a validator can stand on: `Recorded`, which answers the facts that it is given, and `Plain`, a small one
-//! that types the plainest expressions by itself.
+//! For users: two lower layers, `Recorded`, which answers recorded facts, and `Plain`, which types the plainest expressions.
 #![tactic(auto)]
 
 pub mod facts;

@@ -1,5 +1,5 @@
-//! The errors of validation, the lower layer that a validator asks (the trait `Below`), and the checks that need no scope: of
-//! local variables, of globals, and of what a stage takes in and puts out. It holds no code: it passes on `check_` crates.
+//! For users: the errors, the lower layer that a validator asks (the trait `Below`), and the checks that need no scope.
+//! It holds no code: it passes on `check_errors`, `check_variables` and `check_varyings`.
 #![tactic(auto)]
 
 pub use check_errors::{

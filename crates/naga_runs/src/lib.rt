@@ -1,6 +1,7 @@
-//! What stands at each position of a body, what a judgement along its positions is, and what its runs do: definitions,
-//! and the laws between them. The laws compute nothing; a crate that judges bodies calls them to cite them. What computes here is
-//! which jumps the parts of a body allow.
+//! For users: the positions and the scope of a body, the machine that runs it, and the laws between them.
+//!
+//! These are definitions and laws. The laws compute nothing: a crate that judges bodies calls them to cite them. What computes
+//! here is `Abilities`: which jumps the parts of a body allow.
 #![tactic(auto)]
 
 pub mod worked;

@@ -10,7 +10,7 @@ use Rattle.check_scope.specs.declared.table.ScopeColumn.{ScopeColumn}
 use Rattle.check_scope.specs.declared.table.Table.{Table}
 use Rattle.check_scope.specs.declared.table.ScopeState.{ScopeState}
 use Rattle.check_scope.specs.declared.table.ScopeState.TheVariants.{Closed, Open, Skipped}
-use Rattle.check_scope.specs.walk.Numbers.{number_at, state_at}
+use Rattle.check_scope.specs.walk.ScopeNumbers.{number_at, state_at}
 use Rattle.check_scope.specs.walk.Place.{Sets}
 
 -- the scope that put each expression, where it is not closed, the state of each scope, and the innermost of them

@@ -1,7 +1,7 @@
 use Rattle.std.proofs.Common.{rules, ◌≡◌, false, get_or, sym, ap, ◌∙◌}
-use Rattle.check_scope.specs.Points.{may_use}
+use Rattle.check_scope.specs.ScopePoints.{may_use}
 use Rattle.check_scope.specs.walk.Place.{place_at}
-use Rattle.check_scope.specs.walk.Seen.{context_of}
+use Rattle.check_scope.specs.walk.SeenContext.{context_of}
 use Rattle.check_scope.specs.walk.Table.{known}
 use Rattle.check_flow.proofs.Calls.{argument_missing, arguments_pass}
 use Rattle.check_flow.proofs.call.arguments_hold.Goals as goal

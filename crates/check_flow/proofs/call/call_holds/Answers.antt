@@ -1,6 +1,6 @@
 use Rattle.std.proofs.Common.{rules}
 use Rattle.check_scope.specs.walk.Place.{place_at}
-use Rattle.check_scope.specs.walk.Seen.{context_of}
+use Rattle.check_scope.specs.walk.SeenContext.{context_of}
 use Rattle.check_scope.specs.walk.Table.{filled_in, known}
 use Rattle.check_flow.proofs.Calls.{call_passes, call_fails}
 use Rattle.check_flow.proofs.call.call_holds.Goals as goal

@@ -3,7 +3,7 @@ use Rattle.ir_facts.specs.Points.{first_fault, within}
 use Rattle.check_errors.specs.declared.function.FunctionError.TheVariants.{InvalidCall}
 use Rattle.check_flow.specs.Call.{passed_points_from}
 use Rattle.check_scope.specs.walk.Place.{place_at}
-use Rattle.check_scope.specs.walk.Seen.{context_of}
+use Rattle.check_scope.specs.walk.SeenContext.{context_of}
 use Rattle.check_scope.specs.walk.Table.{known}
 use Rattle.check_flow.proofs.call.check_arguments.Given as goal
 

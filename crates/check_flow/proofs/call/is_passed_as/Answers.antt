@@ -1,6 +1,6 @@
 use Rattle.std.proofs.Common.{sym, ap, ◌∙◌}
 use Rattle.std.specs.Option.{option_copied}
-use Rattle.check_scope.specs.walk.Seen.{context_of}
+use Rattle.check_scope.specs.walk.SeenContext.{context_of}
 use Rattle.check_scope.proofs.InRange.{types_fit, resolution_fits}
 use Rattle.check_flow.proofs.call.is_passed_as.Goals as goal
 

@@ -1,5 +1,5 @@
 use Rattle.check_scope.specs.walk.Place.{place_at}
-use Rattle.check_scope.specs.walk.Seen.{context_of}
+use Rattle.check_scope.specs.walk.SeenContext.{context_of}
 use Rattle.check_scope.specs.walk.Table.{filled_in, known}
 use Rattle.check_flow.proofs.Calls.{callee_holds, result_is_new}
 use Rattle.check_flow.proofs.call.validate_call.Goals as goal

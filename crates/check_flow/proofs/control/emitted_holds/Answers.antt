@@ -2,7 +2,7 @@ use Rattle.std.proofs.Common.{rules, ◌≡◌, false}
 use Rattle.std.specs.Option.{option_copied}
 use Rattle.check_scope.specs.Results.{is_result}
 use Rattle.check_scope.specs.walk.Place.{place_at}
-use Rattle.check_scope.specs.walk.Seen.{context_of}
+use Rattle.check_scope.specs.walk.SeenContext.{context_of}
 use Rattle.check_scope.specs.walk.Table.{known}
 use Rattle.check_flow.proofs.Emits.{emitted_passes, emitted_fails}
 use Rattle.check_flow.proofs.control.emitted_holds.Goals as goal

@@ -4,7 +4,7 @@ use Rattle.ir_facts.specs.Points.{first_fault}
 use Rattle.check_flow.specs.Control.{emit_points}
 use Rattle.check_errors.specs.Answers.{IsFirstFault}
 use Rattle.check_scope.specs.walk.Place.{place_at}
-use Rattle.check_scope.specs.walk.Seen.{context_of}
+use Rattle.check_scope.specs.walk.SeenContext.{context_of}
 use Rattle.check_scope.specs.walk.Table.{HasPut, known}
 use Rattle.check_scope.proofs.Columns.{both_put}
 use Rattle.check_flow.proofs.Emits.{asked_is, emitted_new, emit_stops, emit_stops_alone, emit_next, emit_none}

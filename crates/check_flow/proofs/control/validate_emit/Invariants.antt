@@ -3,7 +3,7 @@ use Rattle.ir_facts.specs.Points.{first_fault}
 use Rattle.check_scope.specs.walk.Place.{place_at}
 use Rattle.check_flow.specs.Control.{emit_points, emit_points_from}
 use Rattle.check_flow.specs.walk.Emitted.{handles_between}
-use Rattle.check_scope.specs.walk.Seen.{context_of}
+use Rattle.check_scope.specs.walk.SeenContext.{context_of}
 use Rattle.check_scope.specs.walk.Table.{HasPut, known}
 use Rattle.check_flow.proofs.control.validate_emit.Given as goal
 

@@ -1,9 +1,9 @@
 use Rattle.std.proofs.Common.{◌≡◌, ◌≤◌, [], ◌∷◌, ◌++◌, true, map, sym, ap, ◌∙◌, subst, take}
 use Rattle.std.proofs.lemmas.List.{take_all}
 use Rattle.ir_module.specs.declared.statements.SwitchCase.{out-SwitchCase}
-use Rattle.check_scope.specs.Blocks.{case_list}
+use Rattle.check_scope.specs.BodyTrees.{case_list}
 use Rattle.check_flow.specs.Switch.{has_signedness_of, values_of}
-use Rattle.check_flow.specs.walk.Switch.{number_of}
+use Rattle.check_flow.specs.walk.SwitchParts.{number_of}
 use Rattle.check_flow.proofs.Distinct.{AreSigned, in_order, none_repeated, numbers_more, signed_more}
 use Rattle.check_flow.proofs.Once.{times}
 use Rattle.check_flow.proofs.switch.are_distinct.Goals as goal

@@ -1,7 +1,7 @@
 use Rattle.std.proofs.Common.{◌≡◌, map, take}
-use Rattle.check_scope.specs.Blocks.{case_list}
+use Rattle.check_scope.specs.BodyTrees.{case_list}
 use Rattle.check_flow.specs.Switch.{values_of}
-use Rattle.check_flow.specs.walk.Switch.{number_of}
+use Rattle.check_flow.specs.walk.SwitchParts.{number_of}
 use Rattle.check_flow.proofs.Distinct.{AreSigned}
 use Rattle.check_flow.proofs.switch.are_distinct.Given as goal
 

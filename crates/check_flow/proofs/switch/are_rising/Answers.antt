@@ -1,9 +1,9 @@
 use Rattle.std.proofs.Common.{◌≡◌, Some, true, false, take, refl, sym, ◌∙◌}
 use Rattle.std.specs.List.{list_any}
 use Rattle.ir_module.specs.declared.statements.SwitchCase.{out-SwitchCase}
-use Rattle.check_scope.specs.Blocks.{case_list}
+use Rattle.check_scope.specs.BodyTrees.{case_list}
 use Rattle.check_flow.specs.Switch.{has_signedness_of, same_value, values_of}
-use Rattle.check_flow.specs.walk.Switch.{risen}
+use Rattle.check_flow.specs.walk.SwitchParts.{risen}
 use Rattle.check_flow.proofs.Rising.{new_behind, below_more}
 use Rattle.check_flow.proofs.Values.{value_passes}
 use Rattle.check_flow.proofs.switch.are_rising.Goals as goal

@@ -1,8 +1,8 @@
 use Rattle.std.proofs.Common.{rules, [], ◌++◌}
-use Rattle.check_scope.specs.Blocks.{case_list}
-use Rattle.check_scope.specs.walk.Seen.{context_of}
-use Rattle.check_scope.specs.Types.{scalar_kind_at}
-use Rattle.check_flow.specs.walk.Switch.{selector_points, cases_points}
+use Rattle.check_scope.specs.BodyTrees.{case_list}
+use Rattle.check_scope.specs.walk.SeenContext.{context_of}
+use Rattle.check_scope.specs.ExpressionTypes.{scalar_kind_at}
+use Rattle.check_flow.specs.walk.SwitchParts.{selector_points, cases_points}
 use Rattle.check_flow.specs.Switch.{value_points, values_of}
 use Rattle.check_scope.specs.walk.Place.{place_at}
 use Rattle.check_scope.specs.walk.Table.{known}

@@ -1,8 +1,8 @@
 use Rattle.std.proofs.Common.{rules}
-use Rattle.check_images.specs.walk.Image.{image_fault, coordinate_points}
+use Rattle.check_images.specs.walk.ImageParts.{image_fault, coordinate_points}
 use Rattle.check_images.specs.Image.{array_index_points}
 use Rattle.check_scope.specs.walk.Place.{place_at}
-use Rattle.check_scope.specs.walk.Seen.{context_of}
+use Rattle.check_scope.specs.walk.SeenContext.{context_of}
 use Rattle.check_scope.specs.walk.Table.{known}
 use Rattle.check_scope.proofs.Refusals.{fault_first, fault_second}
 use Rattle.check_images.proofs.image.check_texel.Goals as goal

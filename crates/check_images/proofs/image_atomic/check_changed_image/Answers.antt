@@ -1,7 +1,7 @@
 use Rattle.std.proofs.Common.{rules}
-use Rattle.check_images.specs.walk.Image.{texel_points, changed_class_points}
+use Rattle.check_images.specs.walk.ImageParts.{texel_points, changed_class_points}
 use Rattle.check_scope.specs.walk.Place.{place_at}
-use Rattle.check_scope.specs.walk.Seen.{context_of}
+use Rattle.check_scope.specs.walk.SeenContext.{context_of}
 use Rattle.check_images.specs.declared.image.ImageStatement.TheVariants.{Atomic}
 use Rattle.check_scope.specs.walk.Table.{known}
 use Rattle.check_scope.proofs.Refusals.{fault_first, fault_second}

@@ -1,6 +1,6 @@
 use Rattle.check_images.specs.ImageAtomic.{image_atomic_points}
 use Rattle.check_scope.specs.walk.Place.{place_at}
-use Rattle.check_scope.specs.walk.Seen.{context_of}
+use Rattle.check_scope.specs.walk.SeenContext.{context_of}
 use Rattle.check_scope.specs.walk.Table.{known}
 use Rattle.check_images.proofs.image_atomic.check_image_atomic.Goals as goal
 

@@ -2,7 +2,7 @@ use Rattle.std.proofs.Common.{◌≢◌, None, rules}
 use Rattle.ir_facts.specs.Points.{first_fault}
 use Rattle.check_images.specs.ImageStore.{image_store_points}
 use Rattle.check_scope.specs.walk.Place.{place_at}
-use Rattle.check_scope.specs.walk.Seen.{context_of}
+use Rattle.check_scope.specs.walk.SeenContext.{context_of}
 use Rattle.check_scope.specs.walk.Table.{known}
 use Rattle.check_images.proofs.Images.{stored_has_no_members}
 use Rattle.check_images.proofs.image_store.check_image_store.Goals as goal

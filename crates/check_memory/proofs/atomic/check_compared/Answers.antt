@@ -1,7 +1,7 @@
 use Rattle.std.proofs.Common.{length, sym, subst}
 use Rattle.std.specs.Prelude.{IfSome}
 use Rattle.ir_types.specs.Types.{NamesTypesBelow}
-use Rattle.check_scope.specs.walk.Seen.{context_of}
+use Rattle.check_scope.specs.walk.SeenContext.{context_of}
 use Rattle.check_scope.proofs.InRange.{type_fits}
 use Rattle.check_memory.proofs.ResultsInRange.{result_type_fits}
 use Rattle.check_memory.proofs.atomic.check_compared.Goals as goal

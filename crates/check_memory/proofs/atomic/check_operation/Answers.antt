@@ -2,7 +2,7 @@ use Rattle.std.proofs.Common.{rules}
 use Rattle.std.specs.Prelude.{is_some}
 use Rattle.check_memory.specs.Atomic.{scalar_points, atomic_result_points}
 use Rattle.check_scope.specs.walk.Place.{place_at}
-use Rattle.check_scope.specs.walk.Seen.{context_of}
+use Rattle.check_scope.specs.walk.SeenContext.{context_of}
 use Rattle.check_scope.specs.walk.Table.{filled_in, known}
 use Rattle.check_scope.proofs.Refusals.{fault_first, fault_second}
 use Rattle.check_memory.proofs.atomic.check_operation.Goals as goal

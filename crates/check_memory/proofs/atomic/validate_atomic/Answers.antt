@@ -1,7 +1,7 @@
 use Rattle.std.proofs.Common.{rules}
 use Rattle.check_memory.specs.Atomic.{atomic_points}
 use Rattle.check_scope.specs.walk.Place.{place_at}
-use Rattle.check_scope.specs.walk.Seen.{context_of}
+use Rattle.check_scope.specs.walk.SeenContext.{context_of}
 use Rattle.check_scope.specs.walk.Table.{filled_in, known}
 use Rattle.check_memory.proofs.Atomics.{atomic_named, atomic_is_new}
 use Rattle.check_memory.proofs.atomic.validate_atomic.Goals as goal

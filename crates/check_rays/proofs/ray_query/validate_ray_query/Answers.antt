@@ -2,7 +2,7 @@ use Rattle.std.proofs.Common.{rules, sym, ap, ◌∙◌}
 use Rattle.ir_facts.specs.Points.{first_fault}
 use Rattle.check_rays.specs.RayQuery.{ray_query_points}
 use Rattle.check_scope.specs.walk.Place.{place_at}
-use Rattle.check_scope.specs.walk.Seen.{context_of}
+use Rattle.check_scope.specs.walk.SeenContext.{context_of}
 use Rattle.check_scope.specs.walk.Table.{known}
 use Rattle.check_rays.proofs.RayQueries.{proceed_is_new}
 use Rattle.check_rays.proofs.ray_query.validate_ray_query.Goals as goal

@@ -1,6 +1,6 @@
 use Rattle.check_rays.specs.RayTrace.{trace_ray_points}
 use Rattle.check_scope.specs.walk.Place.{place_at}
-use Rattle.check_scope.specs.walk.Seen.{context_of}
+use Rattle.check_scope.specs.walk.SeenContext.{context_of}
 use Rattle.check_scope.specs.walk.Table.{known}
 use Rattle.check_rays.proofs.ray_trace.check_trace_ray.Goals as goal
 

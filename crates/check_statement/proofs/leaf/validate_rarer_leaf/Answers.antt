@@ -1,6 +1,6 @@
 use Rattle.std.proofs.Common.{arith, ◌<◌, IfSome, subst, sym}
 use Rattle.ir_facts.specs.FitsBody.{QueryFits}
-use Rattle.check_scope.specs.walk.Seen.{context_of}
+use Rattle.check_scope.specs.walk.SeenContext.{context_of}
 use Rattle.check_memory.proofs.Atomics.{atomic_puts}
 use Rattle.check_statement.proofs.Parts.{in_leaf}
 use Rattle.check_statement.proofs.leaf.validate_rarer_leaf.Goals as goal

@@ -1,7 +1,7 @@
 use Rattle.std.proofs.Common.{◌≡◌, Some, true, false, length, sym, ap, ◌∙◌}
 use Rattle.check_errors.specs.declared.function.FunctionError.TheVariants.{UnvisitedExpression}
 use Rattle.check_scope.specs.Results.{is_unfilled}
-use Rattle.check_scope.specs.walk.Seen.{context_of}
+use Rattle.check_scope.specs.walk.SeenContext.{context_of}
 use Rattle.check_scope.specs.walk.Table.{filled_in}
 use Rattle.check_statement.proofs.Fillings.{filled_stops, filled_next, filled_end}
 use Rattle.check_statement.proofs.results.check_each_filled.Goals as goal

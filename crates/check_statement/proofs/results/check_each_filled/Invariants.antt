@@ -1,7 +1,7 @@
 use Rattle.std.proofs.Common.{◌≡◌, ◌-◌, length}
 use Rattle.ir_facts.specs.Points.{first_fault}
 use Rattle.check_scope.specs.Results.{filled_points_from}
-use Rattle.check_scope.specs.walk.Seen.{context_of}
+use Rattle.check_scope.specs.walk.SeenContext.{context_of}
 use Rattle.check_scope.specs.walk.Table.{filled_in}
 use Rattle.check_statement.proofs.results.check_each_filled.Given as goal
 

@@ -1,4 +1,4 @@
-use Rattle.check_scope.specs.walk.Seen.{context_of}
+use Rattle.check_scope.specs.walk.SeenContext.{context_of}
 use Rattle.check_statement.proofs.state.advance.Goals as goal
 
 pub returns-clause-results : goal.returns-clause-results

@@ -4,10 +4,10 @@ use Rattle.ir_arena.specs.declared.span.Refusal.{Refusal}
 use Rattle.check_errors.specs.Answers.{AnswersPoints, IsFirstFault}
 use Rattle.check_errors.specs.declared.function.FunctionError.{FunctionError}
 use Rattle.ir_module.specs.View.{put_if}
-use Rattle.check_scope.specs.Blocks.{emitted_operands}
-use Rattle.check_scope.specs.Points.{Points}
+use Rattle.check_scope.specs.BodyTrees.{emitted_operands}
+use Rattle.check_scope.specs.ScopePoints.{Points}
 use Rattle.check_scope.specs.walk.Place.{place_at}
-use Rattle.check_scope.specs.walk.Seen.{context_of}
+use Rattle.check_scope.specs.walk.SeenContext.{context_of}
 use Rattle.check_scope.specs.walk.Table.{filled_in, known}
 use Rattle.check_flow.specs.Call.{call_points}
 use Rattle.check_flow.proofs.Calls.{call_puts}

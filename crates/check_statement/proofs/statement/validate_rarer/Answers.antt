@@ -1,8 +1,8 @@
 use Rattle.std.proofs.Common.{◌<◌, IfSome, subst, sym, ap, ◌∙◌}
 use Rattle.naga_runs.specs.Positions.{StatementNode}
-use Rattle.check_scope.specs.Blocks.{tree_of}
+use Rattle.check_scope.specs.BodyTrees.{tree_of}
 use Rattle.check_scope.specs.Results.{result_of}
-use Rattle.check_scope.specs.walk.Seen.{context_of}
+use Rattle.check_scope.specs.walk.SeenContext.{context_of}
 use Rattle.check_scope.specs.walk.Table.{marked}
 use Rattle.check_statement.proofs.Parts.{in_result}
 use Rattle.check_statement.proofs.statement.validate_rarer.Goals as goal

@@ -1,6 +1,6 @@
 use Rattle.std.proofs.Common.{rules}
 use Rattle.check_scope.specs.walk.Place.{place_at}
-use Rattle.check_scope.specs.walk.Seen.{context_of}
+use Rattle.check_scope.specs.walk.SeenContext.{context_of}
 use Rattle.check_subgroups.specs.Subgroup.{ballot_points}
 use Rattle.check_scope.specs.walk.Table.{known}
 use Rattle.check_subgroups.proofs.Subgroups.{ballot_is_new}

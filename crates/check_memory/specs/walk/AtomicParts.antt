@@ -8,8 +8,8 @@ use Rattle.naga_runs.specs.Handles.{Handles}
 use Rattle.naga_runs.specs.Visits.{Place}
 use Rattle.check_memory.specs.Atomic.{atomic_point, are_equivalent_at, is_exchange_result, is_result_like, is_comparison, scalar_points, atomic_result_points}
 use Rattle.check_scope.specs.Context.{Context}
-use Rattle.check_scope.specs.Points.{Points, use_point, put_point}
-use Rattle.check_scope.specs.Types.{expression_at}
+use Rattle.check_scope.specs.ScopePoints.{Points, use_point, put_point}
+use Rattle.check_scope.specs.ExpressionTypes.{expression_at}
 
 -- of a compare exchange: what is compared with, the type of the result, and its put
 abbrev pub compared_points : Context → Place → Scalar → ℕ → ℕ → ℕ → Points

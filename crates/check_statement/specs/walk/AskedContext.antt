@@ -13,9 +13,9 @@ use Rattle.ir_facts.specs.declared.valid.types.TypeInfo.{TypeInfo}
 use Rattle.check_errors.specs.Meaning.{Meaning}
 use Rattle.check_errors.specs.declared.function.FunctionError.{FunctionError}
 use Rattle.check_scope.specs.Context.{Context}
-use Rattle.check_statement.specs.Judged.{FunctionOutcome, declarations_step, expressions_known, function_judgement}
-use Rattle.check_statement.specs.Expressions.{stages_from}
-use Rattle.check_statement.specs.Parts.{Parts}
+use Rattle.check_statement.specs.FunctionJudgement.{FunctionOutcome, declarations_step, expressions_known, function_judgement}
+use Rattle.check_statement.specs.ExpressionStages.{stages_from}
+use Rattle.check_statement.specs.ValidatorParts.{Parts}
 use Rattle.check_scope.specs.declared.trace.TraceState.{TraceState}
 
 -- the context that a validator with these settings and this trace state judges a function in

@@ -5,10 +5,10 @@ use Rattle.ir_module.specs.declared.operations.GatherMode.{GatherMode}
 use Rattle.check_errors.specs.declared.function.SubgroupError.TheVariants as wrong
 use Rattle.naga_runs.specs.Visits.{Place}
 use Rattle.check_scope.specs.Context.{Context}
-use Rattle.check_scope.specs.Points.{Points, use_point, put_point}
+use Rattle.check_scope.specs.ScopePoints.{Points, use_point, put_point}
 use Rattle.check_subgroups.specs.Subgroup.{subgroup_point, is_result_of}
 use Rattle.check_subgroups.specs.SubgroupGather.{index_of, is_broadcast, index_points, is_gathered}
-use Rattle.check_scope.specs.Types.{type_at}
+use Rattle.check_scope.specs.ExpressionTypes.{type_at}
 
 -- the result of a collective operation or a gather
 abbrev pub combined_points : Context → Place → ℕ → ℕ → Points

@@ -8,7 +8,7 @@ use Rattle.check_errors.specs.Meaning.{Meaning}
 use Rattle.check_errors.specs.declared.function.FunctionError.{FunctionError}
 use Rattle.check_errors.specs.declared.function.FunctionError.TheVariants.{Expression}
 use Rattle.check_scope.specs.Context.{Context}
-use Rattle.check_scope.specs.WhatIsChecked.{checks_expressions}
+use Rattle.check_errors.specs.WhatIsChecked.{checks_expressions}
 use Rattle.check_statement.specs.Stages.{meet}
 
 -- an info with these stages

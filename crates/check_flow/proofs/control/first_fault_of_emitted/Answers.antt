@@ -1,8 +1,8 @@
 use Rattle.check_flow.specs.Control.{emitted_points}
 use Rattle.check_scope.specs.walk.Place.{place_at}
-use Rattle.check_scope.specs.walk.Seen.{context_of}
+use Rattle.check_scope.specs.walk.SeenContext.{context_of}
 use Rattle.check_scope.specs.walk.Table.{known}
-use Rattle.check_flow.proofs.control.refuse_emitted.Goals as goal
+use Rattle.check_flow.proofs.control.first_fault_of_emitted.Goals as goal
 
 pub returns-clause-fault : goal.returns-clause-fault
 returns-clause-fault c =

@@ -9,9 +9,9 @@ use Rattle.check_errors.specs.declared.function.FunctionError.TheVariants.{Inval
 use Rattle.naga_runs.specs.Visits.{Place}
 use Rattle.check_scope.specs.Context.{Context}
 use Rattle.check_flow.specs.Switch.{is_default, values_of, last_falls_through}
-use Rattle.check_scope.specs.Points.{Points, use_point}
+use Rattle.check_scope.specs.ScopePoints.{Points, use_point}
 use Rattle.check_flow.specs.declared.switch.Rising.{Rising}
-use Rattle.check_scope.specs.Types.{is_integer, scalar_kind_at}
+use Rattle.check_scope.specs.ExpressionTypes.{is_integer, scalar_kind_at}
 
 -- the selector
 abbrev pub selector_points : Context → Place → ℕ → Points

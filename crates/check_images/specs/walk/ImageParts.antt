@@ -15,8 +15,8 @@ use Rattle.check_scope.specs.Context.{Context}
 use Rattle.check_images.specs.ImageAtomic.{change_point, takes_atomics, format_points}
 use Rattle.check_images.specs.Image.{is_storage_class, stored_format, stored_access, is_coordinate, array_index_points}
 use Rattle.check_images.specs.ImageStore.{texel_type, is_of_type}
-use Rattle.check_scope.specs.Points.{Points, use_point}
-use Rattle.check_scope.specs.Types.{type_at, named_type_at}
+use Rattle.check_scope.specs.ScopePoints.{Points, use_point}
+use Rattle.check_scope.specs.ExpressionTypes.{type_at, named_type_at}
 use Rattle.check_images.specs.declared.image.ImageStatement.{ImageStatement}
 use Rattle.check_images.specs.declared.image.ImageStatement.TheVariants as by
 

@@ -1,9 +1,9 @@
 use Rattle.std.proofs.Common.{rules}
 use Rattle.check_scope.specs.walk.Place.{place_at}
-use Rattle.check_scope.specs.walk.Seen.{context_of}
+use Rattle.check_scope.specs.walk.SeenContext.{context_of}
 use Rattle.check_scope.specs.walk.Table.{filled_in, known}
 use Rattle.check_flow.proofs.Calls.{call_stops, call_next, call_stops_alone, call_next_alone}
-use Rattle.check_flow.proofs.call.refuse_call.Goals as goal
+use Rattle.check_flow.proofs.call.first_fault_of_call.Goals as goal
 
 pub returns-in_err-check_arguments-clause-fault : goal.returns-in_err-check_arguments-clause-fault
 returns-in_err-check_arguments-clause-fault c =
