@@ -24,17 +24,17 @@ use Rattle.naga_runs.specs.VisitOrder.{positions}
 use Rattle.naga_runs.specs.Visits.{Visit, Place, visit_at, visits_of}
 use Rattle.check_body.specs.Accepted.{nodes_of, callee_filling, callees_filling, atomic_filling, atomics_filling, ResultsAreFilledOnce, AreAmong, AreOfStatement, AreOfCallee, StagesAreOfAll, AreOfStartAndAll}
 use Rattle.check_memory.specs.Atomic.{is_atomic_result}
-use Rattle.check_scope.specs.Blocks.{body_of}
+use Rattle.check_scope.specs.BodyTrees.{body_of}
 use Rattle.check_flow.specs.Call.{is_call_result_of, has_result}
 use Rattle.check_scope.specs.Context.{Context, pre_emitted}
-use Rattle.check_scope.specs.WhatIsChecked.{checks_blocks, checks_expressions}
-use Rattle.check_statement.specs.Judged.{FunctionOutcome, body_judgement, judged_with, outcome_left}
+use Rattle.check_errors.specs.WhatIsChecked.{checks_blocks, checks_expressions}
+use Rattle.check_statement.specs.FunctionJudgement.{FunctionOutcome, body_judgement, judged_with, outcome_left}
 use Rattle.check_statement.specs.Past.{Past, past_of}
 use Rattle.check_scope.specs.Results.{is_to_fill, result_of, fills, filled_before, is_unfilled, filled_points_from, filled_points}
 use Rattle.check_statement.specs.Rules.{points_at, stages_of, stages_behind, stages_left}
 use Rattle.check_statement.specs.Stages.{meet}
 use Rattle.check_statement.specs.walk.State.{State, seen, kept_rules, begin_state, state_behind, state_left}
-use Rattle.check_scope.specs.Types.{expression_at}
+use Rattle.check_scope.specs.ExpressionTypes.{expression_at}
 use Rattle.check_memory.proofs.Atomics.{NamedHolds, atomic_named}
 use Rattle.check_flow.proofs.Calls.{call_holds}
 use Rattle.check_statement.proofs.Fillings.{or_false, with_is, unfilled}

@@ -30,16 +30,16 @@ use Rattle.naga_runs.specs.Positions.{Node, NoNode, StatementNode, BreakIfNode}
 use Rattle.naga_runs.specs.VisitOrder.{positions}
 use Rattle.naga_runs.specs.Visits.{Place, Visit, at_begin}
 use Rattle.check_body.specs.Accepted.{nodes_of, AreAmong, AreOfStatement}
-use Rattle.check_scope.specs.Blocks.{body_of, emitted_operands}
+use Rattle.check_scope.specs.BodyTrees.{body_of, emitted_operands}
 use Rattle.check_body.specs.Chains.{Reaches, Calls, Through, CallsBelow, infos_below, IsVettedInfo, AreVetted, masks_of, KeepsTo, ChainsAreKept, NoneIsVetted, OneMoreIsVetted, CallsOfFittingAreBelow}
 use Rattle.check_scope.specs.Context.{Context}
-use Rattle.check_statement.specs.Expressions.{mask_at, mask_and, masks_from}
+use Rattle.check_statement.specs.ExpressionStages.{mask_at, mask_and, masks_from}
 use Rattle.check_body.specs.InOrder.{callee_of, callees_of, called_by, with_info}
-use Rattle.check_statement.specs.Judged.{FunctionOutcome, context_with, function_judgement}
-use Rattle.check_statement.specs.Parts.{no_traces}
+use Rattle.check_statement.specs.FunctionJudgement.{FunctionOutcome, context_with, function_judgement}
+use Rattle.check_statement.specs.ValidatorParts.{no_traces}
 use Rattle.check_statement.specs.Rules.{recorded_stages, callee_stages, leaf_stages, stages_of}
 use Rattle.check_statement.specs.Stages.{meet}
-use Rattle.check_scope.specs.WhatIsChecked.{checks_blocks, checks_expressions}
+use Rattle.check_errors.specs.WhatIsChecked.{checks_blocks, checks_expressions}
 use Rattle.check_scope.specs.declared.trace.TraceState.{TraceState}
 use Rattle.check_body.proofs.Accepted.{among_all, nodes_are}
 use Rattle.check_body.proofs.FunctionLaw.{is_of_all_stages, stages_are_met}

@@ -8,7 +8,7 @@ use Rattle.ir_arena.specs.declared.span.Refusal.{Refusal}
 use Rattle.ir_arena.specs.declared.span.Refusal.TheVariants as refusal
 use Rattle.check_errors.specs.declared.function.FunctionError.{FunctionError}
 use Rattle.check_errors.specs.Answers.{AnswersPoints}
-use Rattle.check_scope.specs.Points.{Points}
+use Rattle.check_scope.specs.ScopePoints.{Points}
 
 module _ {A : Type 0} (points : ℕ → A → Points) (xs : List A) (i : ℕ) where
   -- the fault of this item is that of all, where those before it have none

@@ -14,13 +14,13 @@ use Rattle.check_errors.specs.Meaning.{Meaning}
 use Rattle.check_errors.specs.declared.function.FunctionError.{FunctionError}
 use Rattle.naga_runs.specs.Judgement.{viewed}
 use Rattle.check_body.specs.Accepted.{nodes_of, AreAmong, AreOfStatement}
-use Rattle.check_scope.specs.Blocks.{body_of}
+use Rattle.check_scope.specs.BodyTrees.{body_of}
 use Rattle.check_scope.specs.Context.{Context}
 use Rattle.check_statement.specs.Declarations.{declaration_points}
-use Rattle.check_statement.specs.Expressions.{with_stages, mask_at, mask_and, stages_from, masks_from, expressions_step, expression_masks}
-use Rattle.check_scope.specs.WhatIsChecked.{checks_blocks, checks_expressions}
+use Rattle.check_statement.specs.ExpressionStages.{with_stages, mask_at, mask_and, stages_from, masks_from, expressions_step, expression_masks}
+use Rattle.check_errors.specs.WhatIsChecked.{checks_blocks, checks_expressions}
 use Rattle.check_body.specs.FunctionLaw.{AcceptedIsSound, AcceptedFillsOnce, AcceptedIsOfAllStages, AcceptedHasNoReturnInContinuing, AcceptedHasWholeSwitches, AcceptedKeepsInfo, AcceptedStagesAreMet}
-use Rattle.check_statement.specs.Judged.{FunctionOutcome, context_with, judged_with, declarations_step, expressions_known, lower_step, function_judgement}
+use Rattle.check_statement.specs.FunctionJudgement.{FunctionOutcome, context_with, judged_with, declarations_step, expressions_known, lower_step, function_judgement}
 use Rattle.check_body.specs.Shapes.{HasWholeSwitches}
 use Rattle.check_statement.specs.Stages.{meet}
 use Rattle.check_statement.specs.walk.State.{state_left}

@@ -21,18 +21,18 @@ use Rattle.naga_runs.specs.Positions.{Node, NoNode, StatementNode, BreakIfNode}
 use Rattle.naga_runs.specs.PutsAndUses.{node_acts}
 use Rattle.naga_runs.specs.Soundness.{Fit, Allowed, RunsAreSure}
 use Rattle.naga_runs.specs.Visits.{Place}
-use Rattle.check_scope.specs.Blocks.{body_of, emitted_operands}
+use Rattle.check_scope.specs.BodyTrees.{body_of, emitted_operands}
 use Rattle.check_scope.specs.Context.{Context, pre_emitted}
-use Rattle.check_flow.specs.walk.Switch.{cases_points}
+use Rattle.check_flow.specs.walk.SwitchParts.{cases_points}
 use Rattle.check_flow.specs.Control.{within_emit, emitted_points, emit_points_from, is_bool_scalar, declared_type, is_returned_as}
 use Rattle.check_flow.specs.Switch.{value_points, values_of}
-use Rattle.check_statement.specs.Judged.{body_judgement}
-use Rattle.check_scope.specs.Points.{Points, use_point, put_point, may_use, is_in_scope}
+use Rattle.check_statement.specs.FunctionJudgement.{body_judgement}
+use Rattle.check_scope.specs.ScopePoints.{Points, use_point, put_point, may_use, is_in_scope}
 use Rattle.check_statement.specs.Past.{Past}
 use Rattle.check_scope.specs.Results.{is_result}
 use Rattle.check_statement.specs.Rules.{points_at}
 use Rattle.check_statement.specs.walk.State.{State, seen, kept_rules, begin_state, state_left}
-use Rattle.check_scope.specs.Types.{is_integer, expression_at, type_at, scalar_kind_at}
+use Rattle.check_scope.specs.ExpressionTypes.{is_integer, expression_at, type_at, scalar_kind_at}
 use Rattle.check_memory.proofs.Atomics.{atomic_fits}
 use Rattle.check_flow.proofs.Calls.{call_fits}
 use Rattle.check_flow.proofs.Emits.{or_false, within_more}

@@ -10,9 +10,9 @@ use Rattle.naga_runs.proofs.Judgements.{by_tree, earlier_agrees}
 use Rattle.ir_facts.specs.Points.{first_fault, answer}
 use Rattle.naga_runs.specs.Judgement.{Follows, judgement, viewed}
 use Rattle.naga_runs.specs.Visits.{Visit}
-use Rattle.check_scope.specs.Blocks.{body_of}
+use Rattle.check_scope.specs.BodyTrees.{body_of}
 use Rattle.check_scope.specs.Context.{Context, pre_emitted}
-use Rattle.check_statement.specs.Judged.{body_judgement}
+use Rattle.check_statement.specs.FunctionJudgement.{body_judgement}
 use Rattle.check_statement.specs.Past.{past_of}
 use Rattle.check_scope.specs.Results.{filled_points}
 use Rattle.check_statement.specs.Rules.{points_at, body_rules}

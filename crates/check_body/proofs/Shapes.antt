@@ -24,18 +24,18 @@ use Rattle.naga_runs.specs.Handles.{Handles}
 use Rattle.naga_runs.specs.Positions.{Node, StatementNode, Position, node_at}
 use Rattle.naga_runs.specs.VisitOrder.{positions}
 use Rattle.naga_runs.specs.Visits.{Place, Visit, at_begin, place_from, visit_at}
-use Rattle.check_scope.specs.Blocks.{body_of}
-use Rattle.check_flow.specs.walk.Switch.{cases_points}
+use Rattle.check_scope.specs.BodyTrees.{body_of}
+use Rattle.check_flow.specs.walk.SwitchParts.{cases_points}
 use Rattle.check_scope.specs.Context.{Context, pre_emitted}
 use Rattle.check_flow.specs.Control.{declared_type, is_returned_as}
 use Rattle.check_flow.specs.Switch.{has_signedness_of, same_value, repeated_fault, is_default, value_points, values_of, last_falls_through}
-use Rattle.check_statement.specs.Judged.{body_judgement}
+use Rattle.check_statement.specs.FunctionJudgement.{body_judgement}
 use Rattle.check_statement.specs.Past.{Past}
-use Rattle.check_scope.specs.Points.{use_point, may_use}
+use Rattle.check_scope.specs.ScopePoints.{use_point, may_use}
 use Rattle.check_statement.specs.Rules.{points_at}
 use Rattle.check_body.specs.Shapes.{StandsAt, is_in_continuing, HasNoReturnInContinuing, IsOfKind, AreWhole, HasWholeSwitches}
 use Rattle.check_statement.specs.walk.State.{State, seen, kept_rules, begin_state, state_left, state_behind}
-use Rattle.check_scope.specs.Types.{is_integer, scalar_kind_at}
+use Rattle.check_scope.specs.ExpressionTypes.{is_integer, scalar_kind_at}
 use Rattle.check_body.proofs.Accepted.{all_visits, walked}
 
 -- the values of cases that pass

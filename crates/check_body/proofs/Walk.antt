@@ -5,10 +5,8 @@ use Rattle.std.proofs.lemmas.List.{at_drop_more, at_drop_all}
 use Rattle.ir_module.specs.Tree.{Act, Use, Put, Stmt, Leaf, Block, Branch, Switch, Loop, Break, Continue, Return, Kill, Body, Done, Then, Cases, NoCase, OneCase}
 use Rattle.check_statement.specs.walk.State.{State, seen, kept_rules, with_statement}
 use Rattle.ir_module.specs.View as view
-use Rattle.ir_module.specs.declared.statements.Block.{Block as Block_of}
 use Rattle.ir_module.specs.declared.statements.Statement as ir
-use Rattle.ir_module.specs.declared.statements.Statement.{Statement, Switch'}
-use Rattle.ir_module.specs.declared.statements.Statement.TheBlock.{shown-the_row-SwitchCase-0, backs-Statement}
+use Rattle.ir_module.specs.declared.statements.Statement.{Statement}
 use Rattle.ir_arena.specs.declared.span.Span.{Span}
 use Rattle.ir_arena.specs.declared.span.Refusal.{Refusal}
 use Rattle.ir_arena.specs.declared.span.Refusal.TheVariants as refusal
@@ -23,8 +21,8 @@ use Rattle.ir_facts.specs.Points.{first_fault, answer, and_then}
 use Rattle.naga_runs.specs.ByTree.{past, in_continuing, at_break_if, judge_visits, judge_body, judge_stmt, judge_parts, judge_cases, judge_break_if, case_abilities, loop_abilities, continuing_abilities}
 use Rattle.naga_runs.proofs.Judgements.{judge_done, judge_more, judge_own, judge_block, judge_branch, judge_switch, judge_loop, judge_no_case, judge_one_case}
 use Rattle.check_errors.specs.Answers.{IsFirstFault, Refuses}
-use Rattle.check_scope.specs.walk.Answers.{AnswersLeaving}
-use Rattle.check_scope.specs.Blocks.{emitted_operands, tree_of, block_of, list_of, cases_of}
+use Rattle.check_scope.specs.walk.Findings.{AnswersLeaving}
+use Rattle.check_scope.specs.BodyTrees.{emitted_operands, tree_of, block_of, list_of, cases_of}
 use Rattle.check_scope.specs.Context.{Context}
 use Rattle.check_flow.specs.Control.{break_if_points}
 use Rattle.check_statement.specs.Rules.{statement_points}
@@ -108,9 +106,25 @@ module _ (context : Context) (k : State) (a : Abilities) (s : Sets) where
   unfolding parts_answer body_answer
   parts_branch h p q = judge_branch (kept_rules context) k (place a s) h p q
 
+  pub parts_leaf : (acts : List Act) (st : Statement) (span : Span) → parts_answer context k a s (Leaf acts st span) ≡ Ok k
+  unfolding parts_answer judge_parts judge_visits
+  parts_leaf acts st span = refl
+
+  pub parts_break : parts_answer context k a s Break ≡ Ok k
+  unfolding parts_answer judge_parts judge_visits
+  parts_break = refl
+
   pub parts_continue : parts_answer context k a s Continue ≡ Ok k
   unfolding parts_answer judge_parts judge_visits
   parts_continue = refl
+
+  pub parts_return : (value : Option ℕ) → parts_answer context k a s (Return value) ≡ Ok k
+  unfolding parts_answer judge_parts judge_visits
+  parts_return value = refl
+
+  pub parts_kill : parts_answer context k a s Kill ≡ Ok k
+  unfolding parts_answer judge_parts judge_visits
+  parts_kill = refl
 
   pub parts_switch : (h : ℕ) (cs : Cases) → parts_answer context k a s (Switch h cs) ≡ cases_answer context k (case_abilities a) s cs
   unfolding parts_answer cases_answer
@@ -239,29 +253,6 @@ break_if_refuses context k a s None (refusal.Fault f) i = ap (λ o. answer o k) 
 break_if_refuses context k a s (Some h) (refusal.Fault f) i = ap (λ o. and_then (answer o k) (λ st. Ok st)) i
 break_if_refuses context k a s q refusal.Memory i = tt
 
--- a statement that is none of the kinds with parts
-pub no_parts : (context : Context) (k : State) (a : Abilities) (s : Sets) (st : Statement) (span : Span) →
-    ((b : Block_of) → st ≡ ir.Block b → ⊥) → ((h : ℕ) (p q : Block_of) → st ≡ ir.If h p q → ⊥) → ((h : ℕ) (cases : List SwitchCase) → st ≡ ir.Switch h cases → ⊥) → ((p q : Block_of) (last : Option ℕ) → st ≡ ir.Loop p q last → ⊥) →
-    parts_answer context k a s (view.tree_of (emitted_operands context.fun) st span) ≡ Ok k
-unfolding parts_answer judge_parts judge_visits
-no_parts context k a s (ir.Block b) span nb ni ns nl = absurd (nb b refl)
-no_parts context k a s (ir.If h p q) span nb ni ns nl = absurd (ni h p q refl)
-no_parts context k a s (Switch' h shape row) span nb ni ns nl =
-    absurd (ns h (shown-the_row-SwitchCase-0 shape row) (sym (backs-Statement (Switch' h shape row))))
-no_parts context k a s (ir.Loop p q last) span nb ni ns nl = absurd (nl p q last refl)
-no_parts context k a s _ span nb ni ns nl = refl
-
--- and that is no Continue either holds none
-pub no_continue : (context : Context) (st : Statement) (span : Span) →
-    ((b : Block_of) → st ≡ ir.Block b → ⊥) → ((h : ℕ) (p q : Block_of) → st ≡ ir.If h p q → ⊥) → ((h : ℕ) (cases : List SwitchCase) → st ≡ ir.Switch h cases → ⊥) → (st ≡ ir.Continue → ⊥) →
-    holds_continue (view.tree_of (emitted_operands context.fun) st span) ≡ false
-no_continue context (ir.Block b) span nb ni ns nc = absurd (nb b refl)
-no_continue context (ir.If h p q) span nb ni ns nc = absurd (ni h p q refl)
-no_continue context (Switch' h shape row) span nb ni ns nc =
-    absurd (ns h (shown-the_row-SwitchCase-0 shape row) (sym (backs-Statement (Switch' h shape row))))
-no_continue context ir.Continue span nb ni ns nc = absurd (nc refl)
-no_continue context _ span nb ni ns nc = refl
-
 -- a statement that is done with its own check list has no parts, and holds no Continue
 pub whole_parts : (context : Context) (k : State) (a : Abilities) (s : Sets) (st : Statement) (span : Span) → is_whole st ≡ true → parts_answer context k a s (view.tree_of (emitted_operands context.fun) st span) ≡ Ok k
 unfolding parts_answer judge_parts judge_visits
@@ -278,4 +269,4 @@ whole_holds context (ir.Call f arguments r) span e = refl
 whole_holds context ir.Kill span e = refl
 whole_holds context _ span e = cc
 
-pub ruleset walking = (parts_block, parts_branch, parts_switch, parts_loop, stmt_more, own_passes, own_refuses, break_if_passes, break_if_refuses, passes, stops_first, stops_next, answers_next)
+pub ruleset walking = (parts_block, parts_branch, parts_switch, parts_loop, parts_leaf, parts_break, parts_continue, parts_return, parts_kill, stmt_more, own_passes, own_refuses, break_if_passes, break_if_refuses, passes, stops_first, stops_next, answers_next)

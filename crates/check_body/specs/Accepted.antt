@@ -9,7 +9,7 @@ use Rattle.ir_flags.specs.declared.valid.ShaderStages.{ShaderStages}
 use Rattle.ir_facts.specs.declared.valid.info.ModuleInfo.{ModuleInfo}
 use Rattle.naga_runs.specs.Positions.{Node, NoNode, StatementNode, BreakIfNode, node_at}
 use Rattle.naga_runs.specs.VisitOrder.{positions}
-use Rattle.check_scope.specs.Blocks.{body_of}
+use Rattle.check_scope.specs.BodyTrees.{body_of}
 use Rattle.check_scope.specs.Results.{is_this}
 use Rattle.check_statement.specs.Rules.{callee_stages, stages_of}
 use Rattle.check_statement.specs.Stages.{meet}

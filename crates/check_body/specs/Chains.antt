@@ -13,12 +13,12 @@ use Rattle.ir_facts.specs.declared.valid.settings.Settings.{Settings}
 use Rattle.ir_facts.specs.declared.valid.types.TypeInfo.{TypeInfo}
 use Rattle.check_errors.specs.Meaning.{Meaning}
 use Rattle.check_body.specs.Accepted.{nodes_of, AreAmong, AreOfStatement}
-use Rattle.check_scope.specs.Blocks.{body_of}
-use Rattle.check_statement.specs.Expressions.{expression_masks}
+use Rattle.check_scope.specs.BodyTrees.{body_of}
+use Rattle.check_statement.specs.ExpressionStages.{expression_masks}
 use Rattle.check_body.specs.InOrder.{called_by, with_info}
-use Rattle.check_statement.specs.Judged.{FunctionOutcome, context_with, function_judgement}
-use Rattle.check_statement.specs.Parts.{no_traces}
-use Rattle.check_scope.specs.WhatIsChecked.{checks_blocks}
+use Rattle.check_statement.specs.FunctionJudgement.{FunctionOutcome, context_with, function_judgement}
+use Rattle.check_statement.specs.ValidatorParts.{no_traces}
+use Rattle.check_errors.specs.WhatIsChecked.{checks_blocks}
 use Rattle.check_scope.specs.declared.trace.TraceState.{TraceState}
 
 -- The functions of a module that a body reaches: those that its Calls name, at any depth, and those that their bodies reach.

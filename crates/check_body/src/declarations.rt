@@ -6,7 +6,7 @@ ghost use Rattle.ir_facts.specs.Points.{first_fault};
 ghost use Rattle.check_errors.specs.Answers.{AnswersPoints};
 ghost use Rattle.check_scope.specs.Context.{ContextFits};
 ghost use Rattle.check_statement.specs.Declarations.{name_or_empty, variable_points, variables_points, takes_arguments, pointer_points, argument_points, arguments_points, result_points, declaration_points};
-ghost use Rattle.check_scope.specs.walk.Seen.{context_of};
+ghost use Rattle.check_scope.specs.walk.SeenContext.{context_of};
 
 use check_errors::function::FunctionError;
 use check_scope::context::BlockContext;
@@ -126,7 +126,17 @@ fn check_arguments(
 fn takes_arguments(space: AddressSpace) -> bool
     ensures { result ≡ takes_arguments space }
 {
-    matches!(space, AddressSpace::Function | AddressSpace::Private)
+    match space {
+        AddressSpace::Function | AddressSpace::Private => true,
+        AddressSpace::WorkGroup
+        | AddressSpace::Uniform
+        | AddressSpace::Storage { .. }
+        | AddressSpace::Handle
+        | AddressSpace::Immediate
+        | AddressSpace::TaskPayload
+        | AddressSpace::RayPayload
+        | AddressSpace::IncomingRayPayload => false,
+    }
 }
 
 /// An argument.

@@ -4,19 +4,17 @@ ghost use Rattle.std.specs.Prelude.{◌≡◌, IfOk, OnOk, length};
 ghost use Rattle.naga_runs.specs.Handles.{no_handles};
 ghost use Rattle.naga_runs.specs.Must.{holds_continue, body_holds_continue, cases_hold_continue};
 ghost use Rattle.check_scope.specs.walk.Place.{no_sets};
-ghost use Rattle.naga_runs.specs.Judgement.{viewed};
 ghost use Rattle.check_errors.specs.Answers.{Answers};
-ghost use Rattle.check_scope.specs.walk.Answers.{AnswersLeaving, AnswersState};
-ghost use Rattle.check_scope.specs.Blocks.{tree_of, body_of, block_of, cases_of};
+ghost use Rattle.check_scope.specs.walk.Findings.{AnswersLeaving};
+ghost use Rattle.check_scope.specs.BodyTrees.{tree_of, body_of, block_of, cases_of};
 ghost use Rattle.check_scope.specs.Context.{ContextFits, pre_emitted};
-ghost use Rattle.check_statement.specs.Judged.{body_judgement};
+ghost use Rattle.check_statement.specs.FunctionJudgement.{body_judgement};
 ghost use Rattle.check_statement.specs.Ready.{IsStatementReady, IsBodyReady, AreCasesReady};
-ghost use Rattle.check_scope.specs.walk.Seen.{context_of};
-ghost use Rattle.check_statement.specs.walk.State.{kept, state_left, body_left};
+ghost use Rattle.check_scope.specs.walk.SeenContext.{context_of};
+ghost use Rattle.check_statement.specs.walk.State.{kept, body_left};
 ghost use Rattle.check_scope.specs.walk.Table.{HasLooped, HasPut, IsTableOf, KnowsResults, count, filled_in, known, marked, shown, unfilled_in};
 ghost use Rattle.check_statement.specs.walk.Walk.{puts, body_puts, puts_to_continue, parts_answer, stmt_answer, body_answer, cases_answer};
 
-use check_errors::function::FunctionError;
 use check_scope::context::BlockContext;
 use check_scope::refuse::answer_of_function;
 use check_scope::refused::Refused;
@@ -26,33 +24,13 @@ use check_statement::results::check_filled;
 use check_statement::state::BodyOutcome;
 use check_statement::statement::{check_break_if, validate_own};
 use ir_arena::handle::Handle;
-use ir_arena::span::Refusal;
 use ir_module::statements::{Block, Located, Statement, SwitchCase};
 use naga_runs::Abilities;
 use std::alloc::Global;
 
 /// Judges the body of a function: the first fault in visit order, else the lowest result that is not filled, else what
-/// is left. A table is kept for later functions, for its memory alone.
-pub fn validate_function_body(
-    alloc: Global,
-    kept: &mut Option<Table>,
-    context: &BlockContext,
-) -> Result<BodyOutcome, Refusal<FunctionError>>
-    requires context { ContextFits (context_of context.now) }
-    requires ready { IsBodyReady (context_of context.now) (body_of (context_of context.now).fun) }
-    ensures { Answers (body_left (context_of context.now) (body_judgement (context_of context.now))) result }
-{
-    let mut table = Table::take_or_new(alloc, kept)?;
-    let judged = validate_body(alloc, &mut table, context);
-    *kept = Some(table);
-    match judged {
-        Ok(outcome) => Ok(outcome),
-        Err(refused) => Err(refused.into_refusal()),
-    }
-}
-
-/// Judges a body over a table, of which nothing is read that was there before.
-fn validate_body(
+/// is left. The table is begun anew: nothing is read of what it held before.
+pub fn validate_body(
     alloc: Global,
     table: &mut Table,
     context: &BlockContext,
@@ -60,22 +38,6 @@ fn validate_body(
     requires context { ContextFits (context_of context.now) }
     requires ready { IsBodyReady (context_of context.now) (body_of (context_of context.now).fun) }
     ensures { Answers (body_left (context_of context.now) (body_judgement (context_of context.now))) result }
-{
-    let state = validate_body_statements(table, context)?;
-    answer_of_function(alloc, check_filled(&table.filled, context))?;
-    Ok(state)
-}
-
-/// Judges the statements of a function's body.
-fn validate_body_statements(
-    table: &mut Table,
-    context: &BlockContext,
-) -> Result<BodyOutcome, Refused>
-    requires context { ContextFits (context_of context.now) }
-    requires ready { IsBodyReady (context_of context.now) (body_of (context_of context.now).fun) }
-    ensures state { AnswersState (viewed (state_left (context_of context.now)) (body_judgement (context_of context.now)))
-        (kept table.new.filled) result }
-    ensures results { OnOk result (KnowsResults (context_of context.now) table.new.filled) }
 {
     let count = context.fun.expressions.len();
     table.scope.begin(count)?;
@@ -87,6 +49,7 @@ fn validate_body_statements(
     };
     let abilities = Abilities::at_begin();
     validate_statements(table, &mut state, context, &abilities, &context.fun.body)?;
+    answer_of_function(alloc, check_filled(&table.filled, context))?;
     Ok(state)
 }
 
@@ -165,7 +128,24 @@ fn validate_parts(
             Ok(false)
         }
         Statement::Continue => Ok(true),
-        _ => Ok(false),
+        Statement::Emit(_)
+        | Statement::Break
+        | Statement::Return { .. }
+        | Statement::Kill
+        | Statement::ControlBarrier(_)
+        | Statement::MemoryBarrier(_)
+        | Statement::Store { .. }
+        | Statement::ImageStore { .. }
+        | Statement::Atomic { .. }
+        | Statement::ImageAtomic { .. }
+        | Statement::WorkGroupUniformLoad { .. }
+        | Statement::Call { .. }
+        | Statement::RayQuery { .. }
+        | Statement::SubgroupBallot { .. }
+        | Statement::SubgroupCollectiveOperation { .. }
+        | Statement::SubgroupGather { .. }
+        | Statement::CooperativeStore { .. }
+        | Statement::RayPipelineFunction(_) => Ok(false),
     }
 }
 

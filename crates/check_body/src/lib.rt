@@ -1,4 +1,5 @@
-//! The declarations and the body of a function as they are checked, and the laws of functions that are accepted.
+//! The declarations of a function and the walk over its body; and the laws of accepted functions.
+//! Part of the validator; no promise to users.
 #![tactic(auto)]
 
 pub mod declarations;

@@ -9,8 +9,8 @@ use Rattle.ir_arena.specs.declared.span.Refusal.TheVariants as refusal
 use Rattle.check_varyings.specs.VaryingFaults.{VaryingFault}
 use Rattle.check_varyings.specs.VaryingFaults as varying
 use Rattle.check_errors.specs.declared.interface.VaryingError.{VaryingError}
-use Rattle.check_entry.specs.Faults.{EntryFault, OfArgument, OfResult, fault_of, Judges}
-use Rattle.check_entry.specs.Points.{EntryPoints, Meets}
+use Rattle.check_entry.specs.EntryFaults.{EntryFault, OfArgument, OfResult, fault_of, Judges}
+use Rattle.check_entry.specs.EntryAnswers.{EntryPoints, Meets}
 use Rattle.check_entry.specs.declared.error.EntryPointError.{EntryPointError}
 use Rattle.check_entry.specs.declared.error.EntryPointError.TheVariants as fault
 use Rattle.check_scope.proofs.Refusals.{fault_first, fault_second}
@@ -44,9 +44,13 @@ judges_second (Err refusal.Memory) first second e h = tt
 
 pub ruleset judging = (judges_first, judges_second)
 
+-- points without a fault, inside others
+pub passes_within : {Inner Outer : Type 0} (outer : Inner → Outer) (points : List (Point Inner)) → first_fault points ≡ None → first_fault (within outer points) ≡ None
+passes_within outer points h = first_within outer points ∙ ap (option_map outer) h
+
 -- an answer about points, as one about the faults that they are
 pub judges_within : {T : Type 0} (r : Result T (Refusal EntryPointError)) (points : EntryPoints) → Meets points r → Judges (within fault_of points) r
-judges_within (Ok t) points h = first_within fault_of points ∙ ap (option_map fault_of) h
+judges_within (Ok t) points h = passes_within fault_of points h
 judges_within (Err (refusal.Fault f)) points h = first_within fault_of points ∙ ap (option_map fault_of) h
 judges_within (Err refusal.Memory) points h = tt
 

@@ -1,12 +1,12 @@
-pub mod Points
+pub mod EntryAnswers
 pub mod Start
-pub mod Uses
-pub mod Globals
-pub mod Faults
-pub mod Varyings
+pub mod EntryUses
+pub mod UsedGlobals
+pub mod EntryFaults
+pub mod EntryVaryings
 pub mod Mesh
-pub mod Judged
+pub mod EntryJudgement
 pub mod GlobalPoints
-pub mod Bindings
-pub use Rattle.check_entry.specs.Judged.{HasPayloadSizes, AnswersEntry}
-unfoldable pub use Rattle.check_entry.specs.Judged.{entry_judgement}
+pub mod TakenBindings
+pub use Rattle.check_entry.specs.EntryJudgement.{HasPayloadSizes, AnswersEntry}
+unfoldable pub use Rattle.check_entry.specs.EntryJudgement.{entry_judgement}

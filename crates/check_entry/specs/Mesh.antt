@@ -18,10 +18,10 @@ use Rattle.check_errors.specs.Meaning.{Meaning}
 use Rattle.check_errors.specs.declared.mesh.MeshAnalysis.{MeshAnalysis}
 use Rattle.check_errors.specs.declared.mesh.MeshFault.{MeshFault}
 use Rattle.check_errors.specs.declared.mesh.MeshFault.TheVariants.{OutputType, OutputField}
-use Rattle.check_entry.specs.Faults.{EntryFault, fault_of}
-use Rattle.check_entry.specs.Points.{EntryPoints}
-use Rattle.check_entry.specs.Uses.{is_work_group, lies_in}
-use Rattle.check_entry.specs.Varyings.{outputs_points}
+use Rattle.check_entry.specs.EntryFaults.{EntryFault, fault_of}
+use Rattle.check_entry.specs.EntryAnswers.{EntryPoints}
+use Rattle.check_entry.specs.EntryUses.{is_work_group, lies_in}
+use Rattle.check_entry.specs.EntryVaryings.{outputs_points}
 use Rattle.check_entry.specs.declared.error.EntryPointError.{EntryPointError}
 use Rattle.check_entry.specs.declared.error.EntryPointError.TheVariants as fault
 

@@ -4,11 +4,11 @@ ghost use Rattle.std.specs.Prelude.{◌≡◌, Result};
 ghost use Rattle.ir_facts.specs.Points.{within};
 ghost use Rattle.check_errors.specs.Answers.{Answers};
 ghost use Rattle.check_errors.specs.declared.function.FunctionError.{FunctionError as Inner};
-ghost use Rattle.check_scope.specs.walk.Answers.{Finds};
-ghost use Rattle.check_entry.specs.Faults.{fault_of, Judges, AnswersFault};
-ghost use Rattle.check_entry.specs.Judged.{of_function};
-ghost use Rattle.check_entry.specs.Points.{EntryPoints, Meets};
-ghost use Rattle.check_statement.specs.Judged.{FunctionOutcome as Outcome};
+ghost use Rattle.check_scope.specs.walk.Findings.{Finds};
+ghost use Rattle.check_entry.specs.EntryFaults.{fault_of, Judges, AnswersFault};
+ghost use Rattle.check_entry.specs.EntryJudgement.{of_function};
+ghost use Rattle.check_entry.specs.EntryAnswers.{EntryPoints, Meets};
+ghost use Rattle.check_statement.specs.FunctionJudgement.{FunctionOutcome as Outcome};
 
 use crate::error::EntryPointError;
 use crate::outcome::FunctionOutcome;
@@ -23,25 +23,18 @@ pub fn refusal(alloc: Global, fault: EntryPointError) -> Refusal<EntryPointError
     Refusal::Fault(WithSpan::new(alloc, fault))
 }
 
-/// The answer of a check of an entry point.
+/// The answer of a check of an entry point: in the errors of the code, and in the faults that contracts see.
 pub fn answer(
     alloc: Global,
     checked: Result<(), EntryPointError>,
 ) -> Result<(), Refusal<EntryPointError>>
-    ensures { (points : EntryPoints) → Finds points checked → Meets points result }
+    ensures meets { (points : EntryPoints) → Finds points checked → Meets points result }
+    ensures judges { (points : EntryPoints) → Finds points checked → Judges (within fault_of points) result }
 {
     match checked {
         Ok(()) => Ok(()),
         Err(fault) => Err(refusal(alloc, fault)),
     }
-}
-
-/// The answer of several checks of an entry point, with the faults that contracts see.
-#[tactic(auto, using(crate::proofs::EntrySteps::judges_within))]
-pub fn judged(checked: Result<(), Refusal<EntryPointError>>) -> Result<(), Refusal<EntryPointError>>
-    ensures { (points : EntryPoints) → Meets points checked → Judges (within fault_of points) result }
-{
-    checked
 }
 
 /// The answer about a function, as one about its entry point. It keeps the places.

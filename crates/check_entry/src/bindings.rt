@@ -1,9 +1,11 @@
 //! The bindings of the globals that an entry point uses.
 
-ghost use Rattle.std.specs.Prelude.{◌≡◌, ◌+◌, OnOk};
-ghost use Rattle.check_scope.specs.walk.Answers.{Finds};
-ghost use Rattle.check_entry.specs.Bindings.{AreTaken};
-ghost use Rattle.check_entry.specs.Globals.{binding_at, binding_points};
+ghost use Rattle.std.specs.Prelude.{◌≡◌, ◌+◌, List, OnOk};
+ghost use Rattle.ir_flags.specs.declared.valid.GlobalUse.{GlobalUse as Use};
+ghost use Rattle.ir_module.specs.declared.module.GlobalVariable.{GlobalVariable as Variable};
+ghost use Rattle.check_scope.specs.walk.Findings.{Finds};
+ghost use Rattle.check_entry.specs.TakenBindings.{AreTaken};
+ghost use Rattle.check_entry.specs.UsedGlobals.{binding_at, binding_points};
 
 use crate::error::EntryPointError;
 use crate::globals::is_used;
@@ -25,17 +27,15 @@ fn binding_at(module: &Module, index: usize) -> Option<ResourceBinding>
     }
 }
 
-/// Where bindings are looked at, no earlier global that is used has this one.
+/// Where bindings are checked, no earlier global that is used has this one.
 pub fn check_binding(
     flags: ValidationFlags,
-    module: &Module,
-    info: &FunctionInfo,
     taken: &BTreeSet<ResourceBinding>,
     handle: Handle<tag::GlobalVariable>,
     binding: Option<ResourceBinding>,
 ) -> Result<(), EntryPointError>
-    requires { AreTaken taken.now info.now.global_uses «module».now.global_variables handle }
-    ensures { Finds (binding_points flags info.now.global_uses «module».now.global_variables handle binding) result }
+    ensures { (uses : List Use) (globals : List Variable) → AreTaken taken.now uses globals handle →
+        Finds (binding_points flags uses globals handle binding) result }
 {
     let Some(binding) = binding else {
         return Ok(());

@@ -3,8 +3,8 @@
 ghost use Rattle.std.specs.Prelude.{◌≡◌, ◌++◌, length, slice_get};
 ghost use Rattle.std.specs.Option.{option_copied};
 ghost use Rattle.ir_types.specs.Types.{inner_at};
-ghost use Rattle.check_scope.specs.walk.Answers.{Finds};
-ghost use Rattle.check_entry.specs.Globals.{is_used, is_used_immediate, used_immediates, immediate_points, image_access, access_in, ray_points, is_within, allowed_points};
+ghost use Rattle.check_scope.specs.walk.Findings.{Finds};
+ghost use Rattle.check_entry.specs.UsedGlobals.{is_used, is_used_immediate, used_immediates, immediate_points, image_access, access_in, ray_points, is_within, allowed_points};
 ghost use Rattle.check_variables.specs.Spaces.{is_task_payload};
 
 use crate::error::EntryPointError;
@@ -26,7 +26,7 @@ pub fn uses_of(info: &FunctionInfo, index: usize) -> Option<GlobalUse>
 }
 
 /// Whether a global is used.
-pub fn is_used(info: &FunctionInfo, index: usize) -> bool
+pub(crate) fn is_used(info: &FunctionInfo, index: usize) -> bool
     ensures { result ≡ is_used info.now.global_uses index }
 {
     match info.global_uses.as_slice().get(index) {
@@ -140,7 +140,22 @@ fn access_in(module: &Module, inner: Option<&TypeInner>) -> Option<StorageAccess
 {
     match inner {
         Some(TypeInner::BindingArray { base, .. }) => image_access(inner_at(module, *base)),
-        _ => image_access(inner),
+        Some(
+            TypeInner::Scalar(_)
+            | TypeInner::Vector { .. }
+            | TypeInner::Matrix { .. }
+            | TypeInner::CooperativeMatrix { .. }
+            | TypeInner::Atomic(_)
+            | TypeInner::Pointer { .. }
+            | TypeInner::ValuePointer { .. }
+            | TypeInner::Array { .. }
+            | TypeInner::Struct { .. }
+            | TypeInner::Image { .. }
+            | TypeInner::Sampler { .. }
+            | TypeInner::AccelerationStructure { .. }
+            | TypeInner::RayQuery { .. },
+        )
+        | None => image_access(inner),
     }
 }
 
@@ -150,8 +165,23 @@ fn image_access(inner: Option<&TypeInner>) -> Option<StorageAccess>
     match inner {
         Some(TypeInner::Image { class, .. }) => match class {
             ImageClass::Storage { access, .. } => Some(*access),
-            _ => None,
+            ImageClass::Sampled { .. } | ImageClass::Depth { .. } | ImageClass::External => None,
         },
-        _ => None,
+        Some(
+            TypeInner::Scalar(_)
+            | TypeInner::Vector { .. }
+            | TypeInner::Matrix { .. }
+            | TypeInner::CooperativeMatrix { .. }
+            | TypeInner::Atomic(_)
+            | TypeInner::Pointer { .. }
+            | TypeInner::ValuePointer { .. }
+            | TypeInner::Array { .. }
+            | TypeInner::Struct { .. }
+            | TypeInner::Sampler { .. }
+            | TypeInner::AccelerationStructure { .. }
+            | TypeInner::RayQuery { .. }
+            | TypeInner::BindingArray { .. },
+        )
+        | None => None,
     }
 }

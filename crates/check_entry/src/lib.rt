@@ -1,4 +1,5 @@
-//! The steps of an entry point, and what can be wrong with one: naga 30.0.1's `validate_entry_point`, whose calls are in `naga_valid`.
+//! The steps of an entry point, its errors, and the definition of its judgement: naga 30.0.1's `validate_entry_point`.
+//! Part of the validator; no promise to users.
 #![tactic(auto)]
 
 pub mod answers;

@@ -1,9 +1,9 @@
 //! The checks of what an entry point says of its mesh.
 
 ghost use Rattle.std.specs.Prelude.{◌≡◌};
-ghost use Rattle.check_scope.specs.walk.Answers.{Finds};
+ghost use Rattle.check_scope.specs.walk.Findings.{Finds};
 ghost use Rattle.check_entry.specs.Mesh.{mesh_error, override_at, is_implied, with_overrides_of, is_points, variable_points, stated_points};
-ghost use Rattle.check_entry.specs.Uses.{is_work_group, lies_in};
+ghost use Rattle.check_entry.specs.EntryUses.{is_work_group, lies_in};
 
 use crate::error::EntryPointError;
 use check_errors::mesh::MeshFault;
@@ -50,12 +50,14 @@ fn override_at(
 ) -> Option<Handle<tag::Override>>
     ensures { result ≡ override_at «module».now.global_expressions expression }
 {
-    match expression {
-        Some(expression) => match module.global_expressions.as_slice().get(expression.index()) {
-            Some(Expression::Override(named)) => Some(*named),
-            _ => None,
-        },
-        None => None,
+    let Some(expression) = expression else {
+        return None;
+    };
+    let found = module.global_expressions.as_slice().get(expression.index());
+    if let Some(Expression::Override(named)) = found {
+        Some(*named)
+    } else {
+        None
     }
 }
 

@@ -12,7 +12,7 @@ pub struct FunctionOutcome {
 }
 
 impl Model for FunctionOutcome {
-    ghost use Rattle.check_statement.specs.Judged.{FunctionOutcome as Outcome};
+    ghost use Rattle.check_statement.specs.FunctionJudgement.{FunctionOutcome as Outcome};
 
     ghost Value = { Outcome };
 

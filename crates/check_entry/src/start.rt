@@ -2,7 +2,7 @@
 
 ghost use Rattle.std.specs.Prelude.{◌≡◌};
 ghost use Rattle.std.specs.List.{list_all};
-ghost use Rattle.check_scope.specs.walk.Answers.{Finds};
+ghost use Rattle.check_scope.specs.walk.Findings.{Finds};
 ghost use Rattle.check_entry.specs.Start.{needed_by, needed_points, is_fragment, depth_points, has_work_groups, is_group_size, is_zero, size_points, mesh_info_points, start_points};
 
 use crate::error::EntryPointError;
@@ -83,10 +83,15 @@ fn is_fragment(stage: ShaderStage) -> bool
 fn has_work_groups(stage: ShaderStage) -> bool
     ensures { result ≡ has_work_groups stage }
 {
-    matches!(
-        stage,
-        ShaderStage::Compute | ShaderStage::Task | ShaderStage::Mesh
-    )
+    match stage {
+        ShaderStage::Compute | ShaderStage::Task | ShaderStage::Mesh => true,
+        ShaderStage::Vertex
+        | ShaderStage::Fragment
+        | ShaderStage::RayGeneration
+        | ShaderStage::AnyHit
+        | ShaderStage::ClosestHit
+        | ShaderStage::Miss => false,
+    }
 }
 
 fn is_group_size(size: u32) -> bool

@@ -2,8 +2,8 @@
 
 ghost use Rattle.std.specs.Prelude.{◌≡◌, ◌<◌, IfSome, length};
 ghost use Rattle.check_variables.specs.Spaces.{is_task_payload};
-ghost use Rattle.check_scope.specs.walk.Answers.{Finds};
-ghost use Rattle.check_entry.specs.Uses.{lies_in, place_points, made_points, taken_points, payload_points, with_use_of, output_variable_of, with_own_uses, only, stage_points};
+ghost use Rattle.check_scope.specs.walk.Findings.{Finds};
+ghost use Rattle.check_entry.specs.EntryUses.{lies_in, place_points, made_points, taken_points, payload_points, with_use_of, output_variable_of, with_own_uses, only, stage_points};
 
 use crate::error::EntryPointError;
 use bitflags::Flags;

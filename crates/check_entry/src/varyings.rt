@@ -9,9 +9,9 @@ ghost use Rattle.ir_types.specs.declared.built_in.BuiltIn.TheVariants.{PointInde
 ghost use Rattle.check_errors.specs.TypeInfos.{type_has};
 ghost use Rattle.check_varyings.specs.VaryingFaults.{IsFirstVaryingFault, VaryingFault as Given};
 ghost use Rattle.check_varyings.specs.Varyings.{seen_in};
-ghost use Rattle.check_scope.specs.walk.Answers.{Finds};
-ghost use Rattle.check_entry.specs.Faults.{IsForFirstFault, OfArgument, OfResult};
-ghost use Rattle.check_entry.specs.Varyings.{is_struct, is_three_counts, returns_counts, is_one_of_three, returned_points, are_blend_sources, with_blending};
+ghost use Rattle.check_scope.specs.walk.Findings.{Finds};
+ghost use Rattle.check_entry.specs.EntryFaults.{IsForFirstFault, OfArgument, OfResult};
+ghost use Rattle.check_entry.specs.EntryVaryings.{is_struct, is_three_counts, returns_counts, is_one_of_three, returned_points, are_blend_sources, with_blending};
 
 use crate::answers::refusal;
 use crate::error::EntryPointError;
@@ -38,7 +38,7 @@ pub fn is_struct(inner: Option<&TypeInner>) -> bool
 }
 
 /// Whether a type is a vector of three u32.
-pub fn is_three_counts(inner: Option<&TypeInner>) -> bool
+fn is_three_counts(inner: Option<&TypeInner>) -> bool
     ensures { result ≡ it_is is_three_counts (option_copied inner.entry) }
 {
     match inner {

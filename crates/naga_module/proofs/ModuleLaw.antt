@@ -15,12 +15,12 @@ use Rattle.check_body.proofs.Chains.{none_is_vetted, one_more_is_vetted, fits_ca
 use Rattle.naga_valid.proofs.EntryChains.{entry_is_sound, entry_keeps_its_stage}
 use Rattle.check_body.proofs.FunctionLaw.{is_sound}
 use Rattle.check_body.specs.Chains.{AreVetted, ChainsKeepTo}
-use Rattle.check_entry.specs.Judged.{HasPayloadSizes, entry_judgement}
-use Rattle.check_entry.specs.Uses.{only}
+use Rattle.check_entry.specs.EntryJudgement.{HasPayloadSizes, entry_judgement}
+use Rattle.check_entry.specs.EntryUses.{only}
 use Rattle.check_body.specs.InOrder.{with_info}
-use Rattle.check_statement.specs.Judged.{FunctionOutcome, function_judgement}
-use Rattle.check_statement.specs.Parts.{no_traces}
-use Rattle.check_scope.specs.WhatIsChecked.{checks_blocks}
+use Rattle.check_statement.specs.FunctionJudgement.{FunctionOutcome, function_judgement}
+use Rattle.check_statement.specs.ValidatorParts.{no_traces}
+use Rattle.check_errors.specs.WhatIsChecked.{checks_blocks}
 use Rattle.check_scope.specs.declared.trace.TraceState.{TraceState}
 use Rattle.naga_module.specs.ModuleJudgement.{Answer, Tested, Step, with_entry, first_infos, IsOfFunction, IsOfEntryPoint, EntriesAnswer, BehindFunctions, FunctionsAnswer, Fits, globals_step}
 use Rattle.naga_module.specs.ModuleLaw.{IsSoundFunction, infos_before, AcceptedModuleHolds}

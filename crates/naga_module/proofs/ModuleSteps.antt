@@ -1,4 +1,4 @@
--- The judgement of a module, step by step: what is answered behind each.
+-- The judgement of a module, step by step: what each step after the functions says of all parts.
 use Rattle.std.proofs.Common.{◌≡◌, ◌⊎◌, inl, inr, List, [], Ok, Err, refl, sym, subst}
 use Rattle.std.specs.Prelude.{Result, OnOk, IfErr}
 use Rattle.ir_module.specs.declared.module.Module.{Module}
@@ -6,50 +6,37 @@ use Rattle.ir_facts.specs.declared.valid.info.ModuleInfo.{ModuleInfo}
 use Rattle.ir_facts.specs.declared.valid.settings.Settings.{Settings}
 use Rattle.ir_facts.specs.declared.valid.types.TypeInfo.{TypeInfo}
 use Rattle.check_errors.specs.Meaning.{Meaning}
+use Rattle.check_entry.specs.EntryJudgement.{HasPayloadSizes}
 use Rattle.check_scope.specs.declared.trace.TraceState.{TraceState}
-use Rattle.naga_module.specs.CodeModule.{Leads, Stops}
-use Rattle.naga_module.specs.ModuleJudgement.{Answer, Step, IsOfFunction, globals_step, BehindFunctions, BehindTests, FunctionsAnswer}
+use Rattle.naga_module.specs.CodeModule.{Leads, EntriesStop}
+use Rattle.naga_module.specs.ModuleJudgement.{Answer, Step, IsOfFunction, globals_step, BehindFunctions, BehindTests, EntriesAnswer, FunctionsAnswer}
 use Rattle.naga_module.specs.declared.check.ModuleFault.{ModuleFault}
 use Rattle.naga_module.specs.declared.check.ModuleFault.TheVariants as fault
 
-module _ (below : Meaning) (settings : Settings) (types : List TypeInfo) (m : Module) (trace : TraceState) (infos : ModuleInfo) where
-  abbrev Globals : Type 0
-  Globals = globals_step below settings types m infos ≡ Ok tt
-
+-- where no global is faulty, and the functions lead to these infos and traces
+module _ (below : Meaning) (settings : Settings) (types : List TypeInfo) (m : Module) (trace : TraceState) (infos : ModuleInfo) (passed : globals_step below settings types m infos ≡ Ok tt)
+    (left : TraceState) (more : ModuleInfo) (leads : Leads below settings types m trace infos m.functions left more []) where
   abbrev Parts : Answer → Type 0
   Parts r = BehindTests below settings types m trace infos r
 
-  functions_answer : Globals → (r : Answer) → FunctionsAnswer below settings types m trace infos m.functions r → Parts r
-  functions_answer passed r a =
-      subst (λ o. Step o (IsOfFunction (λ e. e)) (λ done. FunctionsAnswer below settings types m trace infos m.functions) r) (sym passed) a
-
-  pub globals_stop : (told : ModuleFault) → (told ≡ fault.Memory) ⊎ (globals_step below settings types m infos ≡ Err told) → (told ≡ fault.Memory) ⊎ Parts (Err told)
-  globals_stop told (inl memory) = inl memory
-  globals_stop told (inr e) =
-      inr (subst (λ o. Step o (IsOfFunction (λ e. e)) (λ done. FunctionsAnswer below settings types m trace infos m.functions) (Err told)) (sym e) refl)
-
-  pub functions_stop : Globals → (told : ModuleFault) → Stops below settings types m trace infos m.functions told → (told ≡ fault.Memory) ⊎ Parts (Err told)
-  functions_stop passed told (inl memory) = inl memory
-  functions_stop passed told (inr a) = inr (functions_answer passed (Err told) a)
-
-  -- what is answered behind the functions is answered behind the tests
-  behind : Globals → (left : TraceState) → (more : ModuleInfo) → Leads below settings types m trace infos m.functions left more [] →
-      (r : Answer) → BehindFunctions below settings types m left more r → Parts r
+  -- what is answered after the functions is answered of all parts
+  entries_decide : (r : Answer) → BehindFunctions below settings types m left more r → Parts r
   unfolding FunctionsAnswer
-  behind passed left more leads r a = functions_answer passed r (leads r a)
+  entries_decide r a =
+      subst (λ o. Step o (IsOfFunction (λ e. e)) (λ done. FunctionsAnswer below settings types m trace infos m.functions) r) (sym passed) (leads r a)
 
-  behind_stops : Globals → (left : TraceState) → (more : ModuleInfo) → Leads below settings types m trace infos m.functions left more [] →
-      (told : ModuleFault) → (told ≡ fault.Memory) ⊎ BehindFunctions below settings types m left more (Err told) → (told ≡ fault.Memory) ⊎ Parts (Err told)
-  behind_stops passed left more leads told (inl memory) = inl memory
-  behind_stops passed left more leads told (inr a) = inr (behind passed left more leads (Err told) a)
+  pub sizes_refuse : (HasPayloadSizes below m → ⊥) → Parts (Err fault.NotFit)
+  sizes_refuse unknown = entries_decide (Err fault.NotFit) (inr (unknown, refl))
 
-  pub behind_judged : Globals → (left : TraceState) → (more : ModuleInfo) → Leads below settings types m trace infos m.functions left more [] →
-      (r : Result Unit ModuleFault) → (out : ModuleInfo) → OnOk r (BehindFunctions below settings types m left more (Ok out)) → OnOk r (Parts (Ok out))
-  behind_judged passed left more leads (Ok u) out a = behind passed left more leads (Ok out) a
-  behind_judged passed left more leads (Err told) out a = tt
+  pub entries_judge : HasPayloadSizes below m → (r : Result Unit ModuleFault) → (out : ModuleInfo) → OnOk r (EntriesAnswer below settings types m left more m.entry_points (Ok out)) → OnOk r (Parts (Ok out))
+  entries_judge sizes (Ok u) out a = entries_decide (Ok out) (inl (sizes, a))
+  entries_judge sizes (Err told) out a = tt
 
-  pub behind_refused : Globals → (left : TraceState) → (more : ModuleInfo) → Leads below settings types m trace infos m.functions left more [] →
-      (r : Result Unit ModuleFault) → IfErr r (λ told. (told ≡ fault.Memory) ⊎ BehindFunctions below settings types m left more (Err told)) →
+  entries_stop : HasPayloadSizes below m → (told : ModuleFault) → EntriesStop below settings types m left more m.entry_points told → (told ≡ fault.Memory) ⊎ Parts (Err told)
+  entries_stop sizes told (inl memory) = inl memory
+  entries_stop sizes told (inr a) = inr (entries_decide (Err told) (inl (sizes, a)))
+
+  pub entries_refuse : HasPayloadSizes below m → (r : Result Unit ModuleFault) → IfErr r (λ told. EntriesStop below settings types m left more m.entry_points told) →
       IfErr r (λ told. (told ≡ fault.Memory) ⊎ Parts (Err told))
-  behind_refused passed left more leads (Ok u) a = tt
-  behind_refused passed left more leads (Err told) a = behind_stops passed left more leads told a
+  entries_refuse sizes (Ok u) a = tt
+  entries_refuse sizes (Err told) a = entries_stop sizes told a

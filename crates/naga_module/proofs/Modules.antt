@@ -15,10 +15,10 @@ use Rattle.ir_facts.specs.declared.valid.settings.Settings.{Settings}
 use Rattle.ir_facts.specs.declared.valid.types.TypeInfo.{TypeInfo}
 use Rattle.check_errors.specs.Meaning.{Meaning}
 use Rattle.check_errors.specs.declared.function.FunctionError.{FunctionError}
-use Rattle.check_entry.specs.Faults.{fault_of}
-use Rattle.check_entry.specs.Judged.{entry_judgement}
+use Rattle.check_entry.specs.EntryFaults.{fault_of}
+use Rattle.check_entry.specs.EntryJudgement.{entry_judgement}
 use Rattle.check_body.specs.InOrder.{with_info}
-use Rattle.check_statement.specs.Judged.{FunctionOutcome, function_judgement}
+use Rattle.check_statement.specs.FunctionJudgement.{FunctionOutcome, function_judgement}
 use Rattle.check_entry.specs.declared.error.EntryPointError.{EntryPointError}
 use Rattle.check_scope.specs.declared.trace.TraceState.{TraceState}
 use Rattle.naga_module.specs.CodeModule.{Leads, Stops, EntriesLead, EntriesStop}
@@ -35,7 +35,7 @@ module _ (below : Meaning) (settings : Settings) (types : List TypeInfo) (m : Mo
       at_drop_more (λ (fs : List Function). fs) m.functions i f lt ∙ ap (λ (g : Function). g ∷ drop (i + 1) m.functions) (get_or_from_slice_get m.functions i f f at) in
       subst (λ (fs : List Function). FunctionsAnswer below settings types m trace infos fs r) (sym same) a
 
-  pub goes_on : FitsFunction f m (length infos.functions) → (left : FunctionOutcome) →
+  goes_on : FitsFunction f m (length infos.functions) → (left : FunctionOutcome) →
       function_judgement below settings types trace m infos f false ≡ Ok left →
       Leads below settings types m trace infos (drop i m.functions) left.trace (with_info infos left.info) (drop (i + 1) m.functions)
   unfolding FunctionsAnswer
@@ -43,7 +43,7 @@ module _ (below : Meaning) (settings : Settings) (types : List TypeInfo) (m : Mo
       here r
       (inl (fits, subst (λ o. Step o (IsOfFunction (fault.Function (length infos.functions))) (λ (l : FunctionOutcome). FunctionsAnswer below settings types m l.trace (with_info infos l.info) (drop (i + 1) m.functions)) r) (sym e) a))
 
-  pub is_faulty : FitsFunction f m (length infos.functions) → (error : FunctionError) →
+  is_faulty : FitsFunction f m (length infos.functions) → (error : FunctionError) →
       function_judgement below settings types trace m infos f false ≡ Err error →
       FunctionsAnswer below settings types m trace infos (drop i m.functions) (Err (fault.Function (length infos.functions) error))
   unfolding FunctionsAnswer
@@ -51,7 +51,7 @@ module _ (below : Meaning) (settings : Settings) (types : List TypeInfo) (m : Mo
       here (Err (fault.Function (length infos.functions) error))
       (inl (fits, subst (λ o. Step o (IsOfFunction (fault.Function (length infos.functions))) (λ (l : FunctionOutcome). FunctionsAnswer below settings types m l.trace (with_info infos l.info) (drop (i + 1) m.functions)) (Err (fault.Function (length infos.functions) error))) (sym e) refl))
 
-  pub is_unfit : (FitsFunction f m (length infos.functions) → ⊥) → FunctionsAnswer below settings types m trace infos (drop i m.functions) (Err fault.NotFit)
+  is_unfit : (FitsFunction f m (length infos.functions) → ⊥) → FunctionsAnswer below settings types m trace infos (drop i m.functions) (Err fault.NotFit)
   unfolding FunctionsAnswer
   is_unfit unfit = here (Err fault.NotFit) (inr (unfit, refl))
 
@@ -67,30 +67,30 @@ module _ (below : Meaning) (settings : Settings) (types : List TypeInfo) (m : Mo
       at_drop_more (λ (ps : List EntryPoint). ps) m.entry_points i p lt ∙ ap (λ (q : EntryPoint). q ∷ drop (i + 1) m.entry_points) (get_or_from_slice_get m.entry_points i p p at) in
       subst (λ (ps : List EntryPoint). EntriesAnswer below settings types m trace infos ps r) (sym same) a
 
-  pub entry_goes_on : EntryFits → (left : FunctionOutcome) → entry_judgement below settings types trace m infos p ≡ Ok left →
+  entry_goes_on : EntryFits → (left : FunctionOutcome) → entry_judgement below settings types trace m infos p ≡ Ok left →
       EntriesLead below settings types m trace infos (drop i m.entry_points) left.trace (with_entry infos left.info) (drop (i + 1) m.entry_points)
   unfolding EntriesAnswer
   entry_goes_on fits left e r a =
       entry_here r
       (inl (fits, subst (λ o. Step o (IsOfEntryPoint (length infos.entry_points)) (λ (l : FunctionOutcome). EntriesAnswer below settings types m l.trace (with_entry infos l.info) (drop (i + 1) m.entry_points)) r) (sym e) a))
 
-  pub entry_is_faulty : EntryFits → (error : EntryPointError) → entry_judgement below settings types trace m infos p ≡ Err (fault_of error) →
+  entry_is_faulty : EntryFits → (error : EntryPointError) → entry_judgement below settings types trace m infos p ≡ Err (fault_of error) →
       EntriesAnswer below settings types m trace infos (drop i m.entry_points) (Err (fault.EntryPoint (length infos.entry_points) error))
   unfolding EntriesAnswer
   entry_is_faulty fits error e =
       entry_here (Err (fault.EntryPoint (length infos.entry_points) error))
       (inl (fits, subst (λ o. Step o (IsOfEntryPoint (length infos.entry_points)) (λ (l : FunctionOutcome). EntriesAnswer below settings types m l.trace (with_entry infos l.info) (drop (i + 1) m.entry_points)) (Err (fault.EntryPoint (length infos.entry_points) error))) (sym e) (refl, refl)))
 
-  pub entry_is_unfit : (EntryFits → ⊥) → EntriesAnswer below settings types m trace infos (drop i m.entry_points) (Err fault.NotFit)
+  entry_is_unfit : (EntryFits → ⊥) → EntriesAnswer below settings types m trace infos (drop i m.entry_points) (Err fault.NotFit)
   unfolding EntriesAnswer
   entry_is_unfit unfit = entry_here (Err fault.NotFit) (inr (unfit, refl))
 
 module _ (below : Meaning) (settings : Settings) (types : List TypeInfo) (m : Module) (t0 : TraceState) (i0 : ModuleInfo) (ps : List EntryPoint)
     (t1 : TraceState) (i1 : ModuleInfo) (rest : List EntryPoint) (first : EntriesLead below settings types m t0 i0 ps t1 i1 rest) where
-  pub entries_lead_on : (t2 : TraceState) (i2 : ModuleInfo) (last : List EntryPoint) → EntriesLead below settings types m t1 i1 rest t2 i2 last → EntriesLead below settings types m t0 i0 ps t2 i2 last
+  entries_lead_on : (t2 : TraceState) (i2 : ModuleInfo) (last : List EntryPoint) → EntriesLead below settings types m t1 i1 rest t2 i2 last → EntriesLead below settings types m t0 i0 ps t2 i2 last
   entries_lead_on t2 i2 last second r a = first r (second r a)
 
-  pub entries_stop_behind : (told : ModuleFault) → EntriesStop below settings types m t1 i1 rest told → EntriesStop below settings types m t0 i0 ps told
+  entries_stop_behind : (told : ModuleFault) → EntriesStop below settings types m t1 i1 rest told → EntriesStop below settings types m t0 i0 ps told
   entries_stop_behind told (inl memory) = inl memory
   entries_stop_behind told (inr a) = inr (first (Err told) a)
 
@@ -103,12 +103,55 @@ entries_judged below settings types m trace infos ps left out leads = leads (Ok 
 -- parts of the functions one behind another
 module _ (below : Meaning) (settings : Settings) (types : List TypeInfo) (m : Module) (t0 : TraceState) (i0 : ModuleInfo) (fs : List Function)
     (t1 : TraceState) (i1 : ModuleInfo) (rest : List Function) (first : Leads below settings types m t0 i0 fs t1 i1 rest) where
-  pub leads_on : (t2 : TraceState) (i2 : ModuleInfo) (last : List Function) → Leads below settings types m t1 i1 rest t2 i2 last → Leads below settings types m t0 i0 fs t2 i2 last
+  leads_on : (t2 : TraceState) (i2 : ModuleInfo) (last : List Function) → Leads below settings types m t1 i1 rest t2 i2 last → Leads below settings types m t0 i0 fs t2 i2 last
   leads_on t2 i2 last second r a = first r (second r a)
 
-  pub stops_behind : (told : ModuleFault) → Stops below settings types m t1 i1 rest told → Stops below settings types m t0 i0 fs told
+  stops_behind : (told : ModuleFault) → Stops below settings types m t1 i1 rest told → Stops below settings types m t0 i0 fs told
   stops_behind told (inl memory) = inl memory
   stops_behind told (inr a) = inr (first (Err told) a)
+
+-- one function more, behind those that came before it: it doesn't fit, it has a fault, or it passes
+module _ (below : Meaning) (settings : Settings) (types : List TypeInfo) (m : Module) (t0 : TraceState) (i0 : ModuleInfo) (trace : TraceState) (infos : ModuleInfo) (i : ℕ) (f : Function)
+    (at : slice_get m.functions i ≡ Some f) (lt : i < length m.functions) (leads : Leads below settings types m t0 i0 m.functions trace infos (drop i m.functions)) where
+  pub function_unfit : (FitsFunction f m (length infos.functions) → ⊥) → Stops below settings types m t0 i0 m.functions fault.NotFit
+  function_unfit unfit =
+      stops_behind below settings types m t0 i0 m.functions trace infos (drop i m.functions) leads fault.NotFit (inr (is_unfit below settings types m trace infos i f at lt unfit))
+
+  pub function_faulty : FitsFunction f m (length infos.functions) → (error : FunctionError) →
+      function_judgement below settings types trace m infos f false ≡ Err error →
+      Stops below settings types m t0 i0 m.functions (fault.Function (length infos.functions) error)
+  function_faulty fits error e =
+      stops_behind below settings types m t0 i0 m.functions trace infos (drop i m.functions) leads (fault.Function (length infos.functions) error)
+      (inr (is_faulty below settings types m trace infos i f at lt fits error e))
+
+  pub function_passes : FitsFunction f m (length infos.functions) → (left : FunctionOutcome) →
+      function_judgement below settings types trace m infos f false ≡ Ok left →
+      Leads below settings types m t0 i0 m.functions left.trace (with_info infos left.info) (drop (i + 1) m.functions)
+  function_passes fits left e =
+      leads_on below settings types m t0 i0 m.functions trace infos (drop i m.functions) leads left.trace (with_info infos left.info) (drop (i + 1) m.functions)
+      (goes_on below settings types m trace infos i f at lt fits left e)
+
+-- the same of an entry point
+module _ (below : Meaning) (settings : Settings) (types : List TypeInfo) (m : Module) (t0 : TraceState) (i0 : ModuleInfo) (trace : TraceState) (infos : ModuleInfo) (i : ℕ) (p : EntryPoint)
+    (at : slice_get m.entry_points i ≡ Some p) (lt : i < length m.entry_points) (leads : EntriesLead below settings types m t0 i0 m.entry_points trace infos (drop i m.entry_points)) where
+  abbrev ThisFits : Type 0
+  ThisFits = FitsFunction p.function m (length infos.functions) × FitsEntry p m
+
+  pub entry_unfit : (ThisFits → ⊥) → EntriesStop below settings types m t0 i0 m.entry_points fault.NotFit
+  entry_unfit unfit =
+      entries_stop_behind below settings types m t0 i0 m.entry_points trace infos (drop i m.entry_points) leads fault.NotFit (inr (entry_is_unfit below settings types m trace infos i p at lt unfit))
+
+  pub entry_faulty : ThisFits → (error : EntryPointError) → entry_judgement below settings types trace m infos p ≡ Err (fault_of error) →
+      EntriesStop below settings types m t0 i0 m.entry_points (fault.EntryPoint (length infos.entry_points) error)
+  entry_faulty fits error e =
+      entries_stop_behind below settings types m t0 i0 m.entry_points trace infos (drop i m.entry_points) leads (fault.EntryPoint (length infos.entry_points) error)
+      (inr (entry_is_faulty below settings types m trace infos i p at lt fits error e))
+
+  pub entry_passes : ThisFits → (left : FunctionOutcome) → entry_judgement below settings types trace m infos p ≡ Ok left →
+      EntriesLead below settings types m t0 i0 m.entry_points left.trace (with_entry infos left.info) (drop (i + 1) m.entry_points)
+  entry_passes fits left e =
+      entries_lead_on below settings types m t0 i0 m.entry_points trace infos (drop i m.entry_points) leads left.trace (with_entry infos left.info) (drop (i + 1) m.entry_points)
+      (entry_goes_on below settings types m trace infos i p at lt fits left e)
 
 pub none_left : {A : Type 0} (xs : List A) (i : ℕ) → length xs ≤ i → drop i xs ≡ []
 none_left xs i le = drop_all i xs le

@@ -14,12 +14,12 @@ use Rattle.ir_facts.specs.declared.valid.info.ModuleInfo.{ModuleInfo}
 use Rattle.ir_facts.specs.declared.valid.settings.Settings.{Settings}
 use Rattle.ir_facts.specs.declared.valid.types.TypeInfo.{TypeInfo}
 use Rattle.check_errors.specs.Meaning.{Meaning}
-use Rattle.check_entry.specs.Faults.{EntryFault, fault_of}
-use Rattle.check_entry.specs.Judged.{HasPayloadSizes, entry_judgement}
+use Rattle.check_entry.specs.EntryFaults.{EntryFault, fault_of}
+use Rattle.check_entry.specs.EntryJudgement.{HasPayloadSizes, entry_judgement}
 use Rattle.check_entry.specs.GlobalPoints.{module_global_points}
 use Rattle.check_body.specs.InOrder.{with_info}
-use Rattle.check_statement.specs.Judged.{function_judgement}
-use Rattle.check_statement.specs.Parts.{AreInfosOf, no_traces}
+use Rattle.check_statement.specs.FunctionJudgement.{function_judgement}
+use Rattle.check_statement.specs.ValidatorParts.{AreInfosOf, no_traces}
 use Rattle.check_scope.specs.declared.trace.TraceState.{TraceState}
 use Rattle.naga_module.specs.declared.check.ModuleFault.{ModuleFault}
 use Rattle.naga_module.specs.declared.check.ModuleFault.TheVariants as fault

@@ -11,11 +11,11 @@ use Rattle.ir_facts.specs.declared.valid.settings.Settings.{Settings}
 use Rattle.ir_facts.specs.declared.valid.types.TypeInfo.{TypeInfo}
 use Rattle.check_errors.specs.Meaning.{Meaning}
 use Rattle.naga_runs.specs.Soundness.{RunsAreSure}
-use Rattle.check_scope.specs.Blocks.{body_of}
+use Rattle.check_scope.specs.BodyTrees.{body_of}
 use Rattle.check_body.specs.Chains.{ChainsKeepTo}
 use Rattle.check_scope.specs.Context.{pre_emitted_of}
-use Rattle.check_entry.specs.Uses.{only}
-use Rattle.check_scope.specs.WhatIsChecked.{checks_blocks}
+use Rattle.check_entry.specs.EntryUses.{only}
+use Rattle.check_errors.specs.WhatIsChecked.{checks_blocks}
 use Rattle.naga_module.specs.ModuleJudgement.{Fits, IsJudgement, IsAnswered}
 use Rattle.naga_module.specs.declared.check.ModuleFault.{ModuleFault}
 use Rattle.naga_module.specs.declared.check.ModuleFault.TheVariants as fault

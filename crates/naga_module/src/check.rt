@@ -4,17 +4,17 @@ ghost use Rattle.std.specs.Prelude.{◌≡◌, ◌↔◌, ◌⊎◌, [], Ok, Err
 ghost use Rattle.naga_module.specs.ModuleJudgement.{Fits, BehindTests, first_infos, IsAnswered};
 ghost use Rattle.naga_module.specs.ModuleLaw.{ModuleHolds};
 ghost use Rattle.naga_module.specs.declared.check.ModuleFault.TheVariants as fault;
-ghost use Rattle.check_statement.specs.Parts.{AreInfosOf, no_traces};
+ghost use Rattle.check_statement.specs.ValidatorParts.{AreInfosOf, no_traces};
 ghost use Rattle.ir_facts.specs.Fits.{FitsTypes, FitsGlobals};
-ghost use Rattle.check_scope.specs.WhatIsChecked.{checks_blocks};
+ghost use Rattle.check_errors.specs.WhatIsChecked.{checks_blocks};
 
 mod entries;
 mod functions;
 mod globals;
 
-use crate::check::entries::judge_behind_functions;
-use crate::check::functions::judge_functions;
-use crate::check::globals::check_globals;
+use crate::check::entries::validate_entry_points;
+use crate::check::functions::validate_functions;
+use crate::check::globals::validate_globals;
 use check_entry::error::EntryPointError;
 use check_errors::below::Below;
 use check_errors::function::FunctionError;
@@ -103,8 +103,9 @@ fn fits<B: Below>(validator: &Validator<B>, module: &Module, infos: &ModuleInfo)
     validator.has_types_of(module) && fits_types(module) && fits_globals(module, infos)
 }
 
-/// Judges the parts of a module that fits: its globals, its functions, and what is behind them.
-fn judge_parts<B: Below>(
+/// Validates the parts of a module that fits: its globals, its functions, and, once the sizes of its task payloads are known, its
+/// entry points.
+fn validate_parts<B: Below>(
     alloc: Global,
     validator: &mut Validator<B>,
     module: &Module,
@@ -122,9 +123,12 @@ fn judge_parts<B: Below>(
         ⊎ BehindTests (B.meaning validator.old.below) validator.old.settings validator.old.types «module».now
         validator.old.trace infos.old (Err told)) }
 {
-    check_globals(alloc, validator, module, infos)?;
-    judge_functions(alloc, validator, module, infos)?;
-    judge_behind_functions(alloc, validator, module, infos)
+    validate_globals(alloc, validator, module, infos)?;
+    validate_functions(alloc, validator, module, infos)?;
+    if !validator.has_payload_sizes(module) {
+        return Err(ModuleFault::NotFit);
+    }
+    validate_entry_points(alloc, validator, module, infos)
 }
 
 /// Judges a whole module, for a target with these settings, over a lower layer; `given` has what is known of the module's
@@ -162,6 +166,6 @@ pub fn check_module<B: Below + Drop>(
     if !fits(&validator, module, &infos) {
         return Err(ModuleFault::NotFit);
     }
-    judge_parts(alloc, &mut validator, module, &mut infos)?;
+    validate_parts(alloc, &mut validator, module, &mut infos)?;
     Ok(infos)
 }

@@ -1,5 +1,5 @@
-//! Whole modules: the judgement of a module, over any lower layer; and refusals told to a person. The lower layers of
-//! `naga_layers` are passed on.
+//! For users: `check_module`, which judges a whole module, its law, and the messages of refusals.
+//! It passes on the lower layers of `naga_layers`.
 #![tactic(auto)]
 
 pub mod check;

@@ -16,12 +16,12 @@ use Rattle.ir_facts.specs.declared.valid.types.TypeInfo.{TypeInfo}
 use Rattle.check_variables.specs.AllowedUses.{join}
 use Rattle.check_errors.specs.Meaning.{Meaning}
 use Rattle.check_errors.specs.declared.function.FunctionError.{FunctionError}
-use Rattle.check_entry.specs.Faults.{EntryFault, fault_of}
-use Rattle.check_entry.specs.Judged.{entry_judgement, of_function, interface_points, interface_step, entry_outcome}
+use Rattle.check_entry.specs.EntryFaults.{EntryFault, fault_of}
+use Rattle.check_entry.specs.EntryJudgement.{entry_judgement, of_function, interface_points, interface_step, entry_outcome}
 use Rattle.check_entry.specs.Start.{start_points}
-use Rattle.check_entry.specs.Uses.{with_use_of, output_variable_of, with_own_uses, with_uses_at}
-use Rattle.check_entry.specs.Varyings.{are_blend_sources}
-use Rattle.check_statement.specs.Judged.{FunctionOutcome, function_judgement}
+use Rattle.check_entry.specs.EntryUses.{with_use_of, output_variable_of, with_own_uses, with_uses_at}
+use Rattle.check_entry.specs.EntryVaryings.{are_blend_sources}
+use Rattle.check_statement.specs.FunctionJudgement.{FunctionOutcome, function_judgement}
 use Rattle.check_scope.specs.declared.trace.TraceState.{TraceState}
 
 module _ (below : Meaning) (settings : Settings) (infos : List TypeInfo) (trace : TraceState) (program : Module) (earlier : ModuleInfo) (ep : EntryPoint) (outcome : FunctionOutcome) where

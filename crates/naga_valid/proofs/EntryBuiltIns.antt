@@ -28,9 +28,9 @@ use Rattle.check_varyings.specs.VaryingFaults.{Itself}
 use Rattle.check_varyings.specs.Varyings.{Part, Placed, Bound, BlendSources, UnboundMember, Unbound, built_in_points, go_same_way, is_built_in, member_part, member_parts, part_points, parts_of, placed, placed_parts, placed_points, ruled_points, seen_at, unbound_parts, group_parts}
 use Rattle.check_varyings.specs.declared.varying.MeshOutputType.TheVariants.{Neither}
 use Rattle.check_varyings.specs.declared.varying.VaryingPlace.{VaryingPlace}
-use Rattle.check_entry.specs.Faults.{OfArgument}
-use Rattle.naga_valid.specs.Facts.{IsBuiltIn, BuiltInsAreDistinct, AcceptedBuiltInsAreDistinct}
-use Rattle.check_entry.specs.Varyings.{argument_item, argument_points, place_of}
+use Rattle.check_entry.specs.EntryFaults.{OfArgument}
+use Rattle.naga_valid.specs.EntryFacts.{IsBuiltIn, BuiltInsAreDistinct, AcceptedBuiltInsAreDistinct}
+use Rattle.check_entry.specs.EntryVaryings.{argument_item, argument_points, place_of}
 use Rattle.naga_valid.proofs.EntryAccepted.{accepted_entry}
 use Rattle.naga_valid.proofs.EntryGroups.{any_at, all_at, all_both, group_none, part_none}
 use Rattle.naga_valid.proofs.EntryFacts.{none_within, arguments_hold}

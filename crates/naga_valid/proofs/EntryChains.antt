@@ -19,13 +19,13 @@ use Rattle.ir_facts.specs.declared.valid.settings.Settings.{Settings}
 use Rattle.ir_facts.specs.declared.valid.types.TypeInfo.{TypeInfo}
 use Rattle.check_errors.specs.Meaning.{Meaning}
 use Rattle.check_body.specs.Accepted.{AreAmong}
-use Rattle.check_entry.specs.Faults.{fault_of}
-use Rattle.check_entry.specs.Judged.{used_points, interface_points}
-use Rattle.naga_valid.specs.Chains.{AcceptedEntryIsSound, AcceptedEntryKeepsItsStage}
-use Rattle.check_entry.specs.Globals.{globals_points}
+use Rattle.check_entry.specs.EntryFaults.{fault_of}
+use Rattle.check_entry.specs.EntryJudgement.{used_points, interface_points}
+use Rattle.naga_valid.specs.EntryChains.{AcceptedEntryIsSound, AcceptedEntryKeepsItsStage}
+use Rattle.check_entry.specs.UsedGlobals.{globals_points}
 use Rattle.check_entry.specs.Mesh.{mesh_points}
-use Rattle.check_entry.specs.Uses.{only, stage_points, payload_points, with_use_of, with_uses_at, with_own_uses, output_variable_of}
-use Rattle.check_entry.specs.Varyings.{argument_points, result_points}
+use Rattle.check_entry.specs.EntryUses.{only, stage_points, payload_points, with_use_of, with_uses_at, with_own_uses, output_variable_of}
+use Rattle.check_entry.specs.EntryVaryings.{argument_points, result_points}
 use Rattle.check_entry.specs.declared.error.EntryPointError.TheVariants as fault
 use Rattle.check_body.proofs.Chains.{chains_are_kept}
 use Rattle.naga_valid.proofs.EntryAccepted.{accepted_entry}

@@ -33,14 +33,14 @@ use Rattle.check_errors.specs.WhatIsChecked.{checks_bindings}
 use Rattle.check_errors.specs.Meaning.{Meaning}
 use Rattle.check_errors.specs.TypeInfos.{type_has}
 use Rattle.check_varyings.specs.Varyings.{Bound, is_built_in, member_part, member_parts, parts_of, unbound_parts}
-use Rattle.check_entry.specs.Faults.{EntryFault, fault_of}
-use Rattle.check_entry.specs.Globals.{binding_at, binding_points, global_points, globals_points, immediate_points, is_bound_to, is_same_binding, is_some_use, is_taken_before, is_used, use_points}
-use Rattle.check_entry.specs.Judged.{interface_points, used_points}
+use Rattle.check_entry.specs.EntryFaults.{EntryFault, fault_of}
+use Rattle.check_entry.specs.UsedGlobals.{binding_at, binding_points, global_points, globals_points, immediate_points, is_bound_to, is_same_binding, is_some_use, is_taken_before, is_used, use_points}
+use Rattle.check_entry.specs.EntryJudgement.{interface_points, used_points}
 use Rattle.check_entry.specs.Mesh.{mesh_points}
-use Rattle.check_entry.specs.Uses.{payload_points, stage_points, with_own_uses}
-use Rattle.naga_valid.specs.Facts.{IsUsedAt, BindingsAreDistinct, IsPosition, HasPositionMember, IsReturnedPosition, ReturnsPosition, AcceptedBindingsAreDistinct, AcceptedVertexHasPosition, AcceptedHasAcceptedFunction}
-use Rattle.check_entry.specs.Varyings.{are_blend_sources, argument_points, declared_points, has_built_in, result_parts, result_points, returned_points}
-use Rattle.check_statement.specs.Judged.{FunctionOutcome}
+use Rattle.check_entry.specs.EntryUses.{payload_points, stage_points, with_own_uses}
+use Rattle.naga_valid.specs.EntryFacts.{IsUsedAt, BindingsAreDistinct, IsPosition, HasPositionMember, IsReturnedPosition, ReturnsPosition, AcceptedBindingsAreDistinct, AcceptedVertexHasPosition, AcceptedHasAcceptedFunction}
+use Rattle.check_entry.specs.EntryVaryings.{are_blend_sources, argument_points, declared_points, has_built_in, result_parts, result_points, returned_points}
+use Rattle.check_statement.specs.FunctionJudgement.{FunctionOutcome}
 use Rattle.check_entry.specs.declared.error.EntryPointError.TheVariants.{MissingVertexOutputPosition}
 use Rattle.naga_valid.proofs.EntryAccepted.{accepted_entry, stages_are}
 use Rattle.naga_valid.proofs.EntryGlobals.{points_are}

@@ -22,13 +22,13 @@ use Rattle.check_varyings.specs.VaryingFaults.{VaryingFault, Itself}
 use Rattle.check_varyings.specs.Varyings.{Item, Part, Placed, Bound, BlendSources, UnboundMember, Unbound, blend_points, group_points_from, is_at, item_points, part_points, placed, placed_parts, placed_points, seen_at, group_parts}
 use Rattle.check_varyings.specs.declared.varying.MeshOutputType.TheVariants.{VertexOutput, PrimitiveOutput}
 use Rattle.check_varyings.specs.declared.varying.VaryingPlace.{VaryingPlace}
-use Rattle.check_entry.specs.Faults.{EntryFault, OfArgument, OfResult, fault_of}
-use Rattle.check_entry.specs.Globals.{globals_points}
-use Rattle.check_entry.specs.Judged.{interface_points}
-use Rattle.naga_valid.specs.Facts.{TakesLocation, LocationsAreDistinct, GroupsAreDistinct, mesh_items, AcceptedLocationsAreDistinct}
+use Rattle.check_entry.specs.EntryFaults.{EntryFault, OfArgument, OfResult, fault_of}
+use Rattle.check_entry.specs.UsedGlobals.{globals_points}
+use Rattle.check_entry.specs.EntryJudgement.{interface_points}
+use Rattle.naga_valid.specs.EntryFacts.{TakesLocation, LocationsAreDistinct, GroupsAreDistinct, mesh_items, AcceptedLocationsAreDistinct}
 use Rattle.check_entry.specs.Mesh.{mesh_points, said_points, variable_points}
-use Rattle.check_entry.specs.Uses.{with_own_uses}
-use Rattle.check_entry.specs.Varyings.{argument_item, argument_points, declared_points, output_item, output_points, outputs_points, primitive_points, result_items, result_points, vertex_points}
+use Rattle.check_entry.specs.EntryUses.{with_own_uses}
+use Rattle.check_entry.specs.EntryVaryings.{argument_item, argument_points, declared_points, output_item, output_points, outputs_points, primitive_points, result_items, result_points, vertex_points}
 use Rattle.naga_valid.proofs.EntryAccepted.{accepted_entry}
 use Rattle.naga_valid.proofs.EntryFacts.{none_within, arguments_hold, results_hold}
 use Rattle.check_scope.proofs.Flat.{holds_at}

@@ -13,10 +13,10 @@ use Rattle.ir_facts.specs.declared.valid.settings.Settings.{Settings}
 use Rattle.ir_facts.specs.declared.valid.types.TypeInfo.{TypeInfo}
 use Rattle.check_errors.specs.Meaning.{Meaning}
 use Rattle.check_errors.specs.declared.function.FunctionError.{FunctionError}
-use Rattle.check_entry.specs.Faults.{EntryFault, fault_of, Judges, RefusesFault, AnswersFault}
-use Rattle.check_entry.specs.Judged.{entry_judgement, of_function, interface_step, AnswersOutcome, RefusesEntry}
+use Rattle.check_entry.specs.EntryFaults.{EntryFault, fault_of, Judges, RefusesFault, AnswersFault}
+use Rattle.check_entry.specs.EntryJudgement.{entry_judgement, of_function, interface_step, AnswersOutcome, RefusesEntry}
 use Rattle.check_entry.specs.Start.{start_points}
-use Rattle.check_statement.specs.Judged.{FunctionOutcome, function_judgement}
+use Rattle.check_statement.specs.FunctionJudgement.{FunctionOutcome, function_judgement}
 use Rattle.check_entry.specs.declared.error.EntryPointError.{EntryPointError}
 use Rattle.check_scope.specs.declared.trace.TraceState.{TraceState}
 

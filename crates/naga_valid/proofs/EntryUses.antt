@@ -14,8 +14,8 @@ use Rattle.check_errors.specs.declared.function.FunctionError.{FunctionError}
 use Rattle.naga_runs.specs.Visits.{Visit}
 use Rattle.check_scope.specs.Context.{Context}
 use Rattle.check_statement.specs.Declarations.{declaration_points}
-use Rattle.check_statement.specs.Expressions.{with_stages, expressions_step}
-use Rattle.check_statement.specs.Judged.{FunctionOutcome, body_step, unfilled_points, outcome_left, judged_with, context_with, declarations_step, expressions_known, lower_step, function_judgement}
+use Rattle.check_statement.specs.ExpressionStages.{with_stages, expressions_step}
+use Rattle.check_statement.specs.FunctionJudgement.{FunctionOutcome, body_step, unfilled_points, outcome_left, judged_with, context_with, declarations_step, expressions_known, lower_step, function_judgement}
 use Rattle.check_scope.specs.declared.trace.TraceState.{TraceState}
 
 by_unfilled : (context : Context) (visits : List Visit) (outcome : FunctionOutcome) (o : Option FunctionError) → answer o (outcome_left context visits) ≡ Ok outcome → outcome.info.global_uses ≡ context.info.global_uses

@@ -1,5 +1,6 @@
 -- The fold over a function's expressions, one by one.
-use Rattle.std.proofs.Common.{◌≡◌, ℕ, suc, ◌+◌, ◌-◌, ◌<◌, ◌≤◌, Result, Ok, sym, ap, ◌∙◌, subst, arith}
+use Rattle.std.proofs.Common.{◌≡◌, ℕ, suc, true, length, ◌+◌, ◌-◌, ◌<◌, ◌≤◌, Result, Ok, sym, ap, ◌∙◌, subst, arith}
+use Rattle.std.specs.Prelude.{if◌then◌else◌}
 use Rattle.ir_facts.specs.Points.{and_then}
 use Rattle.ir_arena.specs.declared.span.Refusal.{Refusal}
 use Rattle.ir_arena.specs.declared.span.Refusal.TheVariants as refusal
@@ -9,7 +10,8 @@ use Rattle.check_errors.specs.Answers.{Answers, Refuses}
 use Rattle.check_errors.specs.Meaning.{Meaning}
 use Rattle.check_errors.specs.declared.function.FunctionError.{FunctionError}
 use Rattle.check_scope.specs.Context.{Context}
-use Rattle.check_statement.specs.Expressions.{with_stages, of_expression, mask_at, stages_from}
+use Rattle.check_errors.specs.WhatIsChecked.{checks_expressions}
+use Rattle.check_statement.specs.ExpressionStages.{with_stages, of_expression, mask_at, stages_from, expressions_step}
 use Rattle.check_statement.specs.Stages.{meet}
 
 module _ (below : Meaning) (context : Context) (n h : ℕ) (stages : ShaderStages) (whole : Result ShaderStages FunctionError) where
@@ -35,6 +37,14 @@ module _ (below : Meaning) (context : Context) (n h : ℕ) (stages : ShaderStage
   unfolding stages_from
   masks_end le is =
       let none : n - h ≡ 0 = omega arith in sym is ∙ ap (stages_from below context stages h) none
+
+-- where expressions are checked, the step is the fold over all of them
+pub step_begins : (below : Meaning) (context : Context) → checks_expressions context.settings.flags ≡ true →
+    stages_from below context context.info.available_stages 0 (length context.fun.expressions - 0) ≡ expressions_step below context
+step_begins below context on =
+    let all : length context.fun.expressions - 0 ≡ length context.fun.expressions = omega arith in
+    ap (stages_from below context context.info.available_stages 0) all
+    ∙ sym (ap (λ b. if b then stages_from below context context.info.available_stages 0 (length context.fun.expressions) else Ok context.info.available_stages) on)
 
 -- what was asked of an expression is its mask
 pub asked_is : (below : Meaning) (context : Context) (info : FunctionInfo) (handle h : ℕ) (r : Result ShaderStages (Refusal FunctionError)) →

@@ -1,6 +1,7 @@
 -- The steps of a function's judgement, as the code takes them.
 use Rattle.std.proofs.Common.{◌≡◌, Bool, true, false, List, [], Option, None, Some, Result, Ok, Err, length, refl, sym, ap, ◌∙◌, subst}
 use Rattle.std.specs.Prelude.{if◌then◌else◌}
+use Rattle.ir_facts.specs.Fits.{FitsTypes, FitsFunction}
 use Rattle.ir_facts.specs.Points.{first_fault, answer, and_then}
 use Rattle.ir_module.specs.declared.functions.Function.{Function}
 use Rattle.ir_module.specs.declared.module.Module.{Module}
@@ -13,17 +14,17 @@ use Rattle.ir_facts.specs.declared.valid.settings.Settings.{Settings}
 use Rattle.ir_flags.specs.declared.valid.ShaderStages.{ShaderStages}
 use Rattle.ir_facts.specs.declared.valid.types.TypeInfo.{TypeInfo}
 use Rattle.check_errors.specs.Answers.{Answers, IsFirstFault, Refuses}
-use Rattle.check_errors.specs.Meaning.{Meaning}
+use Rattle.check_errors.specs.Meaning.{Meaning, HasOneTypeEach, HasTypesInRange, HasNoStructValues, HasOneKindEach}
 use Rattle.check_errors.specs.declared.function.FunctionError.{FunctionError}
 use Rattle.naga_runs.specs.Judgement.{viewed}
 use Rattle.naga_runs.specs.Visits.{Visit}
 use Rattle.check_scope.specs.Context.{Context, ContextFits}
 use Rattle.check_statement.specs.Declarations.{declaration_points}
-use Rattle.check_statement.specs.Expressions.{with_stages, stages_from, expressions_step}
-use Rattle.check_scope.specs.WhatIsChecked.{checks_blocks, checks_expressions}
-use Rattle.check_statement.specs.Judged.{FunctionOutcome, body_judgement, outcome_left, judged_with, declarations_step, expressions_known, context_with, lower_step, function_judgement}
+use Rattle.check_statement.specs.ExpressionStages.{with_stages, expressions_step}
+use Rattle.check_errors.specs.WhatIsChecked.{checks_blocks}
+use Rattle.check_statement.specs.FunctionJudgement.{FunctionOutcome, body_judgement, outcome_left, judged_with, declarations_step, expressions_known, context_with, lower_step, function_judgement}
 use Rattle.check_scope.specs.Results.{filled_before, filled_points}
-use Rattle.check_statement.specs.walk.Asked.{asked_context, known_behind}
+use Rattle.check_statement.specs.walk.AskedContext.{asked_context, known_behind}
 use Rattle.check_statement.specs.walk.State.{body_outcome, body_left}
 use Rattle.check_statement.specs.declared.state.BodyOutcome.{BodyOutcome}
 use Rattle.check_scope.specs.declared.trace.TraceState.{TraceState}
@@ -82,40 +83,15 @@ module _ (below : Meaning) (infos : List TypeInfo) (entry_point : Bool) (context
   declarations_pass h =
       ap (λ o. and_then (answer o context.info) (λ info. expressions_known below (record context { info = info }))) h
 
-  asked : checks_expressions context.settings.flags ≡ true → expressions_known below context ≡ and_then (stages_from below context context.info.available_stages 0 (length context.fun.expressions)) (λ stages. Ok (with_stages context.info stages))
-  asked on =
-      ap (λ b. and_then (if b then stages_from below context context.info.available_stages 0 (length context.fun.expressions) else Ok context.info.available_stages) (λ stages. Ok (with_stages context.info stages))) on
+  pub expressions_refuse : first_fault (declaration_points context infos entry_point) ≡ None → (x : Refusal FunctionError) → Refuses (expressions_step below context) x → Refuses (known_behind below infos entry_point context) x
+  expressions_refuse h (refusal.Fault f) e =
+      declarations_pass h ∙ ap (λ o. and_then o (λ stages. Ok (with_stages context.info stages))) e
+  expressions_refuse h refusal.Memory e = tt
 
-  pub expressions_refuse : first_fault (declaration_points context infos entry_point) ≡ None → checks_expressions context.settings.flags ≡ true → (x : Refusal FunctionError) →
-      Refuses (stages_from below context context.info.available_stages 0 (length context.fun.expressions)) x → Refuses (known_behind below infos entry_point context) x
-  expressions_refuse h on (refusal.Fault f) e =
-      declarations_pass h ∙ asked on ∙ ap (λ o. and_then o (λ stages. Ok (with_stages context.info stages))) e
-  expressions_refuse h on refusal.Memory e = tt
-
-  pub expressions_pass : first_fault (declaration_points context infos entry_point) ≡ None → checks_expressions context.settings.flags ≡ true → (stages : ShaderStages) →
-      stages_from below context context.info.available_stages 0 (length context.fun.expressions) ≡ Ok stages → known_behind below infos entry_point context ≡ Ok (with_stages context.info stages)
-  expressions_pass h on stages e =
-      declarations_pass h ∙ asked on ∙ ap (λ o. and_then o (λ stages. Ok (with_stages context.info stages))) e
-
-  pub no_expressions : first_fault (declaration_points context infos entry_point) ≡ None → checks_expressions context.settings.flags ≡ false →
-      known_behind below infos entry_point context ≡ Ok context.info
-  no_expressions h off =
-      declarations_pass h
-      ∙ ap (λ b. and_then (if b then stages_from below context context.info.available_stages 0 (length context.fun.expressions) else Ok context.info.available_stages) (λ stages. Ok (with_stages context.info stages))) off
-
-  -- nothing but the stages is changed
-  by_stages : (o : Result ShaderStages FunctionError) (known : FunctionInfo) → and_then o (λ stages. Ok (with_stages context.info stages)) ≡ Ok known → known ≡ with_stages context.info known.available_stages
-  by_stages (Ok stages) known e =
-      let same : with_stages context.info stages ≡ known = cc in
-      subst (λ (k : FunctionInfo). k ≡ with_stages context.info k.available_stages) same refl
-  by_stages (Err f) known e = cc
-
-  by_declarations : (o : Option FunctionError) (known : FunctionInfo) → and_then (answer o context.info) (λ info. expressions_known below (record context { info = info })) ≡ Ok known → known ≡ with_stages context.info known.available_stages
-  by_declarations None known e = by_stages (expressions_step below context) known e
-  by_declarations (Some f) known e = cc
-
-  pub known_is : (known : FunctionInfo) → known_behind below infos entry_point context ≡ Ok known → known ≡ with_stages context.info known.available_stages
-  known_is known e = by_declarations (first_fault (declaration_points context infos entry_point)) known e
+  pub expressions_pass : first_fault (declaration_points context infos entry_point) ≡ None → (stages : ShaderStages) → expressions_step below context ≡ Ok stages →
+      known_behind below infos entry_point context ≡ Ok (with_stages context.info stages)
+  expressions_pass h stages e =
+      declarations_pass h ∙ ap (λ o. and_then o (λ stages. Ok (with_stages context.info stages))) e
 
 -- a context fits whatever stages are left
 pub fits_with : (context : Context) (known : FunctionInfo) → known ≡ with_stages context.info known.available_stages → ContextFits context → ContextFits (record context { info = known })
@@ -164,3 +140,50 @@ module _ (below : Meaning) (settings : Settings) (infos : List TypeInfo) (trace 
         Answers (judged_with (asked_of kinds known)) r → Answers (function_judgement below settings infos trace program earlier fun entry_point) r
     body_decides known r h a =
         subst (λ j. Answers j r) (sym (by_known ∙ ap (λ o. and_then o (λ known. judged_with (asked_of kinds known))) h)) a
+
+    -- that context fits, by the laws of the lower layer
+    pub fits_first : HasOneTypeEach below → HasTypesInRange below → HasNoStructValues below → HasOneKindEach below →
+        FitsTypes program → FitsFunction fun program (length earlier.functions) → ContextFits (asked_of kinds info)
+    fits_first types range structs each there fits =
+        record {
+          types = there;
+          fun = fits;
+          one_type_each = types fun program earlier settings.flags settings.capabilities info lower;
+          types_in_range = range fun program earlier settings.flags settings.capabilities info lower;
+          no_struct_values = structs fun program earlier settings.flags settings.capabilities info lower;
+          one_kind_each = ap (λ (l : List ExpressionKind). length l) of ∙ each fun.expressions;
+        }
+
+    -- the declarations, in the context of what the lower layer knows
+    module _ (context : Context) (same : context ≡ asked_of kinds info) where
+      pub declarations_refused : (x : Refusal FunctionError) → IsFirstFault (declaration_points context infos entry_point) x → Refuses (function_judgement below settings infos trace program earlier fun entry_point) x
+      declarations_refused x h =
+          known_refuses x (declarations_refuse below infos entry_point (asked_of kinds info) x (subst (λ (k : Context). IsFirstFault (declaration_points k infos entry_point) x) same h))
+
+      module _ (none : first_fault (declaration_points context infos entry_point) ≡ None) where
+        none_here : first_fault (declaration_points (asked_of kinds info) infos entry_point) ≡ None
+        none_here = subst (λ (k : Context). first_fault (declaration_points k infos entry_point) ≡ None) same none
+
+        pub expressions_refused : (x : Refusal FunctionError) → Refuses (expressions_step below (asked_of kinds info)) x → Refuses (function_judgement below settings infos trace program earlier fun entry_point) x
+        expressions_refused x h =
+            known_refuses x (expressions_refuse below infos entry_point (asked_of kinds info) none_here x h)
+
+        -- the body, in the context of what is known after the expressions
+        module _ (known : FunctionInfo) (left : expressions_step below (asked_of kinds info) ≡ Ok known.available_stages) (kept : known ≡ with_stages info known.available_stages) where
+          known_here : known_behind below infos entry_point (asked_of kinds info) ≡ Ok known
+          known_here =
+              expressions_pass below infos entry_point (asked_of kinds info) none_here known.available_stages left ∙ ap Ok (sym kept)
+
+          pub body_refused : (later : Context) → later ≡ asked_of kinds known → checks_blocks settings.flags ≡ true → (x : Refusal FunctionError) →
+              Refuses (body_left later (body_judgement later)) x → Refuses (function_judgement below settings infos trace program earlier fun entry_point) x
+          body_refused later is on x h =
+              body_decides known (Err x) known_here (body_refuses (asked_of kinds known) on x (subst (λ (k : Context). Refuses (body_left k (body_judgement k)) x) is h))
+
+          pub body_passed : (later : Context) → later ≡ asked_of kinds known → checks_blocks settings.flags ≡ true → (outcome : BodyOutcome) →
+              body_left later (body_judgement later) ≡ Ok outcome → function_judgement below settings infos trace program earlier fun entry_point ≡ Ok (outcome_with known outcome)
+          body_passed later is on outcome h =
+              body_decides known (Ok (outcome_with known outcome)) known_here (body_passes (asked_of kinds known) on outcome (subst (λ (k : Context). body_left k (body_judgement k) ≡ Ok outcome) is h))
+
+          pub body_unchecked : checks_blocks settings.flags ≡ false → function_judgement below settings infos trace program earlier fun entry_point ≡ Ok (record { info = known; trace = trace })
+          body_unchecked off =
+              body_decides known (Ok (record { info = known; trace = trace })) known_here (no_body (asked_of kinds known) off)

@@ -1,12 +1,13 @@
 -- The points of a group, item by item.
-use Rattle.std.proofs.Common.{◌≡◌, ℕ, suc, ◌+◌, ◌<◌, ◌≤◌, List, [], ◌∷◌, ◌++◌, Option, None, Some, Result, Ok, Err, length, take, drop, get_or, sym, ap, ◌∙◌, arith, append-nil, append_assoc}
+use Rattle.std.proofs.Common.{◌≡◌, ℕ, suc, ◌+◌, ◌<◌, ◌≤◌, List, [], ◌∷◌, ◌++◌, Option, None, Some, Result, Ok, Err, length, take, drop, get_or, sym, ap, ◌∙◌, subst, arith, append-nil, append_assoc}
 use Rattle.std.proofs.lemmas.List.{at_drop_more, at_drop_all, take_more}
-use Rattle.std.specs.Option.{option_map, option_or}
+use Rattle.std.specs.Option.{option_or}
 use Rattle.std.specs.Prelude.{Bool, true, false, IsErr, if◌then◌else◌}
-use Rattle.ir_facts.proofs.Points.{first_of_both, first_within}
+use Rattle.ir_facts.proofs.Points.{first_of_both}
 use Rattle.ir_facts.specs.Points.{Point, first_fault, within}
 use Rattle.ir_types.specs.declared.types.Type.{«Type» as IrType}
 use Rattle.ir_facts.specs.declared.valid.types.TypeInfo.{TypeInfo}
+use Rattle.ir_module.specs.declared.functions.FunctionResult.{FunctionResult}
 use Rattle.ir_module.specs.declared.module.EntryPoint.{EntryPoint}
 use Rattle.ir_types.specs.declared.types.Binding.{Binding}
 use Rattle.ir_arena.specs.declared.span.Refusal.{Refusal}
@@ -17,11 +18,12 @@ use Rattle.ir_types.specs.Types.{inner_at}
 use Rattle.check_varyings.proofs.Seeing.{points_are_by_position}
 use Rattle.check_varyings.specs.Seen.{Seen}
 use Rattle.check_varyings.specs.VaryingFaults.{VaryingFault}
-use Rattle.check_varyings.specs.Varyings.{Item, Placed, placed_parts, item_points, group_points, group_points_from, points_from, seen_at, group_parts}
+use Rattle.check_varyings.specs.Varyings.{Item, Placed, placed_parts, item_points, group_points, group_points_from, nothing_seen, points_from, seen_at, group_parts}
 use Rattle.check_varyings.specs.declared.varying.MeshOutputType.{MeshOutputType}
+use Rattle.check_varyings.specs.declared.varying.MeshOutputType.TheVariants.{Neither}
 use Rattle.check_varyings.specs.declared.varying.VaryingPlace.{VaryingPlace}
-use Rattle.check_entry.specs.Faults.{EntryFault, OfResult, Other, Judges}
-use Rattle.check_entry.specs.Varyings.{is_struct, output_points, place_of}
+use Rattle.check_entry.specs.EntryFaults.{EntryFault, OfResult, Other, Judges}
+use Rattle.check_entry.specs.EntryVaryings.{declared_points, is_struct, output_points, place_of, result_item}
 use Rattle.check_entry.specs.declared.error.EntryPointError.{EntryPointError}
 use Rattle.check_entry.specs.declared.error.EntryPointError.TheVariants as fault
 
@@ -95,9 +97,11 @@ module _ (types : List IrType) (infos : List TypeInfo) where
   output_by_position settings ep which earlier seen ty e =
       ap (λ ps. (it_is is_struct (inner_at types ty), Other fault.InvalidMeshOutputType) ∷ within OfResult ps) (seen_by_position (place_of settings ep true which) earlier seen ty None e)
 
--- points without a fault, inside others
-pub passes_within : {Inner Outer : Type 0} (outer : Inner → Outer) (points : List (Point Inner)) → first_fault points ≡ None → first_fault (within outer points) ≡ None
-passes_within outer points h = first_within outer points ∙ ap (option_map outer) h
+  -- the result, where nothing was seen before
+  pub result_decides : {T : Type 0} (settings : Settings) (ep : EntryPoint) (seen : Seen) (declared : FunctionResult) (r : Result T (Refusal EntryPointError)) → seen ≡ nothing_seen →
+      Judges (within OfResult (points_from (place_of settings ep true Neither) types infos seen declared.ty declared.binding)) r → Judges (declared_points settings types infos ep (Some declared)) r
+  result_decides settings ep seen declared r e h =
+      subst (λ points. Judges points r) (one_item (λ _ f. OfResult f) (result_item settings ep declared)) (subst (λ points. Judges (within OfResult points) r) (seen_by_position (place_of settings ep true Neither) [] seen declared.ty declared.binding e) h)
 
 -- a point behind others that hold
 module _ (first : List (Point EntryFault)) (b : Bool) (f : EntryFault) (none : first_fault first ≡ None) where

@@ -1,7 +1,7 @@
 //! Laws of accepted entry points: they compute nothing; whoever rests on them calls them to cite them.
 
-ghost use Rattle.naga_valid.specs.Chains.{AcceptedEntryIsSound, AcceptedEntryKeepsItsStage};
-ghost use Rattle.naga_valid.specs.Facts.{AcceptedHasAcceptedFunction, AcceptedBindingsAreDistinct, AcceptedLocationsAreDistinct, AcceptedBuiltInsAreDistinct, AcceptedVertexHasPosition};
+ghost use Rattle.naga_valid.specs.EntryChains.{AcceptedEntryIsSound, AcceptedEntryKeepsItsStage};
+ghost use Rattle.naga_valid.specs.EntryFacts.{AcceptedHasAcceptedFunction, AcceptedBindingsAreDistinct, AcceptedLocationsAreDistinct, AcceptedBuiltInsAreDistinct, AcceptedVertexHasPosition};
 
 /// Of each entry point that the judgement accepts: its function is accepted; where bodies are looked at, all runs of its body
 /// are sure, and with vetted infos it keeps to its stage through all chains of calls; where bindings are looked at, the

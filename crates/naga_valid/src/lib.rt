@@ -1,4 +1,4 @@
-//! The validator of whole functions, global variables and entry points.
+//! For users: `Validator`, which checks whole functions, global variables and entry points.
 #![tactic(auto)]
 
 pub mod laws;

@@ -1,7 +1,7 @@
 //! The validator of functions.
 
 ghost use Rattle.std.specs.Prelude.{◌≡◌, ◌↔◌, IsTrue, []};
-ghost use Rattle.check_statement.specs.Parts.{Parts, infos_given, first_settings, no_traces, NamesTypes, AreInfosOf};
+ghost use Rattle.check_statement.specs.ValidatorParts.{Parts, infos_given, first_settings, no_traces, NamesTypes, AreInfosOf};
 
 mod entry;
 mod entry_point;

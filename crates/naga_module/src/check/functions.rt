@@ -1,9 +1,9 @@
 //! The functions of a module, in order.
 
-ghost use Rattle.std.specs.Prelude.{◌≡◌, ◌<◌, ◌+◌, [], OnOk, IfErr, length, drop};
+ghost use Rattle.std.specs.Prelude.{◌≡◌, [], OnOk, IfErr};
 ghost use Rattle.ir_facts.specs.Fits.{FitsTypes};
 ghost use Rattle.naga_module.specs.CodeModule.{Leads, Stops};
-ghost use Rattle.check_statement.specs.Parts.{AreInfosOf};
+ghost use Rattle.check_statement.specs.ValidatorParts.{AreInfosOf};
 
 use crate::check::ModuleFault;
 use check_errors::below::Below;
@@ -16,45 +16,8 @@ use ir_module::module::Module;
 use naga_valid::validator::Validator;
 use std::alloc::Global;
 
-/// Judges the next function of a module, with the infos of those before it, and puts its info last.
-fn judge_function<B: Below>(
-    alloc: Global,
-    validator: &mut Validator<B>,
-    module: &Module,
-    infos: &mut ModuleInfo,
-    handle: Handle<tag::Function>,
-) -> Result<(), ModuleFault>
-    requires infos { AreInfosOf «module».now validator.old.types }
-    requires types { FitsTypes «module».now }
-    requires next { handle ≡ length infos.old.functions }
-    requires there { handle < length «module».now.functions }
-    ensures judged { OnOk result (Leads (B.meaning validator.old.below) validator.old.settings validator.old.types «module».now
-        validator.old.trace infos.old (drop handle «module».now.functions)
-        validator.new.trace infos.new (drop (handle + 1) «module».now.functions)) }
-    ensures place { OnOk result (length infos.new.functions ≡ handle + 1) }
-    ensures entries { OnOk result (infos.new.entry_points ≡ infos.old.entry_points) }
-    ensures refused { IfErr result
-        (λ told. Stops (B.meaning validator.old.below) validator.old.settings validator.old.types «module».now
-        validator.old.trace infos.old (drop handle «module».now.functions) told) }
-    ensures kept { validator.new ≡ record validator.old { trace = validator.new.trace } }
-{
-    let fun = &module.functions[handle];
-    if !fits_function(fun, module, infos.functions.len()) {
-        return Err(ModuleFault::NotFit);
-    }
-    let answer = validator.validate_function(alloc, fun, module, infos, false);
-    match answer {
-        Ok(info) => {
-            infos.functions.push(info)?;
-            Ok(())
-        }
-        Err(Refusal::Fault(fault)) => Err(ModuleFault::Function(handle, fault)),
-        Err(Refusal::Memory) => Err(ModuleFault::Memory),
-    }
-}
-
-/// Judges the functions of a module, in order, and puts their infos.
-pub fn judge_functions<B: Below>(
+/// Validates the functions of a module in order, each with the infos of those before it, and puts the info of each last.
+pub(crate) fn validate_functions<B: Below>(
     alloc: Global,
     validator: &mut Validator<B>,
     module: &Module,
@@ -70,11 +33,21 @@ pub fn judge_functions<B: Below>(
     ensures refused { IfErr result
         (λ told. Stops (B.meaning validator.old.below) validator.old.settings validator.old.types «module».now
         validator.old.trace infos.old «module».now.functions told) }
-    ensures kept { validator.new ≡ record validator.old { trace = validator.new.trace } }
+    ensures kept { OnOk result (validator.new ≡ record validator.old { trace = validator.new.trace }) }
 {
     let count = module.functions.len() as u32;
     for index in 0..count {
-        judge_function(alloc, validator, module, infos, Handle::new(index))?;
+        let handle = Handle::new(index);
+        let fun = &module.functions[handle];
+        if !fits_function(fun, module, infos.functions.len()) {
+            return Err(ModuleFault::NotFit);
+        }
+        let answer = validator.validate_function(alloc, fun, module, infos, false);
+        match answer {
+            Ok(info) => infos.functions.push(info)?,
+            Err(Refusal::Fault(fault)) => return Err(ModuleFault::Function(handle, fault)),
+            Err(Refusal::Memory) => return Err(ModuleFault::Memory),
+        }
     }
     Ok(())
 }

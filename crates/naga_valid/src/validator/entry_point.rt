@@ -6,19 +6,19 @@ ghost use Rattle.ir_module.specs.declared.module.ShaderStage.TheVariants.{Vertex
 ghost use Rattle.naga_runs.specs.Soundness.{RunsAreSure};
 ghost use Rattle.check_errors.specs.WhatIsChecked.{checks_bindings};
 ghost use Rattle.check_body.specs.Accepted.{ResultsAreFilledOnce, StagesAreOfAll};
-ghost use Rattle.check_scope.specs.Blocks.{body_of};
+ghost use Rattle.check_scope.specs.BodyTrees.{body_of};
 ghost use Rattle.check_body.specs.Chains.{AreVetted, ChainsKeepTo};
 ghost use Rattle.check_scope.specs.Context.{pre_emitted_of};
-ghost use Rattle.check_entry.specs.Judged.{HasPayloadSizes, entry_judgement, AnswersEntry, AnswersOutcome};
-ghost use Rattle.naga_valid.specs.Facts.{argument_parts, BindingsAreDistinct, BuiltInsAreDistinct, GroupsAreDistinct, ReturnsPosition};
+ghost use Rattle.check_entry.specs.EntryJudgement.{HasPayloadSizes, entry_judgement, AnswersEntry};
+ghost use Rattle.naga_valid.specs.EntryFacts.{argument_parts, BindingsAreDistinct, BuiltInsAreDistinct, GroupsAreDistinct, ReturnsPosition};
 ghost use Rattle.check_entry.specs.Start.{start_points};
-ghost use Rattle.check_entry.specs.Uses.{only};
-ghost use Rattle.check_statement.specs.Parts.{AreInfosOf};
-ghost use Rattle.check_scope.specs.WhatIsChecked.{checks_blocks, checks_expressions};
+ghost use Rattle.check_entry.specs.EntryUses.{only};
+ghost use Rattle.check_statement.specs.ValidatorParts.{AreInfosOf};
+ghost use Rattle.check_errors.specs.WhatIsChecked.{checks_blocks, checks_expressions};
 
 use crate::validator::Validator;
+use crate::validator::entry::EntryContext;
 use check_entry::error::EntryPointError;
-use check_entry::outcome::FunctionOutcome;
 use check_errors::below::Below;
 use ir_arena::span::Refusal;
 use ir_facts::valid::info::{FunctionInfo, ModuleInfo};
@@ -95,32 +95,13 @@ impl<B: Below> Validator<B> {
         ensures kept { self.new ≡ record self.old { trace = self.new.trace } }
         ensures refused { OnErr result (self.new ≡ self.old) }
     {
-        let outcome = self.judge_entry_over_kept(alloc, ep, module, mod_info)?;
+        let entry = EntryContext {
+            program: module,
+            earlier: mod_info,
+            entry_point: ep,
+        };
+        let outcome = self.judge_entry_point(alloc, &entry)?;
         self.trace = outcome.trace;
         Ok(outcome.info)
-    }
-
-    /// The judgement of an entry point, over the table that is kept.
-    fn judge_entry_over_kept(
-        &mut self,
-        alloc: Global,
-        ep: &EntryPoint,
-        module: &Module,
-        mod_info: &ModuleInfo,
-    ) -> Result<FunctionOutcome, Refusal<EntryPointError>>
-        requires infos { AreInfosOf «module».now self.old.types }
-        requires types { FitsTypes «module».now }
-        requires function { FitsFunction ep.now.function «module».now (length mod_info.now.functions) }
-        requires entry { FitsEntry ep.now «module».now }
-        requires sizes { HasPayloadSizes (B.meaning self.old.below) «module».now }
-        ensures judged { AnswersOutcome (start_points self.old.settings.capabilities ep.now)
-            (entry_judgement (B.meaning self.old.below) self.old.settings self.old.types self.old.trace «module».now
-            mod_info.now ep.now) result }
-        ensures kept { self.new ≡ self.old }
-    {
-        let mut table = self.table.take();
-        let judged = self.judge_entry_point(alloc, &mut table, ep, module, mod_info);
-        self.table = table;
-        judged
     }
 }

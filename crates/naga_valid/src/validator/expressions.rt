@@ -4,12 +4,12 @@ ghost use Rattle.std.specs.Prelude.{◌≡◌, OnOk, Result};
 ghost use Rattle.ir_facts.specs.declared.valid.expression_error.ExpressionError.{ExpressionError as Source};
 ghost use Rattle.ir_flags.specs.declared.valid.ShaderStages.{ShaderStages as Mask};
 ghost use Rattle.check_errors.specs.Answers.{Refuses};
-ghost use Rattle.check_scope.specs.walk.Answers.{AnswersLeaving};
-ghost use Rattle.check_statement.specs.Expressions.{with_stages, of_expression};
-ghost use Rattle.check_statement.specs.walk.Asked.{asked_by, stages_of_all};
+ghost use Rattle.check_scope.specs.walk.Findings.{AnswersLeaving};
+ghost use Rattle.check_statement.specs.ExpressionStages.{with_stages, of_expression, expressions_step};
+ghost use Rattle.check_statement.specs.walk.AskedContext.{asked_by};
 
 use crate::validator::Validator;
-use crate::validator::judge::Subject;
+use crate::validator::judge::FunctionContext;
 use bitflags::Flags;
 use check_errors::below::Below;
 use check_errors::function::FunctionError;
@@ -19,7 +19,7 @@ use ir_arena::tag;
 use ir_facts::proc::expression_kinds::ExpressionKindTracker;
 use ir_facts::valid::expression_error::ExpressionError;
 use ir_facts::valid::info::FunctionInfo;
-use ir_flags::valid::ShaderStages;
+use ir_flags::valid::{ShaderStages, ValidationFlags};
 use std::alloc::Global;
 
 /// The refusal of an expression by the lower layer, as one of its function. It keeps the places.
@@ -41,22 +41,25 @@ fn refused_expression(
 }
 
 impl<B: Below> Validator<B> {
-    /// Asks for each expression, with the info whose stages have the masks of those before it met in, and leaves the
-    /// stages of all of them in it.
-    pub fn meet_expressions(
+    /// Asks for each expression, where expressions are checked, with the info whose stages have the masks of those before it
+    /// met in, and leaves the stages of all of them in it.
+    pub(crate) fn meet_expressions(
         &self,
         alloc: Global,
-        subject: &Subject,
+        function: &FunctionContext,
         kinds: &ExpressionKindTracker,
         info: &mut FunctionInfo,
     ) -> Result<(), Refusal<FunctionError>>
         ensures fault { AnswersLeaving
-            (stages_of_all (B.meaning self.now.below) (asked_by self.now subject.now.program.now subject.now.earlier.now
-            subject.now.fun.now kinds.now info.old))
+            (expressions_step (B.meaning self.now.below) (asked_by self.now function.now.program.now function.now.earlier.now
+            function.now.fun.now kinds.now info.old))
             info.new.available_stages result }
         ensures kept { info.new ≡ with_stages info.old info.new.available_stages }
     {
-        let count = subject.fun.expressions.len() as u32;
+        if !self.settings.flags.contains(ValidationFlags::EXPRESSIONS) {
+            return Ok(());
+        }
+        let count = function.fun.expressions.len() as u32;
         for index in 0..count {
             let handle = Handle::new(index);
             let settings = self.settings;
@@ -64,10 +67,10 @@ impl<B: Below> Validator<B> {
                 alloc,
                 settings,
                 handle,
-                subject.fun,
-                subject.program,
+                function.fun,
+                function.program,
                 info,
-                subject.earlier,
+                function.earlier,
                 kinds,
             );
             match asked {

@@ -1,15 +1,17 @@
 //! The checks of the globals that an entry point uses which ask the lower layer for a size.
 
 ghost use Rattle.std.specs.Prelude.{◌≡◌, ◌↔◌, ◌<◌, IsTrue, IsSome, Some, [], slice_get, length};
-ghost use Rattle.ir_facts.specs.Points.{points_of_each};
+ghost use Rattle.ir_facts.specs.Points.{points_of_each, within};
 ghost use Rattle.ir_types.specs.declared.types.AddressSpace.TheVariants as space;
-ghost use Rattle.check_scope.specs.walk.Answers.{Finds};
-ghost use Rattle.check_entry.specs.Bindings.{AreTaken};
-ghost use Rattle.check_entry.specs.Globals.{used_payload_points, use_points, points_if_used, global_points, globals_points};
-ghost use Rattle.check_entry.specs.Judged.{HasPayloadSizes};
-ghost use Rattle.check_entry.specs.Points.{Meets};
+ghost use Rattle.check_scope.specs.walk.Findings.{Finds};
+ghost use Rattle.check_entry.specs.TakenBindings.{AreTaken};
+ghost use Rattle.check_entry.specs.UsedGlobals.{used_payload_points, use_points, points_if_used, global_points, globals_points};
+ghost use Rattle.check_entry.specs.EntryJudgement.{HasPayloadSizes};
+ghost use Rattle.check_entry.specs.EntryAnswers.{Meets};
+ghost use Rattle.check_entry.specs.EntryFaults.{fault_of, Judges};
 
 use crate::validator::Validator;
+use crate::validator::entry::EntryContext;
 use bitflags::Flags;
 use check_entry::answers::answer;
 use check_entry::bindings::{check_binding, take_binding};
@@ -21,17 +23,10 @@ use ir_arena::span::Refusal;
 use ir_arena::tag;
 use ir_facts::valid::info::FunctionInfo;
 use ir_flags::valid::GlobalUse;
-use ir_module::module::{EntryPoint, GlobalVariable, Module, ResourceBinding};
+use ir_module::module::{GlobalVariable, Module, ResourceBinding};
 use ir_types::types::AddressSpace;
 use std::alloc::Global;
 use std::collections::BTreeSet;
-
-/// A global variable of a module, with its handle.
-#[derive(Clone, Copy)]
-struct ModuleGlobal<'a> {
-    handle: Handle<tag::GlobalVariable>,
-    var: &'a GlobalVariable,
-}
 
 impl<B: Below> Validator<B> {
     /// Whether the lower layer knows the size of the type of each global in `TaskPayload`.
@@ -55,23 +50,22 @@ impl<B: Below> Validator<B> {
     /// A payload that is used is the entry point's, and has at least 4 bytes.
     fn check_used_payload(
         &self,
-        module: &Module,
-        ep: &EntryPoint,
-        global: &ModuleGlobal,
+        entry: &EntryContext,
+        handle: Handle<tag::GlobalVariable>,
+        var: &GlobalVariable,
     ) -> Result<(), EntryPointError>
-        requires { global.now.var.now.space ≡ space.TaskPayload →
-            IsSome ((B.meaning self.now.below).size_of «module».now global.now.var.now.ty) }
-        ensures { Finds (used_payload_points ep.now.task_payload ((B.meaning self.now.below).size_of «module».now
-            global.now.var.now.ty) global.now.handle global.now.var.now.space) result }
+        requires { var.now.space ≡ space.TaskPayload →
+            IsSome ((B.meaning self.now.below).size_of entry.now.program.now var.now.ty) }
+        ensures { Finds (used_payload_points entry.now.entry_point.now.task_payload
+            ((B.meaning self.now.below).size_of entry.now.program.now var.now.ty) handle var.now.space) result }
     {
-        let ModuleGlobal { handle, var } = *global;
         if !is_task_payload(var.space) {
             return Ok(());
         }
-        if ep.task_payload != Some(handle) {
+        if entry.entry_point.task_payload != Some(handle) {
             return Err(EntryPointError::WrongTaskPayloadUsed);
         }
-        let size = self.below.type_size(module, var.ty).unwrap();
+        let size = self.below.type_size(entry.program, var.ty).unwrap();
         if size < 4 {
             return Err(EntryPointError::TaskPayloadTooSmall(size));
         }
@@ -82,94 +76,82 @@ impl<B: Below> Validator<B> {
     #[tactic(auto, using(crate::proofs::EntrySteps::finding))]
     fn check_use(
         &self,
-        module: &Module,
-        ep: &EntryPoint,
-        global: &ModuleGlobal,
+        entry: &EntryContext,
+        handle: Handle<tag::GlobalVariable>,
+        var: &GlobalVariable,
         uses: GlobalUse,
     ) -> Result<(), EntryPointError>
-        requires { global.now.var.now.space ≡ space.TaskPayload →
-            IsSome ((B.meaning self.now.below).size_of «module».now global.now.var.now.ty) }
-        ensures { Finds (use_points (B.meaning self.now.below) self.now.settings.flags «module».now ep.now []
-            global.now.handle global.now.var.now uses) result }
+        requires { var.now.space ≡ space.TaskPayload →
+            IsSome ((B.meaning self.now.below).size_of entry.now.program.now var.now.ty) }
+        ensures { Finds (use_points (B.meaning self.now.below) self.now.settings.flags entry.now.program.now
+            entry.now.entry_point.now [] handle var.now uses) result }
     {
-        self.check_used_payload(module, ep, global)?;
-        check_allowed(module, ep.stage, global.handle, global.var, uses)
+        self.check_used_payload(entry, handle, var)?;
+        check_allowed(entry.program, entry.entry_point.stage, handle, var, uses)
     }
 
     /// A global, where it is used: how, and its binding.
     #[tactic(auto, using(crate::proofs::EntrySteps::finding))]
-    fn check_global(
+    fn check_used_global(
         &self,
-        module: &Module,
-        ep: &EntryPoint,
+        entry: &EntryContext,
         info: &FunctionInfo,
         taken: &BTreeSet<ResourceBinding>,
-        global: &ModuleGlobal,
+        handle: Handle<tag::GlobalVariable>,
+        var: &GlobalVariable,
     ) -> Result<(), EntryPointError>
-        requires size { global.now.var.now.space ≡ space.TaskPayload →
-            IsSome ((B.meaning self.now.below).size_of «module».now global.now.var.now.ty) }
-        requires taken { AreTaken taken.now info.now.global_uses «module».now.global_variables global.now.handle }
-        ensures { Finds (global_points (B.meaning self.now.below) self.now.settings.flags «module».now ep.now
-            info.now.global_uses global.now.handle global.now.var.now) result }
+        requires size { var.now.space ≡ space.TaskPayload →
+            IsSome ((B.meaning self.now.below).size_of entry.now.program.now var.now.ty) }
+        requires taken { AreTaken taken.now info.now.global_uses entry.now.program.now.global_variables handle }
+        ensures { Finds (global_points (B.meaning self.now.below) self.now.settings.flags entry.now.program.now
+            entry.now.entry_point.now info.now.global_uses handle var.now) result }
     {
-        let Some(uses) = uses_of(info, global.handle.index()) else {
+        let Some(uses) = uses_of(info, handle.index()) else {
             return Ok(());
         };
         if uses.is_empty() {
             return Ok(());
         }
-        self.check_use(module, ep, global, uses)?;
-        check_binding(
-            self.settings.flags,
-            module,
-            info,
-            taken,
-            global.handle,
-            global.var.binding,
-        )
+        self.check_use(entry, handle, var, uses)?;
+        check_binding(self.settings.flags, taken, handle, var.binding)
     }
 
     /// Each global that is used, in order.
-    fn check_each_global(
+    fn check_each_used_global(
         &self,
         alloc: Global,
-        module: &Module,
-        ep: &EntryPoint,
+        entry: &EntryContext,
         info: &FunctionInfo,
     ) -> Result<(), Refusal<EntryPointError>>
-        requires { HasPayloadSizes (B.meaning self.now.below) «module».now }
-        ensures { Meets (points_of_each (global_points (B.meaning self.now.below) self.now.settings.flags «module».now
-            ep.now info.now.global_uses) «module».now.global_variables) result }
+        requires { HasPayloadSizes (B.meaning self.now.below) entry.now.program.now }
+        ensures { Meets (points_of_each (global_points (B.meaning self.now.below) self.now.settings.flags
+            entry.now.program.now entry.now.entry_point.now info.now.global_uses) entry.now.program.now.global_variables)
+            result }
     {
         let mut taken = BTreeSet::new(alloc);
-        let globals = module.global_variables.as_slice();
-        for index in 0..module.global_variables.len() {
+        let globals = entry.program.global_variables.as_slice();
+        for index in 0..entry.program.global_variables.len() {
             let handle = Handle::new(index as u32);
-            let global = ModuleGlobal {
-                handle,
-                var: &globals[index],
-            };
-            let checked = self.check_global(module, ep, info, &taken, &global);
+            let checked = self.check_used_global(entry, info, &taken, handle, &globals[index]);
             answer(alloc, checked)?;
-            take_binding(module, info, &mut taken, index)?;
+            take_binding(entry.program, info, &mut taken, index)?;
         }
         Ok(())
     }
 
     /// The globals that are used: of immediates at most one; and then each in order.
     #[tactic(auto, using(crate::proofs::EntrySteps::meeting))]
-    pub fn check_globals(
+    pub(crate) fn check_used_globals(
         &self,
         alloc: Global,
-        module: &Module,
-        ep: &EntryPoint,
+        entry: &EntryContext,
         info: &FunctionInfo,
     ) -> Result<(), Refusal<EntryPointError>>
-        requires { HasPayloadSizes (B.meaning self.now.below) «module».now }
-        ensures { Meets (globals_points (B.meaning self.now.below) self.now.settings.flags «module».now ep.now
-            info.now.global_uses) result }
+        requires { HasPayloadSizes (B.meaning self.now.below) entry.now.program.now }
+        ensures { Judges (within fault_of (globals_points (B.meaning self.now.below) self.now.settings.flags
+            entry.now.program.now entry.now.entry_point.now info.now.global_uses)) result }
     {
-        answer(alloc, check_immediates(module, info))?;
-        self.check_each_global(alloc, module, ep, info)
+        answer(alloc, check_immediates(entry.program, info))?;
+        self.check_each_used_global(alloc, entry, info)
     }
 }

@@ -1,17 +1,15 @@
 //! The judgement of a function: naga's `validate_function`, step by step.
 
-ghost use Rattle.std.specs.Prelude.{length};
+ghost use Rattle.std.specs.Prelude.{◌≡◌, length};
 ghost use Rattle.ir_facts.specs.Fits.{FitsTypes, FitsFunction};
-ghost use Rattle.ir_facts.specs.Points.{and_then};
 ghost use Rattle.check_errors.specs.Answers.{Answers};
-ghost use Rattle.check_scope.specs.Context.{ContextFits};
-ghost use Rattle.check_statement.specs.Judged.{judged_with};
-ghost use Rattle.check_statement.specs.Parts.{AreInfosOf};
-ghost use Rattle.check_statement.specs.walk.Asked.{asked_by, known_by, judgement_by};
+ghost use Rattle.check_scope.specs.walk.SeenContext.{context_of};
+ghost use Rattle.check_statement.specs.ValidatorParts.{AreInfosOf};
+ghost use Rattle.check_statement.specs.walk.AskedContext.{asked_by, judgement_by};
 
 use crate::validator::Validator;
 use check_body::declarations::check_declarations;
-use check_body::function::validate_function_body;
+use check_body::function::validate_body;
 use check_entry::outcome::FunctionOutcome;
 use check_errors::below::Below;
 use check_errors::function::FunctionError;
@@ -25,112 +23,81 @@ use ir_module::functions::Function;
 use ir_module::module::Module;
 use std::alloc::Global;
 
-/// A function that is judged: the module that it is of, the infos of the functions before it, and whether it is an entry
-/// point's.
+/// A function that is judged: its module, the infos of the functions before it, and whether it is an entry point's.
 #[derive(Clone, Copy)]
-pub struct Subject<'a> {
-    pub program: &'a Module,
-    pub earlier: &'a ModuleInfo,
-    pub fun: &'a Function,
-    pub entry_point: bool,
+pub(crate) struct FunctionContext<'a> {
+    pub(crate) program: &'a Module,
+    pub(crate) earlier: &'a ModuleInfo,
+    pub(crate) fun: &'a Function,
+    pub(crate) entry_point: bool,
 }
 
 impl<B: Below> Validator<B> {
-    /// What is known of a function where it is accepted, else its first fault. The table is begun anew, and
-    /// kept for its memory alone.
-    pub fn judge_function(
-        &self,
+    /// What is known of a function where it is accepted, else its first fault. The validator is as before, but for the table
+    /// that it keeps for its memory alone.
+    pub(crate) fn judge_function(
+        &mut self,
         alloc: Global,
-        table: &mut Option<Table>,
-        subject: &Subject,
+        function: &FunctionContext,
     ) -> Result<FunctionOutcome, Refusal<FunctionError>>
-        requires infos { AreInfosOf subject.now.program.now self.now.types }
-        requires types { FitsTypes subject.now.program.now }
-        requires function { FitsFunction subject.now.fun.now subject.now.program.now (length subject.now.earlier.now.functions) }
-        ensures { Answers
-            (judgement_by self.now (B.meaning self.now.below) subject.now.program.now subject.now.earlier.now
-            subject.now.fun.now subject.now.entry_point)
+        requires infos { AreInfosOf function.now.program.now self.old.types }
+        requires types { FitsTypes function.now.program.now }
+        requires function { FitsFunction function.now.fun.now function.now.program.now (length function.now.earlier.now.functions) }
+        ensures judged { Answers
+            (judgement_by self.old (B.meaning self.old.below) function.now.program.now function.now.earlier.now
+            function.now.fun.now function.now.entry_point)
             result }
+        ensures kept { self.new ≡ self.old }
     {
-        let flags = self.settings.flags;
-        let capabilities = self.settings.capabilities;
-        let below = &self.below;
-        let Subject {
+        let FunctionContext {
             program,
             earlier,
             fun,
             ..
-        } = *subject;
-        let info = below.process_function(alloc, fun, program, earlier, flags, capabilities)?;
+        } = *function;
+        let flags = self.settings.flags;
+        let capabilities = self.settings.capabilities;
+        let below = &self.below;
+        let mut info = below.process_function(alloc, fun, program, earlier, flags, capabilities)?;
         let kinds = below.kinds(alloc, &fun.expressions)?;
-        let info = self.validate_known(alloc, subject, &kinds, info)?;
-        self.judge_body(alloc, table, subject, &kinds, info)
-    }
-
-    /// The declarations of a function, and its expressions where they are looked at: its info with the stages that they
-    /// leave.
-    fn validate_known(
-        &self,
-        alloc: Global,
-        subject: &Subject,
-        kinds: &ExpressionKindTracker,
-        info: FunctionInfo,
-    ) -> Result<FunctionInfo, Refusal<FunctionError>>
-        requires infos { AreInfosOf subject.now.program.now self.now.types }
-        requires context { ContextFits
-            (asked_by self.now subject.now.program.now subject.now.earlier.now subject.now.fun.now kinds.now info) }
-        ensures { Answers
-            (known_by self.now (B.meaning self.now.below) subject.now.entry_point
-            (asked_by self.now subject.now.program.now subject.now.earlier.now subject.now.fun.now kinds.now info))
-            result }
-    {
-        let context = BlockContext {
-            program: subject.program,
-            earlier: subject.earlier,
-            fun: subject.fun,
-            info: &info,
-            kinds,
-            settings: self.settings,
-            trace: self.trace,
-        };
-        check_declarations(alloc, &context, self.infos(), subject.entry_point)?;
-        let mut info = info;
-        if self.settings.flags.contains(ValidationFlags::EXPRESSIONS) {
-            self.meet_expressions(alloc, subject, kinds, &mut info)?;
-        }
-        Ok(info)
-    }
-
-    /// The body of a function, where bodies are looked at, of which this is known.
-    fn judge_body(
-        &self,
-        alloc: Global,
-        table: &mut Option<Table>,
-        subject: &Subject,
-        kinds: &ExpressionKindTracker,
-        info: FunctionInfo,
-    ) -> Result<FunctionOutcome, Refusal<FunctionError>>
-        requires context { ContextFits
-            (asked_by self.now subject.now.program.now subject.now.earlier.now subject.now.fun.now kinds.now info) }
-        ensures { Answers (judged_with (asked_by self.now subject.now.program.now subject.now.earlier.now
-            subject.now.fun.now kinds.now info)) result }
-    {
-        let mut info = info;
+        let context = self.block_context(*function, &kinds, &info);
+        check_declarations(alloc, &context, self.infos(), function.entry_point)?;
+        self.meet_expressions(alloc, function, &kinds, &mut info)?;
         let mut trace = self.trace;
-        if self.settings.flags.contains(ValidationFlags::BLOCKS) {
-            let context = BlockContext {
-                program: subject.program,
-                earlier: subject.earlier,
-                fun: subject.fun,
-                info: &info,
-                kinds,
-                settings: self.settings,
-                trace,
+        if flags.contains(ValidationFlags::BLOCKS) {
+            let context = self.block_context(*function, &kinds, &info);
+            let mut table = Table::take_or_new(alloc, &mut self.table)?;
+            let judged = validate_body(alloc, &mut table, &context);
+            self.table = Some(table);
+            let left = match judged {
+                Ok(left) => left,
+                Err(refused) => return Err(refused.into_refusal()),
             };
-            let left = validate_function_body(alloc, table, &context)?;
             info.available_stages = left.stages;
             trace = left.trace;
         }
         Ok(FunctionOutcome { info, trace })
+    }
+
+    /// What the checks of a function's declarations and of its body read, where this is known of it. It borrows the info,
+    /// whose stages the checks of expressions change between the two.
+    fn block_context<'a>(
+        &self,
+        function: FunctionContext<'a>,
+        kinds: &'a ExpressionKindTracker,
+        info: &'a FunctionInfo,
+    ) -> BlockContext<'a>
+        ensures { context_of result
+            ≡ asked_by self.now function.entry.program.now function.entry.earlier.now function.entry.fun.now kinds.now info.now }
+    {
+        BlockContext {
+            program: function.program,
+            earlier: function.earlier,
+            fun: function.fun,
+            info,
+            kinds,
+            settings: self.settings,
+            trace: self.trace,
+        }
     }
 }

@@ -2,34 +2,35 @@
 
 ghost use Rattle.std.specs.Prelude.{◌≡◌};
 ghost use Rattle.ir_facts.specs.Points.{within};
-ghost use Rattle.check_entry.specs.Faults.{Judges};
+ghost use Rattle.check_entry.specs.EntryFaults.{fault_of, Judges};
 ghost use Rattle.check_entry.specs.Mesh.{said_points};
-ghost use Rattle.check_entry.specs.Points.{Meets};
 
 use crate::validator::Validator;
+use crate::validator::entry::EntryContext;
 use check_entry::answers::answer;
 use check_entry::error::EntryPointError;
 use check_entry::mesh::{check_stated, mesh_error};
 use check_errors::below::Below;
 use check_errors::mesh::MeshAnalysis;
 use ir_arena::span::Refusal;
-use ir_module::module::{MeshStageInfo, Module};
+use ir_module::module::MeshStageInfo;
 use std::alloc::Global;
 
 impl<B: Below> Validator<B> {
     /// What is said of a mesh: the type of its output variable can be put out, and implies just that; and the target has
     /// meshes of points, where this is one. A fault of the lower layer keeps its places.
-    pub fn check_said(
+    #[tactic(auto, using(check_entry::proofs::EntrySteps::judges_within))]
+    pub(crate) fn check_said(
         &self,
         alloc: Global,
-        module: &Module,
+        entry: &EntryContext,
         mesh: &MeshStageInfo,
     ) -> Result<(), Refusal<EntryPointError>>
-        ensures { Meets (said_points self.now.settings.capabilities «module».now
-            ((B.meaning self.now.below).mesh_analysis «module».now mesh.now.output_variable) mesh.now) result }
+        ensures { Judges (within fault_of (said_points self.now.settings.capabilities entry.now.program.now
+            ((B.meaning self.now.below).mesh_analysis entry.now.program.now mesh.now.output_variable) mesh.now)) result }
     {
         let below = &self.below;
-        let analysis = below.analyze_mesh_shader_info(alloc, module, mesh.output_variable)?;
+        let analysis = below.analyze_mesh_shader_info(alloc, entry.program, mesh.output_variable)?;
         let MeshAnalysis {
             implied,
             overrides,
@@ -42,7 +43,7 @@ impl<B: Below> Validator<B> {
         let capabilities = self.settings.capabilities;
         answer(
             alloc,
-            check_stated(capabilities, module, &overrides, &implied, mesh),
+            check_stated(capabilities, entry.program, &overrides, &implied, mesh),
         )
     }
 }

@@ -3,19 +3,16 @@
 ghost use Rattle.std.specs.Prelude.{◌≡◌, true, OnOk, OnErr, IfOk, length};
 ghost use Rattle.ir_facts.specs.Fits.{FitsTypes, FitsFunction};
 ghost use Rattle.naga_runs.specs.Soundness.{RunsAreSure};
-ghost use Rattle.check_errors.specs.Answers.{Answers};
 ghost use Rattle.check_body.specs.Accepted.{ResultsAreFilledOnce, StagesAreOfAll};
-ghost use Rattle.check_scope.specs.Blocks.{body_of};
+ghost use Rattle.check_scope.specs.BodyTrees.{body_of};
 ghost use Rattle.check_scope.specs.Context.{pre_emitted_of};
-ghost use Rattle.check_scope.specs.WhatIsChecked.{checks_blocks, checks_expressions};
-ghost use Rattle.check_statement.specs.Judged.{function_judgement, AnswersTracing};
-ghost use Rattle.check_statement.specs.Parts.{AreInfosOf};
+ghost use Rattle.check_errors.specs.WhatIsChecked.{checks_blocks, checks_expressions};
+ghost use Rattle.check_statement.specs.FunctionJudgement.{function_judgement, AnswersTracing};
+ghost use Rattle.check_statement.specs.ValidatorParts.{AreInfosOf};
 ghost use Rattle.check_body.specs.Shapes.{HasNoReturnInContinuing, HasWholeSwitches};
-ghost use Rattle.check_statement.specs.walk.Asked.{judgement_by};
 
 use crate::validator::Validator;
-use crate::validator::judge::Subject;
-use check_entry::outcome::FunctionOutcome;
+use crate::validator::judge::FunctionContext;
 use check_errors::below::Below;
 use check_errors::function::FunctionError;
 use ir_arena::span::Refusal;
@@ -76,37 +73,14 @@ impl<B: Below> Validator<B> {
         ensures kept { self.new ≡ record self.old { trace = self.new.trace } }
         ensures refused { OnErr result (self.new ≡ self.old) }
     {
-        let outcome = self.judge_over_kept(alloc, fun, module, mod_info, entry_point)?;
-        self.trace = outcome.trace;
-        Ok(outcome.info)
-    }
-
-    /// The judgement of a function, over the table that is kept.
-    fn judge_over_kept(
-        &mut self,
-        alloc: Global,
-        fun: &Function,
-        module: &Module,
-        mod_info: &ModuleInfo,
-        entry_point: bool,
-    ) -> Result<FunctionOutcome, Refusal<FunctionError>>
-        requires infos { AreInfosOf «module».now self.old.types }
-        requires types { FitsTypes «module».now }
-        requires function { FitsFunction fun.now «module».now (length mod_info.now.functions) }
-        ensures judged { Answers
-            (judgement_by self.old (B.meaning self.old.below) «module».now mod_info.now fun.now entry_point)
-            result }
-        ensures kept { self.new ≡ self.old }
-    {
-        let mut table = self.table.take();
-        let subject = Subject {
+        let function = FunctionContext {
             program: module,
             earlier: mod_info,
             fun,
             entry_point,
         };
-        let judged = self.judge_function(alloc, &mut table, &subject);
-        self.table = table;
-        judged
+        let outcome = self.judge_function(alloc, &function)?;
+        self.trace = outcome.trace;
+        Ok(outcome.info)
     }
 }

@@ -1,6 +1,6 @@
 use Rattle.std.proofs.Common.{rules}
 use Rattle.check_statement.specs.Declarations.{argument_points}
-use Rattle.check_scope.specs.walk.Seen.{context_of}
+use Rattle.check_scope.specs.walk.SeenContext.{context_of}
 use Rattle.check_body.proofs.Each.{each_stops, each_passes}
 use Rattle.check_body.proofs.declarations.check_arguments.Goals as goal
 

@@ -4,7 +4,7 @@ use Rattle.std.specs.Prelude.{slice_get}
 use Rattle.ir_facts.specs.Points.{first_fault}
 use Rattle.check_errors.specs.Answers.{AnswersPoints}
 use Rattle.check_statement.specs.Declarations.{variable_points}
-use Rattle.check_scope.specs.walk.Seen.{context_of}
+use Rattle.check_scope.specs.walk.SeenContext.{context_of}
 use Rattle.check_body.proofs.Each.{each_stops, each_passes}
 use Rattle.check_body.proofs.declarations.check_locals.Goals as goal
 

@@ -2,10 +2,10 @@ use Rattle.std.proofs.Common.{rules, ◌≡◌, Err, None, Some, ◌||◌, subst
 use Rattle.ir_module.specs.declared.statements.Block.{the_lemmas}
 use Rattle.ir_module.proofs.Rows.{body_of-list, tree_of-switch}
 use Rattle.ir_module.specs.View as view
-use Rattle.check_scope.specs.Blocks.{emitted_operands, tree_of, list_of, cases_of, block_of}
+use Rattle.check_scope.specs.BodyTrees.{emitted_operands, tree_of, list_of, cases_of, block_of}
 use Rattle.check_errors.specs.Answers.{Refuses}
 use Rattle.check_statement.specs.Ready.{IsStatementReady, IsBodyReady}
-use Rattle.check_scope.specs.walk.Seen.{context_of}
+use Rattle.check_scope.specs.walk.SeenContext.{context_of}
 use Rattle.check_statement.specs.walk.State.{kept, with_statement}
 use Rattle.check_scope.specs.walk.Table.{HasPut, known}
 use Rattle.check_statement.specs.walk.Walk.{puts, body_puts, body_answer}
@@ -15,7 +15,7 @@ use Rattle.naga_runs.specs.Must.{body_holds_continue, cases_hold_continue}
 use Rattle.check_body.proofs.LoopBody.{PutsOfLoop, at_first, one_more, undivided, divided, may_part}
 use Rattle.check_statement.proofs.Parts.{in_block, in_branch, in_switch, in_lists, in_list, in_cases}
 use Rattle.check_scope.proofs.Refusals.{next_is, passes, stops_first, stops_next, answers_next}
-use Rattle.check_body.proofs.Walk.{holds_turn, rest_turn, rest_end, cases_hold_turn, leaving_err, no_continue, whole_parts, whole_holds, or_assoc, parts_continue, no_parts, own_passes, own_refuses, parts_later, parts_branch, parts_switch, stmt_more, body_turn, puts_turn, body_end, puts_end, cases_turn, cases_end}
+use Rattle.check_body.proofs.Walk.{holds_turn, rest_turn, rest_end, cases_hold_turn, leaving_err, whole_parts, whole_holds, or_assoc, own_passes, own_refuses, parts_later, parts_branch, parts_switch, stmt_more, body_turn, puts_turn, body_end, puts_end, cases_turn, cases_end}
 use Rattle.check_body.proofs.function.+walk.Goals as goal
 
 pub validate_parts-validate_block-requires : goal.validate_parts-validate_block-requires
@@ -119,14 +119,6 @@ validate_parts-validate_loop_body-requires t c =
 pub validate_parts-validate_statements-requires : goal.validate_parts-validate_statements-requires
 validate_parts-validate_statements-requires t c =
     (search (rules, the_lemmas), (c.requires.context, ((in_lists (context_of c.args.context.now) _ _ _ (rw c.in-Loop.is at c.requires.ready)).1, c.in_ok-skipped-in-Loop.ensures.table)))
-
-pub validate_parts-returns-in_default : goal.validate_parts-returns-in_default
-validate_parts-returns-in_default t c = record {
-  fault = no_parts (context_of c.args.context.now) (kept c.args.table.now.filled c.args.state.now) c.args.abilities.now (known c.args.table.now.scope) c.args.located.now.statement c.args.located.now.span c.in_default.not-Block c.in_default.not-If c.in_default.not-Switch c.in_default.not-Loop;
-  table = c.requires.table;
-  scope = refl;
-  held = sym (no_continue (context_of c.args.context.now) c.args.located.now.statement c.args.located.now.span c.in_default.not-Block c.in_default.not-If c.in_default.not-Switch c.in_default.not-Continue);
-}
 
 pub validate_parts-leave-requires : goal.validate_parts-leave-requires
 validate_parts-leave-requires t c =
@@ -252,12 +244,6 @@ validate_parts-returns-in-Switch-clause-held t c =
     let span = c.args.located.now.span in
     let tree = ap (λ st. view.tree_of (emitted_operands (context_of c.args.context.now).fun) st span) c.in-Switch.is ∙ tree_of-switch (emitted_operands (context_of c.args.context.now).fun) c.in-Switch.selector c.in-Switch.cases span in
     rw (tree, ← c.as_slice.ensures) c.validate_cases.ensures.held
-
-pub validate_parts-returns-in-Continue-clause-fault : goal.validate_parts-returns-in-Continue-clause-fault
-validate_parts-returns-in-Continue-clause-fault t c =
-    let context = context_of c.args.context.now in
-    let tree = ap (λ st. view.tree_of (emitted_operands context.fun) st c.args.located.now.span) c.in-Continue.is in
-    rw tree (parts_continue context (kept c.args.table.now.filled c.args.state.now) c.args.abilities.now (known c.args.table.now.scope))
 
 pub validate_statements-returns-in_err-holds-clause-fault :
     goal.validate_statements-returns-in_err-holds-clause-fault

@@ -1,7 +1,7 @@
 use Rattle.std.proofs.Common.{◌≡◌, ◌||◌, drop}
-use Rattle.check_scope.specs.Blocks.{block_of, list_of, cases_of}
+use Rattle.check_scope.specs.BodyTrees.{block_of, list_of, cases_of}
 use Rattle.check_statement.specs.Ready.{IsBodyReady, AreCasesReady}
-use Rattle.check_scope.specs.walk.Seen.{context_of}
+use Rattle.check_scope.specs.walk.SeenContext.{context_of}
 use Rattle.check_statement.specs.walk.State.{kept}
 use Rattle.check_scope.specs.walk.Table.{IsTableOf, known, shown}
 use Rattle.check_statement.specs.walk.Walk.{body_puts, body_answer, cases_answer}

@@ -2,7 +2,7 @@ use Rattle.std.proofs.Common.{Some, arith, ◌∷◌, [], refl, sym, ap, ◌∙�
 use Rattle.std.proofs.lemmas.Option.{get_or_from_slice_get}
 use Rattle.check_scope.specs.Context.{if_pre_emitted}
 use Rattle.check_scope.specs.Results.{is_to_fill}
-use Rattle.check_scope.specs.walk.Seen.{context_of}
+use Rattle.check_scope.specs.walk.SeenContext.{context_of}
 use Rattle.check_scope.specs.walk.Table.{count, filled_in, known, marked, unfilled_in, with_all}
 use Rattle.check_body.proofs.PreEmitted.{is_new, one_more, none_more, results_known}
 use Rattle.naga_runs.specs.Handles.{with_handle}

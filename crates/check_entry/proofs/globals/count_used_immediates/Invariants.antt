@@ -1,5 +1,5 @@
 use Rattle.std.proofs.Common.{◌≡◌, ◌≤◌}
-use Rattle.check_entry.specs.Globals.{used_immediates}
+use Rattle.check_entry.specs.UsedGlobals.{used_immediates}
 use Rattle.check_entry.proofs.globals.count_used_immediates.Given as goal
 
 abbrev pub invariant-loop-index : goal.invariant-loop-index

@@ -6,8 +6,8 @@ use Rattle.naga_module.proofs.check.check_module.Goals as goal
 pub returns-clause-holds : goal.returns-clause-holds
 returns-clause-holds g c = λ on.
     let fitting = rw (c.validator_with-validator.ensures, c.first_infos-infos.ensures) at (c.if-not-fits.ensures.0 refl) in
-    let judged = rw (c.validator_with-validator.ensures, c.first_infos-infos.ensures) at c.in_ok-judge_parts.ensures.judged in
+    let judged = rw (c.validator_with-validator.ensures, c.first_infos-infos.ensures) at c.in_ok-validate_parts.ensures.judged in
     let below = g.B.Below.meaning c.args.below in
     let fits : Fits below c.args.settings c.args.given.types.items c.args.module.now c.args.given.global_types.items =
     record { infos = fitting.0; types_fit = fitting.1; globals = fitting.2 } in
-    module_holds below c.args.settings c.args.given.types.items c.args.given.global_types.items c.args.module.now c.judge_parts.new.infos (inl (fits, judged)) on
+    module_holds below c.args.settings c.args.given.types.items c.args.given.global_types.items c.args.module.now c.validate_parts.new.infos (inl (fits, judged)) on

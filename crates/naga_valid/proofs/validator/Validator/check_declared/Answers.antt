@@ -1,40 +1,57 @@
-use Rattle.std.proofs.Common.{true, false, [], sym, ap, ◌∙◌, subst}
-use Rattle.std.proofs.lemmas.Result.{on_ok_weaker}
-use Rattle.ir_facts.specs.Points.{within}
+use Rattle.std.proofs.Common.{◌≡◌, List, None, false, Result, Ok, Err, sym, ap, ◌∙◌, subst}
+use Rattle.ir_facts.specs.Points.{first_fault, within}
+use Rattle.ir_facts.specs.declared.valid.types.TypeInfo.{TypeInfo}
+use Rattle.ir_arena.specs.declared.span.Refusal.{Refusal}
 use Rattle.ir_types.specs.declared.built_in.BuiltIn.TheVariants.{Position}
 use Rattle.check_varyings.specs.Seen.{Seen}
+use Rattle.check_varyings.specs.VaryingFaults.{IsFirstVaryingFault}
 use Rattle.check_varyings.specs.Varyings.{points_from, parts_of, seen_in, seen_with}
 use Rattle.check_varyings.specs.declared.varying.VaryingPlace.{VaryingPlace}
-use Rattle.check_varyings.specs.declared.varying.MeshOutputType.TheVariants.{Neither}
-use Rattle.check_entry.specs.Faults.{OfResult, Judges}
-use Rattle.check_entry.specs.Varyings.{declared_points, has_built_in, place_of, result_item, result_parts}
-use Rattle.naga_valid.proofs.Groups.{one_item, seen_by_position}
+use Rattle.check_entry.specs.EntryFaults.{OfResult, Judges}
+use Rattle.check_entry.specs.EntryVaryings.{declared_points, has_built_in, result_parts}
+use Rattle.check_entry.specs.declared.error.EntryPointError.{EntryPointError}
+use Rattle.check_entry.proofs.EntrySteps.{passes_within}
+use Rattle.naga_valid.proofs.Groups.{result_decides}
 use Rattle.naga_valid.proofs.validator.Validator.check_declared.Goals as goal
 
 pub returns-in_default-clause-seen : goal.returns-in_default-clause-seen
 returns-in_default-clause-seen g c =
     ap (λ (s : Seen). s.built_ins (Position false)) c.requires.seen
-    ∙ sym (ap (λ d. has_built_in (Position false) (result_parts c.args.module.now.types c.args.self.now.types d)) c.in_default.is)
+    ∙ sym (ap (λ d. has_built_in (Position false) (result_parts c.args.entry.now.program.now.types c.args.self.now.types d)) c.in_default.is)
 
-pub returns-clause-fault : goal.returns-clause-fault
-returns-clause-fault g c =
+pub returns-in-Ok-clause-fault : goal.returns-in-Ok-clause-fault
+returns-in-Ok-clause-fault g c =
     let settings = c.args.self.now.settings in
+    let types = c.args.entry.now.program.now.types in
     let infos = c.args.self.now.types in
-    let types = c.args.module.now.types in
-    let ep = c.args.ep.now in
+    let ep = c.args.entry.now.entry_point.now in
     let declared = c.in-Some.declared in
-    let r = c.check_output_item.result in
-    let here = subst (λ (p : VaryingPlace). Judges (within OfResult (points_from p types infos (seen_in c.args.state.now) declared.ty declared.binding)) r) c.place_of-place.ensures c.check_output_item.ensures.fault in
-    let item = subst (λ points. Judges (within OfResult points) r) (seen_by_position types infos (place_of settings ep true Neither) [] (seen_in c.args.state.now) declared.ty declared.binding c.requires.seen) here in
-    subst (λ d. Judges (declared_points settings types infos ep d) r) (sym c.in-Some.is) (subst (λ points. Judges points r) (one_item types infos (λ _ f. OfResult f) (result_item settings ep declared)) item)
+    let points = λ (place : VaryingPlace) (infos : List TypeInfo). points_from place types infos (seen_in c.args.state.now) declared.ty declared.binding in
+    let passed : Result (Unit {0}) (Refusal EntryPointError) = Ok tt in
+    let none = passes_within OfResult (points c.place_of-place.result infos) (subst (λ i. first_fault (points c.place_of-place.result i) ≡ None) c.infos-infos.ensures c.in-Ok.ensures.fault) in
+    let here : Judges (within OfResult (points c.place_of-place.result infos)) passed = none in
+    let at_place = subst (λ p. Judges (within OfResult (points p infos)) passed) c.place_of-place.ensures here in
+    subst (λ d. Judges (declared_points settings types infos ep d) passed) (sym c.in-Some.is) (result_decides types infos settings ep (seen_in c.args.state.now) declared passed c.requires.seen at_place)
 
-pub returns-clause-seen : goal.returns-clause-seen
-returns-clause-seen g c =
+pub returns-in-Ok-clause-seen : goal.returns-in-Ok-clause-seen
+returns-in-Ok-clause-seen g c =
+    let types = c.args.entry.now.program.now.types in
     let infos = c.args.self.now.types in
-    let types = c.args.module.now.types in
     let declared = c.in-Some.declared in
-    on_ok_weaker c.check_output_item.result
-    (λ e.
-    ap (λ (s : Seen). s.built_ins (Position false)) (e ∙ ap (λ (s : Seen). seen_with s (parts_of types infos declared.ty declared.binding)) c.requires.seen)
-    ∙ sym (ap (λ d. has_built_in (Position false) (result_parts types infos d)) c.in-Some.is))
-    c.check_output_item.ensures.seen
+    let parts = λ (infos : List TypeInfo). parts_of types infos declared.ty declared.binding in
+    let left = subst (λ i. seen_in c.check_varying_item.new.state ≡ seen_with (seen_in c.args.state.now) (parts i)) c.infos-infos.ensures c.in-Ok.ensures.seen in
+    ap (λ (s : Seen). s.built_ins (Position false)) (left ∙ ap (λ (s : Seen). seen_with s (parts infos)) c.requires.seen)
+    ∙ sym (ap (λ d. has_built_in (Position false) (result_parts types infos d)) c.in-Some.is)
+
+pub returns-in-Err-clause-fault : goal.returns-in-Err-clause-fault
+returns-in-Err-clause-fault g c =
+    let settings = c.args.self.now.settings in
+    let types = c.args.entry.now.program.now.types in
+    let infos = c.args.self.now.types in
+    let ep = c.args.entry.now.entry_point.now in
+    let declared = c.in-Some.declared in
+    let points = λ (place : VaryingPlace) (infos : List TypeInfo). points_from place types infos (seen_in c.args.state.now) declared.ty declared.binding in
+    let refused : Result (Unit {0}) (Refusal EntryPointError) = Err c.result_refused.result in
+    let here : Judges (within OfResult (points c.place_of-place.result infos)) refused = c.result_refused.ensures (points c.place_of-place.result infos) (subst (λ i. IsFirstVaryingFault (points c.place_of-place.result i) c.in-Err.refused) c.infos-infos.ensures c.in-Err.ensures.fault) in
+    let at_place = subst (λ p. Judges (within OfResult (points p infos)) refused) c.place_of-place.ensures here in
+    subst (λ d. Judges (declared_points settings types infos ep d) refused) (sym c.in-Some.is) (result_decides types infos settings ep (seen_in c.args.state.now) declared refused c.requires.seen at_place)

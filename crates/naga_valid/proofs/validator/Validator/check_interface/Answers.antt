@@ -1,20 +1,20 @@
 use Rattle.std.proofs.Common.{rules, ◌++◌}
 use Rattle.ir_facts.specs.Points.{within}
-use Rattle.check_entry.specs.Faults.{fault_of, Judges}
-use Rattle.check_entry.specs.Globals.{globals_points}
+use Rattle.check_entry.specs.EntryFaults.{fault_of, Judges}
+use Rattle.check_entry.specs.UsedGlobals.{globals_points}
 use Rattle.check_entry.specs.Mesh.{mesh_points}
-use Rattle.check_entry.specs.Uses.{stage_points}
-use Rattle.check_entry.specs.Varyings.{argument_points, result_points}
+use Rattle.check_entry.specs.EntryUses.{stage_points}
+use Rattle.check_entry.specs.EntryVaryings.{argument_points, result_points}
 use Rattle.check_entry.proofs.EntrySteps.{judges_first, judges_second}
 use Rattle.naga_valid.proofs.validator.Validator.check_interface.Goals as goal
 
-pub returns-in_err-judged : goal.returns-in_err-judged
-returns-in_err-judged g c =
+pub returns-in_err-answer : goal.returns-in_err-answer
+returns-in_err-answer g c =
     let below = g.B.Below.meaning c.args.self.now.below in
     let settings = c.args.self.now.settings in
     let infos = c.args.self.now.types in
-    let program = c.args.module.now in
-    let ep = c.args.ep.now in
+    let program = c.args.entry.now.program.now in
+    let ep = c.args.entry.now.entry_point.now in
     let info = c.args.info.now in
     let stages = stage_points ep.stage info.available_stages in
     let a = within fault_of stages in
@@ -24,7 +24,7 @@ returns-in_err-judged g c =
     let f = within fault_of globals in
     let h = mesh_points below settings infos program ep ep.mesh_info in
     let r = c.from_residual.result in
-    let here : Judges a r = search (rules, c.judged.ensures stages (c.answer.ensures stages c.check_stage.ensures)) in
+    let here : Judges a r = search (rules, c.answer.ensures.judges stages c.check_stage.ensures) in
     judges_first r a (b ++ (d ++ (f ++ h))) (search rules) here
 
 pub returns-in_err-check_arguments : goal.returns-in_err-check_arguments
@@ -32,8 +32,8 @@ returns-in_err-check_arguments g c =
     let below = g.B.Below.meaning c.args.self.now.below in
     let settings = c.args.self.now.settings in
     let infos = c.args.self.now.types in
-    let program = c.args.module.now in
-    let ep = c.args.ep.now in
+    let program = c.args.entry.now.program.now in
+    let ep = c.args.entry.now.entry_point.now in
     let info = c.args.info.now in
     let stages = stage_points ep.stage info.available_stages in
     let a = within fault_of stages in
@@ -42,7 +42,7 @@ returns-in_err-check_arguments g c =
     let globals = globals_points below settings.flags program ep info.global_uses in
     let f = within fault_of globals in
     let h = mesh_points below settings infos program ep ep.mesh_info in
-    let no_a = c.in_ok-judged.ensures stages (c.answer.ensures stages c.check_stage.ensures) in
+    let no_a = c.in_ok-answer.ensures.judges stages c.check_stage.ensures in
     let r = c.from_residual-in_err-check_arguments.result in
     let here : Judges b r = search (rules, c.check_arguments.ensures) in
     judges_second r a (b ++ (d ++ (f ++ h))) no_a (judges_first r b (d ++ (f ++ h)) (search rules) here)
@@ -52,8 +52,8 @@ returns-in_err-check_result g c =
     let below = g.B.Below.meaning c.args.self.now.below in
     let settings = c.args.self.now.settings in
     let infos = c.args.self.now.types in
-    let program = c.args.module.now in
-    let ep = c.args.ep.now in
+    let program = c.args.entry.now.program.now in
+    let ep = c.args.entry.now.entry_point.now in
     let info = c.args.info.now in
     let stages = stage_points ep.stage info.available_stages in
     let a = within fault_of stages in
@@ -62,19 +62,19 @@ returns-in_err-check_result g c =
     let globals = globals_points below settings.flags program ep info.global_uses in
     let f = within fault_of globals in
     let h = mesh_points below settings infos program ep ep.mesh_info in
-    let no_a = c.in_ok-judged.ensures stages (c.answer.ensures stages c.check_stage.ensures) in
+    let no_a = c.in_ok-answer.ensures.judges stages c.check_stage.ensures in
     let no_b = c.in_ok-check_arguments.ensures in
     let r = c.from_residual-in_err-check_result.result in
     let here : Judges d r = search (rules, c.check_result.ensures) in
     judges_second r a (b ++ (d ++ (f ++ h))) no_a (judges_second r b (d ++ (f ++ h)) no_b (judges_first r d (f ++ h) (search rules) here))
 
-pub returns-in_err-judged-2 : goal.returns-in_err-judged-2
-returns-in_err-judged-2 g c =
+pub returns-in_err-check_used_globals : goal.returns-in_err-check_used_globals
+returns-in_err-check_used_globals g c =
     let below = g.B.Below.meaning c.args.self.now.below in
     let settings = c.args.self.now.settings in
     let infos = c.args.self.now.types in
-    let program = c.args.module.now in
-    let ep = c.args.ep.now in
+    let program = c.args.entry.now.program.now in
+    let ep = c.args.entry.now.entry_point.now in
     let info = c.args.info.now in
     let stages = stage_points ep.stage info.available_stages in
     let a = within fault_of stages in
@@ -83,11 +83,11 @@ returns-in_err-judged-2 g c =
     let globals = globals_points below settings.flags program ep info.global_uses in
     let f = within fault_of globals in
     let h = mesh_points below settings infos program ep ep.mesh_info in
-    let no_a = c.in_ok-judged.ensures stages (c.answer.ensures stages c.check_stage.ensures) in
+    let no_a = c.in_ok-answer.ensures.judges stages c.check_stage.ensures in
     let no_b = c.in_ok-check_arguments.ensures in
     let no_d = c.in_ok-check_result.ensures in
-    let r = c.from_residual-in_err-judged-2.result in
-    let here : Judges f r = search (rules, c.judged-2.ensures globals c.check_globals.ensures) in
+    let r = c.from_residual-in_err-check_used_globals.result in
+    let here : Judges f r = search (rules, c.check_used_globals.ensures) in
     judges_second r a (b ++ (d ++ (f ++ h))) no_a (judges_second r b (d ++ (f ++ h)) no_b (judges_second r d (f ++ h) no_d (judges_first r f h (search rules) here)))
 
 pub returns : goal.returns
@@ -95,8 +95,8 @@ returns g c =
     let below = g.B.Below.meaning c.args.self.now.below in
     let settings = c.args.self.now.settings in
     let infos = c.args.self.now.types in
-    let program = c.args.module.now in
-    let ep = c.args.ep.now in
+    let program = c.args.entry.now.program.now in
+    let ep = c.args.entry.now.entry_point.now in
     let info = c.args.info.now in
     let stages = stage_points ep.stage info.available_stages in
     let a = within fault_of stages in
@@ -105,9 +105,9 @@ returns g c =
     let globals = globals_points below settings.flags program ep info.global_uses in
     let f = within fault_of globals in
     let h = mesh_points below settings infos program ep ep.mesh_info in
-    let no_a = c.in_ok-judged.ensures stages (c.answer.ensures stages c.check_stage.ensures) in
+    let no_a = c.in_ok-answer.ensures.judges stages c.check_stage.ensures in
     let no_b = c.in_ok-check_arguments.ensures in
     let no_d = c.in_ok-check_result.ensures in
-    let no_f = c.in_ok-judged-2.ensures globals c.check_globals.ensures in
+    let no_f = c.in_ok-check_used_globals.ensures in
     let r = c.check_mesh.result in
     judges_second r a (b ++ (d ++ (f ++ h))) no_a (judges_second r b (d ++ (f ++ h)) no_b (judges_second r d (f ++ h) no_d (judges_second r f h no_f c.check_mesh.ensures)))

@@ -1,40 +1,40 @@
 use Rattle.std.proofs.Common.{rules, ◌++◌, sym, subst}
 use Rattle.ir_facts.specs.Points.{within}
-use Rattle.check_entry.specs.Faults.{fault_of, Judges}
+use Rattle.check_entry.specs.EntryFaults.{fault_of, Judges}
 use Rattle.check_entry.specs.Mesh.{variable_points, said_points, mesh_points}
-use Rattle.check_entry.specs.Varyings.{outputs_points}
+use Rattle.check_entry.specs.EntryVaryings.{outputs_points}
 use Rattle.check_entry.proofs.EntrySteps.{judges_first, judges_second}
 use Rattle.naga_valid.proofs.validator.Validator.check_mesh.Goals as goal
 
-pub returns-in_err-judged : goal.returns-in_err-judged
-returns-in_err-judged g c =
+pub returns-in_err-answer : goal.returns-in_err-answer
+returns-in_err-answer g c =
     let below = g.B.Below.meaning c.args.self.now.below in
     let settings = c.args.self.now.settings in
     let infos = c.args.self.now.types in
-    let program = c.args.module.now in
-    let ep = c.args.ep.now in
+    let program = c.args.entry.now.program.now in
+    let ep = c.args.entry.now.entry_point.now in
     let mesh = c.in-Some.mesh in
     let r = c.from_residual.result in
     let first = variable_points program mesh in
     let second = within fault_of (said_points settings.capabilities program (below.mesh_analysis program mesh.output_variable) mesh) in
     let third = outputs_points settings program.types infos ep mesh.vertex_output_type mesh.primitive_output_type in
-    let here : Judges (within fault_of first) r = search (rules, c.judged.ensures first (c.answer.ensures first c.check_variable.ensures)) in
+    let here : Judges (within fault_of first) r = search (rules, c.answer.ensures.judges first c.check_variable.ensures) in
     subst (λ m. Judges (mesh_points below settings infos program ep m) r) (sym c.in-Some.is) (judges_first r (within fault_of first) (second ++ third) (search rules) here)
 
-pub returns-in_err-judged-2 : goal.returns-in_err-judged-2
-returns-in_err-judged-2 g c =
+pub returns-in_err-check_said : goal.returns-in_err-check_said
+returns-in_err-check_said g c =
     let below = g.B.Below.meaning c.args.self.now.below in
     let settings = c.args.self.now.settings in
     let infos = c.args.self.now.types in
-    let program = c.args.module.now in
-    let ep = c.args.ep.now in
+    let program = c.args.entry.now.program.now in
+    let ep = c.args.entry.now.entry_point.now in
     let mesh = c.in-Some.mesh in
-    let r = c.from_residual-in_err-judged-2.result in
+    let r = c.from_residual-in_err-check_said.result in
     let first = variable_points program mesh in
     let second = said_points settings.capabilities program (below.mesh_analysis program mesh.output_variable) mesh in
     let third = outputs_points settings program.types infos ep mesh.vertex_output_type mesh.primitive_output_type in
-    let none = c.in_ok-judged.ensures first (c.answer.ensures first c.check_variable.ensures) in
-    let here : Judges (within fault_of second) r = search (rules, c.judged-2.ensures second c.check_said.ensures) in
+    let none = c.in_ok-answer.ensures.judges first c.check_variable.ensures in
+    let here : Judges (within fault_of second) r = search (rules, c.check_said.ensures) in
     subst (λ m. Judges (mesh_points below settings infos program ep m) r) (sym c.in-Some.is) (judges_second r (within fault_of first) (within fault_of second ++ third) none (judges_first r (within fault_of second) third (search rules) here))
 
 pub returns : goal.returns
@@ -42,13 +42,13 @@ returns g c =
     let below = g.B.Below.meaning c.args.self.now.below in
     let settings = c.args.self.now.settings in
     let infos = c.args.self.now.types in
-    let program = c.args.module.now in
-    let ep = c.args.ep.now in
+    let program = c.args.entry.now.program.now in
+    let ep = c.args.entry.now.entry_point.now in
     let mesh = c.in-Some.mesh in
     let r = c.check_outputs.result in
     let first = variable_points program mesh in
     let second = said_points settings.capabilities program (below.mesh_analysis program mesh.output_variable) mesh in
     let third = outputs_points settings program.types infos ep mesh.vertex_output_type mesh.primitive_output_type in
-    let none = c.in_ok-judged.ensures first (c.answer.ensures first c.check_variable.ensures) in
-    let none_said = c.in_ok-judged-2.ensures second c.check_said.ensures in
+    let none = c.in_ok-answer.ensures.judges first c.check_variable.ensures in
+    let none_said = c.in_ok-check_said.ensures in
     subst (λ m. Judges (mesh_points below settings infos program ep m) r) (sym c.in-Some.is) (judges_second r (within fault_of first) (within fault_of second ++ third) none (judges_second r (within fault_of second) third none_said c.check_outputs.ensures))

@@ -7,8 +7,8 @@ use Rattle.check_varyings.proofs.Seeing.{sees_locations_alone}
 use Rattle.check_varyings.specs.Seen.{Seen}
 use Rattle.check_varyings.specs.Varyings.{parts_of, placed_parts, points_from, seen_in, seen_with}
 use Rattle.check_varyings.specs.declared.varying.MeshOutputType.TheVariants.{VertexOutput, PrimitiveOutput}
-use Rattle.check_entry.specs.Faults.{OfResult, Other, Judges}
-use Rattle.check_entry.specs.Varyings.{has_one_of_indices, is_one_of_three, is_struct, output_item, output_points, place_of}
+use Rattle.check_entry.specs.EntryFaults.{OfResult, Other, Judges}
+use Rattle.check_entry.specs.EntryVaryings.{has_one_of_indices, is_one_of_three, is_struct, output_item, output_points, place_of}
 use Rattle.check_entry.specs.declared.error.EntryPointError.TheVariants as fault
 use Rattle.check_entry.proofs.EntrySteps.{judges_first}
 use Rattle.naga_valid.proofs.Groups.{last_fails, last_holds, output_by_position}
@@ -18,8 +18,8 @@ pub returns-in_err-check_output : goal.returns-in_err-check_output
 returns-in_err-check_output g c =
     let settings = c.args.self.now.settings in
     let infos = c.args.self.now.types in
-    let types = c.args.module.now.types in
-    let ep = c.args.ep.now in
+    let types = c.args.entry.now.program.now.types in
+    let ep = c.args.entry.now.entry_point.now in
     let ty = c.args.mesh.now.primitive_output_type in
     let r = c.from_residual.result in
     let earlier = placed_parts types infos (output_item settings ep VertexOutput c.args.mesh.now.vertex_output_type) in
@@ -32,8 +32,8 @@ pub returns-then-not-has_one_of_indices : goal.returns-then-not-has_one_of_indic
 returns-then-not-has_one_of_indices g c =
     let settings = c.args.self.now.settings in
     let infos = c.args.self.now.types in
-    let types = c.args.module.now.types in
-    let ep = c.args.ep.now in
+    let types = c.args.entry.now.program.now.types in
+    let ep = c.args.entry.now.entry_point.now in
     let ty = c.args.mesh.now.primitive_output_type in
     let vertex = c.args.mesh.now.vertex_output_type in
     let parts = parts_of types infos ty None in
@@ -51,8 +51,8 @@ pub returns : goal.returns
 returns g c =
     let settings = c.args.self.now.settings in
     let infos = c.args.self.now.types in
-    let types = c.args.module.now.types in
-    let ep = c.args.ep.now in
+    let types = c.args.entry.now.program.now.types in
+    let ep = c.args.entry.now.entry_point.now in
     let ty = c.args.mesh.now.primitive_output_type in
     let vertex = c.args.mesh.now.vertex_output_type in
     let parts = parts_of types infos ty None in

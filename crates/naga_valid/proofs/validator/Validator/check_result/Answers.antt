@@ -1,17 +1,17 @@
 use Rattle.std.proofs.Common.{rules, ◌∙◌, false, Bool, subst}
 use Rattle.ir_facts.specs.Points.{within}
 use Rattle.ir_types.specs.declared.built_in.BuiltIn.TheVariants.{Position}
-use Rattle.check_scope.specs.walk.Answers.{Finds}
-use Rattle.check_entry.specs.Faults.{fault_of, Judges}
-use Rattle.check_entry.specs.Varyings.{declared_points, has_built_in, result_parts, returned_points}
+use Rattle.check_scope.specs.walk.Findings.{Finds}
+use Rattle.check_entry.specs.EntryFaults.{fault_of, Judges}
+use Rattle.check_entry.specs.EntryVaryings.{declared_points, has_built_in, result_parts, returned_points}
 use Rattle.check_entry.proofs.EntrySteps.{judges_first, judges_second}
 use Rattle.naga_valid.proofs.validator.Validator.check_result.Goals as goal
 
 pub returns-in_err-check_declared : goal.returns-in_err-check_declared
 returns-in_err-check_declared g c =
     let infos = c.args.self.now.types in
-    let types = c.args.module.now.types in
-    let ep = c.args.ep.now in
+    let types = c.args.entry.now.program.now.types in
+    let ep = c.args.entry.now.entry_point.now in
     let r = c.from_residual.result in
     let first = declared_points c.args.self.now.settings types infos ep ep.function.result in
     let position = has_built_in (Position false) (result_parts types infos ep.function.result) in
@@ -22,12 +22,12 @@ returns-in_err-check_declared g c =
 pub returns : goal.returns
 returns g c =
     let infos = c.args.self.now.types in
-    let types = c.args.module.now.types in
-    let ep = c.args.ep.now in
-    let r = c.judged.result in
+    let types = c.args.entry.now.program.now.types in
+    let ep = c.args.entry.now.entry_point.now in
+    let r = c.answer.result in
     let first = declared_points c.args.self.now.settings types infos ep ep.function.result in
     let position = has_built_in (Position false) (result_parts types infos ep.function.result) in
     let points = returned_points types ep.stage position ep.function.result in
     let same = c.has_built_in-position.ensures ∙ c.in_ok-check_declared.ensures.seen in
     let found = subst (λ (b : Bool). Finds (returned_points types ep.stage b ep.function.result) c.check_returned.result) same c.check_returned.ensures in
-    judges_second r first (within fault_of points) c.in_ok-check_declared.ensures.fault (c.judged.ensures points (c.answer.ensures points found))
+    judges_second r first (within fault_of points) c.in_ok-check_declared.ensures.fault (c.answer.ensures.judges points found)

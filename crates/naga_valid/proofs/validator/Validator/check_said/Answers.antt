@@ -2,18 +2,19 @@ use Rattle.std.proofs.Common.{rules, ◌≡◌, ◌++◌, None, Option, sym, sub
 use Rattle.check_errors.specs.declared.mesh.MeshAnalysis.{MeshAnalysis}
 use Rattle.check_errors.specs.declared.mesh.MeshFault.{MeshFault}
 use Rattle.check_entry.specs.Mesh.{analysis_points, stated_points, said_points}
-use Rattle.check_entry.specs.Points.{EntryPoints, Meets}
+use Rattle.check_entry.specs.EntryAnswers.{EntryPoints, Meets}
+use Rattle.check_entry.proofs.EntrySteps.{judges_within}
 use Rattle.naga_valid.proofs.validator.Validator.check_said.Goals as goal
 
 pub returns : goal.returns
 returns g c =
     let capabilities = c.args.self.now.settings.capabilities in
-    let program = c.args.module.now in
+    let program = c.args.entry.now.program.now in
     let mesh = c.args.mesh.now in
     let analysis = c.in_ok-analysis.analysis in
     let r = c.answer.result in
     let points : EntryPoints = stated_points capabilities program analysis.overrides analysis.implied mesh in
     let none : analysis.fault ≡ None = search rules in
-    let met : Meets points r = search (rules, c.answer.ensures points) in
+    let met : Meets points r = search (rules, c.answer.ensures.meets points) in
     let is : analysis ≡ (g.B.Below.meaning c.args.self.now.below).mesh_analysis program mesh.output_variable = search rules in
-    subst (λ (a : MeshAnalysis). Meets (said_points capabilities program a mesh) r) is (subst (λ (f : Option MeshFault). Meets (analysis_points f ++ points) r) (sym none) met)
+    judges_within r (said_points capabilities program ((g.B.Below.meaning c.args.self.now.below).mesh_analysis program mesh.output_variable) mesh) (subst (λ (a : MeshAnalysis). Meets (said_points capabilities program a mesh) r) is (subst (λ (f : Option MeshFault). Meets (analysis_points f ++ points) r) (sym none) met))

@@ -7,8 +7,8 @@ use Rattle.check_varyings.proofs.Seeing.{leaves_the_next}
 use Rattle.check_varyings.specs.Seen.{Seen}
 use Rattle.check_varyings.specs.Varyings.{parts_of, points_from, seen_in, seen_with}
 use Rattle.check_varyings.specs.declared.varying.MeshOutputType.TheVariants.{VertexOutput}
-use Rattle.check_entry.specs.Faults.{OfResult, Other, Judges}
-use Rattle.check_entry.specs.Varyings.{has_built_in, is_struct, output_points, place_of}
+use Rattle.check_entry.specs.EntryFaults.{OfResult, Other, Judges}
+use Rattle.check_entry.specs.EntryVaryings.{has_built_in, is_struct, output_points, place_of}
 use Rattle.check_entry.specs.declared.error.EntryPointError.TheVariants as fault
 use Rattle.check_entry.proofs.EntrySteps.{judges_first}
 use Rattle.naga_valid.proofs.Groups.{last_fails, last_holds, output_by_position}
@@ -18,8 +18,8 @@ pub returns-in_err-check_output-clause-fault : goal.returns-in_err-check_output-
 returns-in_err-check_output-clause-fault g c =
     let settings = c.args.self.now.settings in
     let infos = c.args.self.now.types in
-    let types = c.args.module.now.types in
-    let ep = c.args.ep.now in
+    let types = c.args.entry.now.program.now.types in
+    let ep = c.args.entry.now.entry_point.now in
     let ty = c.args.ty in
     let r = c.from_residual.result in
     let out = output_points settings types infos ep VertexOutput [] ty in
@@ -31,8 +31,8 @@ pub returns-then-not-has_built_in-clause-fault : goal.returns-then-not-has_built
 returns-then-not-has_built_in-clause-fault g c =
     let settings = c.args.self.now.settings in
     let infos = c.args.self.now.types in
-    let types = c.args.module.now.types in
-    let ep = c.args.ep.now in
+    let types = c.args.entry.now.program.now.types in
+    let ep = c.args.entry.now.entry_point.now in
     let ty = c.args.ty in
     let parts = parts_of types infos ty None in
     let out = output_points settings types infos ep VertexOutput [] ty in
@@ -46,8 +46,8 @@ pub returns-clause-fault : goal.returns-clause-fault
 returns-clause-fault g c =
     let settings = c.args.self.now.settings in
     let infos = c.args.self.now.types in
-    let types = c.args.module.now.types in
-    let ep = c.args.ep.now in
+    let types = c.args.entry.now.program.now.types in
+    let ep = c.args.entry.now.entry_point.now in
     let ty = c.args.ty in
     let parts = parts_of types infos ty None in
     let out = output_points settings types infos ep VertexOutput [] ty in
@@ -59,7 +59,7 @@ returns-clause-fault g c =
 
 pub returns-clause-seen : goal.returns-clause-seen
 returns-clause-seen g c =
-    let parts = parts_of c.args.module.now.types c.args.self.now.types c.args.ty None in
+    let parts = parts_of c.args.entry.now.program.now.types c.args.self.now.types c.args.ty None in
     c.in_ok-check_output.ensures.seen
     ∙ ap (λ (s : Seen). seen_with s parts) c.requires.seen
-    ∙ leaves_the_next (place_of c.args.self.now.settings c.args.ep.now true VertexOutput) [] parts
+    ∙ leaves_the_next (place_of c.args.self.now.settings c.args.entry.now.entry_point.now true VertexOutput) [] parts

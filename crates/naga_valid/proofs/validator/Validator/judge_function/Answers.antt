@@ -1,29 +1,93 @@
-use Rattle.std.proofs.Common.{rules, length, ap, ◌∙◌}
+use Rattle.std.proofs.Common.{rules, ◌≡◌, true, false, Ok, sym, subst}
+use Rattle.check_errors.specs.WhatIsChecked.{checks_blocks}
 use Rattle.check_scope.specs.Context.{ContextFits}
-use Rattle.check_statement.specs.walk.Asked.{asked_context}
-use Rattle.naga_valid.proofs.FunctionSteps.{lower_refuses, known_refuses, body_decides, known_is, fits_with}
+use Rattle.check_statement.proofs.Parts.{ready}
+use Rattle.check_statement.specs.FunctionJudgement.{lower_step}
+use Rattle.naga_valid.proofs.FunctionSteps.{lower_refuses, declarations_refused, expressions_refused, fits_first, fits_with, body_refused, body_passed, body_unchecked}
 use Rattle.naga_valid.proofs.validator.Validator.judge_function.Goals as goal
+use Rattle.naga_valid.proofs.validator.Validator.judge_function.Goals.{then-contains+in_ok-table+in-Ok, else-contains}
 
-pub returns-in_err-info : goal.returns-in_err-info
-returns-in_err-info g c = search (rules, lower_refuses)
+pub returns-in_err-info-clause-judged : goal.returns-in_err-info-clause-judged
+returns-in_err-info-clause-judged g c = search (rules, lower_refuses)
 
-pub returns-in_err-info-2 : goal.returns-in_err-info-2
-returns-in_err-info-2 g c = search (rules, known_refuses)
+pub check_declarations-requires : goal.check_declarations-requires
+check_declarations-requires g c =
+    let v = c.args.self.now in
+    let f = c.args.function.now in
+    let below = g.B.Below.meaning v.below in
+    let lower : lower_step below v.settings v.types v.trace f.program.now f.earlier.now f.fun.now f.entry_point ≡ Ok c.in_ok-info.info = rw (← c.self.view_is) c.in_ok-info.ensures in
+    let of : c.in_ok-kinds.kinds ≡ below.kinds_of f.fun.now.expressions = rw (← c.self.view_is) c.in_ok-kinds.ensures in
+    let laws = g.met.B.Below in
+    let fits = fits_first below v.settings v.types v.trace f.program.now f.earlier.now f.fun.now f.entry_point c.in_ok-info.info c.in_ok-kinds.kinds lower of (laws.one_type_each v.below) (laws.types_in_range v.below) (laws.no_struct_values v.below) (laws.one_kind_each v.below) c.requires.types c.requires.function in
+    record { context = subst ContextFits (sym c.block_context-context.ensures) fits; one_info_each = search rules }
 
-pub judge_body-requires : goal.judge_body-requires
-judge_body-requires g c =
-    let context = asked_context c.args.self.now.settings c.args.self.now.trace c.args.subject.now.program.now c.args.subject.now.earlier.now c.args.subject.now.fun.now c.in_ok-kinds.kinds c.in_ok-info.info in
-    let fits : ContextFits context =
-    record {
-      types = c.requires.types;
-      fun = c.requires.function;
-      one_type_each = g.met.B.Below.one_type_each _ _ _ _ _ _ _ c.in_ok-info.ensures;
-      types_in_range = g.met.B.Below.types_in_range _ _ _ _ _ _ _ c.in_ok-info.ensures;
-      no_struct_values = g.met.B.Below.no_struct_values _ _ _ _ _ _ _ c.in_ok-info.ensures;
-      one_kind_each = ap length c.in_ok-kinds.ensures ∙ g.met.B.Below.one_kind_each _ _;
-    } in
-    let same = known_is (g.B.Below.meaning c.args.self.now.below) c.args.self.now.types c.args.subject.now.entry_point context c.in_ok-info-2.info c.in_ok-info-2.ensures in
-    record { context = fits_with context c.in_ok-info-2.info same fits }
+pub returns-in_err-check_declarations-clause-judged :
+    goal.returns-in_err-check_declarations-clause-judged
+returns-in_err-check_declarations-clause-judged g c =
+    let v = c.args.self.now in
+    let f = c.args.function.now in
+    let below = g.B.Below.meaning v.below in
+    let lower : lower_step below v.settings v.types v.trace f.program.now f.earlier.now f.fun.now f.entry_point ≡ Ok c.in_ok-info.info = rw (← c.self.view_is) c.in_ok-info.ensures in
+    let of : c.in_ok-kinds.kinds ≡ below.kinds_of f.fun.now.expressions = rw (← c.self.view_is) c.in_ok-kinds.ensures in
+    let e = c.in_err-check_declarations.field-0.0 in
+    let found = rw c.infos.ensures at c.in_err-check_declarations.ensures in
+    let refused = declarations_refused below v.settings v.types v.trace f.program.now f.earlier.now f.fun.now f.entry_point c.in_ok-info.info c.in_ok-kinds.kinds lower of _ c.block_context-context.ensures e found in
+    search (rules, refused)
 
-pub returns : goal.returns
-returns g c = search (rules, body_decides)
+pub returns-in_err-meet_expressions-clause-judged :
+    goal.returns-in_err-meet_expressions-clause-judged
+returns-in_err-meet_expressions-clause-judged g c =
+    let v = c.args.self.now in
+    let f = c.args.function.now in
+    let below = g.B.Below.meaning v.below in
+    let lower : lower_step below v.settings v.types v.trace f.program.now f.earlier.now f.fun.now f.entry_point ≡ Ok c.in_ok-info.info = rw (← c.self.view_is) c.in_ok-info.ensures in
+    let of : c.in_ok-kinds.kinds ≡ below.kinds_of f.fun.now.expressions = rw (← c.self.view_is) c.in_ok-kinds.ensures in
+    let none = rw c.infos.ensures at c.in_ok-check_declarations.ensures in
+    let e = c.in_err-meet_expressions.field-0.0 in
+    let refused = expressions_refused below v.settings v.types v.trace f.program.now f.earlier.now f.fun.now f.entry_point c.in_ok-info.info c.in_ok-kinds.kinds lower of _ c.block_context-context.ensures none e c.in_err-meet_expressions.ensures.fault in
+    search (rules, refused)
+
+pub validate_body-judged-requires : goal.validate_body-judged-requires
+validate_body-judged-requires g c =
+    let v = c.args.self.now in
+    let f = c.args.function.now in
+    let below = g.B.Below.meaning v.below in
+    let lower : lower_step below v.settings v.types v.trace f.program.now f.earlier.now f.fun.now f.entry_point ≡ Ok c.in_ok-info.info = rw (← c.self.view_is) c.in_ok-info.ensures in
+    let of : c.in_ok-kinds.kinds ≡ below.kinds_of f.fun.now.expressions = rw (← c.self.view_is) c.in_ok-kinds.ensures in
+    let laws = g.met.B.Below in
+    let fits = fits_first below v.settings v.types v.trace f.program.now f.earlier.now f.fun.now f.entry_point c.in_ok-info.info c.in_ok-kinds.kinds lower of (laws.one_type_each v.below) (laws.types_in_range v.below) (laws.no_struct_values v.below) (laws.one_kind_each v.below) c.requires.types c.requires.function in
+    let known = fits_with _ c.meet_expressions.new.info c.in_ok-meet_expressions.ensures.kept fits in
+    let here = subst ContextFits (sym c.block_context-context-then-contains.ensures) known in
+    record { context = here; ready = ready _ here.fun }
+
+pub returns-in-Err-clause-judged : goal.returns-in-Err-clause-judged
+returns-in-Err-clause-judged g c =
+    let v = c.args.self.now in
+    let f = c.args.function.now in
+    let below = g.B.Below.meaning v.below in
+    let lower : lower_step below v.settings v.types v.trace f.program.now f.earlier.now f.fun.now f.entry_point ≡ Ok c.in_ok-info.info = rw (← c.self.view_is) c.in_ok-info.ensures in
+    let of : c.in_ok-kinds.kinds ≡ below.kinds_of f.fun.now.expressions = rw (← c.self.view_is) c.in_ok-kinds.ensures in
+    let none = rw c.infos.ensures at c.in_ok-check_declarations.ensures in
+    let on : checks_blocks v.settings.flags ≡ true = rw (← c.self.view_is) (search rules) in
+    let refused = body_refused below v.settings v.types v.trace f.program.now f.earlier.now f.fun.now f.entry_point c.in_ok-info.info c.in_ok-kinds.kinds lower of _ c.block_context-context.ensures none c.meet_expressions.new.info c.in_ok-meet_expressions.ensures.fault c.in_ok-meet_expressions.ensures.kept _ c.block_context-context-then-contains.ensures on c.in-Err.refused c.in-Err.ensures in
+    rw c.into_refusal.ensures refused
+
+pub returns-clause-judged : goal.returns-clause-judged
+returns-clause-judged g c =
+    let v = c.args.self.now in
+    let f = c.args.function.now in
+    let below = g.B.Below.meaning v.below in
+    let lower : lower_step below v.settings v.types v.trace f.program.now f.earlier.now f.fun.now f.entry_point ≡ Ok c.in_ok-info.info = rw (← c.self.view_is) c.in_ok-info.ensures in
+    let of : c.in_ok-kinds.kinds ≡ below.kinds_of f.fun.now.expressions = rw (← c.self.view_is) c.in_ok-kinds.ensures in
+    let none = rw c.infos.ensures at c.in_ok-check_declarations.ensures in
+    elim c.if-contains.branch [
+      | then-contains+in_ok-table+in-Ok w ↦
+          let on : checks_blocks v.settings.flags ≡ true = rw (← c.self.view_is) (search (rules, w.if-contains.true)) in
+          rw (w.info-is, w.trace-is) (
+          body_passed below v.settings v.types v.trace f.program.now f.earlier.now f.fun.now f.entry_point c.in_ok-info.info c.in_ok-kinds.kinds lower of _ c.block_context-context.ensures none c.meet_expressions.new.info c.in_ok-meet_expressions.ensures.fault c.in_ok-meet_expressions.ensures.kept _ w.block_context-context-then-contains.ensures on w.in-Ok.left w.in-Ok.ensures
+          )
+      | else-contains w ↦
+          let off : checks_blocks v.settings.flags ≡ false = rw (← c.self.view_is) (search (rules, w.if-contains.false)) in
+          let left = body_unchecked below v.settings v.types v.trace f.program.now f.earlier.now f.fun.now f.entry_point c.in_ok-info.info c.in_ok-kinds.kinds lower of _ c.block_context-context.ensures none c.meet_expressions.new.info c.in_ok-meet_expressions.ensures.fault c.in_ok-meet_expressions.ensures.kept off in
+          rw (w.info-is, w.trace-is) (search (rules, left))
+    ]

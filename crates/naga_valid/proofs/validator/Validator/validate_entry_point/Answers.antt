@@ -1,8 +1,8 @@
 use Rattle.std.proofs.Common.{sym, ap, ◌∙◌, subst}
 use Rattle.ir_flags.specs.declared.valid.ShaderStages.{ShaderStages}
 use Rattle.check_body.specs.Accepted.{StagesAreOfAll}
-use Rattle.check_scope.specs.Blocks.{body_of}
-use Rattle.check_statement.specs.Judged.{FunctionOutcome}
+use Rattle.check_scope.specs.BodyTrees.{body_of}
+use Rattle.check_statement.specs.FunctionJudgement.{FunctionOutcome}
 use Rattle.check_body.proofs.Chains.{fits_calls_below}
 use Rattle.naga_valid.proofs.EntryAccepted.{accepted_entry, stages_are}
 use Rattle.naga_valid.proofs.EntryBuiltIns.{accepted_built_ins}
