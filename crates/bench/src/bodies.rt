@@ -1,8 +1,9 @@
 //! Bodies of functions, by their shape. Each has three expressions before its own: true, a `u32`, and a pointer to the local.
 
+use crate::maker::Maker;
 use naga_below::{
-    Block, Expression, Function, Handle, Literal, Operands, Range, Scalar, Sequence, Span,
-    Statement, SwitchCase, SwitchValue, tag,
+    Block, Expression, Function, FunctionArgument, Handle, Literal, Operands, Range, Scalar,
+    Sequence, Statement, SwitchCase, SwitchValue, tag,
 };
 use std::alloc::{AllocError, Global};
 
@@ -51,129 +52,137 @@ pub enum Shape {
     Whole(u32),
 }
 
-/// Gives a function the expressions and the body of a shape.
-pub fn fill(alloc: Global, fun: &mut Function, shape: Shape) -> Result<(), AllocError> {
-    put_shared(fun)?;
+/// A function of a shape, with a local of `u32`; a whole one has sixteen such locals and arguments, and returns a `u32`.
+pub fn function(alloc: Global, shape: Shape) -> Result<Function, AllocError> {
+    let mut maker = Maker::new(alloc);
+    maker.append(literal(Scalar::BOOL));
+    maker.append(literal(Scalar::U32));
+    maker.append(Expression::LocalVariable(Handle::new(0)));
+    maker.append_local();
+    put_shape(&mut maker, shape);
+    maker.finish()
+}
+
+/// Puts what a shape has of its own.
+fn put_shape(maker: &mut Maker, shape: Shape) {
     match shape {
-        Shape::Emits(count) => emits(fun, count),
-        Shape::Stores(count) => put_stores(&mut fun.body, count),
-        Shape::Calls(count) => calls(alloc, fun, count),
-        Shape::Mix(count) => mix(alloc, fun, count),
+        Shape::Emits(count) => put_loads(maker, count),
+        Shape::Stores(count) => put_stores(maker, count),
+        Shape::Calls(count) => put_calls(maker, count),
+        Shape::Mix(count) => put_mix(maker, count),
         Shape::Nest {
             holder,
             depth,
             width,
-        } => nest(alloc, fun, holder, depth, width),
-        Shape::Own { blocks, loads } => own_blocks(alloc, fun, blocks, loads),
-        Shape::Blocks { blocks, stores } => blocks_of_stores(alloc, fun, blocks, stores),
-        Shape::Switch(count) => switch(alloc, fun, count, 1),
-        Shape::Scattered(count) => switch(alloc, fun, count, SCATTER),
-        Shape::Whole(count) => whole(alloc, fun, count),
+        } => put_nest(maker, holder, depth, width),
+        Shape::Own { blocks, loads } => put_own_blocks(maker, blocks, loads),
+        Shape::Blocks { blocks, stores } => put_blocks_of_stores(maker, blocks, stores),
+        Shape::Switch(count) => put_switch(maker, count, 1),
+        Shape::Scattered(count) => put_switch(maker, count, SCATTER),
+        Shape::Whole(count) => put_whole(maker, count),
     }
-}
-
-/// The three expressions that each body has.
-fn put_shared(fun: &mut Function) -> Result<(), AllocError> {
-    append(fun, literal(Scalar::BOOL))?;
-    append(fun, literal(Scalar::U32))?;
-    append(fun, Expression::LocalVariable(Handle::new(0)))
-}
-
-/// Appends an expression where there is room.
-pub fn append(fun: &mut Function, expression: Expression) -> Result<(), AllocError> {
-    if fun.expressions.is_full() {
-        return Err(AllocError);
-    }
-    fun.expressions.append(expression, Span::UNDEFINED)?;
-    Ok(())
-}
-
-fn load(fun: &mut Function) -> Result<(), AllocError> {
-    let pointer = Handle::new(2);
-    append(fun, Expression::Load { pointer })
-}
-
-fn call_result(fun: &mut Function) -> Result<(), AllocError> {
-    append(fun, Expression::CallResult(Handle::new(0)))
-}
-
-/// A Load, a Unary of it, and the result of a call.
-fn mixed(alloc: Global, fun: &mut Function, first: u32) -> Result<(), AllocError> {
-    load(fun)?;
-    append(fun, unary(alloc, first)?)?;
-    call_result(fun)
 }
 
 fn literal(scalar: Scalar) -> Expression {
     Expression::Literal(Literal { scalar, bits: 1 })
 }
 
-fn unary(alloc: Global, operand: u32) -> Result<Expression, AllocError> {
-    let mut operands: Operands = Sequence::new(alloc);
-    operands.push(Handle::new(operand))?;
-    Ok(Expression::Unary {
-        operands,
-        detail: 0,
-    })
+fn append_load(maker: &mut Maker) {
+    let pointer = Handle::new(2);
+    maker.append(Expression::Load { pointer });
 }
 
-fn push(block: &mut Block, statement: Statement) -> Result<(), AllocError> {
-    block.push(statement, Span::UNDEFINED)
+fn append_call_result(maker: &mut Maker) {
+    maker.append(Expression::CallResult(Handle::new(0)));
+}
+
+fn append_unary(maker: &mut Maker, operand: u32) {
+    let mut operands: Operands = Sequence::new(maker.alloc);
+    let pushed = operands.push(Handle::new(operand));
+    maker.note(pushed.is_ok());
+    maker.append(Expression::Unary {
+        operands,
+        detail: 0,
+    });
 }
 
 /// An Emit of so many expressions, at least one.
-fn emit(first: u32, count: u32) -> Statement {
+fn push_emit(maker: &mut Maker, first: u32, count: u32) {
     let last = first.saturating_add(count).saturating_sub(1);
-    Statement::Emit(Range::new(Handle::new(first), Handle::new(last)))
+    maker.push(Statement::Emit(Range::new(Handle::new(first), Handle::new(last))));
 }
 
-fn store(value: Handle<tag::Expression>) -> Statement {
-    let pointer = Handle::new(2);
-    Statement::Store { pointer, value }
+fn push_store(maker: &mut Maker, value: u32) {
+    let (pointer, value) = (Handle::new(2), Handle::new(value));
+    maker.push(Statement::Store { pointer, value });
 }
 
-fn call(alloc: Global, index: u32) -> Statement {
-    Statement::Call {
+fn push_call(maker: &mut Maker, index: u32) {
+    maker.push(Statement::Call {
         function: Handle::new(0),
-        arguments: Sequence::new(alloc),
+        arguments: Sequence::new(maker.alloc),
         result: Some(Handle::new(index)),
-    }
+    });
 }
 
-fn emits(fun: &mut Function, count: u32) -> Result<(), AllocError> {
-    for index in 0..count {
-        load(fun)?;
-        push(&mut fun.body, emit(index.wrapping_add(3), 1))?;
-    }
-    Ok(())
-}
-
-fn calls(alloc: Global, fun: &mut Function, count: u32) -> Result<(), AllocError> {
-    for index in 0..count {
-        call_result(fun)?;
-        push(&mut fun.body, call(alloc, index.wrapping_add(3)))?;
-    }
-    Ok(())
-}
-
-/// A mixed body, and a Return of the `u32` behind it.
-fn whole(alloc: Global, fun: &mut Function, count: u32) -> Result<(), AllocError> {
-    mix(alloc, fun, count)?;
+/// A Return of the `u32`.
+fn push_return(maker: &mut Maker) {
     let value = Some(Handle::new(1));
-    push(&mut fun.body, Statement::Return { value })
+    maker.push(Statement::Return { value });
 }
 
-fn mix(alloc: Global, fun: &mut Function, count: u32) -> Result<(), AllocError> {
+/// So many Emits of a Load each.
+fn put_loads(maker: &mut Maker, count: u32) {
+    for index in 0..count {
+        append_load(maker);
+        push_emit(maker, index.wrapping_add(3), 1);
+    }
+}
+
+fn put_stores(maker: &mut Maker, count: u32) {
+    for _ in 0..count {
+        push_store(maker, 1);
+    }
+}
+
+fn put_calls(maker: &mut Maker, count: u32) {
+    for index in 0..count {
+        append_call_result(maker);
+        push_call(maker, index.wrapping_add(3));
+    }
+}
+
+/// By turns a Load, a Unary of it and the result of a call, and an Emit of the two, a Store, a Call and a Store.
+fn put_mix(maker: &mut Maker, count: u32) {
     for index in 0..count / 4 {
         let first = index.wrapping_mul(3).wrapping_add(3);
+        let second = first.wrapping_add(1);
         let third = first.wrapping_add(2);
-        mixed(alloc, fun, first)?;
-        push(&mut fun.body, emit(first, 2))?;
-        push(&mut fun.body, store(Handle::new(first.wrapping_add(1))))?;
-        push(&mut fun.body, call(alloc, third))?;
-        push(&mut fun.body, store(Handle::new(third)))?;
+        append_load(maker);
+        append_unary(maker, first);
+        append_call_result(maker);
+        push_emit(maker, first, 2);
+        push_store(maker, second);
+        push_call(maker, third);
+        push_store(maker, third);
     }
-    Ok(())
+}
+
+/// A mixed body, and a Return of the `u32` behind it, with a signature and more locals.
+fn put_whole(maker: &mut Maker, count: u32) {
+    for _ in 0..15u32 {
+        maker.append_local();
+    }
+    for _ in 0..16u32 {
+        maker.push_argument(FunctionArgument {
+            name: None,
+            ty: Handle::new(1),
+            binding: None,
+        });
+    }
+    maker.set_result();
+    put_mix(maker, count);
+    push_return(maker);
 }
 
 fn hold(alloc: Global, holder: Holder, level: u32, list: Block) -> Statement {
@@ -193,124 +202,88 @@ fn hold(alloc: Global, holder: Holder, level: u32, list: Block) -> Statement {
 }
 
 /// The Emits of a level.
-fn put_emits(list: &mut Block, level: u32, width: u32) -> Result<(), AllocError> {
+fn put_emits(maker: &mut Maker, level: u32, width: u32) {
     for index in 0..width {
         let place = level.wrapping_mul(width).wrapping_add(index);
-        push(list, emit(place.wrapping_add(3), 1))?;
+        push_emit(maker, place.wrapping_add(3), 1);
     }
-    Ok(())
 }
 
-fn put_stores(list: &mut Block, count: u32) -> Result<(), AllocError> {
-    for _ in 0..count {
-        push(list, store(Handle::new(1)))?;
-    }
-    Ok(())
-}
-
-fn list_of_stores(alloc: Global, count: u32) -> Result<Block, AllocError> {
-    let mut list = Block::new(alloc);
-    put_stores(&mut list, count)?;
-    Ok(list)
-}
-
-/// The list of a level, which holds what lies within it.
-fn level_of(alloc: Global, level: u32, width: u32, inner: Statement) -> Result<Block, AllocError> {
-    let mut list = Block::new(alloc);
-    put_emits(&mut list, level, width)?;
-    push(&mut list, inner)?;
-    put_stores(&mut list, width)?;
-    Ok(list)
-}
-
-fn nest(
-    alloc: Global,
-    fun: &mut Function,
-    holder: Holder,
-    depth: u32,
-    width: u32,
-) -> Result<(), AllocError> {
+/// Lists that hold each other, from the inside: each level holds the list that was made before.
+fn put_nest(maker: &mut Maker, holder: Holder, depth: u32, width: u32) {
     for _ in 0..depth.wrapping_add(1).wrapping_mul(width) {
-        load(fun)?;
+        append_load(maker);
     }
-    let mut list = Block::new(alloc);
-    put_emits(&mut list, depth, width)?;
-    put_stores(&mut list, width)?;
+    put_emits(maker, depth, width);
+    put_stores(maker, width);
     for from_inside in 0..depth {
         let level = depth.wrapping_sub(from_inside).wrapping_sub(1);
-        let inner = hold(alloc, holder, level, list);
-        list = level_of(alloc, level, width, inner)?;
+        let list = maker.begin();
+        put_emits(maker, level, width);
+        maker.push(hold(maker.alloc, holder, level, list));
+        put_stores(maker, width);
     }
-    fun.body = list;
-    Ok(())
 }
 
-/// A list of an Emit and a Store.
-fn own_block(alloc: Global, first: u32, loads: u32) -> Result<Block, AllocError> {
-    let mut list = Block::new(alloc);
-    push(&mut list, emit(first, loads))?;
-    push(&mut list, store(Handle::new(first)))?;
-    Ok(list)
-}
-
-fn own_blocks(
-    alloc: Global,
-    fun: &mut Function,
-    blocks: u32,
-    loads: u32,
-) -> Result<(), AllocError> {
+/// Blocks of an Emit and a Store.
+fn put_own_blocks(maker: &mut Maker, blocks: u32, loads: u32) {
     for index in 0..blocks {
         let first = index.wrapping_mul(loads).wrapping_add(3);
         for _ in 0..loads {
-            load(fun)?;
+            append_load(maker);
         }
-        push(
-            &mut fun.body,
-            Statement::Block(own_block(alloc, first, loads)?),
-        )?;
+        let outer = maker.begin();
+        push_emit(maker, first, loads);
+        push_store(maker, first);
+        let list = maker.go_on(outer);
+        maker.push(Statement::Block(list));
     }
-    Ok(())
 }
 
-fn blocks_of_stores(
-    alloc: Global,
-    fun: &mut Function,
-    blocks: u32,
-    count: u32,
-) -> Result<(), AllocError> {
+fn list_of_stores(maker: &mut Maker, count: u32) -> Block {
+    let outer = maker.begin();
+    put_stores(maker, count);
+    maker.go_on(outer)
+}
+
+fn put_blocks_of_stores(maker: &mut Maker, blocks: u32, count: u32) {
     for _ in 0..blocks {
-        push(
-            &mut fun.body,
-            Statement::Block(list_of_stores(alloc, count)?),
-        )?;
+        let list = list_of_stores(maker, count);
+        maker.push(Statement::Block(list));
     }
-    Ok(())
 }
 
-fn case_of(alloc: Global, value: SwitchValue) -> Result<SwitchCase, AllocError> {
-    let body = list_of_stores(alloc, 1)?;
-    Ok(SwitchCase {
+/// Puts a case of one Store last.
+fn push_case(maker: &mut Maker, cases: &mut Sequence<SwitchCase>, value: SwitchValue) {
+    let body = list_of_stores(maker, 1);
+    let pushed = cases.push(SwitchCase {
         value,
         body,
         fall_through: false,
-    })
+    });
+    maker.note(pushed.is_ok());
 }
 
 /// By what the values of a Switch in no order are multiplied: odd, so that no two are the same.
 const SCATTER: u32 = 2654435761;
 
-fn cases(alloc: Global, count: u32, factor: u32) -> Result<Sequence<SwitchCase>, AllocError> {
-    let mut cases = Sequence::new(alloc);
+fn put_switch(maker: &mut Maker, count: u32, factor: u32) {
+    let mut cases = Sequence::new(maker.alloc);
     for index in 0..count {
         let value = SwitchValue::U32(index.wrapping_mul(factor));
-        cases.push(case_of(alloc, value)?)?;
+        push_case(maker, &mut cases, value);
     }
-    cases.push(case_of(alloc, SwitchValue::Default)?)?;
-    Ok(cases)
+    push_case(maker, &mut cases, SwitchValue::Default);
+    let selector = Handle::new(1);
+    maker.push(Statement::Switch { selector, cases });
 }
 
-fn switch(alloc: Global, fun: &mut Function, count: u32, factor: u32) -> Result<(), AllocError> {
-    let cases = cases(alloc, count, factor)?;
-    let selector = Handle::new(1);
-    push(&mut fun.body, Statement::Switch { selector, cases })
+/// The function that is called: it returns a `u32`.
+pub fn callee(alloc: Global) -> Result<Function, AllocError> {
+    let mut maker = Maker::new(alloc);
+    maker.append(literal(Scalar::U32));
+    maker.set_result();
+    let value = Some(Handle::new(0));
+    maker.push(Statement::Return { value });
+    maker.finish()
 }

@@ -1,12 +1,14 @@
-//! Times the validator over bodies of many shapes and sizes, by the clock. Without an argument it prints the names of the
-//! cases, with one it runs those whose names begin so, and with `all` every one; with `nesting block|if|loop DEPTH` it goes
-//! through the steps of a body that nests so deep, with `dropping` only through making and dropping it. A line of a case has
-//! its name, its statements, the fastest judgement of many, the lower layer alone and the tests of the conditions in
-//! nanoseconds, and the judgement's own share (without the lower layer) for each statement.
+//! The benchmark: times the validator over generated bodies, entry points and modules, by the clock.
+//!
+//! Without an argument it prints the names of the cases; with one it runs those whose names begin so, with `all` every one. With
+//! `nesting block|if|loop DEPTH` it goes through the steps of a body that nests so deep, with `dropping` only through making and
+//! dropping it. A line of a case has its name, its statements, the fastest judgement of many, the lower layer alone and the tests
+//! of the conditions in nanoseconds, and the time in the validator alone for each statement.
 #![tactic(auto)]
 
 mod bodies;
 mod cases;
+mod maker;
 mod modules;
 mod nesting;
 mod timing;
@@ -14,14 +16,13 @@ mod wholes;
 
 use crate::bodies::Shape;
 use crate::cases::{BODIES, Case, Subject};
-use crate::modules::{module, with_globals};
-use crate::timing::{Timed, Times, validator};
+use crate::modules::{Program, fill_entry, fill_module};
+use crate::timing::{Stop, Timed, Times, validator};
 use crate::wholes::WHOLES;
-use naga_below::{EntryPoint, FunctionInfo, Module, ModuleInfo, fits_function, fits_types};
+use naga_below::{Module, ModuleInfo, fits_function, fits_types};
 use naga_module::Plain;
 use naga_valid::Validator;
-use std::alloc::{AllocError, Global};
-use std::time::Clock;
+use std::alloc::Global;
 use std::{env, io};
 
 /// How many types each module has.
@@ -37,231 +38,164 @@ fn repetitions(statements: usize) -> u64 {
     }
 }
 
-/// The info of a module's first function; `None` where it is refused.
-fn info_of_first(
-    alloc: Global,
-    validator: &mut Validator<Plain>,
-    module: &Module,
-) -> Option<FunctionInfo> {
-    let fun = module.functions.as_slice().first()?;
-    if !validator.has_types_of(module) || !fits_types(module) || !fits_function(fun, module, 0) {
-        return None;
-    }
-    let infos = ModuleInfo::new(alloc);
-    match validator.validate_function(alloc, fun, module, &infos, false) {
-        Ok(info) => Some(info),
-        Err(_) => None,
-    }
-}
+/// What is judged before a case that comes after a large one: a function of a million expressions.
+const LARGE: Shape = Shape::Emits(1_000_000);
 
-/// The infos of a module's first function, which the others may call; `None` where it is refused.
-fn infos_of_first(
+/// Judges the first function, which the others may call, and puts its info.
+fn judge_first(
     alloc: Global,
     validator: &mut Validator<Plain>,
     module: &Module,
-) -> Result<Option<ModuleInfo>, AllocError> {
-    let Some(info) = info_of_first(alloc, validator, module) else {
-        return Ok(None);
+    infos: &mut ModuleInfo,
+) -> Result<(), Stop> {
+    let Some(fun) = module.functions.as_slice().first() else {
+        return Err(Stop::Refused);
     };
-    let mut infos = ModuleInfo::new(alloc);
-    infos.functions.push(info)?;
-    Ok(Some(infos))
+    if !validator.has_types_of(module) || !fits_types(module) {
+        return Err(Stop::Refused);
+    }
+    if !fits_function(fun, module, infos.functions.len()) {
+        return Err(Stop::Refused);
+    }
+    match validator.validate_function(alloc, fun, module, infos, false) {
+        Ok(info) => infos.functions.push(info)?,
+        Err(error) => {
+            drop(error);
+            return Err(Stop::Refused);
+        }
+    }
+    Ok(())
 }
 
-/// Each function of a module behind the first, so many times; the times together.
-fn each<C: Clock>(
-    clock: &C,
+/// Makes so many functions of a shape, after the one that they may call, which is judged.
+fn fill(
     alloc: Global,
     validator: &mut Validator<Plain>,
-    module: &Module,
-    infos: &ModuleInfo,
+    program: &mut Program,
+    shape: Shape,
+    of: u32,
+) -> Result<(), Stop> {
+    fill_module(alloc, &mut program.module, shape, of)?;
+    judge_first(alloc, validator, &program.module, &mut program.infos)
+}
+
+/// Each function after the first, so many times; the times together.
+fn each(
+    rt: &HostRuntime,
+    validator: &mut Validator<Plain>,
+    program: &Program,
     count: u64,
-) -> io::Result<Option<Times>> {
+) -> Result<Times, Stop> {
+    let Program { module, infos } = program;
     let mut times = Times::ZERO;
     for fun in module.functions.as_slice().iter().skip(1) {
         let timed = Timed { fun, module, infos };
-        match timing::function(clock, alloc, validator, timed, count)? {
-            Some(next) => times = times.plus(next),
-            None => return Ok(None),
-        }
+        times = times.plus(timing::function(rt, validator, timed, count)?);
     }
-    Ok(Some(times))
+    Ok(times)
 }
 
-/// The functions of a module behind the first, and how often each is timed: one so many times in a row, several one behind the
-/// other, so many times.
-fn functions<C: Clock>(
-    clock: &C,
-    alloc: Global,
+/// So many functions of a shape: one is timed so many times in a row, several one after the other, so many times.
+fn functions(
+    rt: &HostRuntime,
     validator: &mut Validator<Plain>,
-    module: &Module,
-    count: u64,
-) -> io::Result<Option<Times>> {
-    let Some(infos) = infos_of_first(alloc, validator, module)? else {
-        return Ok(None);
-    };
-    if module.functions.len() <= 2 {
-        return each(clock, alloc, validator, module, &infos, count);
-    }
-    let mut times = Times::NONE;
-    for _ in 0..count {
-        match each(clock, alloc, validator, module, &infos, 1)? {
-            Some(next) => times = times.fastest(next),
-            None => return Ok(None),
-        }
-    }
-    Ok(Some(times))
-}
-
-fn entry_point<C: Clock>(
-    clock: &C,
-    alloc: Global,
-    validator: &mut Validator<Plain>,
-    ep: &EntryPoint,
-    module: &Module,
-) -> io::Result<Option<Times>> {
-    let infos = ModuleInfo::new(alloc);
-    let mut times = Times::NONE;
-    for _ in 0..2000u64 {
-        match timing::entry_point(clock, alloc, validator, ep, module, &infos)? {
-            Some(next) => times = times.fastest(next),
-            None => return Ok(None),
-        }
-    }
-    Ok(Some(times))
-}
-
-/// So many functions of a shape.
-fn shape<C: Clock>(
-    clock: &C,
-    alloc: Global,
-    validator: &mut Validator<Plain>,
+    program: &mut Program,
     shape: Shape,
     of: u32,
     count: u64,
-) -> io::Result<Option<Times>> {
-    let module = module(alloc, shape, of)?;
-    let times = functions(clock, alloc, validator, &module, count);
-    drop(module);
-    times
+) -> Result<Times, Stop> {
+    fill(rt.alloc(), validator, program, shape, of)?;
+    if of == 1 {
+        return each(rt, validator, program, count);
+    }
+    let mut times = Times::NONE;
+    for _ in 0..count {
+        times = times.fastest(each(rt, validator, program, 1)?);
+    }
+    Ok(times)
 }
 
-/// The first function of a shape behind one of a million expressions, the fastest of ten such turns.
-fn first_after_large<C: Clock>(
-    clock: &C,
-    alloc: Global,
+/// Judges the large function once.
+fn judge_large(rt: &HostRuntime, validator: &mut Validator<Plain>) -> Result<(), Stop> {
+    let mut large = Program::new(rt.alloc());
+    let times = functions(rt, validator, &mut large, LARGE, 1, 1);
+    drop(large);
+    times?;
+    Ok(())
+}
+
+/// The first function of a shape after the large one, the fastest of ten such turns.
+fn first_after_large(
+    rt: &HostRuntime,
     validator: &mut Validator<Plain>,
+    program: &mut Program,
     shape: Shape,
-) -> io::Result<Option<Times>> {
-    let large = module(alloc, Shape::Emits(1_000_000), 1)?;
-    let times = first_after(clock, alloc, validator, shape, &large);
+) -> Result<Times, Stop> {
+    fill(rt.alloc(), validator, program, shape, 1)?;
+    let mut large = Program::new(rt.alloc());
+    let times = by_turns(rt, validator, program, &mut large);
     drop(large);
     times
 }
 
-/// The same behind the functions of this large module.
-fn first_after<C: Clock>(
-    clock: &C,
-    alloc: Global,
+/// The functions of a program after those of a large one, which is empty before, the fastest of ten such turns.
+fn by_turns(
+    rt: &HostRuntime,
     validator: &mut Validator<Plain>,
-    shape: Shape,
-    large: &Module,
-) -> io::Result<Option<Times>> {
-    let small = module(alloc, shape, 1)?;
-    let times = after(clock, alloc, validator, &small, large);
-    drop(small);
-    times
-}
-
-/// The same of this small module.
-fn after<C: Clock>(
-    clock: &C,
-    alloc: Global,
-    validator: &mut Validator<Plain>,
-    small: &Module,
-    large: &Module,
-) -> io::Result<Option<Times>> {
-    match infos_of_first(alloc, validator, small)? {
-        Some(infos) => by_turns(clock, alloc, validator, small, large, &infos),
-        None => Ok(None),
-    }
-}
-
-/// The functions of the small module behind those of the large one, the fastest of ten such turns.
-fn by_turns<C: Clock>(
-    clock: &C,
-    alloc: Global,
-    validator: &mut Validator<Plain>,
-    small: &Module,
-    large: &Module,
-    infos: &ModuleInfo,
-) -> io::Result<Option<Times>> {
+    program: &Program,
+    large: &mut Program,
+) -> Result<Times, Stop> {
+    fill(rt.alloc(), validator, large, LARGE, 1)?;
     let mut times = Times::NONE;
     for _ in 0..10u64 {
-        if each(clock, alloc, validator, large, infos, 1)?.is_none() {
-            return Ok(None);
-        }
-        match each(clock, alloc, validator, small, infos, 1)? {
-            Some(next) => times = times.fastest(next),
-            None => return Ok(None),
-        }
+        each(rt, validator, large, 1)?;
+        times = times.fastest(each(rt, validator, program, 1)?);
     }
-    Ok(Some(times))
+    Ok(times)
 }
 
-/// An entry point with so many varyings, from a location on, and so many globals.
-fn entry<C: Clock>(
-    clock: &C,
-    alloc: Global,
+/// The entry point of a program.
+fn entry(
+    rt: &HostRuntime,
     validator: &mut Validator<Plain>,
-    location: u32,
-    varyings: u32,
-    globals: u32,
-) -> io::Result<Option<Times>> {
-    let ep = modules::entry_point(alloc, location, varyings, globals)?;
-    let times = entry_in(clock, alloc, validator, &ep, globals);
-    drop(ep);
-    times
+    program: &Program,
+) -> Result<Times, Stop> {
+    let Program { module, infos } = program;
+    let Some(ep) = module.entry_points.as_slice().first() else {
+        return Err(Stop::Refused);
+    };
+    let mut times = Times::NONE;
+    for _ in 0..2000u64 {
+        times = times.fastest(timing::entry_point(rt, validator, ep, module, infos)?);
+    }
+    Ok(times)
 }
 
-/// This entry point in a module of so many globals.
-fn entry_in<C: Clock>(
-    clock: &C,
-    alloc: Global,
+/// The times of a case, whose parts are put into a program.
+fn times_of(
+    rt: &HostRuntime,
     validator: &mut Validator<Plain>,
-    ep: &EntryPoint,
-    globals: u32,
-) -> io::Result<Option<Times>> {
-    let module = with_globals(alloc, globals)?;
-    let times = entry_point(clock, alloc, validator, ep, &module);
-    drop(module);
-    times
-}
-
-/// The times of a case, `None` where something is refused.
-fn times_of<C: Clock>(
-    clock: &C,
-    alloc: Global,
-    validator: &mut Validator<Plain>,
+    program: &mut Program,
     case: Case,
-) -> io::Result<Option<Times>> {
+) -> Result<Times, Stop> {
     let count = repetitions(case.statements);
     match case.subject {
-        Subject::Body(body) => shape(clock, alloc, validator, body, 1, count),
-        Subject::AfterLarge(body) => {
-            let large = Shape::Emits(1_000_000);
-            match shape(clock, alloc, validator, large, 1, 1)? {
-                Some(_) => shape(clock, alloc, validator, body, 1, count),
-                None => Ok(None),
-            }
+        Subject::Body(shape) => functions(rt, validator, program, shape, 1, count),
+        Subject::AfterLarge(shape) => {
+            judge_large(rt, validator)?;
+            functions(rt, validator, program, shape, 1, count)
         }
-        Subject::FirstAfterLarge(body) => first_after_large(clock, alloc, validator, body),
-        Subject::Functions(body, of) => shape(clock, alloc, validator, body, of, count),
+        Subject::FirstAfterLarge(shape) => first_after_large(rt, validator, program, shape),
+        Subject::Functions(shape, of) => functions(rt, validator, program, shape, of, count),
         Subject::Entry {
             location,
             varyings,
             globals,
-        } => entry(clock, alloc, validator, location, varyings, globals),
+        } => {
+            let module = &mut program.module;
+            fill_entry(rt.alloc(), module, location, varyings, globals)?;
+            entry(rt, validator, program)
+        }
     }
 }
 
@@ -273,9 +207,9 @@ fn tenths_each(nanos: u64, statements: usize) -> u64 {
     }
 }
 
-fn print(rt: &HostRuntime, case: Case, times: Option<Times>) -> io::Result<()> {
+fn print(rt: &HostRuntime, case: Case, times: Result<Times, Stop>) -> io::Result<()> {
     match times {
-        Some(times) => {
+        Ok(times) => {
             let own = tenths_each(times.whole.saturating_sub(times.lower), case.statements);
             println!(rt;
                 "{:<34} {:>7} {:>11} {:>11} {:>11} {:>7}.{}",
@@ -288,14 +222,17 @@ fn print(rt: &HostRuntime, case: Case, times: Option<Times>) -> io::Result<()> {
                 own % 10
             )
         }
-        None => println!(rt; "{}: refused", case.name),
+        Err(Stop::Refused) => println!(rt; "{}: refused", case.name),
+        Err(Stop::Failed(error)) => Err(error),
     }
 }
 
 fn run(rt: &HostRuntime, case: Case) -> io::Result<()> {
-    let alloc = rt.alloc();
-    let mut validator = validator(alloc, TYPES)?;
-    let times = times_of(rt, alloc, &mut validator, case)?;
+    let mut validator = validator(rt.alloc(), TYPES)?;
+    let mut program = Program::new(rt.alloc());
+    let times = times_of(rt, &mut validator, &mut program, case);
+    drop(program);
+    drop(validator);
     print(rt, case, times)
 }
 

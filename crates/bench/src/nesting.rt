@@ -2,9 +2,10 @@
 //! each step is told once it is done; tools/stack finds the depth at which a step no longer ends.
 
 use crate::bodies::{Holder, Shape};
-use crate::infos_of_first;
-use crate::modules::module;
-use naga_below::{Module, ModuleInfo, fits_function, fits_types};
+use crate::judge_first;
+use crate::modules::{Program, fill_module};
+use crate::timing::Stop;
+use naga_below::{fits_function, fits_types};
 use naga_module::Plain;
 use naga_valid::Validator;
 use std::io;
@@ -19,13 +20,9 @@ pub fn holder_of(word: &str) -> Option<Holder> {
     }
 }
 
-/// Tests and judges the second function of a module.
-fn judge(
-    rt: &HostRuntime,
-    validator: &mut Validator<Plain>,
-    module: &Module,
-    infos: &ModuleInfo,
-) -> io::Result<()> {
+/// Tests and judges the second function.
+fn judge(rt: &HostRuntime, validator: &mut Validator<Plain>, program: &Program) -> io::Result<()> {
+    let Program { module, infos } = program;
     let Some(fun) = module.functions.as_slice().get(1) else {
         return println!(rt; "no function");
     };
@@ -42,20 +39,23 @@ fn judge(
     }
 }
 
-/// Tells that a module is made, and maybe what is judged of it.
+/// Makes a function of a shape, says so, and maybe judges it.
 fn tell(
     rt: &HostRuntime,
     validator: &mut Validator<Plain>,
-    module: &Module,
+    program: &mut Program,
+    shape: Shape,
     is_judged: bool,
 ) -> io::Result<()> {
+    fill_module(rt.alloc(), &mut program.module, shape, 1)?;
     println!(rt; "made")?;
     if !is_judged {
         return Ok(());
     }
-    match infos_of_first(rt.alloc(), validator, module)? {
-        Some(infos) => judge(rt, validator, module, &infos),
-        None => println!(rt; "not fit"),
+    match judge_first(rt.alloc(), validator, &program.module, &mut program.infos) {
+        Ok(()) => judge(rt, validator, program),
+        Err(Stop::Refused) => println!(rt; "not fit"),
+        Err(Stop::Failed(error)) => Err(error),
     }
 }
 
@@ -72,9 +72,9 @@ pub fn run(
         depth,
         width: 0,
     };
-    let module = module(rt.alloc(), nest, 1)?;
-    let told = tell(rt, validator, &module, is_judged);
-    drop(module);
+    let mut program = Program::new(rt.alloc());
+    let told = tell(rt, validator, &mut program, nest, is_judged);
+    drop(program);
     told?;
     println!(rt; "dropped")
 }

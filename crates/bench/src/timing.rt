@@ -9,7 +9,7 @@ use naga_rules::Below;
 use naga_valid::Validator;
 use std::alloc::{AllocError, Global};
 use std::io;
-use std::time::{Clock, Duration, Instant};
+use std::time::{Duration, Instant};
 
 /// What is known of a type that can be used for everything, and whose layouts are good.
 const INFO: TypeInfo = TypeInfo {
@@ -32,6 +32,27 @@ pub fn validator(alloc: Global, types: usize) -> Result<Validator<Plain>, AllocE
     validator.subgroup_stages(ShaderStages::ALL);
     validator.subgroup_operations(SubgroupOperationSet::ALL);
     Ok(validator)
+}
+
+/// Why a case has no times.
+#[derive(Drop)]
+pub enum Stop {
+    /// Something is refused, or something that is named isn't there.
+    Refused,
+    /// The clock failed, or there was no memory.
+    Failed(io::Error),
+}
+
+impl From<io::Error> for Stop {
+    fn from(error: io::Error) -> Self {
+        Stop::Failed(error)
+    }
+}
+
+impl From<AllocError> for Stop {
+    fn from(error: AllocError) -> Self {
+        Stop::Failed(io::Error::from(error))
+    }
 }
 
 /// Times in nanoseconds.
@@ -83,26 +104,6 @@ fn nanos(duration: Duration) -> u64 {
         .wrapping_add(u64::from(duration.subsec_nanos()))
 }
 
-/// The lower layer alone: types, uses and kinds. What it answers is dropped behind the clock.
-fn lower<C: Clock>(
-    clock: &C,
-    alloc: Global,
-    fun: &Function,
-    module: &Module,
-    infos: &ModuleInfo,
-) -> io::Result<u64> {
-    let below = Plain::without_mesh_shaders();
-    let flags = ALL_CHECKS;
-    let start = Instant::now(clock)?;
-    let info = below.process_function(alloc, fun, module, infos, flags, Capabilities::ALL);
-    let kinds = below.kinds(alloc, &fun.expressions);
-    let time = start.elapsed(clock);
-    let is_good = info.is_ok() && kinds.is_ok();
-    drop(info);
-    drop(kinds);
-    Ok(if is_good { nanos(time?) } else { u64::MAX })
-}
-
 /// A function that is timed, its module, and the infos of the functions before it.
 #[derive(Clone, Copy)]
 pub struct Timed<'a> {
@@ -111,117 +112,135 @@ pub struct Timed<'a> {
     pub infos: &'a ModuleInfo,
 }
 
-/// Tests the conditions so many times: the fastest, `None` where they don't hold.
-fn conditions<C: Clock>(
-    clock: &C,
+/// The lower layer alone: types, uses and kinds. What it answers is dropped after the clock has stopped.
+fn lower(rt: &HostRuntime, timed: Timed) -> Result<u64, Stop> {
+    let Timed { fun, module, infos } = timed;
+    let below = Plain::without_mesh_shaders();
+    let start = Instant::now(rt)?;
+    let info = below.process_function(
+        rt.alloc(),
+        fun,
+        module,
+        infos,
+        ALL_CHECKS,
+        Capabilities::ALL,
+    );
+    let kinds = below.kinds(rt.alloc(), &fun.expressions);
+    let time = start.elapsed(rt);
+    let is_good = info.is_ok() && kinds.is_ok();
+    drop(info);
+    drop(kinds);
+    Ok(if is_good { nanos(time?) } else { u64::MAX })
+}
+
+/// Whether the conditions hold under which a validator judges a function.
+fn fits(validator: &Validator<Plain>, timed: Timed) -> bool {
+    let Timed { fun, module, infos } = timed;
+    validator.has_types_of(module)
+        && fits_types(module)
+        && fits_function(fun, module, infos.functions.len())
+}
+
+/// Tests the conditions so many times: the fastest.
+fn conditions(
+    rt: &HostRuntime,
     validator: &Validator<Plain>,
     timed: Timed,
     count: u64,
-) -> io::Result<Option<u64>> {
-    let Timed { fun, module, infos } = timed;
+) -> Result<u64, Stop> {
     let mut fastest = u64::MAX;
     for _ in 0..count {
-        let start = Instant::now(clock)?;
-        if !validator.has_types_of(module) || !fits_types(module) {
-            return Ok(None);
+        let start = Instant::now(rt)?;
+        if !fits(validator, timed) {
+            return Err(Stop::Refused);
         }
-        if !fits_function(fun, module, infos.functions.len()) {
-            return Ok(None);
-        }
-        fastest = fastest.min(nanos(start.elapsed(clock)?));
+        fastest = fastest.min(nanos(start.elapsed(rt)?));
     }
-    Ok(Some(fastest))
+    Ok(fastest)
 }
 
-/// Judges a function so many times: the fastest, `None` where it is refused. What is answered is dropped behind the clock.
-fn judgement<C: Clock>(
-    clock: &C,
-    alloc: Global,
+/// Judges a function so many times: the fastest. What is answered is dropped after the clock has stopped.
+fn judgement(
+    rt: &HostRuntime,
     validator: &mut Validator<Plain>,
     timed: Timed,
     count: u64,
-) -> io::Result<Option<u64>> {
+) -> Result<u64, Stop> {
     let Timed { fun, module, infos } = timed;
     if !fits_types(module) || !fits_function(fun, module, infos.functions.len()) {
-        return Ok(None);
+        return Err(Stop::Refused);
     }
     let mut fastest = u64::MAX;
     for _ in 0..count {
         if !validator.has_types_of(module) {
-            return Ok(None);
+            return Err(Stop::Refused);
         }
-        let start = Instant::now(clock)?;
-        let answer = validator.validate_function(alloc, fun, module, infos, false);
-        let time = start.elapsed(clock);
+        let start = Instant::now(rt)?;
+        let answer = validator.validate_function(rt.alloc(), fun, module, infos, false);
+        let time = start.elapsed(rt);
         let is_refused = answer.is_err();
         drop(answer);
         if is_refused {
-            return Ok(None);
+            return Err(Stop::Refused);
         }
         fastest = fastest.min(nanos(time?));
     }
-    Ok(Some(fastest))
+    Ok(fastest)
 }
 
 /// A function's times, each the fastest of so many in a row: so each finds in the caches what it left there itself.
-pub fn function<C: Clock>(
-    clock: &C,
-    alloc: Global,
+pub fn function(
+    rt: &HostRuntime,
     validator: &mut Validator<Plain>,
     timed: Timed,
     count: u64,
-) -> io::Result<Option<Times>> {
-    let Some(conditions) = conditions(clock, validator, timed, count)? else {
-        return Ok(None);
-    };
-    let judged = judgement(clock, alloc, validator, timed, count)?;
-    let Some(whole) = judged else {
-        return Ok(None);
-    };
+) -> Result<Times, Stop> {
+    let conditions = conditions(rt, validator, timed, count)?;
+    let whole = judgement(rt, validator, timed, count)?;
     let mut fastest = u64::MAX;
     for _ in 0..count {
-        fastest = fastest.min(lower(clock, alloc, timed.fun, timed.module, timed.infos)?);
+        fastest = fastest.min(lower(rt, timed)?);
     }
-    Ok(Some(Times {
+    Ok(Times {
         whole,
         lower: fastest,
         conditions,
-    }))
+    })
 }
 
-/// One judgement of an entry point, `None` where it is refused.
-pub fn entry_point<C: Clock>(
-    clock: &C,
-    alloc: Global,
+/// One judgement of an entry point.
+pub fn entry_point(
+    rt: &HostRuntime,
     validator: &mut Validator<Plain>,
     ep: &EntryPoint,
     module: &Module,
     infos: &ModuleInfo,
-) -> io::Result<Option<Times>> {
-    let start = Instant::now(clock)?;
+) -> Result<Times, Stop> {
+    let start = Instant::now(rt)?;
     if !validator.has_types_of(module) || !fits_types(module) || !fits_entry(ep, module) {
-        return Ok(None);
+        return Err(Stop::Refused);
     }
     if !fits_function(&ep.function, module, infos.functions.len()) {
-        return Ok(None);
+        return Err(Stop::Refused);
     }
     if !validator.has_payload_sizes(module) {
-        return Ok(None);
+        return Err(Stop::Refused);
     }
-    let conditions = nanos(start.elapsed(clock)?);
-    let start = Instant::now(clock)?;
-    let answer = validator.validate_entry_point(alloc, ep, module, infos);
-    let time = start.elapsed(clock);
+    let conditions = nanos(start.elapsed(rt)?);
+    let start = Instant::now(rt)?;
+    let answer = validator.validate_entry_point(rt.alloc(), ep, module, infos);
+    let time = start.elapsed(rt);
     let is_refused = answer.is_err();
     drop(answer);
     if is_refused {
-        return Ok(None);
+        return Err(Stop::Refused);
     }
     let whole = nanos(time?);
-    let lower = lower(clock, alloc, &ep.function, module, infos)?;
-    Ok(Some(Times {
+    let fun = &ep.function;
+    let lower = lower(rt, Timed { fun, module, infos })?;
+    Ok(Times {
         whole,
         lower,
         conditions,
-    }))
+    })
 }

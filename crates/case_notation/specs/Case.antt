@@ -6,7 +6,7 @@ use Rattle.case_notation.specs.declared.bench.Bench.{Bench}
 use Rattle.case_notation.specs.declared.case.Case as declared
 use Rattle.case_notation.specs.declared.token.Token.{Token}
 use Rattle.case_notation.specs.Bench.{bench_word}
-use Rattle.case_notation.specs.Blocks.{block_of}
+use Rattle.case_notation.specs.CaseBlocks.{block_of}
 use Rattle.case_notation.specs.Words.{IsPrintable, words_of}
 use Rattle.case_notation.specs.Text.{AreTextsOf}
 use Rattle.case_notation.specs.Grammar.{Spells, depth}

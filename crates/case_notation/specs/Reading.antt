@@ -13,12 +13,12 @@ use Rattle.case_notation.specs.declared.reader.parts.Naming.{Naming}
 use Rattle.case_notation.specs.declared.reader.parts.Naming.TheVariants as naming
 use Rattle.case_notation.specs.declared.reader.parts.Brace.{Brace}
 use Rattle.case_notation.specs.declared.reader.parts.Brace.TheVariants as brace
-use Rattle.case_notation.specs.Parts.{Part, part_as, kind_of}
-use Rattle.case_notation.specs.Parts as part
+use Rattle.case_notation.specs.CaseParts.{Part, part_as, kind_of}
+use Rattle.case_notation.specs.CaseParts as part
 use Rattle.case_notation.specs.declared.reader.parts.Wants.{Wants}
 use Rattle.case_notation.specs.declared.reader.parts.Wants.TheVariants as wants
 use Rattle.case_notation.specs.Feeding.{feeds}
-use Rattle.case_notation.specs.Blocks.{block_from, placed}
+use Rattle.case_notation.specs.CaseBlocks.{block_from, placed}
 use Rattle.case_notation.specs.Grammar.{emitting, call_of, store_of, control_barrier}
 
 -- what has been read so far: the open parts, the newest first, and the list at hand

@@ -5,7 +5,7 @@ use Rattle.case_notation.specs.declared.case.ReadError.{ReadError}
 use Rattle.case_notation.specs.declared.reader.parts.Frame.{Frame}
 use Rattle.case_notation.specs.declared.reader.Reader.{Reader}
 use Rattle.case_notation.specs.Feeding.{Steps}
-use Rattle.case_notation.specs.Parts.{Part, part_as}
+use Rattle.case_notation.specs.CaseParts.{Part, part_as}
 use Rattle.case_notation.specs.Reading.{State}
 
 abbrev pub part_of : Frame → Part

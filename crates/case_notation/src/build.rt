@@ -3,7 +3,7 @@
 ghost use Rattle.std.specs.Prelude.{◌≡◌, ◌++◌, ◌∷◌, [], OnOk};
 ghost use Rattle.ir_module.specs.declared.statements.Statement as ir;
 ghost use Rattle.ir_module.specs.declared.statements.SwitchCase.{SwitchCase'};
-ghost use Rattle.case_notation.specs.Blocks.{block_from, placed};
+ghost use Rattle.case_notation.specs.CaseBlocks.{block_from, placed};
 ghost use Rattle.case_notation.specs.Grammar.{emitting, call_of, store_of, control_barrier};
 
 use bitflags::Flags;
@@ -35,7 +35,7 @@ pub fn push(list: &mut Sequence<Located>, statement: Statement) -> Result<(), Al
 
 /// A block of these statements.
 #[inline(always)]
-#[tactic(auto, unfolding(crate::specs::Blocks::block_from))]
+#[tactic(auto, unfolding(crate::specs::CaseBlocks::block_from))]
 pub fn block_of(list: Sequence<Located>) -> Block
     ensures { result ≡ block_from list }
 {

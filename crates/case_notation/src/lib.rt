@@ -1,4 +1,5 @@
-//! The notation in which a case of the program `naga_check` is written, and its reading.
+//! The notation of the program `naga_check`, and its reader.
+//! Part of `naga_check`; no promise to users.
 #![tactic(auto)]
 
 pub mod bench;

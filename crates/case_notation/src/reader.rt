@@ -3,7 +3,7 @@
 ghost use Rattle.std.specs.Prelude.{◌≡◌, List, Some, None, option_and_then, IfOk, IsErrOf};
 ghost use Rattle.ir_module.specs.Tree.{Body};
 ghost use Rattle.ir_module.specs.View.{body_of, no_operands};
-ghost use Rattle.case_notation.specs.Blocks.{block_of};
+ghost use Rattle.case_notation.specs.CaseBlocks.{block_of};
 ghost use Rattle.case_notation.specs.declared.token.Token as declared;
 ghost use Rattle.case_notation.specs.Feeding.{Ends};
 ghost use Rattle.case_notation.specs.Reading.{reading_of};

@@ -11,7 +11,7 @@ use Rattle.ir_facts.specs.declared.valid.info.ModuleInfo.{ModuleInfo}
 use Rattle.check_errors.specs.declared.function.FunctionError.{FunctionError}
 use Rattle.ir_flags.specs.Bits.{NO_STAGE}
 use Rattle.case_run.specs.BenchModule.{bench_module}
-use Rattle.case_run.specs.Judged.{IsPlainAnswer, IsJudgementOf, module_of, settings_of, stages_of_last}
+use Rattle.case_run.specs.CaseJudgement.{IsPlainAnswer, IsJudgementOf, module_of, settings_of, stages_of_last}
 use Rattle.case_run.specs.Line.{Replies, IsDue, Writes, IsLine, IsLineOf, reply_line, reply_status}
 use Rattle.case_notation.specs.Case.{Case, HoldsBlock, Reads, case_of}
 use Rattle.naga_module.specs.ModuleJudgement.{Answer}

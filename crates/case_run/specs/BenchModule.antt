@@ -14,7 +14,7 @@ use Rattle.ir_types.specs.declared.types.Type.{«Type» as IrType}
 use Rattle.ir_types.specs.declared.types.TypeInner.TheVariants.{Scalar as ScalarType}
 use Rattle.case_notation.specs.declared.bench.Bench.{Bench}
 use Rattle.case_notation.specs.declared.bench.Bench.TheVariants.{P, C, D}
-use Rattle.case_notation.specs.Blocks.{block_of}
+use Rattle.case_notation.specs.CaseBlocks.{block_of}
 
 abbrev pub u32_scalar : Scalar
 u32_scalar = record { kind = Uint; width = 4 }

@@ -1,5 +1,5 @@
 pub mod BenchModule
-pub mod Judged
-pub mod Faults
+pub mod CaseJudgement
+pub mod FaultNames
 pub mod Line
 unfoldable pub use Rattle.case_run.specs.Line.{Replies, Writes}

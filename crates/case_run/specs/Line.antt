@@ -4,8 +4,8 @@ use Rattle.std.specs.Fmt.{digit_glyph}
 use Rattle.std.specs.Io.KnownBytes.{Appends}
 use Rattle.ir_flags.specs.declared.valid.ShaderStages.{ShaderStages}
 use Rattle.check_errors.specs.declared.function.FunctionError.{FunctionError}
-use Rattle.case_run.specs.Faults.{fault_name, inner_text, fault_handle}
-use Rattle.case_run.specs.Judged.{IsJudgementOf, stages_of_last}
+use Rattle.case_run.specs.FaultNames.{fault_name, inner_text, fault_handle}
+use Rattle.case_run.specs.CaseJudgement.{IsJudgementOf, stages_of_last}
 use Rattle.case_notation.specs.Case.{Case, Reads}
 use Rattle.naga_module.specs.ModuleJudgement.{Answer}
 use Rattle.naga_module.specs.declared.check.ModuleFault.TheVariants as told

@@ -120,7 +120,7 @@ fn bench_function(alloc: Global, bench: Bench, body: Block) -> Result<Function, 
 }
 
 /// The statements of `f`: it returns its literal.
-#[tactic(auto, unfolding(case_notation::specs::Blocks::list_of, case_notation::specs::Blocks::block_from))]
+#[tactic(auto, unfolding(case_notation::specs::CaseBlocks::list_of, case_notation::specs::CaseBlocks::block_from))]
 fn callee_body(alloc: Global) -> Result<Block, AllocError>
     ensures { IfOk result (λ b. b ≡ callee_block) }
 {

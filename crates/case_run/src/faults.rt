@@ -1,7 +1,7 @@
 //! How a fault is said in a line: its name, and the expression that it is about. Nothing here takes memory.
 
 ghost use Rattle.std.specs.Prelude.{◌≡◌};
-ghost use Rattle.case_run.specs.Faults.{fault_name, expression_name, call_name, expression_handle, call_handle, atomic_handle, subgroup_handle, fault_handle};
+ghost use Rattle.case_run.specs.FaultNames.{fault_name, expression_name, call_name, expression_handle, call_handle, atomic_handle, subgroup_handle, fault_handle};
 
 use check_errors::function::{AtomicError, CallError, FunctionError, SubgroupError};
 use ir_arena::handle::Handle;
@@ -9,7 +9,7 @@ use ir_arena::tag;
 use ir_facts::valid::expression_error::ExpressionError;
 
 /// The name of a fault.
-#[tactic(auto, unfolding(crate::specs::Faults::fault_name))]
+#[tactic(auto, unfolding(crate::specs::FaultNames::fault_name))]
 pub fn fault_name(fault: &FunctionError) -> &'static [u8]
     ensures { result.now ≡ fault_name fault.now }
 {
@@ -75,7 +75,7 @@ pub fn fault_name(fault: &FunctionError) -> &'static [u8]
 }
 
 /// The name of what is wrong with an expression.
-#[tactic(auto, unfolding(crate::specs::Faults::expression_name))]
+#[tactic(auto, unfolding(crate::specs::FaultNames::expression_name))]
 pub fn expression_name(error: ExpressionError) -> &'static [u8]
     ensures { result.now ≡ expression_name error }
 {
@@ -95,7 +95,7 @@ pub fn expression_name(error: ExpressionError) -> &'static [u8]
 }
 
 /// The name of what is wrong with a call.
-#[tactic(auto, unfolding(crate::specs::Faults::call_name))]
+#[tactic(auto, unfolding(crate::specs::FaultNames::call_name))]
 pub fn call_name(error: CallError) -> &'static [u8]
     ensures { result.now ≡ call_name error }
 {

@@ -2,7 +2,7 @@
 
 ghost use Rattle.std.specs.Prelude.{◌≡◌, [], IfOk, IfErr};
 ghost use Rattle.naga_module.specs.ModuleLaw.{IsToldOfFunctions};
-ghost use Rattle.case_run.specs.Judged.{IsPlainAnswer, flags_of, settings_of, bench_infos, module_of, stages_of_last};
+ghost use Rattle.case_run.specs.CaseJudgement.{IsPlainAnswer, flags_of, settings_of, bench_infos, module_of, stages_of_last};
 ghost use Rattle.case_run.specs.Line.{Replies};
 ghost use Rattle.case_notation.specs.Case.{HoldsBlock, case_of};
 ghost use Rattle.case_notation.specs.Sayable.{IsSayable};

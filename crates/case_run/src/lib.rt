@@ -1,4 +1,5 @@
-//! Cases of the program `naga_check`: the module of a bench around the body that is written, its judgement, and the line that says it.
+//! Judges one case of the program `naga_check` and writes its line (`run_case`).
+//! Part of `naga_check`; no promise to users.
 #![tactic(auto)]
 
 pub mod bench_module;

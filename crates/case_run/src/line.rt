@@ -2,7 +2,7 @@
 
 ghost use Rattle.std.specs.Prelude.{◌≡◌, OnOk};
 ghost use Rattle.std.specs.Io.KnownBytes.{Appends};
-ghost use Rattle.case_run.specs.Faults.{inner_text};
+ghost use Rattle.case_run.specs.FaultNames.{inner_text};
 ghost use Rattle.case_run.specs.Line.{accepted_line, fault_line, handle_text, hex_digit};
 
 use crate::faults::{call_name, expression_name, fault_handle, fault_name};
@@ -90,7 +90,7 @@ fn write_fault<W: Write>(fault: &FunctionError, writer: &mut W) -> io::Result<()
 }
 
 /// What is wrong inside, for faults of expressions and of calls.
-#[tactic(auto, unfolding(crate::specs::Faults::inner_text))]
+#[tactic(auto, unfolding(crate::specs::FaultNames::inner_text))]
 fn write_inner<W: Write>(fault: &FunctionError, writer: &mut W) -> io::Result<()>
     ensures { OnOk result (Appends (W.contents writer.old) (W.contents writer.new) (inner_text fault.now)) }
 {

@@ -1,5 +1,6 @@
-//! Makes a module by hand and has it judged over recorded facts: once with a good body, and once with a body that stores a
-//! value before it is there.
+//! Example: makes a module by hand and judges it over recorded facts, with a good body and with a bad one.
+//!
+//! The bad body stores a value before it is in scope.
 #![tactic(auto)]
 
 ghost use Rattle.std.specs.Prelude.{ℕ, ◌≡◌, OnOk, Some, slice_get};

@@ -9,7 +9,7 @@ use ir_facts::{Settings, TypeInfo};
 use ir_module::Module;
 use ir_types::TypeResolution;
 use json_values::read::error::ReadError;
-use json_values::read::from_json::{Fields, FromJson};
+use json_values::read::from_json::{FromJson, Held};
 use naga_layers::{FunctionFact, MeshAnalysisFact};
 use serde_json::Value;
 use std::alloc::Global;
@@ -37,62 +37,92 @@ impl FromJson for KnownFacts {
     ghost stands_for = { known_facts_of };
 
     fn from_json(alloc: Global, value: &Value) -> Result<Self, ReadError> {
-        let fields = Fields::of(
+        let held = Held {
             alloc,
             value,
-            &[
-                "type_infos",
-                "global_types",
-                "sizes",
-                "mesh_analyses",
-                "functions",
-                "entry_points",
-            ],
-        )?;
-        Ok(KnownFacts {
-            type_infos: fields.get("type_infos")?,
-            global_types: fields.get("global_types")?,
-            sizes: fields.get("sizes")?,
-            mesh_analyses: fields.get("mesh_analyses")?,
-            functions: fields.get("functions")?,
-            entry_points: fields.get("entry_points")?,
-        })
+            variant: None,
+        };
+        if let Err(error) = held.fields(&[
+            "type_infos",
+            "global_types",
+            "sizes",
+            "mesh_analyses",
+            "functions",
+            "entry_points",
+        ]) {
+            return Err(error);
+        }
+        match held.triple("type_infos", "global_types", "sizes") {
+            Ok((type_infos, global_types, sizes)) => {
+                match held.triple("mesh_analyses", "functions", "entry_points") {
+                    Ok((mesh_analyses, functions, entry_points)) => Ok(KnownFacts {
+                        type_infos,
+                        global_types,
+                        sizes,
+                        mesh_analyses,
+                        functions,
+                        entry_points,
+                    }),
+                    Err(error) => Err(error),
+                }
+            }
+            Err(error) => Err(error),
+        }
     }
 }
 
 /// The settings among the fields of a document.
-fn read_settings(fields: Fields) -> Result<Settings, ReadError>
-    ensures { Reads (settings_in (view fields.entry.value.now)) result }
+fn read_settings(held: Held) -> Result<Settings, ReadError>
+    ensures { Reads (settings_in (view held.entry.value.now)) result }
 {
-    Ok(Settings {
-        flags: fields.get("flags")?,
-        capabilities: fields.get("capabilities")?,
-        subgroup_stages: fields.get("subgroup_stages")?,
-        subgroup_operations: fields.get("subgroup_operations")?,
-    })
+    match held.quad(
+        "flags",
+        "capabilities",
+        "subgroup_stages",
+        "subgroup_operations",
+    ) {
+        Ok((flags, capabilities, subgroup_stages, subgroup_operations)) => Ok(Settings {
+            flags,
+            capabilities,
+            subgroup_stages,
+            subgroup_operations,
+        }),
+        Err(error) => Err(error),
+    }
 }
 
 impl FromJson for Document {
     ghost stands_for = { document_of };
 
     fn from_json(alloc: Global, value: &Value) -> Result<Self, ReadError> {
-        let fields = Fields::of(
+        let held = Held {
             alloc,
             value,
-            &[
-                "flags",
-                "capabilities",
-                "subgroup_stages",
-                "subgroup_operations",
-                "module",
-                "facts",
-            ],
-        )?;
-        let settings = read_settings(fields)?;
-        Ok(Document {
-            settings,
-            module: fields.get("module")?,
-            facts: fields.get("facts")?,
-        })
+            variant: None,
+        };
+        if let Err(error) = held.fields(&[
+            "flags",
+            "capabilities",
+            "subgroup_stages",
+            "subgroup_operations",
+            "module",
+            "facts",
+        ]) {
+            return Err(error);
+        }
+        match read_settings(held) {
+            Ok(settings) => match held.get("module") {
+                Ok(module) => match held.get("facts") {
+                    Ok(facts) => Ok(Document {
+                        settings,
+                        module,
+                        facts,
+                    }),
+                    Err(error) => Err(error),
+                },
+                Err(error) => Err(error),
+            },
+            Err(error) => Err(error),
+        }
     }
 }

@@ -1,5 +1,5 @@
-//! Documents: JSON texts that hold the settings of a validator, a module and the facts of it. A text is read by [`read_document`];
-//! what each value in it stands for is the trait [`FromJson`]'s.
+//! Reads a JSON text as a document: settings, a module and the facts about it ([`read_document`]).
+//! Part of `naga_judge`; no promise to users.
 #![tactic(auto)]
 
 pub mod document;

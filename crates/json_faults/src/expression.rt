@@ -8,31 +8,16 @@ use std::fmt;
 impl ToJson for ExpressionError {
     fn write_json<W: fmt::Write>(&self, out: &mut W) -> fmt::Result {
         match self {
-            ExpressionError::ExpectedBindingArrayType(value) => holding(
-                out,
-                "ExpectedBindingArrayType",
-                value,
-            ),
-            ExpressionError::ExpectedImageType(value) => holding(out, "ExpectedImageType", value),
-            ExpressionError::InvalidImageClass(value) => holding(out, "InvalidImageClass", value),
-            ExpressionError::InvalidImageCoordinateType(first, second) => pair(
-                out,
-                "InvalidImageCoordinateType",
-                first,
-                second,
-            ),
-            ExpressionError::InvalidImageArrayIndexType(value) => holding(
-                out,
-                "InvalidImageArrayIndexType",
-                value,
-            ),
-            ExpressionError::InvalidImageStorageAccess(value) => holding(
-                out,
-                "InvalidImageStorageAccess",
-                value,
-            ),
-            ExpressionError::InvalidImageFormat(value) => holding(out, "InvalidImageFormat", value),
-            ExpressionError::Lower(value) => holding(out, "Lower", value),
+            ExpressionError::ExpectedBindingArrayType(ty)
+            | ExpressionError::ExpectedImageType(ty) => holding(out, self, ty),
+            ExpressionError::InvalidImageClass(class) => holding(out, self, class),
+            ExpressionError::InvalidImageCoordinateType(dimension, coordinate) => {
+                pair(out, self, dimension, coordinate)
+            }
+            ExpressionError::InvalidImageArrayIndexType(index) => holding(out, self, index),
+            ExpressionError::InvalidImageStorageAccess(access) => holding(out, self, access),
+            ExpressionError::InvalidImageFormat(format) => holding(out, self, format),
+            ExpressionError::Lower(reason) => holding(out, self, reason),
             ExpressionError::NotInScope
             | ExpressionError::ExpectedGlobalVariable
             | ExpressionError::InvalidImageArrayIndex => write_name(out, self),

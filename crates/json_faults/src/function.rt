@@ -11,36 +11,27 @@ use std::fmt;
 impl ToJson for CallError {
     fn write_json<W: fmt::Write>(&self, out: &mut W) -> fmt::Result {
         match self {
-            CallError::Argument { index, source } => two_fields(
-                out,
-                "Argument",
-                ("index", index),
-                ("source", source),
-            ),
-            CallError::ResultAlreadyInScope(value) => holding(out, "ResultAlreadyInScope", value),
-            CallError::ResultAlreadyPopulated(value) => holding(
-                out,
-                "ResultAlreadyPopulated",
-                value,
-            ),
-            CallError::ArgumentCount { required, seen } => two_fields(
-                out,
-                "ArgumentCount",
-                ("required", required),
-                ("seen", seen),
-            ),
+            CallError::Argument { index, source } => {
+                two_fields(out, self, ("index", index), ("source", source))
+            }
+            CallError::ResultAlreadyInScope(result) | CallError::ResultAlreadyPopulated(result) => {
+                holding(out, self, result)
+            }
+            CallError::ArgumentCount { required, seen } => {
+                two_fields(out, self, ("required", required), ("seen", seen))
+            }
             CallError::ArgumentType {
                 index,
                 required,
                 seen_expression,
             } => three_fields(
                 out,
-                "ArgumentType",
+                self,
                 ("index", index),
                 ("required", required),
                 ("seen_expression", seen_expression),
             ),
-            CallError::ExpressionMismatch(value) => holding(out, "ExpressionMismatch", value),
+            CallError::ExpressionMismatch(result) => holding(out, self, result),
         }
     }
 }
@@ -48,32 +39,16 @@ impl ToJson for CallError {
 impl ToJson for AtomicError {
     fn write_json<W: fmt::Write>(&self, out: &mut W) -> fmt::Result {
         match self {
-            AtomicError::InvalidPointer(value) => holding(out, "InvalidPointer", value),
-            AtomicError::InvalidAddressSpace(value) => holding(out, "InvalidAddressSpace", value),
-            AtomicError::InvalidOperand(value) => holding(out, "InvalidOperand", value),
-            AtomicError::InvalidOperator(value) => holding(out, "InvalidOperator", value),
-            AtomicError::InvalidResultExpression(value) => holding(
-                out,
-                "InvalidResultExpression",
-                value,
-            ),
-            AtomicError::ResultExpressionExchange(value) => holding(
-                out,
-                "ResultExpressionExchange",
-                value,
-            ),
-            AtomicError::ResultExpressionNotExchange(value) => holding(
-                out,
-                "ResultExpressionNotExchange",
-                value,
-            ),
-            AtomicError::ResultTypeMismatch(value) => holding(out, "ResultTypeMismatch", value),
-            AtomicError::MissingCapability(value) => holding(out, "MissingCapability", value),
-            AtomicError::ResultAlreadyPopulated(value) => holding(
-                out,
-                "ResultAlreadyPopulated",
-                value,
-            ),
+            AtomicError::InvalidPointer(handle)
+            | AtomicError::InvalidOperand(handle)
+            | AtomicError::InvalidResultExpression(handle)
+            | AtomicError::ResultExpressionExchange(handle)
+            | AtomicError::ResultExpressionNotExchange(handle)
+            | AtomicError::ResultTypeMismatch(handle)
+            | AtomicError::ResultAlreadyPopulated(handle) => holding(out, self, handle),
+            AtomicError::InvalidAddressSpace(space) => holding(out, self, space),
+            AtomicError::InvalidOperator(function) => holding(out, self, function),
+            AtomicError::MissingCapability(capabilities) => holding(out, self, capabilities),
             AtomicError::MissingReturnValue => write_name(out, self),
         }
     }
@@ -82,18 +57,10 @@ impl ToJson for AtomicError {
 impl ToJson for SubgroupError {
     fn write_json<W: fmt::Write>(&self, out: &mut W) -> fmt::Result {
         match self {
-            SubgroupError::InvalidOperand(value) => holding(out, "InvalidOperand", value),
-            SubgroupError::ResultTypeMismatch(value) => holding(out, "ResultTypeMismatch", value),
-            SubgroupError::UnsupportedOperation(value) => holding(
-                out,
-                "UnsupportedOperation",
-                value,
-            ),
-            SubgroupError::InvalidInvocationIdExprType(value) => holding(
-                out,
-                "InvalidInvocationIdExprType",
-                value,
-            ),
+            SubgroupError::InvalidOperand(handle)
+            | SubgroupError::ResultTypeMismatch(handle)
+            | SubgroupError::InvalidInvocationIdExprType(handle) => holding(out, self, handle),
+            SubgroupError::UnsupportedOperation(operations) => holding(out, self, operations),
             SubgroupError::UnknownOperation => write_name(out, self),
         }
     }
@@ -102,7 +69,7 @@ impl ToJson for SubgroupError {
 impl ToJson for LocalVariableError {
     fn write_json<W: fmt::Write>(&self, out: &mut W) -> fmt::Result {
         match self {
-            LocalVariableError::InvalidType(value) => holding(out, "InvalidType", value),
+            LocalVariableError::InvalidType(ty) => holding(out, self, ty),
             LocalVariableError::InitializerType
             | LocalVariableError::NonConstOrOverrideInitializer => write_name(out, self),
         }
@@ -112,37 +79,66 @@ impl ToJson for LocalVariableError {
 impl ToJson for FunctionError {
     fn write_json<W: fmt::Write>(&self, out: &mut W) -> fmt::Result {
         match self {
-            FunctionError::Expression { handle, source } => two_fields(
-                out,
-                "Expression",
-                ("handle", handle),
-                ("source", source),
-            ),
-            FunctionError::ExpressionAlreadyInScope(value) => holding(
-                out,
-                "ExpressionAlreadyInScope",
-                value,
-            ),
+            FunctionError::ExpressionAlreadyInScope(handle)
+            | FunctionError::InvalidIfType(handle)
+            | FunctionError::InvalidSwitchType(handle)
+            | FunctionError::InvalidStorePointer(handle)
+            | FunctionError::InvalidImageAtomicValue(handle)
+            | FunctionError::InvalidRayQueryExpression(handle)
+            | FunctionError::InvalidAccelerationStructure(handle)
+            | FunctionError::MissingRayQueryVertexReturn(handle)
+            | FunctionError::InvalidRayDescriptor(handle)
+            | FunctionError::InvalidHitDistanceType(handle)
+            | FunctionError::WorkgroupUniformLoadExpressionMismatch(handle)
+            | FunctionError::WorkgroupUniformLoadInvalidPointer(handle)
+            | FunctionError::InvalidCooperativeStoreTarget(handle)
+            | FunctionError::InvalidCooperativeDataPointer(handle)
+            | FunctionError::EmitResult(handle)
+            | FunctionError::UnvisitedExpression(handle)
+            | FunctionError::InvalidMeshFunctionCall(handle)
+            | FunctionError::InvalidMeshShaderOutputType(handle) => holding(out, self, handle),
+            FunctionError::MissingAccelerationStructureVertexReturn(first, second)
+            | FunctionError::ConflictingMeshOutputTypes(first, second)
+            | FunctionError::ConflictingTaskPayloadVariables(first, second) => {
+                pair(out, self, first, second)
+            }
+            FunctionError::MismatchedPayloadType(ty, earlier) => pair(out, self, ty, earlier),
+            FunctionError::InvalidRayQueryType(ty) => holding(out, self, ty),
+            FunctionError::ConflictingSwitchCase(value) => holding(out, self, value),
+            FunctionError::InvalidImageAtomicFunction(function) => holding(out, self, function),
+            FunctionError::MissingCapability(capabilities) => holding(out, self, capabilities),
+            FunctionError::InvalidPayloadAddressSpace(space) => holding(out, self, space),
+            FunctionError::NonUniformWorkgroupUniformLoad(disruptor) => {
+                holding(out, self, disruptor)
+            }
+            FunctionError::InvalidImageStore(error) | FunctionError::InvalidImageAtomic(error) => {
+                holding(out, self, error)
+            }
+            FunctionError::InvalidAtomic(error) => holding(out, self, error),
+            FunctionError::InvalidSubgroup(error) => holding(out, self, error),
+            FunctionError::NonUniformControlFlow(requirements, handle, disruptor) => {
+                triple(out, self, requirements, handle, disruptor)
+            }
+            FunctionError::Expression { handle, source } => {
+                two_fields(out, self, ("handle", handle), ("source", source))
+            }
             FunctionError::LocalVariable {
                 handle,
                 name,
                 source,
             } => three_fields(
                 out,
-                "LocalVariable",
+                self,
                 ("handle", handle),
                 ("name", name),
                 ("source", source),
             ),
-            FunctionError::InvalidArgumentType { index, name } => two_fields(
-                out,
-                "InvalidArgumentType",
-                ("index", index),
-                ("name", name),
-            ),
+            FunctionError::InvalidArgumentType { index, name } => {
+                two_fields(out, self, ("index", index), ("name", name))
+            }
             FunctionError::InvalidArgumentPointerSpace { index, name, space } => three_fields(
                 out,
-                "InvalidArgumentPointerSpace",
+                self,
                 ("index", index),
                 ("name", name),
                 ("space", space),
@@ -152,167 +148,33 @@ impl ToJson for FunctionError {
                 expected_ty,
             } => two_fields(
                 out,
-                "InvalidReturnType",
+                self,
                 ("expression", expression),
                 ("expected_ty", expected_ty),
             ),
-            FunctionError::InvalidIfType(value) => holding(out, "InvalidIfType", value),
-            FunctionError::InvalidSwitchType(value) => holding(out, "InvalidSwitchType", value),
-            FunctionError::ConflictingSwitchCase(value) => holding(
-                out,
-                "ConflictingSwitchCase",
-                value,
-            ),
-            FunctionError::InvalidStorePointer(value) => holding(out, "InvalidStorePointer", value),
-            FunctionError::InvalidStoreTexture { actual, actual_ty } => two_fields(
-                out,
-                "InvalidStoreTexture",
-                ("actual", actual),
-                ("actual_ty", actual_ty),
-            ),
+            FunctionError::InvalidStoreTexture { actual, actual_ty } => {
+                two_fields(out, self, ("actual", actual), ("actual_ty", actual_ty))
+            }
             FunctionError::InvalidStoreValue {
                 actual,
                 actual_ty,
                 expected_ty,
             } => three_fields(
                 out,
-                "InvalidStoreValue",
+                self,
                 ("actual", actual),
                 ("actual_ty", actual_ty),
                 ("expected_ty", expected_ty),
             ),
-            FunctionError::InvalidStoreTypes { pointer, value } => two_fields(
-                out,
-                "InvalidStoreTypes",
-                ("pointer", pointer),
-                ("value", value),
-            ),
-            FunctionError::InvalidImageStore(value) => holding(out, "InvalidImageStore", value),
-            FunctionError::InvalidImageAtomic(value) => holding(out, "InvalidImageAtomic", value),
-            FunctionError::InvalidImageAtomicFunction(value) => holding(
-                out,
-                "InvalidImageAtomicFunction",
-                value,
-            ),
-            FunctionError::InvalidImageAtomicValue(value) => holding(
-                out,
-                "InvalidImageAtomicValue",
-                value,
-            ),
-            FunctionError::InvalidCall { function, error } => two_fields(
-                out,
-                "InvalidCall",
-                ("function", function),
-                ("error", error),
-            ),
-            FunctionError::InvalidAtomic(value) => holding(out, "InvalidAtomic", value),
-            FunctionError::InvalidRayQueryExpression(value) => holding(
-                out,
-                "InvalidRayQueryExpression",
-                value,
-            ),
-            FunctionError::InvalidAccelerationStructure(value) => holding(
-                out,
-                "InvalidAccelerationStructure",
-                value,
-            ),
-            FunctionError::MissingAccelerationStructureVertexReturn(first, second) => pair(
-                out,
-                "MissingAccelerationStructureVertexReturn",
-                first,
-                second,
-            ),
-            FunctionError::MissingRayQueryVertexReturn(value) => holding(
-                out,
-                "MissingRayQueryVertexReturn",
-                value,
-            ),
-            FunctionError::InvalidRayDescriptor(value) => holding(
-                out,
-                "InvalidRayDescriptor",
-                value,
-            ),
-            FunctionError::InvalidRayQueryType(value) => holding(out, "InvalidRayQueryType", value),
-            FunctionError::InvalidHitDistanceType(value) => holding(
-                out,
-                "InvalidHitDistanceType",
-                value,
-            ),
-            FunctionError::MissingCapability(value) => holding(out, "MissingCapability", value),
-            FunctionError::NonUniformControlFlow(first, second, third) => triple(
-                out,
-                "NonUniformControlFlow",
-                first,
-                second,
-                third,
-            ),
-            FunctionError::PipelineInputRegularFunction { name } => one_field(
-                out,
-                "PipelineInputRegularFunction",
-                "name",
-                name,
-            ),
-            FunctionError::NonUniformWorkgroupUniformLoad(value) => holding(
-                out,
-                "NonUniformWorkgroupUniformLoad",
-                value,
-            ),
-            FunctionError::WorkgroupUniformLoadExpressionMismatch(value) => holding(
-                out,
-                "WorkgroupUniformLoadExpressionMismatch",
-                value,
-            ),
-            FunctionError::WorkgroupUniformLoadInvalidPointer(value) => holding(
-                out,
-                "WorkgroupUniformLoadInvalidPointer",
-                value,
-            ),
-            FunctionError::InvalidSubgroup(value) => holding(out, "InvalidSubgroup", value),
-            FunctionError::InvalidCooperativeStoreTarget(value) => holding(
-                out,
-                "InvalidCooperativeStoreTarget",
-                value,
-            ),
-            FunctionError::InvalidCooperativeDataPointer(value) => holding(
-                out,
-                "InvalidCooperativeDataPointer",
-                value,
-            ),
-            FunctionError::EmitResult(value) => holding(out, "EmitResult", value),
-            FunctionError::UnvisitedExpression(value) => holding(out, "UnvisitedExpression", value),
-            FunctionError::InvalidMeshFunctionCall(value) => holding(
-                out,
-                "InvalidMeshFunctionCall",
-                value,
-            ),
-            FunctionError::ConflictingMeshOutputTypes(first, second) => pair(
-                out,
-                "ConflictingMeshOutputTypes",
-                first,
-                second,
-            ),
-            FunctionError::ConflictingTaskPayloadVariables(first, second) => pair(
-                out,
-                "ConflictingTaskPayloadVariables",
-                first,
-                second,
-            ),
-            FunctionError::InvalidMeshShaderOutputType(value) => holding(
-                out,
-                "InvalidMeshShaderOutputType",
-                value,
-            ),
-            FunctionError::InvalidPayloadAddressSpace(value) => holding(
-                out,
-                "InvalidPayloadAddressSpace",
-                value,
-            ),
-            FunctionError::MismatchedPayloadType(first, second) => pair(
-                out,
-                "MismatchedPayloadType",
-                first,
-                second,
-            ),
+            FunctionError::InvalidStoreTypes { pointer, value } => {
+                two_fields(out, self, ("pointer", pointer), ("value", value))
+            }
+            FunctionError::InvalidCall { function, error } => {
+                two_fields(out, self, ("function", function), ("error", error))
+            }
+            FunctionError::PipelineInputRegularFunction { name } => {
+                one_field(out, self, "name", name)
+            }
             FunctionError::NonConstructibleReturnType
             | FunctionError::BreakOutsideOfLoopOrSwitch
             | FunctionError::ContinueOutsideOfLoop

@@ -9,41 +9,20 @@ use std::fmt;
 impl ToJson for GlobalVariableError {
     fn write_json<W: fmt::Write>(&self, out: &mut W) -> fmt::Result {
         match self {
-            GlobalVariableError::InvalidUsage(value) => holding(out, "InvalidUsage", value),
-            GlobalVariableError::InvalidType(value) => holding(out, "InvalidType", value),
-            GlobalVariableError::InvalidBindingArray(value) => holding(
-                out,
-                "InvalidBindingArray",
-                value,
-            ),
-            GlobalVariableError::MissingTypeFlags { required, seen } => two_fields(
-                out,
-                "MissingTypeFlags",
-                ("required", required),
-                ("seen", seen),
-            ),
-            GlobalVariableError::UnsupportedCapability(value) => holding(
-                out,
-                "UnsupportedCapability",
-                value,
-            ),
-            GlobalVariableError::Alignment(first, second, third) => triple(
-                out,
-                "Alignment",
-                first,
-                second,
-                third,
-            ),
-            GlobalVariableError::InitializerNotAllowed(value) => holding(
-                out,
-                "InitializerNotAllowed",
-                value,
-            ),
-            GlobalVariableError::InvalidImmediateType(value) => holding(
-                out,
-                "InvalidImmediateType",
-                value,
-            ),
+            GlobalVariableError::InvalidUsage(space)
+            | GlobalVariableError::InvalidType(space)
+            | GlobalVariableError::InitializerNotAllowed(space) => holding(out, self, space),
+            GlobalVariableError::InvalidBindingArray(ty) => holding(out, self, ty),
+            GlobalVariableError::MissingTypeFlags { required, seen } => {
+                two_fields(out, self, ("required", required), ("seen", seen))
+            }
+            GlobalVariableError::UnsupportedCapability(capabilities) => {
+                holding(out, self, capabilities)
+            }
+            GlobalVariableError::Alignment(space, ty, disalignment) => {
+                triple(out, self, space, ty, disalignment)
+            }
+            GlobalVariableError::InvalidImmediateType(error) => holding(out, self, error),
             GlobalVariableError::InvalidBinding
             | GlobalVariableError::InitializerExprType
             | GlobalVariableError::InitializerType
@@ -59,92 +38,50 @@ impl ToJson for GlobalVariableError {
 impl ToJson for VaryingError {
     fn write_json<W: fmt::Write>(&self, out: &mut W) -> fmt::Result {
         match self {
-            VaryingError::InvalidType(value) => holding(out, "InvalidType", value),
-            VaryingError::NotIOShareableType(value) => holding(out, "NotIOShareableType", value),
-            VaryingError::InvalidInterpolationInStage(first, second) => pair(
-                out,
-                "InvalidInterpolationInStage",
-                first,
-                second,
-            ),
+            VaryingError::InvalidType(ty) | VaryingError::NotIOShareableType(ty) => {
+                holding(out, self, ty)
+            }
+            VaryingError::InvalidInterpolationInStage(interpolation, stage) => {
+                pair(out, self, interpolation, stage)
+            }
             VaryingError::InvalidInterpolationSamplingCombination {
                 interpolation,
                 sampling,
             } => two_fields(
                 out,
-                "InvalidInterpolationSamplingCombination",
+                self,
                 ("interpolation", interpolation),
                 ("sampling", sampling),
             ),
-            VaryingError::InvalidBuiltInStage(value) => holding(out, "InvalidBuiltInStage", value),
-            VaryingError::InvalidBuiltInType(first, second) => pair(
-                out,
-                "InvalidBuiltInType",
-                first,
-                second,
-            ),
-            VaryingError::MemberMissingBinding(value) => holding(
-                out,
-                "MemberMissingBinding",
-                value,
-            ),
-            VaryingError::BindingCollision { location } => one_field(
-                out,
-                "BindingCollision",
-                "location",
-                location,
-            ),
-            VaryingError::BindingCollisionBlendSrc { blend_src } => one_field(
-                out,
-                "BindingCollisionBlendSrc",
-                "blend_src",
-                blend_src,
-            ),
-            VaryingError::DuplicateBuiltIn(value) => holding(out, "DuplicateBuiltIn", value),
-            VaryingError::UnsupportedCapability(value) => holding(
-                out,
-                "UnsupportedCapability",
-                value,
-            ),
-            VaryingError::InvalidInputAttributeInStage(first, second) => pair(
-                out,
-                "InvalidInputAttributeInStage",
-                first,
-                second,
-            ),
-            VaryingError::InvalidAttributeInStage(first, second) => pair(
-                out,
-                "InvalidAttributeInStage",
-                first,
-                second,
-            ),
+            VaryingError::InvalidBuiltInStage(built_in)
+            | VaryingError::DuplicateBuiltIn(built_in) => holding(out, self, built_in),
+            VaryingError::InvalidBuiltInType(built_in, ty) => pair(out, self, built_in, ty),
+            VaryingError::MemberMissingBinding(index) => holding(out, self, index),
+            VaryingError::BindingCollision { location }
+            | VaryingError::InvalidBlendSrcWithOtherBindings { location } => {
+                one_field(out, self, "location", location)
+            }
+            VaryingError::BindingCollisionBlendSrc { blend_src } => {
+                one_field(out, self, "blend_src", blend_src)
+            }
+            VaryingError::UnsupportedCapability(capabilities) => holding(out, self, capabilities),
+            VaryingError::InvalidInputAttributeInStage(attribute, stage)
+            | VaryingError::InvalidAttributeInStage(attribute, stage) => {
+                pair(out, self, attribute, stage)
+            }
             VaryingError::InvalidBlendSrcIndex {
                 location,
                 blend_src,
-            } => two_fields(
-                out,
-                "InvalidBlendSrcIndex",
-                ("location", location),
-                ("blend_src", blend_src),
-            ),
-            VaryingError::IncompleteBlendSrcUsage { present_blend_src } => one_field(
-                out,
-                "IncompleteBlendSrcUsage",
-                "present_blend_src",
-                present_blend_src,
-            ),
-            VaryingError::InvalidBlendSrcWithOtherBindings { location } => one_field(
-                out,
-                "InvalidBlendSrcWithOtherBindings",
-                "location",
-                location,
-            ),
+            } => two_fields(out, self, ("location", location), ("blend_src", blend_src)),
+            VaryingError::IncompleteBlendSrcUsage { present_blend_src } => {
+                one_field(out, self, "present_blend_src", present_blend_src)
+            }
             VaryingError::BlendSrcOutputTypeMismatch {
                 blend_src_0_type,
                 blend_src_1_type,
             } => two_fields(
                 out,
-                "BlendSrcOutputTypeMismatch",
+                self,
                 ("blend_src_0_type", blend_src_0_type),
                 ("blend_src_1_type", blend_src_1_type),
             ),
@@ -164,36 +101,19 @@ impl ToJson for VaryingError {
 impl ToJson for EntryPointError {
     fn write_json<W: fmt::Write>(&self, out: &mut W) -> fmt::Result {
         match self {
-            EntryPointError::InvalidGlobalUsage(first, second) => pair(
-                out,
-                "InvalidGlobalUsage",
-                first,
-                second,
-            ),
-            EntryPointError::BindingCollision(value) => holding(out, "BindingCollision", value),
-            EntryPointError::Argument(first, second) => pair(out, "Argument", first, second),
-            EntryPointError::Result(value) => holding(out, "Result", value),
-            EntryPointError::Function(value) => holding(out, "Function", value),
-            EntryPointError::UnsupportedCapability(value) => holding(
-                out,
-                "UnsupportedCapability",
-                value,
-            ),
-            EntryPointError::TaskPayloadTooSmall(value) => holding(
-                out,
-                "TaskPayloadTooSmall",
-                value,
-            ),
-            EntryPointError::RayPayloadInInvalidStage(value) => holding(
-                out,
-                "RayPayloadInInvalidStage",
-                value,
-            ),
-            EntryPointError::IncomingRayPayloadInInvalidStage(value) => holding(
-                out,
-                "IncomingRayPayloadInInvalidStage",
-                value,
-            ),
+            EntryPointError::InvalidGlobalUsage(global, used) => pair(out, self, global, used),
+            EntryPointError::BindingCollision(global) => holding(out, self, global),
+            EntryPointError::Argument(index, error) => pair(out, self, index, error),
+            EntryPointError::Result(error) => holding(out, self, error),
+            EntryPointError::Function(error) => holding(out, self, error),
+            EntryPointError::UnsupportedCapability(capabilities) => {
+                holding(out, self, capabilities)
+            }
+            EntryPointError::TaskPayloadTooSmall(size) => holding(out, self, size),
+            EntryPointError::RayPayloadInInvalidStage(stage)
+            | EntryPointError::IncomingRayPayloadInInvalidStage(stage) => {
+                holding(out, self, stage)
+            }
             EntryPointError::Conflict
             | EntryPointError::MissingVertexOutputPosition
             | EntryPointError::UnexpectedEarlyDepthTest

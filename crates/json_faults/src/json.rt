@@ -182,21 +182,35 @@ pub fn write_set<B: Flags + Copy, W: fmt::Write>(out: &mut W, set: &B) -> fmt::R
     out.write_str("\"]")
 }
 
+/// The beginning of a variant that holds something: `{"NAME":` and what opens its parts. What stands for a variant, here and
+/// below, is displayed as its name.
+fn open<V: fmt::Display + Copy, W: fmt::Write>(
+    out: &mut W,
+    variant: V,
+    opens: &str,
+) -> fmt::Result {
+    write!(out, "{{\"{variant}\":{opens}")
+}
+
 /// A variant that holds one value: `{"NAME":VALUE}`.
-pub fn holding<A: ToJson, W: fmt::Write>(out: &mut W, variant: &str, value: &A) -> fmt::Result {
-    write!(out, "{{\"{variant}\":")?;
+pub fn holding<V: fmt::Display + Copy, A: ToJson, W: fmt::Write>(
+    out: &mut W,
+    variant: V,
+    value: &A,
+) -> fmt::Result {
+    open(out, variant, "")?;
     value.write_json(out)?;
     out.write_char('}')
 }
 
 /// A variant that holds two values: `{"NAME":[A,B]}`.
-pub fn pair<A: ToJson, B: ToJson, W: fmt::Write>(
+pub fn pair<V: fmt::Display + Copy, A: ToJson, B: ToJson, W: fmt::Write>(
     out: &mut W,
-    variant: &str,
+    variant: V,
     first: &A,
     second: &B,
 ) -> fmt::Result {
-    write!(out, "{{\"{variant}\":[")?;
+    open(out, variant, "[")?;
     first.write_json(out)?;
     out.write_char(',')?;
     second.write_json(out)?;
@@ -204,14 +218,14 @@ pub fn pair<A: ToJson, B: ToJson, W: fmt::Write>(
 }
 
 /// A variant that holds three values: `{"NAME":[A,B,C]}`.
-pub fn triple<A: ToJson, B: ToJson, C: ToJson, W: fmt::Write>(
+pub fn triple<V: fmt::Display + Copy, A: ToJson, B: ToJson, C: ToJson, W: fmt::Write>(
     out: &mut W,
-    variant: &str,
+    variant: V,
     first: &A,
     second: &B,
     third: &C,
 ) -> fmt::Result {
-    write!(out, "{{\"{variant}\":[")?;
+    open(out, variant, "[")?;
     first.write_json(out)?;
     out.write_char(',')?;
     second.write_json(out)?;
@@ -232,39 +246,39 @@ pub fn field<A: ToJson, W: fmt::Write>(
 }
 
 /// A variant with one field: `{"NAME":{"FIELD":VALUE}}`.
-pub fn one_field<A: ToJson, W: fmt::Write>(
+pub fn one_field<V: fmt::Display + Copy, A: ToJson, W: fmt::Write>(
     out: &mut W,
-    variant: &str,
+    variant: V,
     name: &str,
     value: &A,
 ) -> fmt::Result {
-    write!(out, "{{\"{variant}\":{{")?;
+    open(out, variant, "{")?;
     field(out, "", name, value)?;
     out.write_str("}}")
 }
 
 /// A variant with two fields.
-pub fn two_fields<A: ToJson, B: ToJson, W: fmt::Write>(
+pub fn two_fields<V: fmt::Display + Copy, A: ToJson, B: ToJson, W: fmt::Write>(
     out: &mut W,
-    variant: &str,
+    variant: V,
     first: (&str, &A),
     second: (&str, &B),
 ) -> fmt::Result {
-    write!(out, "{{\"{variant}\":{{")?;
+    open(out, variant, "{")?;
     field(out, "", first.0, first.1)?;
     field(out, ",", second.0, second.1)?;
     out.write_str("}}")
 }
 
 /// A variant with three fields.
-pub fn three_fields<A: ToJson, B: ToJson, C: ToJson, W: fmt::Write>(
+pub fn three_fields<V: fmt::Display + Copy, A: ToJson, B: ToJson, C: ToJson, W: fmt::Write>(
     out: &mut W,
-    variant: &str,
+    variant: V,
     first: (&str, &A),
     second: (&str, &B),
     third: (&str, &C),
 ) -> fmt::Result {
-    write!(out, "{{\"{variant}\":{{")?;
+    open(out, variant, "{")?;
     field(out, "", first.0, first.1)?;
     field(out, ",", second.0, second.1)?;
     field(out, ",", third.0, third.1)?;

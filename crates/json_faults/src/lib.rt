@@ -1,4 +1,5 @@
-//! How faults, and what they hold, are written as JSON (the trait [`ToJson`](json::ToJson)).
+//! Writes faults, and what they hold, as JSON (the trait [`ToJson`](json::ToJson)).
+//! Part of `naga_judge`; no promise to users.
 #![tactic(auto)]
 
 pub mod expression;

@@ -26,9 +26,13 @@ counts n (Some ms) = members_len ms == n
 abbrev pub has_count : ℕ → Data → Bool
 has_count n d = counts n (as_object d)
 
+-- whether it is an object with exactly these fields
+abbrev pub has_only : List (List ℕ) → Data → Bool
+has_only names d = has_count (length names) d && has_each names d
+
 -- an object with exactly these fields
 abbrev pub fields_of : List (List ℕ) → Data → Option Data
-fields_of names d = if has_count (length names) d && has_each names d then Some d else None
+fields_of names d = if has_only names d then Some d else None
 
 -- what an object with exactly these fields stands for
 abbrev pub fielded : {T : Type 0} → List (List ℕ) → (Data → Option T) → Data → Option T

@@ -1,4 +1,5 @@
-//! What JSON values stand for, type by type, as the form of a document has it (the trait [`FromJson`]), and how they are read.
+//! Reads each value of a JSON document, and says what it stands for (the trait [`FromJson`]).
+//! Part of `naga_judge`; no promise to users.
 #![tactic(auto)]
 
 pub mod read;

@@ -1,5 +1,5 @@
 -- The verdict of a text.
-use Rattle.std.specs.Prelude.{ℕ, List, Result, Ok, Err}
+use Rattle.std.specs.Prelude.{◌≡◌, ◌⊎◌, ℕ, List, Result, Ok, Err}
 use Rattle.ir_facts.specs.declared.valid.info.ModuleInfo.{ModuleInfo}
 use Rattle.naga_module.specs.ModuleJudgement.{IsAnswered}
 use Rattle.naga_layers.specs.Recorded.Meaning.{recorded_meaning}
@@ -27,24 +27,23 @@ recorded_of d =
 abbrev pub IsJudged : Document → Result ModuleInfo ModuleFault → Type 0
 IsJudged d r = IsAnswered (recorded_meaning (recorded_of d)) d.settings d.facts.type_infos d.module d.facts.global_types r
 
--- it is the module's fault, and not want of memory
-abbrev pub IsFault : ModuleFault → Type 0
-IsFault fault.Memory = ⊥
-IsFault (fault.Global place inner) = Unit {0}
-IsFault (fault.Function place inner) = Unit {0}
-IsFault (fault.EntryPoint place inner) = Unit {0}
-IsFault fault.NotFit = Unit {0}
+-- there was no memory, or the text is a document and its module has this fault
+abbrev pub Refuses : List ℕ → ModuleFault → Type 0
+Refuses text e = (e ≡ fault.Memory) ⊎ ((d : Document) × IsDocument text d × IsJudged d (Err e))
 
--- The text is a document, and this is its module's judgement; or the text is no document; or there was no memory.
+-- The text is a document, this is its module, and these are the infos that its judgement answers; or there was no memory, or its
+-- judgement answers this fault; or the text is no document.
 abbrev pub Judges : List ℕ → judge.Verdict → Type 0
-Judges text (verdict.Ok infos) = (d : Document) × IsDocument text d × IsJudged d (Ok infos)
-Judges text (verdict.Refused e) = (d : Document) × IsDocument text d × IsJudged d (Err e) × IsFault e
+Judges text (verdict.Accepted m infos) = (d : Document) × IsDocument text d × (d.module ≡ m) × IsJudged d (Ok infos)
+Judges text (verdict.Refused e) = Refuses text e
 Judges text (verdict.Unreadable unreadable) = (d : Document) → IsDocument text d → ⊥
-Judges text verdict.Memory = Unit {0}
 
 -- the exit status that says a verdict
 abbrev pub status_of : judge.Verdict → ℕ
-status_of (verdict.Ok infos) = 0
-status_of (verdict.Refused e) = 1
+status_of (verdict.Accepted m infos) = 0
+status_of (verdict.Refused fault.Memory) = 3
+status_of (verdict.Refused fault.NotFit) = 1
+status_of (verdict.Refused (fault.Global place inner)) = 1
+status_of (verdict.Refused (fault.Function place inner)) = 1
+status_of (verdict.Refused (fault.EntryPoint place inner)) = 1
 status_of (verdict.Unreadable unreadable) = 2
-status_of verdict.Memory = 3

@@ -1,5 +1,5 @@
-//! Verdicts of documents: each is the one that `check_module` gives of the document's module, over its facts, with its settings;
-//! and how it is written, as JSON or for a person, from a reader to a writer. The program `naga_judge` is a command line over it.
+//! Judges documents and writes their verdicts, as JSON or for a person: the library of the program `naga_judge`.
+//! The verdict of a document is what `check_module` answers for its module, over its facts, with its settings.
 #![tactic(auto)]
 
 pub mod judge;

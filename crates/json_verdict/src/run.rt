@@ -3,7 +3,8 @@
 use crate::judge::{Verdict, judge};
 use crate::verdict::{write_json, write_lines};
 use json_document::MOST_BYTES;
-use std::alloc::{AllocError, Global};
+use naga_module::ModuleFault;
+use std::alloc::Global;
 use std::io::{Read, Write};
 use std::{fmt, io};
 
@@ -14,38 +15,40 @@ pub enum Form {
     Json,
 }
 
-/// The verdict as text, with the end of its last line.
-fn text_of(alloc: Global, verdict: &Verdict, form: Form) -> Result<String, fmt::Error> {
-    let mut text = String::new(alloc);
+/// Writes the verdict as text, with the end of its last line.
+fn write_text(text: &mut String, verdict: &Verdict, form: Form) -> fmt::Result {
     match form {
-        Form::Lines => write_lines(&mut text, verdict)?,
-        Form::Json => write_json(&mut text, verdict)?,
+        Form::Lines => write_lines(text, verdict)?,
+        Form::Json => write_json(text, verdict)?,
     }
     text.push_str("\n")?;
-    Ok(text)
+    Ok(())
 }
 
-/// Writes a verdict, or that there is no memory to judge or to write it, which takes none, and answers the exit status.
-fn reply<W: Write>(alloc: Global, writer: &mut W, verdict: &Verdict, form: Form) -> io::Result<u8> {
-    if let Verdict::Memory = verdict {
-        return reply_memory(writer, form);
-    }
-    match text_of(alloc, verdict, form) {
-        Ok(text) => {
-            writer.write_all(text.as_str().as_bytes())?;
-            Ok(verdict.status())
-        }
-        Err(_) => reply_memory(writer, form),
-    }
-}
-
-/// Writes that there is no memory.
-fn reply_memory<W: Write>(writer: &mut W, form: Form) -> io::Result<u8> {
+/// What says that there is no memory.
+fn memory_text(form: Form) -> &'static [u8] {
     match form {
-        Form::Lines => writer.write_all(b"memory\n".as_slice())?,
-        Form::Json => writer.write_all(b"\"memory\"\n".as_slice())?,
+        Form::Lines => b"memory\n",
+        Form::Json => b"\"memory\"\n",
     }
-    Ok(Verdict::Memory.status())
+}
+
+/// Writes a verdict and answers its exit status; where there is no memory for its text, those of no memory.
+fn reply<W: Write>(alloc: Global, writer: &mut W, verdict: &Verdict, form: Form) -> io::Result<u8> {
+    let mut text = String::new(alloc);
+    let is_whole = write_text(&mut text, verdict, form).is_ok();
+    let written = if is_whole {
+        writer.write_all(text.as_str().as_bytes())
+    } else {
+        writer.write_all(memory_text(form))
+    };
+    drop(text);
+    written?;
+    Ok(if is_whole {
+        verdict.status()
+    } else {
+        Verdict::Refused(ModuleFault::Memory).status()
+    })
 }
 
 /// A document as its bytes come in. Of one that is too long only so much is kept that this can be told.
@@ -70,7 +73,13 @@ impl Bytes {
         }
     }
 
-    /// Whether the verdict is known, whatever comes behind these bytes.
+    /// Begins the next document.
+    fn clear(&mut self) {
+        self.kept.clear();
+        self.is_lost = false;
+    }
+
+    /// Whether the verdict is known, whatever comes after these bytes.
     fn is_settled(&self) -> bool {
         self.is_lost || self.kept.len() > MOST_BYTES
     }
@@ -78,10 +87,65 @@ impl Bytes {
     /// The verdict of the document.
     fn judge(&self, alloc: Global) -> Verdict {
         if self.is_lost {
-            Verdict::Memory
+            Verdict::Refused(ModuleFault::Memory)
         } else {
             judge(alloc, self.kept.as_slice())
         }
+    }
+
+    /// Judges the document, writes its verdict, and answers the exit status.
+    fn reply<W: Write>(&self, alloc: Global, writer: &mut W, form: Form) -> io::Result<u8> {
+        let verdict = self.judge(alloc);
+        let status = reply(alloc, writer, &verdict, form);
+        drop(verdict);
+        status
+    }
+
+    /// Reads until the input ends, or until so much was read that the verdict is known.
+    fn read<R: Read>(&mut self, reader: &mut R) -> io::Result<()> {
+        let mut chunk = [0u8; 4096];
+        for _ in 0..u64::MAX {
+            let count = reader.read(&mut chunk)?;
+            for byte in &chunk[..count] {
+                self.push(*byte);
+            }
+            if count == 0 || self.is_settled() {
+                break;
+            }
+        }
+        Ok(())
+    }
+
+    /// Reads one document a line, writes the verdict of each, and answers the greatest exit status.
+    fn read_lines<R: Read, W: Write>(
+        &mut self,
+        alloc: Global,
+        reader: &mut R,
+        writer: &mut W,
+    ) -> io::Result<u8> {
+        let mut is_begun = false;
+        let mut status = 0;
+        let mut chunk = [0u8; 4096];
+        for _ in 0..u64::MAX {
+            let count = reader.read(&mut chunk)?;
+            if count == 0 {
+                break;
+            }
+            for byte in &chunk[..count] {
+                is_begun = *byte != b'\n';
+                if is_begun {
+                    self.push(*byte);
+                } else {
+                    status = status.max(self.reply(alloc, writer, Form::Json)?);
+                    self.clear();
+                }
+            }
+            writer.flush()?;
+        }
+        if is_begun {
+            status = status.max(self.reply(alloc, writer, Form::Json)?);
+        }
+        Ok(status)
     }
 }
 
@@ -94,20 +158,12 @@ pub fn run_document<R: Read, W: Write>(
     form: Form,
 ) -> io::Result<u8> {
     let mut bytes = Bytes::new(alloc);
-    let mut chunk = [0u8; 4096];
-    for _ in 0..u64::MAX {
-        let count = reader.read(&mut chunk)?;
-        if count == 0 {
-            break;
-        }
-        for byte in &chunk[..count] {
-            bytes.push(*byte);
-        }
-        if bytes.is_settled() {
-            break;
-        }
-    }
-    let status = reply(alloc, writer, &bytes.judge(alloc), form)?;
+    let status = match bytes.read(reader) {
+        Ok(()) => bytes.reply(alloc, writer, form),
+        Err(error) => Err(error),
+    };
+    drop(bytes);
+    let status = status?;
     writer.flush()?;
     Ok(status)
 }
@@ -121,28 +177,9 @@ pub fn run_lines<R: Read, W: Write>(
     writer: &mut W,
 ) -> io::Result<u8> {
     let mut bytes = Bytes::new(alloc);
-    let mut is_begun = false;
-    let mut status = 0;
-    let mut chunk = [0u8; 4096];
-    for _ in 0..u64::MAX {
-        let count = reader.read(&mut chunk)?;
-        if count == 0 {
-            break;
-        }
-        for byte in &chunk[..count] {
-            is_begun = *byte != b'\n';
-            if is_begun {
-                bytes.push(*byte);
-            } else {
-                status = status.max(reply(alloc, writer, &bytes.judge(alloc), Form::Json)?);
-                bytes = Bytes::new(alloc);
-            }
-        }
-        writer.flush()?;
-    }
-    if is_begun {
-        status = status.max(reply(alloc, writer, &bytes.judge(alloc), Form::Json)?);
-    }
+    let status = bytes.read_lines(alloc, reader, writer);
+    drop(bytes);
+    let status = status?;
     writer.flush()?;
     Ok(status)
 }

@@ -3,7 +3,7 @@
 use crate::judge::Verdict;
 use json_document::Unreadable;
 use json_faults::json::{ToJson, field, write_list, write_names};
-use naga_below::{FunctionInfo, ModuleInfo, Span};
+use naga_below::{FunctionInfo, Module, ModuleInfo, ShaderStage, Span};
 use naga_module::ModuleFault;
 use naga_rules::Explain;
 use naga_valid::EntryPointError;
@@ -12,18 +12,9 @@ use std::fmt;
 /// Writes the verdict on one line without an end: as JSON of its form, without white space.
 pub fn write_json<W: fmt::Write>(out: &mut W, verdict: &Verdict) -> fmt::Result {
     match verdict {
-        Verdict::Ok(info) => write_infos(out, info),
-        Verdict::Refused(fault) => {
-            out.write_str("{\"refused\":{\"at\":")?;
-            write_at(out, fault)?;
-            out.write_str(",\"fault\":")?;
-            write_fault(out, fault)?;
-            out.write_str(",\"spans\":")?;
-            write_list(out, spans_of(fault))?;
-            out.write_str("}}")
-        }
+        Verdict::Accepted { infos, .. } => write_infos(out, infos),
+        Verdict::Refused(fault) => write_refused(out, fault),
         Verdict::Unreadable(unreadable) => write_unreadable(out, unreadable),
-        Verdict::Memory => out.write_str("\"memory\""),
     }
 }
 
@@ -59,43 +50,47 @@ fn write_entry<W: fmt::Write>(out: &mut W, entry: &FunctionInfo) -> fmt::Result 
     out.write_char('}')
 }
 
-/// What has the fault.
-fn write_at<W: fmt::Write>(out: &mut W, fault: &ModuleFault) -> fmt::Result {
+/// What has the fault, the fault and its places; or that there was no memory.
+fn write_refused<W: fmt::Write>(out: &mut W, fault: &ModuleFault) -> fmt::Result {
     match fault {
-        ModuleFault::NotFit => out.write_str("\"NotFit\""),
-        ModuleFault::Global(global, _) => {
-            let index = global.index();
-            write!(out, "{{\"Global\":{index}}}")
+        ModuleFault::NotFit => {
+            out.write_str("{\"refused\":{\"at\":\"NotFit\",\"fault\":null,\"spans\":[]}}")
         }
-        ModuleFault::Function(function, _) => {
-            let index = function.index();
-            write!(out, "{{\"Function\":{index}}}")
+        ModuleFault::Global(global, error) => {
+            write_fault(out, ("Global", global.index()), error, &[])
         }
-        ModuleFault::EntryPoint(index, _) => {
-            let index = *index;
-            write!(out, "{{\"EntryPoint\":{index}}}")
-        }
-        ModuleFault::Memory => out.write_str("\"Memory\""),
+        ModuleFault::Function(function, error) => write_fault(
+            out,
+            ("Function", function.index()),
+            error.as_inner(),
+            error.spans(),
+        ),
+        ModuleFault::EntryPoint(index, error) => write_fault(
+            out,
+            ("EntryPoint", *index),
+            error.as_inner(),
+            error.spans(),
+        ),
+        ModuleFault::Memory => out.write_str("\"memory\""),
     }
 }
 
-/// The fault itself.
-fn write_fault<W: fmt::Write>(out: &mut W, fault: &ModuleFault) -> fmt::Result {
-    match fault {
-        ModuleFault::NotFit | ModuleFault::Memory => out.write_str("null"),
-        ModuleFault::Global(_, error) => error.write_json(out),
-        ModuleFault::Function(_, error) => error.as_inner().write_json(out),
-        ModuleFault::EntryPoint(_, error) => error.as_inner().write_json(out),
-    }
-}
-
-/// The places of the fault.
-fn spans_of(fault: &ModuleFault) -> &[Span] {
-    match fault {
-        ModuleFault::NotFit | ModuleFault::Memory | ModuleFault::Global(_, _) => &[],
-        ModuleFault::Function(_, error) => error.spans(),
-        ModuleFault::EntryPoint(_, error) => error.spans(),
-    }
+/// A fault of the part of the module that has this kind and index, and the places of the fault.
+fn write_fault<E: ToJson, W: fmt::Write>(
+    out: &mut W,
+    part: (&str, usize),
+    fault: &E,
+    spans: &[Span],
+) -> fmt::Result {
+    let (kind, index) = part;
+    write!(
+        out,
+        "{{\"refused\":{{\"at\":{{\"{kind}\":{index}}},\"fault\":"
+    )?;
+    fault.write_json(out)?;
+    out.write_str(",\"spans\":")?;
+    write_list(out, spans)?;
+    out.write_str("}}")
 }
 
 /// Where reading stopped, and what was expected there.
@@ -112,65 +107,89 @@ fn write_unreadable<W: fmt::Write>(out: &mut W, unreadable: &Unreadable) -> fmt:
 /// Writes the verdict for a person, on several lines of which the last has no end.
 pub fn write_lines<W: fmt::Write>(out: &mut W, verdict: &Verdict) -> fmt::Result {
     match verdict {
-        Verdict::Ok(info) => {
-            out.write_str("ok")?;
-            for (index, function) in info.functions.as_slice().iter().enumerate() {
-                write!(out, "\nfunction {index}:")?;
-                write_stages(out, function)?;
-            }
-            for (index, entry) in info.entry_points.as_slice().iter().enumerate() {
-                write!(out, "\nentry point {index}:")?;
-                write_stages(out, entry)?;
-            }
-            Ok(())
+        Verdict::Accepted { module, infos } => tell_infos(out, module, infos),
+        Verdict::Refused(fault) => tell_refused(out, fault),
+        Verdict::Unreadable(unreadable) => tell_unreadable(out, unreadable),
+    }
+}
+
+/// The stages that the body of each function and of each entry point could run in, after an entry point's own stage.
+fn tell_infos<W: fmt::Write>(out: &mut W, module: &Module, infos: &ModuleInfo) -> fmt::Result {
+    out.write_str("ok")?;
+    for (index, function) in infos.functions.as_slice().iter().enumerate() {
+        write!(out, "\nfunction {index}: accepted; its body could run in:")?;
+        tell_stages(out, function)?;
+    }
+    let entry_points = module.entry_points.as_slice();
+    for (index, entry) in infos.entry_points.as_slice().iter().enumerate() {
+        write!(out, "\nentry point {index} (")?;
+        if let Some(ep) = entry_points.get(index) {
+            out.write_str(stage_name(ep.stage))?;
         }
-        Verdict::Refused(fault) => write_refused(out, fault),
-        Verdict::Unreadable(unreadable) => {
-            let expected = unreadable.expected;
-            if unreadable.steps.is_empty() {
-                write!(out, "unreadable: expected {expected}")
-            } else {
-                write!(out, "unreadable at {unreadable}: expected {expected}")
-            }
-        }
-        Verdict::Memory => out.write_str("memory"),
+        out.write_str("): accepted; its body could run in:")?;
+        tell_stages(out, entry)?;
+    }
+    Ok(())
+}
+
+/// A stage, by the name that sets of stages have for it.
+fn stage_name(stage: ShaderStage) -> &'static str {
+    match stage {
+        ShaderStage::Vertex => "VERTEX",
+        ShaderStage::Fragment => "FRAGMENT",
+        ShaderStage::Compute => "COMPUTE",
+        ShaderStage::Mesh => "MESH",
+        ShaderStage::Task => "TASK",
+        ShaderStage::RayGeneration => "RAY_GENERATION",
+        ShaderStage::AnyHit => "ANY_HIT",
+        ShaderStage::ClosestHit => "CLOSEST_HIT",
+        ShaderStage::Miss => "MISS",
     }
 }
 
 /// The names of the stages, with a space before each.
-fn write_stages<W: fmt::Write>(out: &mut W, info: &FunctionInfo) -> fmt::Result {
+fn tell_stages<W: fmt::Write>(out: &mut W, info: &FunctionInfo) -> fmt::Result {
     write_names(out, &info.available_stages, " ", " ")
 }
 
-/// What has the fault, the fault, its places, and what it means.
-fn write_refused<W: fmt::Write>(out: &mut W, fault: &ModuleFault) -> fmt::Result {
-    out.write_str("refused\n")?;
+/// Where reading stopped, and what was expected there.
+fn tell_unreadable<W: fmt::Write>(out: &mut W, unreadable: &Unreadable) -> fmt::Result {
+    let expected = unreadable.expected;
+    if unreadable.steps.is_empty() {
+        write!(out, "unreadable: expected {expected}")
+    } else {
+        write!(out, "unreadable at {unreadable}: expected {expected}")
+    }
+}
+
+/// What has the fault, the fault, its places, and what it means; or that there was no memory.
+fn tell_refused<W: fmt::Write>(out: &mut W, fault: &ModuleFault) -> fmt::Result {
     match fault {
         ModuleFault::NotFit => out.write_str(
-            "NotFit\n  something that is named isn't there, or the size of a task payload isn't known",
+            "refused\nNotFit\n  something that is named isn't there, or the size of a task payload isn't known",
         ),
-        ModuleFault::Memory => out.write_str("memory"),
         ModuleFault::Global(global, error) => {
             let index = global.index();
-            write!(out, "global {index}: {error:?}")?;
-            write_meaning(out, &[], error)
+            write!(out, "refused\nglobal {index}: {error:?}")?;
+            tell_meaning(out, &[], error)
         }
         ModuleFault::Function(function, error) => {
             let index = function.index();
             let inner = error.as_inner();
-            write!(out, "function {index}: {inner:?}")?;
-            write_meaning(out, error.spans(), inner)
+            write!(out, "refused\nfunction {index}: {inner:?}")?;
+            tell_meaning(out, error.spans(), inner)
         }
         ModuleFault::EntryPoint(index, error) => {
-            write!(out, "entry point {index}: ")?;
-            write_entry_fault(out, error.as_inner())?;
-            write_meaning(out, error.spans(), error.as_inner())
+            write!(out, "refused\nentry point {index}: ")?;
+            tell_entry_fault(out, error.as_inner())?;
+            tell_meaning(out, error.spans(), error.as_inner())
         }
+        ModuleFault::Memory => out.write_str("memory"),
     }
 }
 
 /// The fault of an entry point, with the name of its part before a fault inside.
-fn write_entry_fault<W: fmt::Write>(out: &mut W, fault: &EntryPointError) -> fmt::Result {
+fn tell_entry_fault<W: fmt::Write>(out: &mut W, fault: &EntryPointError) -> fmt::Result {
     match fault {
         EntryPointError::Function(error) => write!(out, "Function: {error:?}"),
         EntryPointError::Argument(index, error) => write!(out, "Argument {index}: {error:?}"),
@@ -180,7 +199,7 @@ fn write_entry_fault<W: fmt::Write>(out: &mut W, fault: &EntryPointError) -> fmt
 }
 
 /// The places of a fault, and what it means, on lines of their own.
-fn write_meaning<E: Explain, W: fmt::Write>(out: &mut W, spans: &[Span], fault: &E) -> fmt::Result {
+fn tell_meaning<E: Explain, W: fmt::Write>(out: &mut W, spans: &[Span], fault: &E) -> fmt::Result {
     let mut before = "\n  at ";
     for span in spans {
         let (start, end) = (span.start, span.end);

@@ -1,4 +1,6 @@
-//! Judges one case: reads it from standard input, writes one line to standard output, and ends with the line's status.
+//! Program for users: judges one body, written in a short notation (docs/PROGRAM.md), and writes one line.
+//!
+//! It reads the case from standard input, writes the line to standard output, and ends with the line's status.
 #![tactic(auto)]
 
 #[cfg(test)]

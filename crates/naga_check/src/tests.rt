@@ -1,16 +1,24 @@
 //! Whole runs of the program, and what they come to.
 
+use case_run::run_case;
+use std::alloc::Global;
+use std::io::{Read, Write};
+use std::process::Abort;
+
+/// What `assert!` does, by a call: a function that asserts much is then quick to prove.
+macro_rules! holds {
+    ($rt:expr; $holds:expr) => {
+        crate::tests::holding::assert_holds($rt, stringify!($holds), $holds)
+    };
+}
+
 mod failures;
+mod holding;
 mod inputs;
 mod made;
 mod notation;
 mod rows;
 mod settings;
-
-use case_run::run_case;
-use std::alloc::Global;
-use std::io::{Read, Write};
-use std::process::Abort;
 
 /// How many bytes there is room for: more than any line has.
 const ROOM: usize = 64;
@@ -85,9 +93,20 @@ fn gets<R: Read + Copy + Drop>(alloc: Global, input: R, line: &str) -> bool {
     again(|| run(alloc, input)).is(line)
 }
 
+/// An input gets this line.
+fn expect_line(rt: &(impl Abort + AllocGlobal), input: &str, line: &str) {
+    let holds = gets(rt.alloc(), input.as_bytes(), line);
+    assert!(rt; holds, "at {input:?}");
+}
+
 /// Inputs get the lines beside them.
 fn expect_rows(rt: &(impl Abort + AllocGlobal), rows: &[(&str, &str)]) {
     for &(input, line) in rows {
-        assert!(rt; gets(rt.alloc(), input.as_bytes(), line), "at {input:?}");
+        expect_line(rt, input, line);
     }
+}
+
+/// It holds where a number is this; else the test ends with the number.
+fn assert_at(rt: &impl Abort, place: usize, holds: bool) {
+    assert!(rt; holds, "at {place}");
 }

@@ -1,6 +1,7 @@
-//! Judges whole modules: reads a document with a module, the settings of a validator and facts from standard input, writes the
-//! verdict to standard output, and ends with 0 where the module is accepted, 1 where it is refused, 2 where the document is
-//! unreadable, 3 where there was no memory, and 4 where reading or writing failed.
+//! Program for users: judges whole modules from JSON documents (docs/MODULES.md).
+//!
+//! It reads documents from standard input and writes verdicts to standard output. Its status is 0 where the module is accepted, 1
+//! where it is refused, 2 where the document is unreadable, 3 where there was no memory, 4 where reading or writing failed.
 #![tactic(auto)]
 
 mod arguments;

@@ -14,13 +14,13 @@ use Rattle.case_notation.specs.declared.token.Token.{Token}
 use Rattle.case_notation.specs.declared.token.Token.TheVariants as token
 use Rattle.case_notation.specs.declared.reader.parts.Tail.{Tail}
 use Rattle.case_notation.specs.declared.reader.parts.Tail.TheVariants as tail
-use Rattle.case_notation.specs.Parts.{Part}
-use Rattle.case_notation.specs.Parts as part
+use Rattle.case_notation.specs.CaseParts.{Part}
+use Rattle.case_notation.specs.CaseParts as part
 use Rattle.case_notation.specs.declared.reader.parts.Wants.{Wants}
 use Rattle.case_notation.specs.declared.reader.parts.Wants.TheVariants as wants
 use Rattle.case_notation.specs.Feeding.{feeds}
 use Rattle.case_notation.specs.Grammar.{Spells, SpellsStatement, SpellsCases, depth, statement_depth, cases_depth, emission, calling, storing, waiting, emitting, call_of, store_of, control_barrier, arrow_if_any, SpellsEmit, in_braces, fall_if, break_if_any}
-use Rattle.case_notation.specs.Blocks.{block_from, block_of, placed, list_of, located_of, cases_of}
+use Rattle.case_notation.specs.CaseBlocks.{block_from, block_of, placed, list_of, located_of, cases_of}
 use Rattle.case_notation.specs.Reading.{State, begun, ready, wanting, enter, add_case, close_block, close_accept, close_if, close_case, close_turn, close, close_switch, end_loop, begin, put_alone, begin_at, settle, go_on, take_name, put_named, open_brace, next, step, whole, end_at, finish, reading_of}
 
 abbrev feed : Option State → List Token → Option State

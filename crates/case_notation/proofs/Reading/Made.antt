@@ -10,7 +10,7 @@ use Rattle.case_notation.specs.Words.{IsPrintable, words_of}
 use Rattle.ir_module.specs.View.{body_of, no_operands}
 use Rattle.ir_module.specs.declared.statements.Block.{Block}
 use Rattle.case_notation.specs.declared.token.Token.{Token}
-use Rattle.case_notation.specs.Blocks.{block_of}
+use Rattle.case_notation.specs.CaseBlocks.{block_of}
 use Rattle.case_notation.specs.Reading.{reading_of}
 use Rattle.case_notation.proofs.Reading.Complete.{reads_complete}
 use Rattle.case_notation.proofs.Reading.Sound.{reads_sound}

@@ -16,13 +16,13 @@ use Rattle.case_notation.specs.declared.reader.parts.Naming.{Naming}
 use Rattle.case_notation.specs.declared.reader.parts.Naming.TheVariants as naming
 use Rattle.case_notation.specs.declared.reader.parts.Brace.{Brace}
 use Rattle.case_notation.specs.declared.reader.parts.Brace.TheVariants as brace
-use Rattle.case_notation.specs.Parts.{Part}
-use Rattle.case_notation.specs.Parts as part
+use Rattle.case_notation.specs.CaseParts.{Part}
+use Rattle.case_notation.specs.CaseParts as part
 use Rattle.case_notation.specs.declared.reader.parts.Wants.{Wants}
 use Rattle.case_notation.specs.declared.reader.parts.Wants.TheVariants as wants
 use Rattle.case_notation.specs.Feeding.{feeds}
 use Rattle.case_notation.specs.Grammar.{Spells, SpellsStatement, SpellsCases, depth, statement_depth, cases_depth, emitting, call_of, store_of, control_barrier, in_braces, fall_if, break_if_any}
-use Rattle.case_notation.specs.Blocks.{block_from, placed}
+use Rattle.case_notation.specs.CaseBlocks.{block_from, placed}
 use Rattle.case_notation.specs.Reading.{State, begun, wanting, enter, add_case, close_block, close_accept, close_if, close_case, close_turn, close, close_switch, end_loop, begin, put_alone, begin_at, settle, go_on, take_name, put_named, open_brace, next, step, whole, end_at, finish, reading_of}
 use Rattle.case_notation.proofs.Reading.Trees.{body_of, body_in, stmt_of, cases_in, block_tree, switch_tree}
 

@@ -12,10 +12,10 @@ use Rattle.case_notation.specs.declared.reader.parts.Kind.{Kind}
 use Rattle.case_notation.specs.declared.reader.parts.Kind.TheVariants as kind
 use Rattle.case_notation.specs.declared.reader.parts.Tail.TheVariants as tail
 use Rattle.case_notation.specs.declared.reader.parts.Wants.TheVariants as wants
-use Rattle.case_notation.specs.Blocks.{block_from}
+use Rattle.case_notation.specs.CaseBlocks.{block_from}
 use Rattle.case_notation.specs.Feeding.{Steps}
-use Rattle.case_notation.specs.Parts.{Part, part_as}
-use Rattle.case_notation.specs.Parts as part
+use Rattle.case_notation.specs.CaseParts.{Part, part_as}
+use Rattle.case_notation.specs.CaseParts as part
 use Rattle.case_notation.specs.Reading.{State, wanting, close, close_block, close_accept, close_if, close_case, close_turn, add_case}
 use Rattle.case_notation.specs.Views.{newest_first, part_of}
 

@@ -13,7 +13,7 @@ use Rattle.ir_module.specs.declared.statements.SwitchCase as case
 use Rattle.ir_module.specs.declared.statements.SwitchCase.{SwitchCase}
 use Rattle.ir_arena.specs.declared.span.Span.{Span}
 use Rattle.case_notation.specs.declared.token.Token.{Token}
-use Rattle.case_notation.specs.Blocks.{block_from, block_of, list_of, located_of, cases_of}
+use Rattle.case_notation.specs.CaseBlocks.{block_from, block_of, list_of, located_of, cases_of}
 use Rattle.case_notation.specs.Grammar.{Spells, SpellsStatement, SpellsCases, no_span, emitting, call_of, store_of, control_barrier}
 
 -- the trees of a block, of statements, of one that stands in a list, and of cases

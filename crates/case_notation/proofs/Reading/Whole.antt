@@ -10,7 +10,7 @@ use Rattle.case_notation.specs.declared.bench.Bench.{Bench}
 use Rattle.case_notation.specs.declared.bench.Bench.TheVariants as bench
 use Rattle.case_notation.specs.declared.token.Token.{Token}
 use Rattle.case_notation.specs.Bench.{bench_word, bench_of}
-use Rattle.case_notation.specs.Blocks.{block_of}
+use Rattle.case_notation.specs.CaseBlocks.{block_of}
 use Rattle.case_notation.specs.Case.{Case, Say, Reads}
 use Rattle.case_notation.specs.Grammar.{Spells, depth}
 use Rattle.case_notation.specs.Head.{AreOptions}

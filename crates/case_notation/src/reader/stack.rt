@@ -1,7 +1,7 @@
 //! The stack of open parts, and the list of the newest one.
 
 ghost use Rattle.std.specs.Prelude.{◌≡◌};
-ghost use Rattle.case_notation.specs.Parts.{kind_of};
+ghost use Rattle.case_notation.specs.CaseParts.{kind_of};
 ghost use Rattle.case_notation.specs.Reading.{behind_brace};
 
 use crate::build::push;
@@ -51,7 +51,7 @@ fn behind_brace(brace: Brace) -> Wants
 
 impl Reader {
     ghost use Rattle.std.specs.Prelude.{◌≡◌, ◌++◌, ◌∷◌, []};
-    ghost use Rattle.case_notation.specs.Blocks.{placed};
+    ghost use Rattle.case_notation.specs.CaseBlocks.{placed};
     ghost use Rattle.case_notation.specs.Feeding.{Steps};
     ghost use Rattle.case_notation.specs.Reading.{State, behind_brace, enter, open_brace, ready, wanting};
     ghost use Rattle.case_notation.specs.Views.{Moves, state_of};

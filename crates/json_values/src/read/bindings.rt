@@ -2,11 +2,12 @@
 
 ghost use Rattle.serde_json.specs.View.{view};
 ghost use Rattle.json_values.specs.Reads.{Reads};
-ghost use Rattle.json_values.specs.Document.Bindings.{binding_of, built_in_of, interpolation_of, location_of, sampling_of};
+ghost use Rattle.json_values.specs.Variants.{holding};
+ghost use Rattle.json_values.specs.Document.Bindings.{binding_of, built_in_from, built_in_of, interpolation_of, location_of, sampling_of};
 
 use crate::read::error::ReadError;
-use crate::read::from_json::FromJson;
-use crate::read::variant::{Held, NO_NAMES, Variant, read_name, read_variant};
+use crate::read::from_json::{FromJson, Held};
+use crate::read::variant::{Variant, read_holding, read_name, read_variant};
 use ir_types::{Binding, BuiltIn, Interpolation, Sampling};
 use serde_json::Value;
 use std::alloc::Global;
@@ -75,24 +76,29 @@ const HOLDING_BUILT_INS: [(&str, BuiltInName); 2] = [
     ("Barycentric", BuiltInName::Barycentric),
 ];
 
+fn read_held_built_in(name: BuiltInName, held: Held) -> Result<BuiltIn, ReadError>
+    ensures { Reads (built_in_from (holding name (view held.entry.value.now))) result }
+{
+    match name {
+        BuiltInName::Position => match held.one("invariant") {
+            Ok(invariant) => Ok(BuiltIn::Position { invariant }),
+            Err(error) => Err(error),
+        },
+        BuiltInName::Barycentric => match held.one("perspective") {
+            Ok(perspective) => Ok(BuiltIn::Barycentric { perspective }),
+            Err(error) => Err(error),
+        },
+    }
+}
+
 impl FromJson for BuiltIn {
     ghost stands_for = { built_in_of };
 
     fn from_json(alloc: Global, value: &Value) -> Result<Self, ReadError> {
-        match read_variant(alloc, value, &BUILT_INS, &HOLDING_BUILT_INS)? {
-            Variant::Plain(found) => Ok(found),
-            Variant::Holding(BuiltInName::Position, held) => {
-                let fields = held.fields(&["invariant"])?;
-                Ok(BuiltIn::Position {
-                    invariant: fields.get("invariant")?,
-                })
-            }
-            Variant::Holding(BuiltInName::Barycentric, held) => {
-                let fields = held.fields(&["perspective"])?;
-                Ok(BuiltIn::Barycentric {
-                    perspective: fields.get("perspective")?,
-                })
-            }
+        match read_variant(alloc, value, &BUILT_INS, &HOLDING_BUILT_INS) {
+            Ok(Variant::Plain(found)) => Ok(found),
+            Ok(Variant::Holding(name, held)) => read_held_built_in(name, held),
+            Err(error) => Err(error),
         }
     }
 }
@@ -146,30 +152,41 @@ const BINDINGS: [(&str, BindingName); 2] = [
 fn read_location(held: Held) -> Result<Binding, ReadError>
     ensures { Reads (location_of (view held.entry.value.now)) result }
 {
-    let fields = held.fields(&[
+    if let Err(error) = held.fields(&[
         "location",
         "interpolation",
         "sampling",
         "blend_src",
         "per_primitive",
-    ])?;
-    Ok(Binding::Location {
-        location: fields.get("location")?,
-        interpolation: fields.get("interpolation")?,
-        sampling: fields.get("sampling")?,
-        blend_src: fields.get("blend_src")?,
-        per_primitive: fields.get("per_primitive")?,
-    })
+    ]) {
+        return Err(error);
+    }
+    match held.triple("location", "interpolation", "sampling") {
+        Ok((location, interpolation, sampling)) => match held.pair("blend_src", "per_primitive") {
+            Ok((blend_src, per_primitive)) => Ok(Binding::Location {
+                location,
+                interpolation,
+                sampling,
+                blend_src,
+                per_primitive,
+            }),
+            Err(error) => Err(error),
+        },
+        Err(error) => Err(error),
+    }
 }
 
 impl FromJson for Binding {
     ghost stands_for = { binding_of };
 
     fn from_json(alloc: Global, value: &Value) -> Result<Self, ReadError> {
-        match read_variant(alloc, value, &NO_NAMES, &BINDINGS)? {
-            Variant::Plain(()) => Err(ReadError::expected(alloc, "a binding")),
-            Variant::Holding(BindingName::BuiltIn, held) => Ok(Binding::BuiltIn(held.read()?)),
-            Variant::Holding(BindingName::Location, held) => read_location(held),
+        match read_holding(alloc, value, &BINDINGS) {
+            Ok((BindingName::BuiltIn, held)) => match held.read() {
+                Ok(found) => Ok(Binding::BuiltIn(found)),
+                Err(error) => Err(error),
+            },
+            Ok((BindingName::Location, held)) => read_location(held),
+            Err(error) => Err(error),
         }
     }
 }

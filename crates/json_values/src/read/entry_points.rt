@@ -3,7 +3,7 @@
 ghost use Rattle.json_values.specs.Document.EntryPoints.{constant_of, early_depth_test_of, entry_point_of, global_variable_of, mesh_output_topology_of, mesh_stage_info_of, override_of, shader_stage_of, special_types_of, workgroup_size_of};
 
 use crate::read::error::ReadError;
-use crate::read::from_json::{Fields, FromJson};
+use crate::read::from_json::{FromJson, Held};
 use crate::read::variant::read_name;
 use ir_module::{
     Constant, EarlyDepthTest, EntryPoint, GlobalVariable, MeshOutputTopology, MeshStageInfo,
@@ -52,30 +52,54 @@ impl FromJson for MeshStageInfo {
     ghost stands_for = { mesh_stage_info_of };
 
     fn from_json(alloc: Global, value: &Value) -> Result<Self, ReadError> {
-        let fields = Fields::of(
+        let held = Held {
             alloc,
             value,
-            &[
-                "topology",
-                "max_vertices",
+            variant: None,
+        };
+        if let Err(error) = held.fields(&[
+            "topology",
+            "max_vertices",
+            "max_vertices_override",
+            "max_primitives",
+            "max_primitives_override",
+            "vertex_output_type",
+            "primitive_output_type",
+            "output_variable",
+        ]) {
+            return Err(error);
+        }
+        match held.pair("topology", "max_vertices") {
+            Ok((topology, max_vertices)) => match held.pair(
                 "max_vertices_override",
                 "max_primitives",
-                "max_primitives_override",
-                "vertex_output_type",
-                "primitive_output_type",
-                "output_variable",
-            ],
-        )?;
-        Ok(MeshStageInfo {
-            topology: fields.get("topology")?,
-            max_vertices: fields.get("max_vertices")?,
-            max_vertices_override: fields.get("max_vertices_override")?,
-            max_primitives: fields.get("max_primitives")?,
-            max_primitives_override: fields.get("max_primitives_override")?,
-            vertex_output_type: fields.get("vertex_output_type")?,
-            primitive_output_type: fields.get("primitive_output_type")?,
-            output_variable: fields.get("output_variable")?,
-        })
+            ) {
+                Ok((max_vertices_override, max_primitives)) => match held.pair(
+                    "max_primitives_override",
+                    "vertex_output_type",
+                ) {
+                    Ok((max_primitives_override, vertex_output_type)) => match held.pair(
+                        "primitive_output_type",
+                        "output_variable",
+                    ) {
+                        Ok((primitive_output_type, output_variable)) => Ok(MeshStageInfo {
+                            topology,
+                            max_vertices,
+                            max_vertices_override,
+                            max_primitives,
+                            max_primitives_override,
+                            vertex_output_type,
+                            primitive_output_type,
+                            output_variable,
+                        }),
+                        Err(error) => Err(error),
+                    },
+                    Err(error) => Err(error),
+                },
+                Err(error) => Err(error),
+            },
+            Err(error) => Err(error),
+        }
     }
 }
 
@@ -83,10 +107,15 @@ impl FromJson for Constant {
     ghost stands_for = { constant_of };
 
     fn from_json(alloc: Global, value: &Value) -> Result<Self, ReadError> {
-        let fields = Fields::of(alloc, value, &["ty"])?;
-        Ok(Constant {
-            ty: fields.get("ty")?,
-        })
+        let held = Held {
+            alloc,
+            value,
+            variant: None,
+        };
+        match held.one("ty") {
+            Ok(ty) => Ok(Constant { ty }),
+            Err(error) => Err(error),
+        }
     }
 }
 
@@ -94,10 +123,15 @@ impl FromJson for Override {
     ghost stands_for = { override_of };
 
     fn from_json(alloc: Global, value: &Value) -> Result<Self, ReadError> {
-        let fields = Fields::of(alloc, value, &["ty"])?;
-        Ok(Override {
-            ty: fields.get("ty")?,
-        })
+        let held = Held {
+            alloc,
+            value,
+            variant: None,
+        };
+        match held.one("ty") {
+            Ok(ty) => Ok(Override { ty }),
+            Err(error) => Err(error),
+        }
     }
 }
 
@@ -105,10 +139,15 @@ impl FromJson for SpecialTypes {
     ghost stands_for = { special_types_of };
 
     fn from_json(alloc: Global, value: &Value) -> Result<Self, ReadError> {
-        let fields = Fields::of(alloc, value, &["ray_desc"])?;
-        Ok(SpecialTypes {
-            ray_desc: fields.get("ray_desc")?,
-        })
+        let held = Held {
+            alloc,
+            value,
+            variant: None,
+        };
+        match held.one("ray_desc") {
+            Ok(ray_desc) => Ok(SpecialTypes { ray_desc }),
+            Err(error) => Err(error),
+        }
     }
 }
 
@@ -116,18 +155,27 @@ impl FromJson for GlobalVariable {
     ghost stands_for = { global_variable_of };
 
     fn from_json(alloc: Global, value: &Value) -> Result<Self, ReadError> {
-        let fields = Fields::of(
+        let held = Held {
             alloc,
             value,
-            &["space", "binding", "ty", "init", "memory_decorations"],
-        )?;
-        Ok(GlobalVariable {
-            space: fields.get("space")?,
-            binding: fields.get("binding")?,
-            ty: fields.get("ty")?,
-            init: fields.get("init")?,
-            memory_decorations: fields.get("memory_decorations")?,
-        })
+            variant: None,
+        };
+        if let Err(error) = held.fields(&["space", "binding", "ty", "init", "memory_decorations"]) {
+            return Err(error);
+        }
+        match held.triple("space", "binding", "ty") {
+            Ok((space, binding, ty)) => match held.pair("init", "memory_decorations") {
+                Ok((init, memory_decorations)) => Ok(GlobalVariable {
+                    space,
+                    binding,
+                    ty,
+                    init,
+                    memory_decorations,
+                }),
+                Err(error) => Err(error),
+            },
+            Err(error) => Err(error),
+        }
     }
 }
 
@@ -135,7 +183,10 @@ impl FromJson for EarlyDepthTest {
     ghost stands_for = { early_depth_test_of };
 
     fn from_json(alloc: Global, value: &Value) -> Result<Self, ReadError> {
-        Ok(EarlyDepthTest(u32::from_json(alloc, value)?))
+        match u32::from_json(alloc, value) {
+            Ok(test) => Ok(EarlyDepthTest(test)),
+            Err(error) => Err(error),
+        }
     }
 }
 
@@ -144,8 +195,10 @@ impl FromJson for [u32; 3] {
     ghost stands_for = { workgroup_size_of };
 
     fn from_json(alloc: Global, value: &Value) -> Result<Self, ReadError> {
-        let (x, y, z) = <(u32, u32, u32)>::from_json(alloc, value)?;
-        Ok([x, y, z])
+        match <(u32, u32, u32)>::from_json(alloc, value) {
+            Ok((x, y, z)) => Ok([x, y, z]),
+            Err(error) => Err(error),
+        }
     }
 }
 
@@ -153,25 +206,46 @@ impl FromJson for EntryPoint {
     ghost stands_for = { entry_point_of };
 
     fn from_json(alloc: Global, value: &Value) -> Result<Self, ReadError> {
-        let fields = Fields::of(
+        let held = Held {
             alloc,
             value,
-            &[
-                "stage",
-                "early_depth_test",
-                "workgroup_size",
-                "function",
-                "mesh_info",
-                "task_payload",
-            ],
-        )?;
-        Ok(EntryPoint {
-            stage: fields.get("stage")?,
-            early_depth_test: fields.get("early_depth_test")?,
-            workgroup_size: fields.get("workgroup_size")?,
-            function: fields.get("function")?,
-            mesh_info: fields.get("mesh_info")?,
-            task_payload: fields.get("task_payload")?,
-        })
+            variant: None,
+        };
+        if let Err(error) = held.fields(&[
+            "stage",
+            "early_depth_test",
+            "workgroup_size",
+            "function",
+            "mesh_info",
+            "task_payload",
+        ]) {
+            return Err(error);
+        }
+        match held.get("stage") {
+            Ok(stage) => match held.get("early_depth_test") {
+                Ok(early_depth_test) => match held.get("workgroup_size") {
+                    Ok(workgroup_size) => match held.get("function") {
+                        Ok(function) => match held.get("mesh_info") {
+                            Ok(mesh_info) => match held.get("task_payload") {
+                                Ok(task_payload) => Ok(EntryPoint {
+                                    stage,
+                                    early_depth_test,
+                                    workgroup_size,
+                                    function,
+                                    mesh_info,
+                                    task_payload,
+                                }),
+                                Err(error) => Err(error),
+                            },
+                            Err(error) => Err(error),
+                        },
+                        Err(error) => Err(error),
+                    },
+                    Err(error) => Err(error),
+                },
+                Err(error) => Err(error),
+            },
+            Err(error) => Err(error),
+        }
     }
 }

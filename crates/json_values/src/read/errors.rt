@@ -2,11 +2,12 @@
 
 ghost use Rattle.serde_json.specs.View.{view};
 ghost use Rattle.json_values.specs.Reads.{Reads};
-ghost use Rattle.json_values.specs.Document.Errors.{control_flow_of, coordinate_of, error_in_expression_of, expression_error_of, lower_function_error_of, output_types_of, payloads_of, uniform_load_of};
+ghost use Rattle.json_values.specs.Variants.{holding};
+ghost use Rattle.json_values.specs.Document.Errors.{control_flow_of, coordinate_of, error_in_expression_of, expression_error_from, expression_error_of, lower_function_error_from, lower_function_error_of, output_types_of, payloads_of, uniform_load_of};
 
 use crate::read::error::ReadError;
-use crate::read::from_json::FromJson;
-use crate::read::variant::{Held, NO_NAMES, Variant, read_variant};
+use crate::read::from_json::{FromJson, Held};
+use crate::read::variant::{Variant, read_holding, read_variant};
 use check_errors::{UniformityDisruptor, UniformityRequirements};
 use ir_facts::ExpressionError;
 use naga_layers::LowerFunctionError;
@@ -16,8 +17,10 @@ use std::alloc::Global;
 fn read_coordinate(held: Held) -> Result<ExpressionError, ReadError>
     ensures { Reads (coordinate_of (view held.entry.value.now)) result }
 {
-    let (dim, coordinate) = held.read()?;
-    Ok(ExpressionError::InvalidImageCoordinateType(dim, coordinate))
+    match held.read() {
+        Ok((dim, coordinate)) => Ok(ExpressionError::InvalidImageCoordinateType(dim, coordinate)),
+        Err(error) => Err(error),
+    }
 }
 
 /// The faults of expressions of which no more is said.
@@ -73,35 +76,50 @@ const EXPRESSION_ERRORS: [(&str, ExpressionErrorName); 8] = [
     ("Lower", ExpressionErrorName::Lower),
 ];
 
+fn read_held_error(name: ExpressionErrorName, held: Held) -> Result<ExpressionError, ReadError>
+    ensures { Reads (expression_error_from (holding name (view held.entry.value.now))) result }
+{
+    match name {
+        ExpressionErrorName::ExpectedBindingArrayType => match held.read() {
+            Ok(ty) => Ok(ExpressionError::ExpectedBindingArrayType(ty)),
+            Err(error) => Err(error),
+        },
+        ExpressionErrorName::ExpectedImageType => match held.read() {
+            Ok(ty) => Ok(ExpressionError::ExpectedImageType(ty)),
+            Err(error) => Err(error),
+        },
+        ExpressionErrorName::InvalidImageClass => match held.read() {
+            Ok(class) => Ok(ExpressionError::InvalidImageClass(class)),
+            Err(error) => Err(error),
+        },
+        ExpressionErrorName::InvalidImageCoordinateType => read_coordinate(held),
+        ExpressionErrorName::InvalidImageArrayIndexType => match held.read() {
+            Ok(index) => Ok(ExpressionError::InvalidImageArrayIndexType(index)),
+            Err(error) => Err(error),
+        },
+        ExpressionErrorName::InvalidImageStorageAccess => match held.read() {
+            Ok(access) => Ok(ExpressionError::InvalidImageStorageAccess(access)),
+            Err(error) => Err(error),
+        },
+        ExpressionErrorName::InvalidImageFormat => match held.read() {
+            Ok(format) => Ok(ExpressionError::InvalidImageFormat(format)),
+            Err(error) => Err(error),
+        },
+        ExpressionErrorName::Lower => match held.read() {
+            Ok(fault) => Ok(ExpressionError::Lower(fault)),
+            Err(error) => Err(error),
+        },
+    }
+}
+
 impl FromJson for ExpressionError {
     ghost stands_for = { expression_error_of };
 
     fn from_json(alloc: Global, value: &Value) -> Result<Self, ReadError> {
-        match read_variant(alloc, value, &BARE_ERRORS, &EXPRESSION_ERRORS)? {
-            Variant::Plain(found) => Ok(found),
-            Variant::Holding(ExpressionErrorName::ExpectedBindingArrayType, held) => Ok(
-                ExpressionError::ExpectedBindingArrayType(held.read()?),
-            ),
-            Variant::Holding(ExpressionErrorName::ExpectedImageType, held) => Ok(
-                ExpressionError::ExpectedImageType(held.read()?),
-            ),
-            Variant::Holding(ExpressionErrorName::InvalidImageClass, held) => Ok(
-                ExpressionError::InvalidImageClass(held.read()?),
-            ),
-            Variant::Holding(ExpressionErrorName::InvalidImageCoordinateType, held) =>
-                read_coordinate(held),
-            Variant::Holding(ExpressionErrorName::InvalidImageArrayIndexType, held) => Ok(
-                ExpressionError::InvalidImageArrayIndexType(held.read()?),
-            ),
-            Variant::Holding(ExpressionErrorName::InvalidImageStorageAccess, held) => Ok(
-                ExpressionError::InvalidImageStorageAccess(held.read()?),
-            ),
-            Variant::Holding(ExpressionErrorName::InvalidImageFormat, held) => Ok(
-                ExpressionError::InvalidImageFormat(held.read()?),
-            ),
-            Variant::Holding(ExpressionErrorName::Lower, held) => Ok(ExpressionError::Lower(
-                held.read()?,
-            )),
+        match read_variant(alloc, value, &BARE_ERRORS, &EXPRESSION_ERRORS) {
+            Ok(Variant::Plain(found)) => Ok(found),
+            Ok(Variant::Holding(name, held)) => read_held_error(name, held),
+            Err(error) => Err(error),
         }
     }
 }
@@ -155,71 +173,91 @@ const LOWER_ERRORS: [(&str, LowerErrorName); 8] = [
 fn read_expression(held: Held) -> Result<LowerFunctionError, ReadError>
     ensures { Reads (error_in_expression_of (view held.entry.value.now)) result }
 {
-    let fields = held.fields(&["handle", "source"])?;
-    Ok(LowerFunctionError::Expression {
-        handle: fields.get("handle")?,
-        source: fields.get("source")?,
-    })
+    if let Err(error) = held.fields(&["handle", "source"]) {
+        return Err(error);
+    }
+    match held.get("handle") {
+        Ok(handle) => match held.get("source") {
+            Ok(source) => Ok(LowerFunctionError::Expression { handle, source }),
+            Err(error) => Err(error),
+        },
+        Err(error) => Err(error),
+    }
 }
 
 fn read_control_flow(held: Held) -> Result<LowerFunctionError, ReadError>
     ensures { Reads (control_flow_of (view held.entry.value.now)) result }
 {
-    let (requirements, at, disruptor) = held.read()?;
-    Ok(LowerFunctionError::NonUniformControlFlow(
-        UniformityRequirements(requirements),
-        at,
-        UniformityDisruptor(disruptor),
-    ))
+    match held.read() {
+        Ok((requirements, at, disruptor)) => Ok(LowerFunctionError::NonUniformControlFlow(
+            UniformityRequirements(requirements),
+            at,
+            UniformityDisruptor(disruptor),
+        )),
+        Err(error) => Err(error),
+    }
 }
 
 fn read_uniform_load(held: Held) -> Result<LowerFunctionError, ReadError>
     ensures { Reads (uniform_load_of (view held.entry.value.now)) result }
 {
-    let disruptor = held.read()?;
-    Ok(LowerFunctionError::NonUniformWorkgroupUniformLoad(UniformityDisruptor(disruptor)))
+    match held.read() {
+        Ok(disruptor) => Ok(LowerFunctionError::NonUniformWorkgroupUniformLoad(UniformityDisruptor(
+            disruptor,
+        ))),
+        Err(error) => Err(error),
+    }
 }
 
 fn read_output_types(held: Held) -> Result<LowerFunctionError, ReadError>
     ensures { Reads (output_types_of (view held.entry.value.now)) result }
 {
-    let (one, other) = held.read()?;
-    Ok(LowerFunctionError::ConflictingMeshOutputTypes(one, other))
+    match held.read() {
+        Ok((one, other)) => Ok(LowerFunctionError::ConflictingMeshOutputTypes(one, other)),
+        Err(error) => Err(error),
+    }
 }
 
 fn read_payloads(held: Held) -> Result<LowerFunctionError, ReadError>
     ensures { Reads (payloads_of (view held.entry.value.now)) result }
 {
-    let (one, other) = held.read()?;
-    Ok(LowerFunctionError::ConflictingTaskPayloadVariables(one, other))
+    match held.read() {
+        Ok((one, other)) => Ok(LowerFunctionError::ConflictingTaskPayloadVariables(one, other)),
+        Err(error) => Err(error),
+    }
+}
+
+fn read_held_fault(name: LowerErrorName, held: Held) -> Result<LowerFunctionError, ReadError>
+    ensures { Reads (lower_function_error_from (holding name (view held.entry.value.now))) result }
+{
+    match name {
+        LowerErrorName::Expression => read_expression(held),
+        LowerErrorName::MissingRayQueryVertexReturn => match held.read() {
+            Ok(at) => Ok(LowerFunctionError::MissingRayQueryVertexReturn(at)),
+            Err(error) => Err(error),
+        },
+        LowerErrorName::NonUniformControlFlow => read_control_flow(held),
+        LowerErrorName::NonUniformWorkgroupUniformLoad => read_uniform_load(held),
+        LowerErrorName::InvalidMeshFunctionCall => match held.read() {
+            Ok(at) => Ok(LowerFunctionError::InvalidMeshFunctionCall(at)),
+            Err(error) => Err(error),
+        },
+        LowerErrorName::ConflictingMeshOutputTypes => read_output_types(held),
+        LowerErrorName::ConflictingTaskPayloadVariables => read_payloads(held),
+        LowerErrorName::InvalidMeshShaderOutputType => match held.read() {
+            Ok(at) => Ok(LowerFunctionError::InvalidMeshShaderOutputType(at)),
+            Err(error) => Err(error),
+        },
+    }
 }
 
 impl FromJson for LowerFunctionError {
     ghost stands_for = { lower_function_error_of };
 
     fn from_json(alloc: Global, value: &Value) -> Result<Self, ReadError> {
-        match read_variant(alloc, value, &NO_NAMES, &LOWER_ERRORS)? {
-            Variant::Plain(()) => Err(ReadError::expected(alloc, "a fault")),
-            Variant::Holding(LowerErrorName::Expression, held) => read_expression(held),
-            Variant::Holding(LowerErrorName::MissingRayQueryVertexReturn, held) => Ok(
-                LowerFunctionError::MissingRayQueryVertexReturn(held.read()?),
-            ),
-            Variant::Holding(LowerErrorName::NonUniformControlFlow, held) => read_control_flow(
-                held,
-            ),
-            Variant::Holding(LowerErrorName::NonUniformWorkgroupUniformLoad, held) =>
-                read_uniform_load(held),
-            Variant::Holding(LowerErrorName::InvalidMeshFunctionCall, held) => Ok(
-                LowerFunctionError::InvalidMeshFunctionCall(held.read()?),
-            ),
-            Variant::Holding(LowerErrorName::ConflictingMeshOutputTypes, held) => read_output_types(
-                held,
-            ),
-            Variant::Holding(LowerErrorName::ConflictingTaskPayloadVariables, held) =>
-                read_payloads(held),
-            Variant::Holding(LowerErrorName::InvalidMeshShaderOutputType, held) => Ok(
-                LowerFunctionError::InvalidMeshShaderOutputType(held.read()?),
-            ),
+        match read_holding(alloc, value, &LOWER_ERRORS) {
+            Ok((name, held)) => read_held_fault(name, held),
+            Err(error) => Err(error),
         }
     }
 }

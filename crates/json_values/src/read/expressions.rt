@@ -3,11 +3,12 @@
 ghost use Rattle.std.specs.Prelude.{◌≡◌};
 ghost use Rattle.serde_json.specs.View.{view};
 ghost use Rattle.json_values.specs.Reads.{Reads};
-ghost use Rattle.json_values.specs.Document.Expressions.{access_index_of, access_of, atomic_result_of, compose_of, expression_of, literal_of, load_of, parts_of, subgroup_operation_result_of, with_parts, work_group_uniform_load_result_of};
+ghost use Rattle.json_values.specs.Variants.{holding};
+ghost use Rattle.json_values.specs.Document.Expressions.{access_index_of, access_of, atomic_result_of, compose_of, expression_from, expression_of, literal_of, load_of, parts_of, subgroup_operation_result_of, with_parts, work_group_uniform_load_result_of};
 
 use crate::read::error::ReadError;
-use crate::read::from_json::{Fields, FromJson};
-use crate::read::variant::{Held, Variant, read_variant};
+use crate::read::from_json::{FromJson, Held};
+use crate::read::variant::{Variant, read_variant};
 use ir_module::{Expression, Literal, Operands};
 use serde_json::Value;
 use std::alloc::Global;
@@ -16,11 +17,15 @@ impl FromJson for Literal {
     ghost stands_for = { literal_of };
 
     fn from_json(alloc: Global, value: &Value) -> Result<Self, ReadError> {
-        let fields = Fields::of(alloc, value, &["scalar", "bits"])?;
-        Ok(Literal {
-            scalar: fields.get("scalar")?,
-            bits: fields.get("bits")?,
-        })
+        let held = Held {
+            alloc,
+            value,
+            variant: None,
+        };
+        match held.two("scalar", "bits") {
+            Ok((scalar, bits)) => Ok(Literal { scalar, bits }),
+            Err(error) => Err(error),
+        }
     }
 }
 
@@ -35,11 +40,15 @@ impl FromJson for Parts {
     ghost stands_for = { parts_of };
 
     fn from_json(alloc: Global, value: &Value) -> Result<Self, ReadError> {
-        let fields = Fields::of(alloc, value, &["operands", "detail"])?;
-        Ok(Parts {
-            operands: fields.get("operands")?,
-            detail: fields.get("detail")?,
-        })
+        let held = Held {
+            alloc,
+            value,
+            variant: None,
+        };
+        match held.two("operands", "detail") {
+            Ok((operands, detail)) => Ok(Parts { operands, detail }),
+            Err(error) => Err(error),
+        }
     }
 }
 
@@ -190,116 +199,129 @@ const EXPRESSIONS: [(&str, ExpressionName); 32] = [
 fn read_compose(held: Held) -> Result<Expression, ReadError>
     ensures { Reads (compose_of (view held.entry.value.now)) result }
 {
-    let fields = held.fields(&["ty", "components"])?;
-    Ok(Expression::Compose {
-        ty: fields.get("ty")?,
-        components: fields.get("components")?,
-    })
+    match held.two("ty", "components") {
+        Ok((ty, components)) => Ok(Expression::Compose { ty, components }),
+        Err(error) => Err(error),
+    }
 }
 
 fn read_access(held: Held) -> Result<Expression, ReadError>
     ensures { Reads (access_of (view held.entry.value.now)) result }
 {
-    let fields = held.fields(&["base", "index"])?;
-    Ok(Expression::Access {
-        base: fields.get("base")?,
-        index: fields.get("index")?,
-    })
+    match held.two("base", "index") {
+        Ok((base, index)) => Ok(Expression::Access { base, index }),
+        Err(error) => Err(error),
+    }
 }
 
 fn read_access_index(held: Held) -> Result<Expression, ReadError>
     ensures { Reads (access_index_of (view held.entry.value.now)) result }
 {
-    let fields = held.fields(&["base", "index"])?;
-    Ok(Expression::AccessIndex {
-        base: fields.get("base")?,
-        index: fields.get("index")?,
-    })
+    match held.two("base", "index") {
+        Ok((base, index)) => Ok(Expression::AccessIndex { base, index }),
+        Err(error) => Err(error),
+    }
 }
 
 fn read_load(held: Held) -> Result<Expression, ReadError>
     ensures { Reads (load_of (view held.entry.value.now)) result }
 {
-    let fields = held.fields(&["pointer"])?;
-    Ok(Expression::Load {
-        pointer: fields.get("pointer")?,
-    })
+    match held.one("pointer") {
+        Ok(pointer) => Ok(Expression::Load { pointer }),
+        Err(error) => Err(error),
+    }
 }
 
 fn read_atomic_result(held: Held) -> Result<Expression, ReadError>
     ensures { Reads (atomic_result_of (view held.entry.value.now)) result }
 {
-    let fields = held.fields(&["ty", "comparison"])?;
-    Ok(Expression::AtomicResult {
-        ty: fields.get("ty")?,
-        comparison: fields.get("comparison")?,
-    })
+    match held.two("ty", "comparison") {
+        Ok((ty, comparison)) => Ok(Expression::AtomicResult { ty, comparison }),
+        Err(error) => Err(error),
+    }
 }
 
 fn read_work_group_uniform_load_result(held: Held) -> Result<Expression, ReadError>
     ensures { Reads (work_group_uniform_load_result_of (view held.entry.value.now)) result }
 {
-    let fields = held.fields(&["ty"])?;
-    Ok(Expression::WorkGroupUniformLoadResult {
-        ty: fields.get("ty")?,
-    })
+    match held.one("ty") {
+        Ok(ty) => Ok(Expression::WorkGroupUniformLoadResult { ty }),
+        Err(error) => Err(error),
+    }
 }
 
 fn read_subgroup_operation_result(held: Held) -> Result<Expression, ReadError>
     ensures { Reads (subgroup_operation_result_of (view held.entry.value.now)) result }
 {
-    let fields = held.fields(&["ty"])?;
-    Ok(Expression::SubgroupOperationResult {
-        ty: fields.get("ty")?,
-    })
+    match held.one("ty") {
+        Ok(ty) => Ok(Expression::SubgroupOperationResult { ty }),
+        Err(error) => Err(error),
+    }
+}
+
+fn read_held_expression(name: ExpressionName, held: Held) -> Result<Expression, ReadError>
+    ensures { Reads (expression_from (holding name (view held.entry.value.now))) result }
+{
+    match name {
+        ExpressionName::Parts(kind) => match held.read() {
+            Ok(parts) => Ok(with_parts(kind, parts)),
+            Err(error) => Err(error),
+        },
+        ExpressionName::Literal => match held.read() {
+            Ok(literal) => Ok(Expression::Literal(literal)),
+            Err(error) => Err(error),
+        },
+        ExpressionName::Constant => match held.read() {
+            Ok(constant) => Ok(Expression::Constant(constant)),
+            Err(error) => Err(error),
+        },
+        ExpressionName::Override => match held.read() {
+            Ok(number) => Ok(Expression::Override(number)),
+            Err(error) => Err(error),
+        },
+        ExpressionName::ZeroValue => match held.read() {
+            Ok(ty) => Ok(Expression::ZeroValue(ty)),
+            Err(error) => Err(error),
+        },
+        ExpressionName::Compose => read_compose(held),
+        ExpressionName::Access => read_access(held),
+        ExpressionName::AccessIndex => read_access_index(held),
+        ExpressionName::FunctionArgument => match held.read() {
+            Ok(index) => Ok(Expression::FunctionArgument(index)),
+            Err(error) => Err(error),
+        },
+        ExpressionName::GlobalVariable => match held.read() {
+            Ok(variable) => Ok(Expression::GlobalVariable(variable)),
+            Err(error) => Err(error),
+        },
+        ExpressionName::LocalVariable => match held.read() {
+            Ok(variable) => Ok(Expression::LocalVariable(variable)),
+            Err(error) => Err(error),
+        },
+        ExpressionName::Load => read_load(held),
+        ExpressionName::CallResult => match held.read() {
+            Ok(function) => Ok(Expression::CallResult(function)),
+            Err(error) => Err(error),
+        },
+        ExpressionName::AtomicResult => read_atomic_result(held),
+        ExpressionName::WorkGroupUniformLoadResult => read_work_group_uniform_load_result(held),
+        ExpressionName::SubgroupOperationResult => read_subgroup_operation_result(held),
+    }
 }
 
 impl FromJson for Expression {
     ghost stands_for = { expression_of };
 
     fn from_json(alloc: Global, value: &Value) -> Result<Self, ReadError> {
-        match read_variant(alloc, value, &BARE_EXPRESSIONS, &EXPRESSIONS)? {
-            Variant::Plain(BareName::RayQueryProceedResult) => Ok(
+        match read_variant(alloc, value, &BARE_EXPRESSIONS, &EXPRESSIONS) {
+            Ok(Variant::Plain(BareName::RayQueryProceedResult)) => Ok(
                 Expression::RayQueryProceedResult,
             ),
-            Variant::Plain(BareName::SubgroupBallotResult) => Ok(Expression::SubgroupBallotResult),
-            Variant::Holding(ExpressionName::Parts(kind), held) => Ok(with_parts(
-                kind,
-                held.read()?,
-            )),
-            Variant::Holding(ExpressionName::Literal, held) => Ok(Expression::Literal(
-                held.read()?,
-            )),
-            Variant::Holding(ExpressionName::Constant, held) => Ok(Expression::Constant(
-                held.read()?,
-            )),
-            Variant::Holding(ExpressionName::Override, held) => Ok(Expression::Override(
-                held.read()?,
-            )),
-            Variant::Holding(ExpressionName::ZeroValue, held) => Ok(Expression::ZeroValue(
-                held.read()?,
-            )),
-            Variant::Holding(ExpressionName::Compose, held) => read_compose(held),
-            Variant::Holding(ExpressionName::Access, held) => read_access(held),
-            Variant::Holding(ExpressionName::AccessIndex, held) => read_access_index(held),
-            Variant::Holding(ExpressionName::FunctionArgument, held) => Ok(
-                Expression::FunctionArgument(held.read()?),
+            Ok(Variant::Plain(BareName::SubgroupBallotResult)) => Ok(
+                Expression::SubgroupBallotResult,
             ),
-            Variant::Holding(ExpressionName::GlobalVariable, held) => Ok(Expression::GlobalVariable(
-                held.read()?,
-            )),
-            Variant::Holding(ExpressionName::LocalVariable, held) => Ok(Expression::LocalVariable(
-                held.read()?,
-            )),
-            Variant::Holding(ExpressionName::Load, held) => read_load(held),
-            Variant::Holding(ExpressionName::CallResult, held) => Ok(Expression::CallResult(
-                held.read()?,
-            )),
-            Variant::Holding(ExpressionName::AtomicResult, held) => read_atomic_result(held),
-            Variant::Holding(ExpressionName::WorkGroupUniformLoadResult, held) =>
-                read_work_group_uniform_load_result(held),
-            Variant::Holding(ExpressionName::SubgroupOperationResult, held) =>
-                read_subgroup_operation_result(held),
+            Ok(Variant::Holding(name, held)) => read_held_expression(name, held),
+            Err(error) => Err(error),
         }
     }
 }

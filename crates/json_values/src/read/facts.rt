@@ -4,8 +4,8 @@ ghost use Rattle.serde_json.specs.Find.{as_null};
 ghost use Rattle.json_values.specs.Document.Facts.{expression_fact_of, function_fact_of, immediates_of, info_fact_of, layout_of, mesh_analysis_fact_of, mesh_fault_of, overrides_of, type_info_of};
 
 use crate::read::error::ReadError;
-use crate::read::from_json::{Fields, FromJson};
-use crate::read::variant::{NO_NAMES, Variant, read_name, read_variant};
+use crate::read::from_json::{FromJson, Held};
+use crate::read::variant::{read_holding, read_name};
 use check_errors::MeshFault;
 use ir_arena::{Handle, tag};
 use ir_facts::{Disalignment, ImmediateError, TypeInfo};
@@ -42,13 +42,16 @@ impl FromJson for Result<u32, (Handle<tag::Type>, Disalignment)> {
     ghost stands_for = { layout_of };
 
     fn from_json(alloc: Global, value: &Value) -> Result<Self, ReadError> {
-        match read_variant(alloc, value, &NO_NAMES, &OUTCOMES)? {
-            Variant::Plain(()) => Err(ReadError::expected(alloc, "a layout")),
-            Variant::Holding(OutcomeName::Ok, held) => Ok(Ok(held.read()?)),
-            Variant::Holding(OutcomeName::Err, held) => {
-                let (ty, reason) = held.read()?;
-                Ok(Err((ty, Disalignment(reason))))
-            }
+        match read_holding(alloc, value, &OUTCOMES) {
+            Ok((OutcomeName::Ok, held)) => match held.read() {
+                Ok(alignment) => Ok(Ok(alignment)),
+                Err(error) => Err(error),
+            },
+            Ok((OutcomeName::Err, held)) => match held.read() {
+                Ok((ty, reason)) => Ok(Err((ty, Disalignment(reason)))),
+                Err(error) => Err(error),
+            },
+            Err(error) => Err(error),
         }
     }
 }
@@ -58,13 +61,16 @@ impl FromJson for Result<(), ImmediateError> {
     ghost stands_for = { immediates_of };
 
     fn from_json(alloc: Global, value: &Value) -> Result<Self, ReadError> {
-        match read_variant(alloc, value, &NO_NAMES, &OUTCOMES)? {
-            Variant::Plain(()) => Err(ReadError::expected(alloc, "whether it can be an immediate")),
-            Variant::Holding(OutcomeName::Ok, held) => {
-                held.read::<()>()?;
-                Ok(Ok(()))
-            }
-            Variant::Holding(OutcomeName::Err, held) => Ok(Err(ImmediateError(held.read()?))),
+        match read_holding(alloc, value, &OUTCOMES) {
+            Ok((OutcomeName::Ok, held)) => match held.read() {
+                Ok(()) => Ok(Ok(())),
+                Err(error) => Err(error),
+            },
+            Ok((OutcomeName::Err, held)) => match held.read() {
+                Ok(reason) => Ok(Err(ImmediateError(reason))),
+                Err(error) => Err(error),
+            },
+            Err(error) => Err(error),
         }
     }
 }
@@ -85,22 +91,37 @@ impl FromJson for TypeInfo {
     ghost stands_for = { type_info_of };
 
     fn from_json(alloc: Global, value: &Value) -> Result<Self, ReadError> {
-        let fields = Fields::of(
+        let held = Held {
             alloc,
             value,
-            &[
-                "flags",
-                "storage_layout",
-                "uniform_layout",
-                "immediates_compatibility",
-            ],
-        )?;
-        Ok(TypeInfo {
-            flags: fields.get("flags")?,
-            storage_layout: fields.get("storage_layout")?,
-            uniform_layout: fields.get("uniform_layout")?,
-            immediates_compatibility: fields.get("immediates_compatibility")?,
-        })
+            variant: None,
+        };
+        if let Err(error) = held.fields(&[
+            "flags",
+            "storage_layout",
+            "uniform_layout",
+            "immediates_compatibility",
+        ]) {
+            return Err(error);
+        }
+        match held.get("flags") {
+            Ok(flags) => match held.get("storage_layout") {
+                Ok(storage_layout) => match held.get("uniform_layout") {
+                    Ok(uniform_layout) => match held.get("immediates_compatibility") {
+                        Ok(immediates_compatibility) => Ok(TypeInfo {
+                            flags,
+                            storage_layout,
+                            uniform_layout,
+                            immediates_compatibility,
+                        }),
+                        Err(error) => Err(error),
+                    },
+                    Err(error) => Err(error),
+                },
+                Err(error) => Err(error),
+            },
+            Err(error) => Err(error),
+        }
     }
 }
 
@@ -109,8 +130,10 @@ impl FromJson for [Option<Handle<tag::Override>>; 2] {
     ghost stands_for = { overrides_of };
 
     fn from_json(alloc: Global, value: &Value) -> Result<Self, ReadError> {
-        let (vertices, primitives) = FromJson::from_json(alloc, value)?;
-        Ok([vertices, primitives])
+        match FromJson::from_json(alloc, value) {
+            Ok((vertices, primitives)) => Ok([vertices, primitives]),
+            Err(error) => Err(error),
+        }
     }
 }
 
@@ -118,11 +141,21 @@ impl FromJson for MeshAnalysisFact {
     ghost stands_for = { mesh_analysis_fact_of };
 
     fn from_json(alloc: Global, value: &Value) -> Result<Self, ReadError> {
-        let fields = Fields::of(alloc, value, &["implied", "overrides", "fault"])?;
+        let held = Held {
+            alloc,
+            value,
+            variant: None,
+        };
+        if let Err(error) = held.fields(&["implied", "overrides", "fault"]) {
+            return Err(error);
+        }
+        let implied = held.get("implied")?;
+        let overrides = held.get("overrides")?;
+        let fault = held.get("fault")?;
         Ok(MeshAnalysisFact {
-            implied: fields.get("implied")?,
-            overrides: fields.get("overrides")?,
-            fault: fields.get("fault")?,
+            implied,
+            overrides,
+            fault,
         })
     }
 }
@@ -144,14 +177,16 @@ impl FromJson for ExpressionFact {
     ghost stands_for = { expression_fact_of };
 
     fn from_json(alloc: Global, value: &Value) -> Result<Self, ReadError> {
-        match read_variant(alloc, value, &NO_NAMES, &EXPRESSION_FACTS)? {
-            Variant::Plain(()) => Err(ReadError::expected(alloc, "what is known of an expression")),
-            Variant::Holding(ExpressionFactName::Stages, held) => Ok(ExpressionFact::Stages(
-                held.read()?,
-            )),
-            Variant::Holding(ExpressionFactName::Error, held) => Ok(ExpressionFact::Error(
-                held.read()?,
-            )),
+        match read_holding(alloc, value, &EXPRESSION_FACTS) {
+            Ok((ExpressionFactName::Stages, held)) => match held.read() {
+                Ok(stages) => Ok(ExpressionFact::Stages(stages)),
+                Err(error) => Err(error),
+            },
+            Ok((ExpressionFactName::Error, held)) => match held.read() {
+                Ok(fault) => Ok(ExpressionFact::Error(fault)),
+                Err(error) => Err(error),
+            },
+            Err(error) => Err(error),
         }
     }
 }
@@ -160,24 +195,33 @@ impl FromJson for InfoFact {
     ghost stands_for = { info_fact_of };
 
     fn from_json(alloc: Global, value: &Value) -> Result<Self, ReadError> {
-        let fields = Fields::of(
+        let held = Held {
             alloc,
             value,
-            &[
-                "types",
-                "uses",
-                "stages",
-                "dual_source_blending",
-                "expressions",
-            ],
-        )?;
-        Ok(InfoFact {
-            types: fields.get("types")?,
-            uses: fields.get("uses")?,
-            stages: fields.get("stages")?,
-            dual_source_blending: fields.get("dual_source_blending")?,
-            expressions: fields.get("expressions")?,
-        })
+            variant: None,
+        };
+        if let Err(error) = held.fields(&[
+            "types",
+            "uses",
+            "stages",
+            "dual_source_blending",
+            "expressions",
+        ]) {
+            return Err(error);
+        }
+        match held.triple("types", "uses", "stages") {
+            Ok((types, uses, stages)) => match held.pair("dual_source_blending", "expressions") {
+                Ok((dual_source_blending, expressions)) => Ok(InfoFact {
+                    types,
+                    uses,
+                    stages,
+                    dual_source_blending,
+                    expressions,
+                }),
+                Err(error) => Err(error),
+            },
+            Err(error) => Err(error),
+        }
     }
 }
 
@@ -198,12 +242,16 @@ impl FromJson for FunctionFact {
     ghost stands_for = { function_fact_of };
 
     fn from_json(alloc: Global, value: &Value) -> Result<Self, ReadError> {
-        match read_variant(alloc, value, &NO_NAMES, &FUNCTION_FACTS)? {
-            Variant::Plain(()) => Err(ReadError::expected(alloc, "what is known of a function")),
-            Variant::Holding(FunctionFactName::Info, held) => Ok(FunctionFact::Info(held.read()?)),
-            Variant::Holding(FunctionFactName::Error, held) => Ok(FunctionFact::Error(
-                held.read()?,
-            )),
+        match read_holding(alloc, value, &FUNCTION_FACTS) {
+            Ok((FunctionFactName::Info, held)) => match held.read() {
+                Ok(info) => Ok(FunctionFact::Info(info)),
+                Err(error) => Err(error),
+            },
+            Ok((FunctionFactName::Error, held)) => match held.read() {
+                Ok(fault) => Ok(FunctionFact::Error(fault)),
+                Err(error) => Err(error),
+            },
+            Err(error) => Err(error),
         }
     }
 }

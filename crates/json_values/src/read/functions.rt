@@ -3,7 +3,7 @@
 ghost use Rattle.json_values.specs.Document.Functions.{function_argument_of, function_of, function_result_of, local_variable_of};
 
 use crate::read::error::ReadError;
-use crate::read::from_json::{Fields, FromJson};
+use crate::read::from_json::{FromJson, Held};
 use ir_module::{Function, FunctionArgument, FunctionResult, LocalVariable};
 use serde_json::Value;
 use std::alloc::Global;
@@ -12,12 +12,15 @@ impl FromJson for LocalVariable {
     ghost stands_for = { local_variable_of };
 
     fn from_json(alloc: Global, value: &Value) -> Result<Self, ReadError> {
-        let fields = Fields::of(alloc, value, &["name", "ty", "init"])?;
-        Ok(LocalVariable {
-            name: fields.get("name")?,
-            ty: fields.get("ty")?,
-            init: fields.get("init")?,
-        })
+        let held = Held {
+            alloc,
+            value,
+            variant: None,
+        };
+        match held.three("name", "ty", "init") {
+            Ok((name, ty, init)) => Ok(LocalVariable { name, ty, init }),
+            Err(error) => Err(error),
+        }
     }
 }
 
@@ -25,12 +28,21 @@ impl FromJson for FunctionArgument {
     ghost stands_for = { function_argument_of };
 
     fn from_json(alloc: Global, value: &Value) -> Result<Self, ReadError> {
-        let fields = Fields::of(alloc, value, &["name", "ty", "binding"])?;
-        Ok(FunctionArgument {
-            name: fields.get("name")?,
-            ty: fields.get("ty")?,
-            binding: fields.get("binding")?,
-        })
+        let held = Held {
+            alloc,
+            value,
+            variant: None,
+        };
+        if let Err(error) = held.fields(&["name", "ty", "binding"]) {
+            return Err(error);
+        }
+        match held.pair("name", "ty") {
+            Ok((name, ty)) => match held.get("binding") {
+                Ok(binding) => Ok(FunctionArgument { name, ty, binding }),
+                Err(error) => Err(error),
+            },
+            Err(error) => Err(error),
+        }
     }
 }
 
@@ -38,11 +50,15 @@ impl FromJson for FunctionResult {
     ghost stands_for = { function_result_of };
 
     fn from_json(alloc: Global, value: &Value) -> Result<Self, ReadError> {
-        let fields = Fields::of(alloc, value, &["ty", "binding"])?;
-        Ok(FunctionResult {
-            ty: fields.get("ty")?,
-            binding: fields.get("binding")?,
-        })
+        let held = Held {
+            alloc,
+            value,
+            variant: None,
+        };
+        match held.two("ty", "binding") {
+            Ok((ty, binding)) => Ok(FunctionResult { ty, binding }),
+            Err(error) => Err(error),
+        }
     }
 }
 
@@ -50,23 +66,41 @@ impl FromJson for Function {
     ghost stands_for = { function_of };
 
     fn from_json(alloc: Global, value: &Value) -> Result<Self, ReadError> {
-        let fields = Fields::of(
+        let held = Held {
             alloc,
             value,
-            &[
-                "arguments",
-                "result",
-                "local_variables",
-                "expressions",
-                "body",
-            ],
-        )?;
-        Ok(Function {
-            arguments: fields.get("arguments")?,
-            result: fields.get("result")?,
-            local_variables: fields.get("local_variables")?,
-            expressions: fields.get("expressions")?,
-            body: fields.get("body")?,
-        })
+            variant: None,
+        };
+        if let Err(error) = held.fields(&[
+            "arguments",
+            "result",
+            "local_variables",
+            "expressions",
+            "body",
+        ]) {
+            return Err(error);
+        }
+        match held.get("arguments") {
+            Ok(arguments) => match held.get("result") {
+                Ok(result) => match held.get("local_variables") {
+                    Ok(local_variables) => match held.get("expressions") {
+                        Ok(expressions) => match held.get("body") {
+                            Ok(body) => Ok(Function {
+                                arguments,
+                                result,
+                                local_variables,
+                                expressions,
+                                body,
+                            }),
+                            Err(error) => Err(error),
+                        },
+                        Err(error) => Err(error),
+                    },
+                    Err(error) => Err(error),
+                },
+                Err(error) => Err(error),
+            },
+            Err(error) => Err(error),
+        }
     }
 }

@@ -5,7 +5,7 @@ ghost use Rattle.json_values.specs.Reads.{Reads};
 ghost use Rattle.json_values.specs.Document.Leaves.{atomic_of, call_of, cooperative_store_of, image_atomic_of, image_store_of, leaf_from, ray_query_statement_of, return_of, store_of, subgroup_ballot_of, subgroup_collective_operation_of, subgroup_gather_of, work_group_uniform_load_of};
 
 use crate::read::error::ReadError;
-use crate::read::variant::Held;
+use crate::read::from_json::Held;
 use ir_module::Statement;
 
 /// The statements that hold something, and no others.
@@ -32,131 +32,159 @@ pub enum LeafName {
 fn read_return(held: Held) -> Result<Statement, ReadError>
     ensures { Reads (return_of (view held.entry.value.now)) result }
 {
-    let fields = held.fields(&["value"])?;
-    Ok(Statement::Return {
-        value: fields.get("value")?,
-    })
+    match held.one("value") {
+        Ok(value) => Ok(Statement::Return { value }),
+        Err(error) => Err(error),
+    }
 }
 
 fn read_store(held: Held) -> Result<Statement, ReadError>
     ensures { Reads (store_of (view held.entry.value.now)) result }
 {
-    let fields = held.fields(&["pointer", "value"])?;
-    Ok(Statement::Store {
-        pointer: fields.get("pointer")?,
-        value: fields.get("value")?,
-    })
+    match held.two("pointer", "value") {
+        Ok((pointer, value)) => Ok(Statement::Store { pointer, value }),
+        Err(error) => Err(error),
+    }
 }
 
 fn read_image_store(held: Held) -> Result<Statement, ReadError>
     ensures { Reads (image_store_of (view held.entry.value.now)) result }
 {
-    let fields = held.fields(&["image", "coordinate", "array_index", "value"])?;
-    Ok(Statement::ImageStore {
-        image: fields.get("image")?,
-        coordinate: fields.get("coordinate")?,
-        array_index: fields.get("array_index")?,
-        value: fields.get("value")?,
-    })
+    match held.four("image", "coordinate", "array_index", "value") {
+        Ok((image, coordinate, array_index, value)) => Ok(Statement::ImageStore {
+            image,
+            coordinate,
+            array_index,
+            value,
+        }),
+        Err(error) => Err(error),
+    }
 }
 
 fn read_atomic(held: Held) -> Result<Statement, ReadError>
     ensures { Reads (atomic_of (view held.entry.value.now)) result }
 {
-    let fields = held.fields(&["pointer", "fun", "value", "result"])?;
-    Ok(Statement::Atomic {
-        pointer: fields.get("pointer")?,
-        fun: fields.get("fun")?,
-        value: fields.get("value")?,
-        result: fields.get("result")?,
-    })
+    match held.four("pointer", "fun", "value", "result") {
+        Ok((pointer, fun, value, result)) => Ok(Statement::Atomic {
+            pointer,
+            fun,
+            value,
+            result,
+        }),
+        Err(error) => Err(error),
+    }
 }
 
 fn read_image_atomic(held: Held) -> Result<Statement, ReadError>
     ensures { Reads (image_atomic_of (view held.entry.value.now)) result }
 {
-    let fields = held.fields(&["image", "coordinate", "array_index", "fun", "value"])?;
-    Ok(Statement::ImageAtomic {
-        image: fields.get("image")?,
-        coordinate: fields.get("coordinate")?,
-        array_index: fields.get("array_index")?,
-        fun: fields.get("fun")?,
-        value: fields.get("value")?,
-    })
+    if let Err(error) = held.fields(&["image", "coordinate", "array_index", "fun", "value"]) {
+        return Err(error);
+    }
+    match held.triple("image", "coordinate", "array_index") {
+        Ok((image, coordinate, array_index)) => match held.pair("fun", "value") {
+            Ok((fun, value)) => Ok(Statement::ImageAtomic {
+                image,
+                coordinate,
+                array_index,
+                fun,
+                value,
+            }),
+            Err(error) => Err(error),
+        },
+        Err(error) => Err(error),
+    }
 }
 
 fn read_work_group_uniform_load(held: Held) -> Result<Statement, ReadError>
     ensures { Reads (work_group_uniform_load_of (view held.entry.value.now)) result }
 {
-    let fields = held.fields(&["pointer", "result"])?;
-    Ok(Statement::WorkGroupUniformLoad {
-        pointer: fields.get("pointer")?,
-        result: fields.get("result")?,
-    })
+    match held.two("pointer", "result") {
+        Ok((pointer, result)) => Ok(Statement::WorkGroupUniformLoad { pointer, result }),
+        Err(error) => Err(error),
+    }
 }
 
 fn read_call(held: Held) -> Result<Statement, ReadError>
     ensures { Reads (call_of (view held.entry.value.now)) result }
 {
-    let fields = held.fields(&["function", "arguments", "result"])?;
-    Ok(Statement::Call {
-        function: fields.get("function")?,
-        arguments: fields.get("arguments")?,
-        result: fields.get("result")?,
-    })
+    match held.three("function", "arguments", "result") {
+        Ok((function, arguments, result)) => Ok(Statement::Call {
+            function,
+            arguments,
+            result,
+        }),
+        Err(error) => Err(error),
+    }
 }
 
 fn read_ray_query(held: Held) -> Result<Statement, ReadError>
     ensures { Reads (ray_query_statement_of (view held.entry.value.now)) result }
 {
-    let fields = held.fields(&["query", "fun"])?;
-    Ok(Statement::RayQuery {
-        query: fields.get("query")?,
-        fun: fields.get("fun")?,
-    })
+    match held.two("query", "fun") {
+        Ok((query, fun)) => Ok(Statement::RayQuery { query, fun }),
+        Err(error) => Err(error),
+    }
 }
 
 fn read_subgroup_ballot(held: Held) -> Result<Statement, ReadError>
     ensures { Reads (subgroup_ballot_of (view held.entry.value.now)) result }
 {
-    let fields = held.fields(&["result", "predicate"])?;
-    Ok(Statement::SubgroupBallot {
-        result: fields.get("result")?,
-        predicate: fields.get("predicate")?,
-    })
+    match held.two("result", "predicate") {
+        Ok((result, predicate)) => Ok(Statement::SubgroupBallot { result, predicate }),
+        Err(error) => Err(error),
+    }
 }
 
 fn read_subgroup_collective_operation(held: Held) -> Result<Statement, ReadError>
     ensures { Reads (subgroup_collective_operation_of (view held.entry.value.now)) result }
 {
-    let fields = held.fields(&["op", "collective_op", "argument", "result"])?;
-    Ok(Statement::SubgroupCollectiveOperation {
-        op: fields.get("op")?,
-        collective_op: fields.get("collective_op")?,
-        argument: fields.get("argument")?,
-        result: fields.get("result")?,
-    })
+    if let Err(error) = held.fields(&["op", "collective_op", "argument", "result"]) {
+        return Err(error);
+    }
+    match held.get("op") {
+        Ok(op) => match held.get("collective_op") {
+            Ok(collective_op) => match held.pair("argument", "result") {
+                Ok((argument, result)) => Ok(Statement::SubgroupCollectiveOperation {
+                    op,
+                    collective_op,
+                    argument,
+                    result,
+                }),
+                Err(error) => Err(error),
+            },
+            Err(error) => Err(error),
+        },
+        Err(error) => Err(error),
+    }
 }
 
 fn read_subgroup_gather(held: Held) -> Result<Statement, ReadError>
     ensures { Reads (subgroup_gather_of (view held.entry.value.now)) result }
 {
-    let fields = held.fields(&["mode", "argument", "result"])?;
-    Ok(Statement::SubgroupGather {
-        mode: fields.get("mode")?,
-        argument: fields.get("argument")?,
-        result: fields.get("result")?,
-    })
+    if let Err(error) = held.fields(&["mode", "argument", "result"]) {
+        return Err(error);
+    }
+    match held.get("mode") {
+        Ok(mode) => match held.pair("argument", "result") {
+            Ok((argument, result)) => Ok(Statement::SubgroupGather {
+                mode,
+                argument,
+                result,
+            }),
+            Err(error) => Err(error),
+        },
+        Err(error) => Err(error),
+    }
 }
 
 fn read_cooperative_store(held: Held) -> Result<Statement, ReadError>
     ensures { Reads (cooperative_store_of (view held.entry.value.now)) result }
 {
-    let fields = held.fields(&["target", "source"])?;
-    Ok(Statement::CooperativeStore {
-        target: fields.get("target")?,
-        source: fields.get("source")?,
-    })
+    match held.two("target", "source") {
+        Ok((target, source)) => Ok(Statement::CooperativeStore { target, source }),
+        Err(error) => Err(error),
+    }
 }
 
 /// The statement of this kind, by what it holds.
@@ -164,10 +192,19 @@ pub fn read_leaf(kind: LeafName, held: Held) -> Result<Statement, ReadError>
     ensures { Reads (leaf_from kind (view held.entry.value.now)) result }
 {
     match kind {
-        LeafName::Emit => Ok(Statement::Emit(held.read()?)),
+        LeafName::Emit => match held.read() {
+            Ok(range) => Ok(Statement::Emit(range)),
+            Err(error) => Err(error),
+        },
         LeafName::Return => read_return(held),
-        LeafName::ControlBarrier => Ok(Statement::ControlBarrier(held.read()?)),
-        LeafName::MemoryBarrier => Ok(Statement::MemoryBarrier(held.read()?)),
+        LeafName::ControlBarrier => match held.read() {
+            Ok(barrier) => Ok(Statement::ControlBarrier(barrier)),
+            Err(error) => Err(error),
+        },
+        LeafName::MemoryBarrier => match held.read() {
+            Ok(barrier) => Ok(Statement::MemoryBarrier(barrier)),
+            Err(error) => Err(error),
+        },
         LeafName::Store => read_store(held),
         LeafName::ImageStore => read_image_store(held),
         LeafName::Atomic => read_atomic(held),
@@ -179,6 +216,9 @@ pub fn read_leaf(kind: LeafName, held: Held) -> Result<Statement, ReadError>
         LeafName::SubgroupCollectiveOperation => read_subgroup_collective_operation(held),
         LeafName::SubgroupGather => read_subgroup_gather(held),
         LeafName::CooperativeStore => read_cooperative_store(held),
-        LeafName::RayPipelineFunction => Ok(Statement::RayPipelineFunction(held.read()?)),
+        LeafName::RayPipelineFunction => match held.read() {
+            Ok(function) => Ok(Statement::RayPipelineFunction(function)),
+            Err(error) => Err(error),
+        },
     }
 }

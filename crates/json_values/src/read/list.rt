@@ -27,9 +27,16 @@ impl<T: FromJson> FromJson for Sequence<T> {
     ghost stands_for = { list_of T.stands_for };
 
     fn from_json(alloc: Global, value: &Value) -> Result<Self, ReadError> {
+        let items = match elements(alloc, value) {
+            Ok(items) => items,
+            Err(error) => return Err(error),
+        };
         let mut list = Sequence::new(alloc);
-        for (index, value) in elements(alloc, value)?.iter().enumerate() {
-            list.push(read_at(alloc, Step::Index(index), value)?)?;
+        for (index, value) in items.iter().enumerate() {
+            match read_at(alloc, Step::Index(index), value) {
+                Ok(read) => list.push(read)?,
+                Err(error) => return Err(error),
+            }
         }
         Ok(list)
     }
@@ -40,13 +47,21 @@ impl<T: FromJson + Tagged> FromJson for Arena<T> {
     ghost stands_for = { list_of T.stands_for };
 
     fn from_json(alloc: Global, value: &Value) -> Result<Self, ReadError> {
+        let items = match elements(alloc, value) {
+            Ok(items) => items,
+            Err(error) => return Err(error),
+        };
         let mut arena = Arena::new(alloc);
-        for (index, value) in elements(alloc, value)?.iter().enumerate() {
-            let read = read_at(alloc, Step::Index(index), value)?;
-            if arena.is_full() {
-                return Err(ReadError::Memory);
+        for (index, value) in items.iter().enumerate() {
+            match read_at(alloc, Step::Index(index), value) {
+                Ok(read) => {
+                    if arena.is_full() {
+                        return Err(ReadError::Memory);
+                    }
+                    arena.append(read, Span::UNDEFINED)?;
+                }
+                Err(error) => return Err(error),
             }
-            arena.append(read, Span::UNDEFINED)?;
         }
         Ok(arena)
     }
@@ -72,13 +87,20 @@ impl<A: FromJson, B: FromJson> FromJson for (A, B) {
     ghost stands_for = { two_of A.stands_for B.stands_for };
 
     fn from_json(alloc: Global, value: &Value) -> Result<Self, ReadError> {
-        let items = elements(alloc, value)?;
+        let items = match elements(alloc, value) {
+            Ok(items) => items,
+            Err(error) => return Err(error),
+        };
         if items.len() != 2 {
             return Err(ReadError::expected(alloc, "a list of two"));
         }
-        let first = read_at(alloc, Step::Index(0), &items[0])?;
-        let second = read_at(alloc, Step::Index(1), &items[1])?;
-        Ok((first, second))
+        match read_at(alloc, Step::Index(0), &items[0]) {
+            Ok(first) => match read_at(alloc, Step::Index(1), &items[1]) {
+                Ok(second) => Ok((first, second)),
+                Err(error) => Err(error),
+            },
+            Err(error) => Err(error),
+        }
     }
 }
 
@@ -87,13 +109,22 @@ impl<A: FromJson, B: FromJson, C: FromJson> FromJson for (A, B, C) {
     ghost stands_for = { three_of A.stands_for B.stands_for C.stands_for };
 
     fn from_json(alloc: Global, value: &Value) -> Result<Self, ReadError> {
-        let items = elements(alloc, value)?;
+        let items = match elements(alloc, value) {
+            Ok(items) => items,
+            Err(error) => return Err(error),
+        };
         if items.len() != 3 {
             return Err(ReadError::expected(alloc, "a list of three"));
         }
-        let first = read_at(alloc, Step::Index(0), &items[0])?;
-        let second = read_at(alloc, Step::Index(1), &items[1])?;
-        let third = read_at(alloc, Step::Index(2), &items[2])?;
-        Ok((first, second, third))
+        match read_at(alloc, Step::Index(0), &items[0]) {
+            Ok(first) => match read_at(alloc, Step::Index(1), &items[1]) {
+                Ok(second) => match read_at(alloc, Step::Index(2), &items[2]) {
+                    Ok(third) => Ok((first, second, third)),
+                    Err(error) => Err(error),
+                },
+                Err(error) => Err(error),
+            },
+            Err(error) => Err(error),
+        }
     }
 }

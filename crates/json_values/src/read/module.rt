@@ -3,7 +3,7 @@
 ghost use Rattle.json_values.specs.Document.Modules.{module_of, types_of};
 
 use crate::read::error::{ReadError, Step};
-use crate::read::from_json::{Fields, FromJson};
+use crate::read::from_json::{FromJson, Held};
 use ir_arena::{Sequence, Span};
 use ir_module::Module;
 use ir_types::{Type, UniqueArena};
@@ -35,29 +35,43 @@ impl FromJson for Module {
     ghost stands_for = { module_of };
 
     fn from_json(alloc: Global, value: &Value) -> Result<Self, ReadError> {
-        let fields = Fields::of(
+        let held = Held {
             alloc,
             value,
-            &[
-                "types",
-                "special_types",
-                "constants",
-                "overrides",
+            variant: None,
+        };
+        if let Err(error) = held.fields(&[
+            "types",
+            "special_types",
+            "constants",
+            "overrides",
+            "global_variables",
+            "global_expressions",
+            "functions",
+            "entry_points",
+        ]) {
+            return Err(error);
+        }
+        match held.quad("types", "special_types", "constants", "overrides") {
+            Ok((types, special_types, constants, overrides)) => match held.quad(
                 "global_variables",
                 "global_expressions",
                 "functions",
                 "entry_points",
-            ],
-        )?;
-        Ok(Module {
-            types: fields.get("types")?,
-            special_types: fields.get("special_types")?,
-            constants: fields.get("constants")?,
-            overrides: fields.get("overrides")?,
-            global_variables: fields.get("global_variables")?,
-            global_expressions: fields.get("global_expressions")?,
-            functions: fields.get("functions")?,
-            entry_points: fields.get("entry_points")?,
-        })
+            ) {
+                Ok((global_variables, global_expressions, functions, entry_points)) => Ok(Module {
+                    types,
+                    special_types,
+                    constants,
+                    overrides,
+                    global_variables,
+                    global_expressions,
+                    functions,
+                    entry_points,
+                }),
+                Err(error) => Err(error),
+            },
+            Err(error) => Err(error),
+        }
     }
 }

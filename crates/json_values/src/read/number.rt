@@ -70,10 +70,12 @@ impl FromJson for NonZeroU32 {
     ghost stands_for = { nonzero_of };
 
     fn from_json(alloc: Global, value: &Value) -> Result<Self, ReadError> {
-        let n = u32::from_json(alloc, value)?;
-        match NonZeroU32::new(n) {
-            Some(count) => Ok(count),
-            None => Err(ReadError::expected(alloc, "an integer from 1 to 4294967295")),
+        match u32::from_json(alloc, value) {
+            Ok(n) => match NonZeroU32::new(n) {
+                Some(count) => Ok(count),
+                None => Err(ReadError::expected(alloc, "an integer from 1 to 4294967295")),
+            },
+            Err(error) => Err(error),
         }
     }
 }
@@ -84,7 +86,10 @@ impl FromJson for Name {
 
     fn from_json(alloc: Global, value: &Value) -> Result<Self, ReadError> {
         match value.as_str() {
-            Some(text) => Ok(Name::from(String::from_str(alloc, text)?)),
+            Some(text) => match String::from_str(alloc, text) {
+                Ok(name) => Ok(Name::from(name)),
+                Err(_) => Err(ReadError::Memory),
+            },
             None => Err(ReadError::expected(alloc, "a text")),
         }
     }
@@ -95,6 +100,9 @@ impl<T> FromJson for Handle<T> {
     ghost stands_for = { u32_of };
 
     fn from_json(alloc: Global, value: &Value) -> Result<Self, ReadError> {
-        Ok(Handle::new(u32::from_json(alloc, value)?))
+        match u32::from_json(alloc, value) {
+            Ok(index) => Ok(Handle::new(index)),
+            Err(error) => Err(error),
+        }
     }
 }

@@ -1,10 +1,13 @@
 //! Operations of atomics, subgroups and rays, and what else statements name.
 
-ghost use Rattle.json_values.specs.Document.Operations.{atomic_function_of, collective_operation_of, cooperative_data_of, gather_mode_of, range_of, ray_pipeline_function_of, ray_query_function_of, subgroup_operation_of, switch_value_of};
+ghost use Rattle.serde_json.specs.View.{view};
+ghost use Rattle.json_values.specs.Reads.{Reads};
+ghost use Rattle.json_values.specs.Variants.{holding};
+ghost use Rattle.json_values.specs.Document.Operations.{atomic_function_of, collective_operation_of, cooperative_data_of, gather_mode_from, gather_mode_of, range_of, ray_pipeline_function_of, ray_query_function_from, ray_query_function_of, subgroup_operation_of, switch_value_of};
 
 use crate::read::error::ReadError;
-use crate::read::from_json::{Fields, FromJson};
-use crate::read::variant::{NO_NAMES, Variant, read_name, read_variant};
+use crate::read::from_json::{FromJson, Held};
+use crate::read::variant::{Variant, read_holding, read_name, read_variant};
 use ir_arena::Range;
 use ir_module::{
     AtomicFunction, CollectiveOperation, CooperativeData, GatherMode, RayPipelineFunction,
@@ -31,14 +34,13 @@ impl FromJson for AtomicFunction {
     ghost stands_for = { atomic_function_of };
 
     fn from_json(alloc: Global, value: &Value) -> Result<Self, ReadError> {
-        match read_variant(alloc, value, &ATOMIC_FUNCTIONS, &EXCHANGE)? {
-            Variant::Plain(found) => Ok(found),
-            Variant::Holding((), held) => {
-                let fields = held.fields(&["compare"])?;
-                Ok(AtomicFunction::Exchange {
-                    compare: fields.get("compare")?,
-                })
-            }
+        match read_variant(alloc, value, &ATOMIC_FUNCTIONS, &EXCHANGE) {
+            Ok(Variant::Plain(found)) => Ok(found),
+            Ok(Variant::Holding((), held)) => match held.one("compare") {
+                Ok(compare) => Ok(AtomicFunction::Exchange { compare }),
+                Err(error) => Err(error),
+            },
+            Err(error) => Err(error),
         }
     }
 }
@@ -105,29 +107,49 @@ const GATHER_MODES: [(&str, GatherName); 7] = [
     ("QuadBroadcast", GatherName::QuadBroadcast),
 ];
 
+fn read_held_gather(name: GatherName, held: Held) -> Result<GatherMode, ReadError>
+    ensures { Reads (gather_mode_from (holding name (view held.entry.value.now))) result }
+{
+    match name {
+        GatherName::QuadSwap => match held.read() {
+            Ok(direction) => Ok(GatherMode::QuadSwap(direction)),
+            Err(error) => Err(error),
+        },
+        GatherName::Broadcast => match held.read() {
+            Ok(index) => Ok(GatherMode::Broadcast(index)),
+            Err(error) => Err(error),
+        },
+        GatherName::Shuffle => match held.read() {
+            Ok(index) => Ok(GatherMode::Shuffle(index)),
+            Err(error) => Err(error),
+        },
+        GatherName::ShuffleDown => match held.read() {
+            Ok(delta) => Ok(GatherMode::ShuffleDown(delta)),
+            Err(error) => Err(error),
+        },
+        GatherName::ShuffleUp => match held.read() {
+            Ok(delta) => Ok(GatherMode::ShuffleUp(delta)),
+            Err(error) => Err(error),
+        },
+        GatherName::ShuffleXor => match held.read() {
+            Ok(mask) => Ok(GatherMode::ShuffleXor(mask)),
+            Err(error) => Err(error),
+        },
+        GatherName::QuadBroadcast => match held.read() {
+            Ok(index) => Ok(GatherMode::QuadBroadcast(index)),
+            Err(error) => Err(error),
+        },
+    }
+}
+
 impl FromJson for GatherMode {
     ghost stands_for = { gather_mode_of };
 
     fn from_json(alloc: Global, value: &Value) -> Result<Self, ReadError> {
-        match read_variant(alloc, value, &BARE_GATHERS, &GATHER_MODES)? {
-            Variant::Plain(found) => Ok(found),
-            Variant::Holding(GatherName::QuadSwap, held) => Ok(GatherMode::QuadSwap(held.read()?)),
-            Variant::Holding(GatherName::Broadcast, held) => Ok(GatherMode::Broadcast(
-                held.read()?,
-            )),
-            Variant::Holding(GatherName::Shuffle, held) => Ok(GatherMode::Shuffle(held.read()?)),
-            Variant::Holding(GatherName::ShuffleDown, held) => Ok(GatherMode::ShuffleDown(
-                held.read()?,
-            )),
-            Variant::Holding(GatherName::ShuffleUp, held) => Ok(GatherMode::ShuffleUp(
-                held.read()?,
-            )),
-            Variant::Holding(GatherName::ShuffleXor, held) => Ok(GatherMode::ShuffleXor(
-                held.read()?,
-            )),
-            Variant::Holding(GatherName::QuadBroadcast, held) => Ok(GatherMode::QuadBroadcast(
-                held.read()?,
-            )),
+        match read_variant(alloc, value, &BARE_GATHERS, &GATHER_MODES) {
+            Ok(Variant::Plain(found)) => Ok(found),
+            Ok(Variant::Holding(name, held)) => read_held_gather(name, held),
+            Err(error) => Err(error),
         }
     }
 }
@@ -153,31 +175,36 @@ const RAY_QUERIES: [(&str, RayQueryName); 3] = [
     ("GenerateIntersection", RayQueryName::GenerateIntersection),
 ];
 
+fn read_held_query(name: RayQueryName, held: Held) -> Result<RayQueryFunction, ReadError>
+    ensures { Reads (ray_query_function_from (holding name (view held.entry.value.now))) result }
+{
+    match name {
+        RayQueryName::Initialize => match held.two("acceleration_structure", "descriptor") {
+            Ok((acceleration_structure, descriptor)) => Ok(RayQueryFunction::Initialize {
+                acceleration_structure,
+                descriptor,
+            }),
+            Err(error) => Err(error),
+        },
+        RayQueryName::Proceed => match held.one("result") {
+            Ok(result) => Ok(RayQueryFunction::Proceed { result }),
+            Err(error) => Err(error),
+        },
+        RayQueryName::GenerateIntersection => match held.one("hit_t") {
+            Ok(hit_t) => Ok(RayQueryFunction::GenerateIntersection { hit_t }),
+            Err(error) => Err(error),
+        },
+    }
+}
+
 impl FromJson for RayQueryFunction {
     ghost stands_for = { ray_query_function_of };
 
     fn from_json(alloc: Global, value: &Value) -> Result<Self, ReadError> {
-        match read_variant(alloc, value, &BARE_QUERIES, &RAY_QUERIES)? {
-            Variant::Plain(found) => Ok(found),
-            Variant::Holding(RayQueryName::Initialize, held) => {
-                let fields = held.fields(&["acceleration_structure", "descriptor"])?;
-                Ok(RayQueryFunction::Initialize {
-                    acceleration_structure: fields.get("acceleration_structure")?,
-                    descriptor: fields.get("descriptor")?,
-                })
-            }
-            Variant::Holding(RayQueryName::Proceed, held) => {
-                let fields = held.fields(&["result"])?;
-                Ok(RayQueryFunction::Proceed {
-                    result: fields.get("result")?,
-                })
-            }
-            Variant::Holding(RayQueryName::GenerateIntersection, held) => {
-                let fields = held.fields(&["hit_t"])?;
-                Ok(RayQueryFunction::GenerateIntersection {
-                    hit_t: fields.get("hit_t")?,
-                })
-            }
+        match read_variant(alloc, value, &BARE_QUERIES, &RAY_QUERIES) {
+            Ok(Variant::Plain(found)) => Ok(found),
+            Ok(Variant::Holding(name, held)) => read_held_query(name, held),
+            Err(error) => Err(error),
         }
     }
 }
@@ -189,16 +216,18 @@ impl FromJson for RayPipelineFunction {
     ghost stands_for = { ray_pipeline_function_of };
 
     fn from_json(alloc: Global, value: &Value) -> Result<Self, ReadError> {
-        match read_variant(alloc, value, &NO_NAMES, &RAY_PIPELINES)? {
-            Variant::Plain(()) => Err(ReadError::expected(alloc, "what a ray pipeline does")),
-            Variant::Holding((), held) => {
-                let fields = held.fields(&["acceleration_structure", "descriptor", "payload"])?;
-                Ok(RayPipelineFunction::TraceRay {
-                    acceleration_structure: fields.get("acceleration_structure")?,
-                    descriptor: fields.get("descriptor")?,
-                    payload: fields.get("payload")?,
-                })
-            }
+        match read_holding(alloc, value, &RAY_PIPELINES) {
+            Ok(((), held)) => match held.three("acceleration_structure", "descriptor", "payload") {
+                Ok((acceleration_structure, descriptor, payload)) => Ok(
+                    RayPipelineFunction::TraceRay {
+                        acceleration_structure,
+                        descriptor,
+                        payload,
+                    },
+                ),
+                Err(error) => Err(error),
+            },
+            Err(error) => Err(error),
         }
     }
 }
@@ -207,11 +236,15 @@ impl FromJson for CooperativeData {
     ghost stands_for = { cooperative_data_of };
 
     fn from_json(alloc: Global, value: &Value) -> Result<Self, ReadError> {
-        let fields = Fields::of(alloc, value, &["pointer", "detail"])?;
-        Ok(CooperativeData {
-            pointer: fields.get("pointer")?,
-            detail: fields.get("detail")?,
-        })
+        let held = Held {
+            alloc,
+            value,
+            variant: None,
+        };
+        match held.two("pointer", "detail") {
+            Ok((pointer, detail)) => Ok(CooperativeData { pointer, detail }),
+            Err(error) => Err(error),
+        }
     }
 }
 
@@ -232,10 +265,17 @@ impl FromJson for SwitchValue {
     ghost stands_for = { switch_value_of };
 
     fn from_json(alloc: Global, value: &Value) -> Result<Self, ReadError> {
-        match read_variant(alloc, value, &BARE_VALUES, &SWITCH_VALUES)? {
-            Variant::Plain(found) => Ok(found),
-            Variant::Holding(ValueName::I32, held) => Ok(SwitchValue::I32(held.read()?)),
-            Variant::Holding(ValueName::U32, held) => Ok(SwitchValue::U32(held.read()?)),
+        match read_variant(alloc, value, &BARE_VALUES, &SWITCH_VALUES) {
+            Ok(Variant::Plain(found)) => Ok(found),
+            Ok(Variant::Holding(ValueName::I32, held)) => match held.read() {
+                Ok(number) => Ok(SwitchValue::I32(number)),
+                Err(error) => Err(error),
+            },
+            Ok(Variant::Holding(ValueName::U32, held)) => match held.read() {
+                Ok(number) => Ok(SwitchValue::U32(number)),
+                Err(error) => Err(error),
+            },
+            Err(error) => Err(error),
         }
     }
 }
@@ -244,10 +284,14 @@ impl FromJson for Range {
     ghost stands_for = { range_of };
 
     fn from_json(alloc: Global, value: &Value) -> Result<Self, ReadError> {
-        let fields = Fields::of(alloc, value, &["start", "end"])?;
-        Ok(Range {
-            start: fields.get("start")?,
-            end: fields.get("end")?,
-        })
+        let held = Held {
+            alloc,
+            value,
+            variant: None,
+        };
+        match held.two("start", "end") {
+            Ok((start, end)) => Ok(Range { start, end }),
+            Err(error) => Err(error),
+        }
     }
 }

@@ -3,7 +3,7 @@
 ghost use Rattle.json_values.specs.Document.Scalars.{scalar_kind_of, scalar_of, vector_size_of};
 
 use crate::read::error::ReadError;
-use crate::read::from_json::{Fields, FromJson};
+use crate::read::from_json::{FromJson, Held};
 use crate::read::variant::read_name;
 use ir_types::{Scalar, ScalarKind, VectorSize};
 use serde_json::Value;
@@ -31,11 +31,15 @@ impl FromJson for Scalar {
     ghost stands_for = { scalar_of };
 
     fn from_json(alloc: Global, value: &Value) -> Result<Self, ReadError> {
-        let fields = Fields::of(alloc, value, &["kind", "width"])?;
-        Ok(Scalar {
-            kind: fields.get("kind")?,
-            width: fields.get("width")?,
-        })
+        let held = Held {
+            alloc,
+            value,
+            variant: None,
+        };
+        match held.two("kind", "width") {
+            Ok((kind, width)) => Ok(Scalar { kind, width }),
+            Err(error) => Err(error),
+        }
     }
 }
 

@@ -35,17 +35,22 @@ fn read_bit<B: Flags + Copy>(alloc: Global, value: &Value, joined: &str) -> Resu
 fn read_set<B: Flags + Copy>(alloc: Global, value: &Value, joined: &str) -> Result<B, ReadError>
     ensures { B.exact → ReadsBits B.set_of (bits_of B.table joined.now (view value.now)) result }
 {
+    let items = match elements(alloc, value) {
+        Ok(items) => items,
+        Err(error) => return Err(error),
+    };
     let mut set = B::empty();
-    for (index, value) in elements(alloc, value)?.iter().enumerate() {
-        let bit = match read_bit(alloc, value, joined) {
-            Ok(bit) => bit,
+    for (index, value) in items.iter().enumerate() {
+        match read_bit(alloc, value, joined) {
+            Ok(bit) => {
+                if set.contains(bit) {
+                    let error = ReadError::expected(alloc, "a name that the set doesn't have yet");
+                    return Err(error.within(Step::Index(index)));
+                }
+                set.insert(bit);
+            }
             Err(error) => return Err(error.within(Step::Index(index))),
-        };
-        if set.contains(bit) {
-            let error = ReadError::expected(alloc, "a name that the set doesn't have yet");
-            return Err(error.within(Step::Index(index)));
         }
-        set.insert(bit);
     }
     Ok(set)
 }

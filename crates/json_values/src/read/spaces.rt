@@ -3,7 +3,7 @@
 ghost use Rattle.json_values.specs.Document.Spaces.{address_space_of, resource_binding_of};
 
 use crate::read::error::ReadError;
-use crate::read::from_json::{Fields, FromJson};
+use crate::read::from_json::{FromJson, Held};
 use crate::read::variant::{Variant, read_variant};
 use ir_module::ResourceBinding;
 use ir_types::AddressSpace;
@@ -30,14 +30,13 @@ impl FromJson for AddressSpace {
     ghost stands_for = { address_space_of };
 
     fn from_json(alloc: Global, value: &Value) -> Result<Self, ReadError> {
-        match read_variant(alloc, value, &ADDRESS_SPACES, &STORAGE_SPACE)? {
-            Variant::Plain(found) => Ok(found),
-            Variant::Holding((), held) => {
-                let fields = held.fields(&["access"])?;
-                Ok(AddressSpace::Storage {
-                    access: fields.get("access")?,
-                })
-            }
+        match read_variant(alloc, value, &ADDRESS_SPACES, &STORAGE_SPACE) {
+            Ok(Variant::Plain(found)) => Ok(found),
+            Ok(Variant::Holding((), held)) => match held.one("access") {
+                Ok(access) => Ok(AddressSpace::Storage { access }),
+                Err(error) => Err(error),
+            },
+            Err(error) => Err(error),
         }
     }
 }
@@ -46,10 +45,14 @@ impl FromJson for ResourceBinding {
     ghost stands_for = { resource_binding_of };
 
     fn from_json(alloc: Global, value: &Value) -> Result<Self, ReadError> {
-        let fields = Fields::of(alloc, value, &["group", "binding"])?;
-        Ok(ResourceBinding {
-            group: fields.get("group")?,
-            binding: fields.get("binding")?,
-        })
+        let held = Held {
+            alloc,
+            value,
+            variant: None,
+        };
+        match held.two("group", "binding") {
+            Ok((group, binding)) => Ok(ResourceBinding { group, binding }),
+            Err(error) => Err(error),
+        }
     }
 }

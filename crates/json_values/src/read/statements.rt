@@ -1,15 +1,18 @@
 //! Statements that hold others, and blocks.
 
 ghost use Rattle.serde_json.specs.View.{view};
+ghost use Rattle.std.specs.Prelude.{◌≡◌};
 ghost use Rattle.json_values.specs.Form.{field_of, list_of};
 ghost use Rattle.json_values.specs.Reads.{Reads};
-ghost use Rattle.json_values.specs.Document.Statements.{span_of, block_of, block_at, located_with, long_with, statement_with, if_with, loop_with, switch_with, case_with};
+ghost use Rattle.json_values.specs.ReadsFields.{ReadsTwo};
+ghost use Rattle.json_values.specs.Variants.{holding};
+ghost use Rattle.json_values.specs.Document.Statements.{span_of, bare_from, statement_from, block_of, block_at, located_with, long_with, statement_with, if_with, loop_with, switch_with, case_with};
 
 use crate::read::error::{ReadError, Step};
-use crate::read::from_json::{Fields, FromJson, has_field};
+use crate::read::from_json::{FromJson, Held, has_field};
 use crate::read::leaves::{LeafName, read_leaf};
 use crate::read::list::elements;
-use crate::read::variant::{Held, Variant, read_variant};
+use crate::read::variant::{Variant, read_variant};
 use ir_arena::{Sequence, Span};
 use ir_module::{Block, Located, Statement, SwitchCase};
 use serde_json::Value;
@@ -23,8 +26,10 @@ impl FromJson for Span {
     ghost stands_for = { span_of };
 
     fn from_json(alloc: Global, value: &Value) -> Result<Self, ReadError> {
-        let (start, end) = FromJson::from_json(alloc, value)?;
-        Ok(Span { start, end })
+        match FromJson::from_json(alloc, value) {
+            Ok((start, end)) => Ok(Span { start, end }),
+            Err(error) => Err(error),
+        }
     }
 }
 
@@ -109,6 +114,16 @@ const STATEMENTS: [(&str, StatementName); 20] = [
     ),
 ];
 
+fn bare_statement(name: BareName) -> Statement
+    ensures { result ≡ bare_from name }
+{
+    match name {
+        BareName::Break => Statement::Break,
+        BareName::Continue => Statement::Continue,
+        BareName::Kill => Statement::Kill,
+    }
+}
+
 /// A list of statements, whose blocks nest at most so deep, itself included.
 #[cycle(block)]
 #[tactic(auto, using(crate::proofs::Blocks::no_level, crate::proofs::Blocks::block_refused, crate::proofs::Blocks::block_read))]
@@ -133,8 +148,12 @@ fn read_statements(
 ) -> Result<Sequence<Located>, ReadError>
     ensures { Reads (list_of (located_with (block_at levels)) (view value.now)) result }
 {
+    let items = match elements(alloc, value) {
+        Ok(items) => items,
+        Err(error) => return Err(error),
+    };
     let mut list = Sequence::new(alloc);
-    for (index, value) in elements(alloc, value)?.iter().enumerate() {
+    for (index, value) in items.iter().enumerate() {
         match read_located(alloc, levels, value) {
             Ok(located) => list.push(located)?,
             Err(error) => return Err(error.within(Step::Index(index))),
@@ -151,11 +170,13 @@ fn read_located(alloc: Global, levels: usize, value: &Value) -> Result<Located, 
     if has_field(value, "span") {
         return read_long(alloc, levels, value);
     }
-    let statement = read_statement(alloc, levels, value)?;
-    Ok(Located {
-        statement,
-        span: Span::UNDEFINED,
-    })
+    match read_statement(alloc, levels, value) {
+        Ok(statement) => Ok(Located {
+            statement,
+            span: Span::UNDEFINED,
+        }),
+        Err(error) => Err(error),
+    }
 }
 
 /// A statement with its span.
@@ -163,22 +184,56 @@ fn read_located(alloc: Global, levels: usize, value: &Value) -> Result<Located, 
 fn read_long(alloc: Global, levels: usize, value: &Value) -> Result<Located, ReadError>
     ensures { Reads (long_with (block_at levels) (view value.now)) result }
 {
-    let fields = Fields::of(alloc, value, &["span", "statement"])?;
-    let span = fields.get("span")?;
-    match read_statement(alloc, levels, fields.member("statement")?) {
-        Ok(statement) => Ok(Located { statement, span }),
-        Err(error) => Err(fields.in_field(error, "statement")),
+    let held = Held {
+        alloc,
+        value,
+        variant: None,
+    };
+    if let Err(error) = held.fields(&["span", "statement"]) {
+        return Err(error);
+    }
+    match held.get("span") {
+        Ok(span) => match held.member("statement") {
+            Ok(inner) => match read_statement(alloc, levels, inner) {
+                Ok(statement) => Ok(Located { statement, span }),
+                Err(error) => Err(held.in_field(error, "statement")),
+            },
+            Err(error) => Err(error),
+        },
+        Err(error) => Err(error),
     }
 }
 
 /// A block in a field.
 #[cycle(block)]
-fn block_in(levels: usize, fields: Fields, name: &'static str) -> Result<Block, ReadError>
-    ensures { Reads (field_of (block_at levels) name.now (view fields.entry.value.now)) result }
+fn block_in(levels: usize, held: Held, name: &'static str) -> Result<Block, ReadError>
+    ensures { Reads (field_of (block_at levels) name.now (view held.entry.value.now)) result }
 {
-    match read_block(fields.alloc, levels, fields.member(name)?) {
-        Ok(block) => Ok(block),
-        Err(error) => Err(fields.in_field(error, name)),
+    match held.member(name) {
+        Ok(value) => match read_block(held.alloc, levels, value) {
+            Ok(block) => Ok(block),
+            Err(error) => Err(held.in_field(error, name)),
+        },
+        Err(error) => Err(error),
+    }
+}
+
+/// The blocks in two fields.
+#[cycle(block)]
+fn blocks_in(
+    levels: usize,
+    held: Held,
+    first: &'static str,
+    second: &'static str,
+) -> Result<(Block, Block), ReadError>
+    ensures { ReadsTwo (field_of (block_at levels) first.now (view held.entry.value.now)) (field_of (block_at levels) second.now (view held.entry.value.now)) result }
+{
+    match block_in(levels, held, first) {
+        Ok(one) => match block_in(levels, held, second) {
+            Ok(other) => Ok((one, other)),
+            Err(error) => Err(error),
+        },
+        Err(error) => Err(error),
     }
 }
 
@@ -187,20 +242,31 @@ fn block_in(levels: usize, fields: Fields, name: &'static str) -> Result<Block, 
 fn read_statement(alloc: Global, levels: usize, value: &Value) -> Result<Statement, ReadError>
     ensures { Reads (statement_with (block_at levels) (view value.now)) result }
 {
-    match read_variant(alloc, value, &BARE_STATEMENTS, &STATEMENTS)? {
-        Variant::Plain(BareName::Break) => Ok(Statement::Break),
-        Variant::Plain(BareName::Continue) => Ok(Statement::Continue),
-        Variant::Plain(BareName::Kill) => Ok(Statement::Kill),
-        Variant::Holding(StatementName::Block, held) => {
-            match read_block(alloc, levels, held.value) {
-                Ok(block) => Ok(Statement::Block(block)),
-                Err(error) => Err(error.within(Step::Name(held.name))),
-            }
-        }
-        Variant::Holding(StatementName::If, held) => read_if(levels, held),
-        Variant::Holding(StatementName::Switch, held) => read_switch(levels, held),
-        Variant::Holding(StatementName::Loop, held) => read_loop(levels, held),
-        Variant::Holding(StatementName::Leaf(kind), held) => read_leaf(kind, held),
+    match read_variant(alloc, value, &BARE_STATEMENTS, &STATEMENTS) {
+        Ok(Variant::Plain(name)) => Ok(bare_statement(name)),
+        Ok(Variant::Holding(name, held)) => read_held_statement(levels, name, held),
+        Err(error) => Err(error),
+    }
+}
+
+/// A statement that holds something.
+#[cycle(block)]
+fn read_held_statement(
+    levels: usize,
+    name: StatementName,
+    held: Held,
+) -> Result<Statement, ReadError>
+    ensures { Reads (statement_from (block_at levels) (holding name (view held.entry.value.now))) result }
+{
+    match name {
+        StatementName::Block => match read_block(held.alloc, levels, held.value) {
+            Ok(block) => Ok(Statement::Block(block)),
+            Err(error) => Err(held.outside(error)),
+        },
+        StatementName::If => read_if(levels, held),
+        StatementName::Switch => read_switch(levels, held),
+        StatementName::Loop => read_loop(levels, held),
+        StatementName::Leaf(kind) => read_leaf(kind, held),
     }
 }
 
@@ -208,41 +274,58 @@ fn read_statement(alloc: Global, levels: usize, value: &Value) -> Result<Stateme
 fn read_if(levels: usize, held: Held) -> Result<Statement, ReadError>
     ensures { Reads (if_with (block_at levels) (view held.entry.value.now)) result }
 {
-    let fields = held.fields(&["condition", "accept", "reject"])?;
-    let condition = fields.get("condition")?;
-    let accept = block_in(levels, fields, "accept")?;
-    let reject = block_in(levels, fields, "reject")?;
-    Ok(Statement::If {
-        condition,
-        accept,
-        reject,
-    })
+    if let Err(error) = held.fields(&["condition", "accept", "reject"]) {
+        return Err(error);
+    }
+    match held.get("condition") {
+        Ok(condition) => match blocks_in(levels, held, "accept", "reject") {
+            Ok((accept, reject)) => Ok(Statement::If {
+                condition,
+                accept,
+                reject,
+            }),
+            Err(error) => Err(error),
+        },
+        Err(error) => Err(error),
+    }
 }
 
 #[cycle(block)]
 fn read_loop(levels: usize, held: Held) -> Result<Statement, ReadError>
     ensures { Reads (loop_with (block_at levels) (view held.entry.value.now)) result }
 {
-    let fields = held.fields(&["body", "continuing", "break_if"])?;
-    let body = block_in(levels, fields, "body")?;
-    let continuing = block_in(levels, fields, "continuing")?;
-    let break_if = fields.get("break_if")?;
-    Ok(Statement::Loop {
-        body,
-        continuing,
-        break_if,
-    })
+    if let Err(error) = held.fields(&["body", "continuing", "break_if"]) {
+        return Err(error);
+    }
+    match blocks_in(levels, held, "body", "continuing") {
+        Ok((body, continuing)) => match held.get("break_if") {
+            Ok(break_if) => Ok(Statement::Loop {
+                body,
+                continuing,
+                break_if,
+            }),
+            Err(error) => Err(error),
+        },
+        Err(error) => Err(error),
+    }
 }
 
 #[cycle(block)]
 fn read_switch(levels: usize, held: Held) -> Result<Statement, ReadError>
     ensures { Reads (switch_with (block_at levels) (view held.entry.value.now)) result }
 {
-    let fields = held.fields(&["selector", "cases"])?;
-    let selector = fields.get("selector")?;
-    match read_cases(fields.alloc, levels, fields.member("cases")?) {
-        Ok(cases) => Ok(Statement::Switch { selector, cases }),
-        Err(error) => Err(fields.in_field(error, "cases")),
+    if let Err(error) = held.fields(&["selector", "cases"]) {
+        return Err(error);
+    }
+    match held.get("selector") {
+        Ok(selector) => match held.member("cases") {
+            Ok(value) => match read_cases(held.alloc, levels, value) {
+                Ok(cases) => Ok(Statement::Switch { selector, cases }),
+                Err(error) => Err(held.in_field(error, "cases")),
+            },
+            Err(error) => Err(error),
+        },
+        Err(error) => Err(error),
     }
 }
 
@@ -255,8 +338,12 @@ fn read_cases(
 ) -> Result<Sequence<SwitchCase>, ReadError>
     ensures { Reads (list_of (case_with (block_at levels)) (view value.now)) result }
 {
+    let items = match elements(alloc, value) {
+        Ok(items) => items,
+        Err(error) => return Err(error),
+    };
     let mut cases = Sequence::new(alloc);
-    for (index, value) in elements(alloc, value)?.iter().enumerate() {
+    for (index, value) in items.iter().enumerate() {
         match read_case(alloc, levels, value) {
             Ok(case) => cases.push(case)?,
             Err(error) => return Err(error.within(Step::Index(index))),
@@ -269,13 +356,26 @@ fn read_cases(
 fn read_case(alloc: Global, levels: usize, value: &Value) -> Result<SwitchCase, ReadError>
     ensures { Reads (case_with (block_at levels) (view value.now)) result }
 {
-    let fields = Fields::of(alloc, value, &["value", "body", "fall_through"])?;
-    let value = fields.get("value")?;
-    let body = block_in(levels, fields, "body")?;
-    let fall_through = fields.get("fall_through")?;
-    Ok(SwitchCase {
+    let held = Held {
+        alloc,
         value,
-        body,
-        fall_through,
-    })
+        variant: None,
+    };
+    if let Err(error) = held.fields(&["value", "body", "fall_through"]) {
+        return Err(error);
+    }
+    match held.get("value") {
+        Ok(value) => match block_in(levels, held, "body") {
+            Ok(body) => match held.get("fall_through") {
+                Ok(fall_through) => Ok(SwitchCase {
+                    value,
+                    body,
+                    fall_through,
+                }),
+                Err(error) => Err(error),
+            },
+            Err(error) => Err(error),
+        },
+        Err(error) => Err(error),
+    }
 }

@@ -2,11 +2,12 @@
 
 ghost use Rattle.serde_json.specs.View.{view};
 ghost use Rattle.json_values.specs.Reads.{Reads};
-ghost use Rattle.json_values.specs.Document.Types.{acceleration_structure_of, array_of, array_size_of, binding_array_of, cooperative_matrix_of, image_of, matrix_of, pointer_of, ray_query_of, sampler_of, struct_member_of, struct_of, type_inner_of, type_of, type_resolution_of, value_pointer_of, vector_of};
+ghost use Rattle.json_values.specs.Variants.{holding};
+ghost use Rattle.json_values.specs.Document.Types.{acceleration_structure_of, array_of, array_size_of, binding_array_of, cooperative_matrix_of, image_of, matrix_of, pointer_of, ray_query_of, sampler_of, struct_member_of, struct_of, type_inner_from, type_inner_of, type_of, type_resolution_of, value_pointer_of, vector_of};
 
 use crate::read::error::ReadError;
-use crate::read::from_json::{Fields, FromJson};
-use crate::read::variant::{Held, NO_NAMES, Variant, read_variant};
+use crate::read::from_json::{FromJson, Held};
+use crate::read::variant::{Variant, read_holding, read_variant};
 use ir_types::{ArraySize, StructMember, Type, TypeInner, TypeResolution};
 use serde_json::Value;
 use std::alloc::Global;
@@ -31,10 +32,17 @@ impl FromJson for ArraySize {
     ghost stands_for = { array_size_of };
 
     fn from_json(alloc: Global, value: &Value) -> Result<Self, ReadError> {
-        match read_variant(alloc, value, &ARRAY_SIZES, &HOLDING_SIZES)? {
-            Variant::Plain(found) => Ok(found),
-            Variant::Holding(SizeName::Constant, held) => Ok(ArraySize::Constant(held.read()?)),
-            Variant::Holding(SizeName::Pending, held) => Ok(ArraySize::Pending(held.read()?)),
+        match read_variant(alloc, value, &ARRAY_SIZES, &HOLDING_SIZES) {
+            Ok(Variant::Plain(found)) => Ok(found),
+            Ok(Variant::Holding(SizeName::Constant, held)) => match held.read() {
+                Ok(count) => Ok(ArraySize::Constant(count)),
+                Err(error) => Err(error),
+            },
+            Ok(Variant::Holding(SizeName::Pending, held)) => match held.read() {
+                Ok(pending) => Ok(ArraySize::Pending(pending)),
+                Err(error) => Err(error),
+            },
+            Err(error) => Err(error),
         }
     }
 }
@@ -43,13 +51,29 @@ impl FromJson for StructMember {
     ghost stands_for = { struct_member_of };
 
     fn from_json(alloc: Global, value: &Value) -> Result<Self, ReadError> {
-        let fields = Fields::of(alloc, value, &["name", "ty", "binding", "offset"])?;
-        Ok(StructMember {
-            name: fields.get("name")?,
-            ty: fields.get("ty")?,
-            binding: fields.get("binding")?,
-            offset: fields.get("offset")?,
-        })
+        let held = Held {
+            alloc,
+            value,
+            variant: None,
+        };
+        if let Err(error) = held.fields(&["name", "ty", "binding", "offset"]) {
+            return Err(error);
+        }
+        match held.pair("name", "ty") {
+            Ok((name, ty)) => match held.get("binding") {
+                Ok(binding) => match held.get("offset") {
+                    Ok(offset) => Ok(StructMember {
+                        name,
+                        ty,
+                        binding,
+                        offset,
+                    }),
+                    Err(error) => Err(error),
+                },
+                Err(error) => Err(error),
+            },
+            Err(error) => Err(error),
+        }
     }
 }
 
@@ -93,146 +117,169 @@ const TYPE_NAMES: [(&str, TypeName); 14] = [
 fn read_vector(held: Held) -> Result<TypeInner, ReadError>
     ensures { Reads (vector_of (view held.entry.value.now)) result }
 {
-    let fields = held.fields(&["size", "scalar"])?;
-    Ok(TypeInner::Vector {
-        size: fields.get("size")?,
-        scalar: fields.get("scalar")?,
-    })
+    match held.two("size", "scalar") {
+        Ok((size, scalar)) => Ok(TypeInner::Vector { size, scalar }),
+        Err(error) => Err(error),
+    }
 }
 
 fn read_matrix(held: Held) -> Result<TypeInner, ReadError>
     ensures { Reads (matrix_of (view held.entry.value.now)) result }
 {
-    let fields = held.fields(&["columns", "rows", "scalar"])?;
-    Ok(TypeInner::Matrix {
-        columns: fields.get("columns")?,
-        rows: fields.get("rows")?,
-        scalar: fields.get("scalar")?,
-    })
+    match held.three("columns", "rows", "scalar") {
+        Ok((columns, rows, scalar)) => Ok(TypeInner::Matrix {
+            columns,
+            rows,
+            scalar,
+        }),
+        Err(error) => Err(error),
+    }
 }
 
 fn read_cooperative_matrix(held: Held) -> Result<TypeInner, ReadError>
     ensures { Reads (cooperative_matrix_of (view held.entry.value.now)) result }
 {
-    let fields = held.fields(&["scalar", "detail"])?;
-    Ok(TypeInner::CooperativeMatrix {
-        scalar: fields.get("scalar")?,
-        detail: fields.get("detail")?,
-    })
+    match held.two("scalar", "detail") {
+        Ok((scalar, detail)) => Ok(TypeInner::CooperativeMatrix { scalar, detail }),
+        Err(error) => Err(error),
+    }
 }
 
 fn read_pointer(held: Held) -> Result<TypeInner, ReadError>
     ensures { Reads (pointer_of (view held.entry.value.now)) result }
 {
-    let fields = held.fields(&["base", "space"])?;
-    Ok(TypeInner::Pointer {
-        base: fields.get("base")?,
-        space: fields.get("space")?,
-    })
+    match held.two("base", "space") {
+        Ok((base, space)) => Ok(TypeInner::Pointer { base, space }),
+        Err(error) => Err(error),
+    }
 }
 
 fn read_value_pointer(held: Held) -> Result<TypeInner, ReadError>
     ensures { Reads (value_pointer_of (view held.entry.value.now)) result }
 {
-    let fields = held.fields(&["size", "scalar", "space"])?;
-    Ok(TypeInner::ValuePointer {
-        size: fields.get("size")?,
-        scalar: fields.get("scalar")?,
-        space: fields.get("space")?,
-    })
+    if let Err(error) = held.fields(&["size", "scalar", "space"]) {
+        return Err(error);
+    }
+    match held.pair("size", "scalar") {
+        Ok((size, scalar)) => match held.get("space") {
+            Ok(space) => Ok(TypeInner::ValuePointer {
+                size,
+                scalar,
+                space,
+            }),
+            Err(error) => Err(error),
+        },
+        Err(error) => Err(error),
+    }
 }
 
 fn read_array(held: Held) -> Result<TypeInner, ReadError>
     ensures { Reads (array_of (view held.entry.value.now)) result }
 {
-    let fields = held.fields(&["base", "size", "stride"])?;
-    Ok(TypeInner::Array {
-        base: fields.get("base")?,
-        size: fields.get("size")?,
-        stride: fields.get("stride")?,
-    })
+    match held.three("base", "size", "stride") {
+        Ok((base, size, stride)) => Ok(TypeInner::Array { base, size, stride }),
+        Err(error) => Err(error),
+    }
 }
 
 fn read_struct(held: Held) -> Result<TypeInner, ReadError>
     ensures { Reads (struct_of (view held.entry.value.now)) result }
 {
-    let fields = held.fields(&["members", "span"])?;
-    Ok(TypeInner::Struct {
-        members: fields.get("members")?,
-        span: fields.get("span")?,
-    })
+    match held.two("members", "span") {
+        Ok((members, span)) => Ok(TypeInner::Struct { members, span }),
+        Err(error) => Err(error),
+    }
 }
 
 fn read_image(held: Held) -> Result<TypeInner, ReadError>
     ensures { Reads (image_of (view held.entry.value.now)) result }
 {
-    let fields = held.fields(&["dim", "arrayed", "class"])?;
-    Ok(TypeInner::Image {
-        dim: fields.get("dim")?,
-        arrayed: fields.get("arrayed")?,
-        class: fields.get("class")?,
-    })
+    if let Err(error) = held.fields(&["dim", "arrayed", "class"]) {
+        return Err(error);
+    }
+    match held.pair("dim", "arrayed") {
+        Ok((dim, arrayed)) => match held.get("class") {
+            Ok(class) => Ok(TypeInner::Image {
+                dim,
+                arrayed,
+                class,
+            }),
+            Err(error) => Err(error),
+        },
+        Err(error) => Err(error),
+    }
 }
 
 fn read_sampler(held: Held) -> Result<TypeInner, ReadError>
     ensures { Reads (sampler_of (view held.entry.value.now)) result }
 {
-    let fields = held.fields(&["comparison"])?;
-    Ok(TypeInner::Sampler {
-        comparison: fields.get("comparison")?,
-    })
+    match held.one("comparison") {
+        Ok(comparison) => Ok(TypeInner::Sampler { comparison }),
+        Err(error) => Err(error),
+    }
 }
 
 fn read_acceleration_structure(held: Held) -> Result<TypeInner, ReadError>
     ensures { Reads (acceleration_structure_of (view held.entry.value.now)) result }
 {
-    let fields = held.fields(&["vertex_return"])?;
-    Ok(TypeInner::AccelerationStructure {
-        vertex_return: fields.get("vertex_return")?,
-    })
+    match held.one("vertex_return") {
+        Ok(vertex_return) => Ok(TypeInner::AccelerationStructure { vertex_return }),
+        Err(error) => Err(error),
+    }
 }
 
 fn read_ray_query(held: Held) -> Result<TypeInner, ReadError>
     ensures { Reads (ray_query_of (view held.entry.value.now)) result }
 {
-    let fields = held.fields(&["vertex_return"])?;
-    Ok(TypeInner::RayQuery {
-        vertex_return: fields.get("vertex_return")?,
-    })
+    match held.one("vertex_return") {
+        Ok(vertex_return) => Ok(TypeInner::RayQuery { vertex_return }),
+        Err(error) => Err(error),
+    }
 }
 
 fn read_binding_array(held: Held) -> Result<TypeInner, ReadError>
     ensures { Reads (binding_array_of (view held.entry.value.now)) result }
 {
-    let fields = held.fields(&["base", "size"])?;
-    Ok(TypeInner::BindingArray {
-        base: fields.get("base")?,
-        size: fields.get("size")?,
-    })
+    match held.two("base", "size") {
+        Ok((base, size)) => Ok(TypeInner::BindingArray { base, size }),
+        Err(error) => Err(error),
+    }
+}
+
+fn read_held_type(name: TypeName, held: Held) -> Result<TypeInner, ReadError>
+    ensures { Reads (type_inner_from (holding name (view held.entry.value.now))) result }
+{
+    match name {
+        TypeName::Scalar => match held.read() {
+            Ok(scalar) => Ok(TypeInner::Scalar(scalar)),
+            Err(error) => Err(error),
+        },
+        TypeName::Vector => read_vector(held),
+        TypeName::Matrix => read_matrix(held),
+        TypeName::CooperativeMatrix => read_cooperative_matrix(held),
+        TypeName::Atomic => match held.read() {
+            Ok(scalar) => Ok(TypeInner::Atomic(scalar)),
+            Err(error) => Err(error),
+        },
+        TypeName::Pointer => read_pointer(held),
+        TypeName::ValuePointer => read_value_pointer(held),
+        TypeName::Array => read_array(held),
+        TypeName::Struct => read_struct(held),
+        TypeName::Image => read_image(held),
+        TypeName::Sampler => read_sampler(held),
+        TypeName::AccelerationStructure => read_acceleration_structure(held),
+        TypeName::RayQuery => read_ray_query(held),
+        TypeName::BindingArray => read_binding_array(held),
+    }
 }
 
 impl FromJson for TypeInner {
     ghost stands_for = { type_inner_of };
 
     fn from_json(alloc: Global, value: &Value) -> Result<Self, ReadError> {
-        match read_variant(alloc, value, &NO_NAMES, &TYPE_NAMES)? {
-            Variant::Plain(()) => Err(ReadError::expected(alloc, "a type")),
-            Variant::Holding(TypeName::Scalar, held) => Ok(TypeInner::Scalar(held.read()?)),
-            Variant::Holding(TypeName::Vector, held) => read_vector(held),
-            Variant::Holding(TypeName::Matrix, held) => read_matrix(held),
-            Variant::Holding(TypeName::CooperativeMatrix, held) => read_cooperative_matrix(held),
-            Variant::Holding(TypeName::Atomic, held) => Ok(TypeInner::Atomic(held.read()?)),
-            Variant::Holding(TypeName::Pointer, held) => read_pointer(held),
-            Variant::Holding(TypeName::ValuePointer, held) => read_value_pointer(held),
-            Variant::Holding(TypeName::Array, held) => read_array(held),
-            Variant::Holding(TypeName::Struct, held) => read_struct(held),
-            Variant::Holding(TypeName::Image, held) => read_image(held),
-            Variant::Holding(TypeName::Sampler, held) => read_sampler(held),
-            Variant::Holding(TypeName::AccelerationStructure, held) => read_acceleration_structure(
-                held,
-            ),
-            Variant::Holding(TypeName::RayQuery, held) => read_ray_query(held),
-            Variant::Holding(TypeName::BindingArray, held) => read_binding_array(held),
+        match read_holding(alloc, value, &TYPE_NAMES) {
+            Ok((name, held)) => read_held_type(name, held),
+            Err(error) => Err(error),
         }
     }
 }
@@ -241,11 +288,21 @@ impl FromJson for Type {
     ghost stands_for = { type_of };
 
     fn from_json(alloc: Global, value: &Value) -> Result<Self, ReadError> {
-        let fields = Fields::of(alloc, value, &["name", "inner"])?;
-        Ok(Type {
-            name: fields.get("name")?,
-            inner: fields.get("inner")?,
-        })
+        let held = Held {
+            alloc,
+            value,
+            variant: None,
+        };
+        if let Err(error) = held.fields(&["name", "inner"]) {
+            return Err(error);
+        }
+        match held.get("name") {
+            Ok(name) => match held.get("inner") {
+                Ok(inner) => Ok(Type { name, inner }),
+                Err(error) => Err(error),
+            },
+            Err(error) => Err(error),
+        }
     }
 }
 
@@ -266,14 +323,16 @@ impl FromJson for TypeResolution {
     ghost stands_for = { type_resolution_of };
 
     fn from_json(alloc: Global, value: &Value) -> Result<Self, ReadError> {
-        match read_variant(alloc, value, &NO_NAMES, &RESOLUTIONS)? {
-            Variant::Plain(()) => Err(ReadError::expected(alloc, "a type of an expression")),
-            Variant::Holding(ResolutionName::Handle, held) => Ok(TypeResolution::Handle(
-                held.read()?,
-            )),
-            Variant::Holding(ResolutionName::Value, held) => Ok(TypeResolution::Value(
-                held.read()?,
-            )),
+        match read_holding(alloc, value, &RESOLUTIONS) {
+            Ok((ResolutionName::Handle, held)) => match held.read() {
+                Ok(handle) => Ok(TypeResolution::Handle(handle)),
+                Err(error) => Err(error),
+            },
+            Ok((ResolutionName::Value, held)) => match held.read() {
+                Ok(inner) => Ok(TypeResolution::Value(inner)),
+                Err(error) => Err(error),
+            },
+            Err(error) => Err(error),
         }
     }
 }

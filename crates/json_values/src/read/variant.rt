@@ -1,25 +1,25 @@
 //! Variants: a name alone, or an object with one member, a name and what it holds.
 
-ghost use Rattle.std.specs.Prelude.{◌≡◌, option_map, option_and_then};
+ghost use Rattle.std.specs.Prelude.{◌≡◌, [], option_map, option_and_then};
 ghost use Rattle.serde_json.specs.Find.{as_str};
 ghost use Rattle.serde_json.specs.View.{view, members_view};
 ghost use Rattle.json_values.specs.Form.{lookup, only_member, tagged_of};
 ghost use Rattle.json_values.specs.Reads.{Reads, rows_of};
 ghost use Rattle.json_values.specs.Variants.{variant_of};
-ghost use Rattle.json_values.specs.ReadsVariants.{ReadsVariant, tag_of};
+ghost use Rattle.json_values.specs.ReadsVariants.{ReadsHolding, ReadsVariant, tag_of};
 
-use crate::read::error::{ReadError, Step};
-use crate::read::from_json::{Fields, FromJson, read_at};
+use crate::read::error::ReadError;
+use crate::read::from_json::Held;
 use serde_json::{Map, Value};
 use std::alloc::Global;
 
-/// What stands beside a name in a table, the first time.
-fn look_up<T: Copy>(table: &[(&'static str, T)], name: &str) -> Option<T>
-    ensures { result ≡ lookup (rows_of table.now) name.now }
+/// What stands beside a name in a table, the first time, with the name as the table has it.
+fn look_up<T: Copy>(table: &[(&'static str, T)], name: &str) -> Option<(&'static str, T)>
+    ensures { option_map (λ r. r.1) result ≡ lookup (rows_of table.now) name.now }
 {
     for row in table {
         if name == row.0 {
-            return Some(row.1);
+            return Some((row.0, row.1));
         }
     }
     None
@@ -35,15 +35,12 @@ pub fn read_name<T: Copy>(
 {
     match value.as_str() {
         Some(name) => match look_up(table, name) {
-            Some(named) => Ok(named),
+            Some((_, named)) => Ok(named),
             None => Err(ReadError::expected(alloc, "one of the names of its form")),
         },
         None => Err(ReadError::expected(alloc, "a text, which is one of the names of its form")),
     }
 }
-
-/// The table of an enum of which each variant holds something.
-pub const NO_NAMES: [(&str, ()); 0] = [];
 
 /// A variant before its name is looked up.
 #[derive(Clone, Copy)]
@@ -78,51 +75,6 @@ fn tag<'v>(value: &'v Value) -> Option<Tagged<'v>>
     }
 }
 
-/// The static text that is equal to a name of a table.
-fn name_in<T: Copy>(table: &[(&'static str, T)], name: &str) -> &'static str {
-    for row in table {
-        if name == row.0 {
-            return row.0;
-        }
-    }
-    ""
-}
-
-/// What a variant holds, and the variant's name.
-#[derive(Clone, Copy)]
-pub struct Held<'v> {
-    pub alloc: Global,
-    pub name: &'static str,
-    pub value: &'v Value,
-}
-
-impl<'v> Held<'v> {
-    ghost use Rattle.json_values.specs.Form.{fields_of};
-    ghost use Rattle.json_values.specs.Reads.{texts_of};
-    ghost use Rattle.json_values.specs.ReadsFields.{ReadsFields};
-
-    /// What it stands for.
-    pub fn read<T: FromJson>(self) -> Result<T, ReadError>
-        ensures { Reads (T.stands_for (view self.entry.value.now)) result }
-    {
-        read_at(self.alloc, Step::Name(self.name), self.value)
-    }
-
-    /// The fields of an object that has exactly these.
-    pub fn fields(self, names: &[&'static str]) -> Result<Fields<'v>, ReadError>
-        ensures { ReadsFields (fields_of (texts_of names.now) (view self.entry.value.now)) result }
-    {
-        match Fields::of(self.alloc, self.value, names) {
-            Ok(fields) => Ok(Fields {
-                alloc: fields.alloc,
-                value: fields.value,
-                variant: Some(self.name),
-            }),
-            Err(error) => Err(error.within(Step::Name(self.name))),
-        }
-    }
-}
-
 /// A variant: one that holds nothing, as the table of these has it, or one that holds something, which is still to be
 /// read.
 #[derive(Clone, Copy)]
@@ -142,17 +94,44 @@ pub fn read_variant<'v, P: Copy, H: Copy>(
 {
     match tag(value) {
         Some(Tagged::Plain(name)) => {
-            if let Some(found) = look_up(plain, name) {
+            if let Some((_, found)) = look_up(plain, name) {
                 return Ok(Variant::Plain(found));
             }
         }
         Some(Tagged::Holding(name, value)) => {
-            if let Some(found) = look_up(holding, name) {
-                let name = name_in(holding, name);
-                return Ok(Variant::Holding(found, Held { alloc, name, value }));
+            if let Some((name, found)) = look_up(holding, name) {
+                let held = Held {
+                    alloc,
+                    value,
+                    variant: Some(name),
+                };
+                return Ok(Variant::Holding(found, held));
             }
         }
         None => {}
+    }
+    Err(ReadError::expected(alloc, "one of the variants of its form"))
+}
+
+/// The variant that a value is, by a table of variants that hold something, where the enum has no others.
+pub fn read_holding<'v, H: Copy>(
+    alloc: Global,
+    value: &'v Value,
+    holding: &[(&'static str, H)],
+) -> Result<(H, Held<'v>), ReadError>
+    ensures { ReadsHolding (variant_of [] (rows_of holding.now) (view value.now)) result }
+{
+    if let Some(Tagged::Holding(name, value)) = tag(value) {
+        if let Some((name, found)) = look_up(holding, name) {
+            return Ok((
+                found,
+                Held {
+                    alloc,
+                    value,
+                    variant: Some(name),
+                },
+            ));
+        }
     }
     Err(ReadError::expected(alloc, "one of the variants of its form"))
 }

@@ -1,6 +1,6 @@
 //! Readers and writers that fail.
 
-use crate::tests::{Outcome, ROOM, again};
+use crate::tests::{Outcome, ROOM, again, assert_at};
 use case_run::run_case;
 use std::alloc::Global;
 use std::io;
@@ -84,11 +84,11 @@ fn failing(alloc: Global, reads_left: u32, writes_left: u32, flushes: bool) -> O
 fn each_read_fails(rt: HostRuntime) {
     for reads_left in 0..READS {
         let outcome = again(|| failing(rt.alloc(), reads_left, MANY_WRITES, true));
-        assert!(rt; outcome.status.is_none(), "at read {reads_left}");
-        assert!(rt; outcome.written == 0, "at read {reads_left}");
+        assert_at(&rt, reads_left as usize, outcome.status.is_none());
+        assert_at(&rt, reads_left as usize, outcome.written == 0);
     }
     let outcome = again(|| failing(rt.alloc(), READS, MANY_WRITES, true));
-    assert!(rt; outcome.is(LINE));
+    holds!(&rt; outcome.is(LINE));
 }
 
 #[test]
@@ -96,12 +96,12 @@ fn each_write_fails(rt: HostRuntime) {
     for writes_left in 0..MANY_WRITES {
         let outcome = again(|| failing(rt.alloc(), READS, writes_left, true));
         if outcome.status.is_some() {
-            assert!(rt; writes_left > 0);
-            assert!(rt; outcome.is(LINE));
+            holds!(&rt; writes_left > 0);
+            holds!(&rt; outcome.is(LINE));
             return;
         }
     }
-    assert!(rt; false, "no run was without failure");
+    panic!(rt; "no run was without failure");
 }
 
 /// What the program comes to where its line has room for so many bytes.
@@ -119,14 +119,14 @@ fn within(alloc: Global, size: usize) -> Outcome {
 fn each_room_is_short(rt: HostRuntime) {
     for size in 0..LINE.len() + 1 {
         let outcome = again(|| within(rt.alloc(), size));
-        assert!(rt; outcome.status.is_none(), "at {size} bytes");
+        assert_at(&rt, size, outcome.status.is_none());
     }
     let outcome = again(|| within(rt.alloc(), LINE.len() + 1));
-    assert!(rt; outcome.is(LINE));
+    holds!(&rt; outcome.is(LINE));
 }
 
 #[test]
 fn flush_fails(rt: HostRuntime) {
     let outcome = again(|| failing(rt.alloc(), READS, MANY_WRITES, false));
-    assert!(rt; outcome.status.is_none());
+    holds!(&rt; outcome.status.is_none());
 }

@@ -1,7 +1,8 @@
 //! Cut input, and the greatest numbers in the notation.
 
 use crate::tests::made::{Made, Part, cases, once, times};
-use crate::tests::{expect_rows, gets};
+use crate::tests::{assert_at, expect_rows, gets};
+use std::process::Abort;
 
 /// A case with a Continue and a break condition.
 const WHOLE: &str = "P : loop { if t { continue } { } emit e1 } { } break_if e1";
@@ -32,28 +33,27 @@ fn line_of(beginning: &[u8]) -> &'static str {
 fn cut_input(rt: HostRuntime) {
     let bytes = WHOLE.as_bytes();
     for &(input, _) in &READABLE_BEGINNINGS {
-        assert!(rt; bytes.starts_with(input.as_bytes()), "at {input:?}");
+        holds!(&rt; bytes.starts_with(input.as_bytes()));
     }
     for len in 0..bytes.len() {
         let beginning = &bytes[..len];
-        assert!(rt;
-            gets(rt.alloc(), beginning, line_of(beginning)),
-            "at {len} bytes"
-        );
+        let found = gets(rt.alloc(), beginning, line_of(beginning));
+        assert_at(&rt, len, found);
     }
 }
 
-/// Whether an input of these parts gets a line.
-fn made_gets(rt: &HostRuntime, parts: &[Part], line: &str) -> bool {
-    gets(rt.alloc(), Made::new(parts), line)
+/// An input of these parts gets this line.
+fn expect_made(rt: &(impl Abort + AllocGlobal), parts: &[Part], line: &str) {
+    let holds = gets(rt.alloc(), Made::new(parts), line);
+    assert!(rt; holds, "not {line}");
 }
 
 #[test]
 fn longest_input(rt: HostRuntime) {
     let longest = [once("P :"), times(65533, " ")];
-    assert!(rt; made_gets(&rt, &longest, "ok 1ff"));
+    expect_made(&rt, &longest, "ok 1ff");
     let longer = [once("P :"), times(65534, " ")];
-    assert!(rt; made_gets(&rt, &longer, "unreadable"));
+    expect_made(&rt, &longer, "unreadable");
 }
 
 #[test]
@@ -65,11 +65,11 @@ fn nested_blocks(rt: HostRuntime) {
         times(200, "} "),
         once("if e1 { } { }"),
     ];
-    assert!(rt; made_gets(&rt, &inner, "fault Expression/NotInScope 3"));
+    expect_made(&rt, &inner, "fault Expression/NotInScope 3");
     let deepest = [once("P : "), times(256, "block { "), times(256, "} ")];
-    assert!(rt; made_gets(&rt, &deepest, "ok 1ff"));
+    expect_made(&rt, &deepest, "ok 1ff");
     let deeper = [once("P : "), times(257, "block { "), times(257, "} ")];
-    assert!(rt; made_gets(&rt, &deeper, "unreadable"));
+    expect_made(&rt, &deeper, "unreadable");
 }
 
 /// A Switch opens one brace, and each of its cases another.
@@ -80,14 +80,14 @@ fn nested_switches(rt: HostRuntime) {
         times(128, "switch u { default { "),
         times(128, "} } "),
     ];
-    assert!(rt; made_gets(&rt, &deepest, "ok 1ff"));
+    expect_made(&rt, &deepest, "ok 1ff");
     let deeper = [
         once("P : "),
         times(128, "switch u { default { "),
         once("block { } "),
         times(128, "} } "),
     ];
-    assert!(rt; made_gets(&rt, &deeper, "unreadable"));
+    expect_made(&rt, &deeper, "unreadable");
 }
 
 /// 250 Loops, each the first statement of the one around it. The innermost puts `e1`, which is in scope at its break
@@ -101,7 +101,7 @@ fn nested_loop_bodies(rt: HostRuntime) {
         once(innermost),
         times(249, "} { } "),
     ];
-    assert!(rt; made_gets(&rt, &accepted, "ok 1ff"));
+    expect_made(&rt, &accepted, "ok 1ff");
     let refused = [
         once("P : "),
         times(250, "loop { "),
@@ -109,7 +109,7 @@ fn nested_loop_bodies(rt: HostRuntime) {
         once("} { } break_if e1 "),
         times(248, "} { } "),
     ];
-    assert!(rt; made_gets(&rt, &refused, "fault Expression/NotInScope 3"));
+    expect_made(&rt, &refused, "fault Expression/NotInScope 3");
 }
 
 /// 250 Loops, each in the continuing part of the one around it. What is put in scope before is in scope in all of them, and
@@ -122,14 +122,14 @@ fn nested_continuing_parts(rt: HostRuntime) {
         once("if e1 { kill } { } "),
         times(250, "} break_if e1 "),
     ];
-    assert!(rt; made_gets(&rt, &accepted, "ok 002"));
+    expect_made(&rt, &accepted, "ok 002");
     let refused = [
         once("P : emit e1 "),
         times(250, "loop { } { "),
         once("if e1 { break } { } "),
         times(250, "} break_if e1 "),
     ];
-    assert!(rt; made_gets(&rt, &refused, "fault BreakOutsideOfLoopOrSwitch"));
+    expect_made(&rt, &refused, "fault BreakOutsideOfLoopOrSwitch");
 }
 
 /// The greatest and the least values of cases.
@@ -159,9 +159,9 @@ fn greatest_values(rt: HostRuntime) {
 #[test]
 fn many_cases(rt: HostRuntime) {
     let with_default = [once("P : switch u { "), cases(7400), once("default { } }")];
-    assert!(rt; made_gets(&rt, &with_default, "ok 1ff"));
+    expect_made(&rt, &with_default, "ok 1ff");
     let last_again = [once("P : switch u { "), cases(7400), once("7399 { } }")];
-    assert!(rt; made_gets(&rt, &last_again, "fault ConflictingSwitchCase"));
+    expect_made(&rt, &last_again, "fault ConflictingSwitchCase");
     let first_again = [once("P : switch u { "), cases(7400), once("0 { } }")];
-    assert!(rt; made_gets(&rt, &first_again, "fault ConflictingSwitchCase"));
+    expect_made(&rt, &first_again, "fault ConflictingSwitchCase");
 }

@@ -1,6 +1,6 @@
 //! Worked rows of the program.
 
-use crate::tests::{expect_rows, gets};
+use crate::tests::{expect_line, expect_rows};
 
 /// Bodies without a fault.
 static ACCEPTED: [(&str, &str); 30] = [
@@ -304,9 +304,6 @@ fn rows_of_skipped_emissions(rt: HostRuntime) {
 #[test]
 fn unreadable_rows(rt: HostRuntime) {
     for &input in &UNREADABLE {
-        assert!(rt;
-            gets(rt.alloc(), input.as_bytes(), "unreadable"),
-            "at {input:?}"
-        );
+        expect_line(&rt, input, "unreadable");
     }
 }

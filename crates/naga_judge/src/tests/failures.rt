@@ -1,23 +1,16 @@
 //! Readers and writers that fail.
 
-use json_verdict::run::{Form, run_document, run_lines};
+use crate::tests::{Ending, Kind, NO_OBJECT, ROOM, assert_at, status_of};
+use json_verdict::run::Form;
 use std::alloc::Global;
 use std::io;
 use std::io::{Read, Write};
-
-/// How many bytes there is room for: more than two verdicts have.
-const ROOM: usize = 256;
 
 /// Two lines, neither of which is a document, nor are both together.
 const LINES: &str = "7\n{}";
 
 /// How many reads of a byte there are of them: four that give one, and one that gives none.
 const READS: u32 = 5;
-
-/// The verdict of each of the two lines.
-const NO_OBJECT: &str =
-    r#"{"unreadable":{"pointer":"","expected":"an object with exactly the fields of its form"}}
-"#;
 
 /// The verdict of both together, which are no JSON, begins so.
 const NO_JSON: &str = "unreadable: expected JSON";
@@ -78,30 +71,13 @@ const NO_LIMITS: Limits = Limits {
     flushes: true,
 };
 
-/// How a run ended.
-#[derive(Clone, Copy)]
-struct Ending {
-    /// Its status. None where it answered an Err.
-    status: Option<u8>,
-    /// What was written, at the front.
-    room: [u8; ROOM],
-    /// How much of that.
-    written: usize,
-}
+/// One document, or two.
+const DOCUMENT: Kind = Kind::Document(Form::Lines);
 
-impl Ending {
-    fn text(&self) -> &[u8] {
-        &self.room[..self.written.min(ROOM)]
-    }
+const KINDS: [Kind; 2] = [DOCUMENT, Kind::Lines];
 
-    /// Whether its first verdict, or its status, says that there was no memory.
-    fn is_wanting(&self) -> bool {
-        self.status == Some(3) || self.text().starts_with(b"\"memory\"".as_slice())
-    }
-}
-
-/// A run over the two lines: as one document, or each as one.
-fn run(alloc: Global, by_line: bool, limits: Limits) -> Ending {
+/// A run over the two lines.
+fn run(alloc: Global, kind: Kind, limits: Limits) -> Ending {
     let mut reader = FailingReader {
         bytes: LINES.as_bytes(),
         reads_left: limits.reads,
@@ -112,11 +88,7 @@ fn run(alloc: Global, by_line: bool, limits: Limits) -> Ending {
         room: &mut room[..size],
         flushes: limits.flushes,
     };
-    let status = if by_line {
-        run_lines(alloc, &mut reader, &mut writer).ok()
-    } else {
-        run_document(alloc, &mut reader, &mut writer, Form::Lines).ok()
-    };
+    let status = status_of(alloc, &mut reader, &mut writer, kind);
     let written = size.saturating_sub(writer.room.len());
     Ending {
         status,
@@ -126,10 +98,10 @@ fn run(alloc: Global, by_line: bool, limits: Limits) -> Ending {
 }
 
 /// The same. Where memory is refused, the run is made again.
-fn ended(alloc: Global, by_line: bool, limits: Limits) -> Ending {
-    let first = run(alloc, by_line, limits);
+fn ended(alloc: Global, kind: Kind, limits: Limits) -> Ending {
+    let first = run(alloc, kind, limits);
     if first.is_wanting() {
-        run(alloc, by_line, limits)
+        run(alloc, kind, limits)
     } else {
         first
     }
@@ -138,57 +110,59 @@ fn ended(alloc: Global, by_line: bool, limits: Limits) -> Ending {
 #[test]
 fn each_read_of_a_document_fails(rt: HostRuntime) {
     for reads in 0..READS {
-        let ending = ended(rt.alloc(), false, Limits { reads, ..NO_LIMITS });
-        assert!(rt; ending.status.is_none(), "at read {reads}");
-        assert!(rt; ending.written == 0, "at read {reads}");
+        let ending = ended(rt.alloc(), DOCUMENT, Limits { reads, ..NO_LIMITS });
+        assert_at(&rt, reads as usize, ending.status.is_none());
+        assert_at(&rt, reads as usize, ending.written == 0);
     }
-    let ending = ended(rt.alloc(), false, NO_LIMITS);
-    assert!(rt; ending.status == Some(2));
-    assert!(rt; ending.text().starts_with(NO_JSON.as_bytes()));
+    let ending = ended(rt.alloc(), DOCUMENT, NO_LIMITS);
+    holds!(&rt; ending.status == Some(2));
+    holds!(&rt; ending.text().starts_with(NO_JSON.as_bytes()));
 }
 
 /// Of lines those that are read before have their verdicts.
 #[test]
 fn each_read_of_lines_fails(rt: HostRuntime) {
     for reads in 0..READS {
-        let ending = ended(rt.alloc(), true, Limits { reads, ..NO_LIMITS });
+        let ending = ended(rt.alloc(), Kind::Lines, Limits { reads, ..NO_LIMITS });
         let told = if reads < 2 { "" } else { NO_OBJECT };
-        assert!(rt; ending.status.is_none(), "at read {reads}");
-        assert!(rt; ending.text() == told.as_bytes(), "at read {reads}");
+        assert_at(&rt, reads as usize, ending.status.is_none());
+        assert_at(&rt, reads as usize, ending.text() == told.as_bytes());
     }
-    let ending = ended(rt.alloc(), true, NO_LIMITS);
-    assert!(rt; ending.status == Some(2));
-    assert!(rt; ending.written == 2 * NO_OBJECT.len());
-    assert!(rt; ending.text().ends_with(NO_OBJECT.as_bytes()));
+    let ending = ended(rt.alloc(), Kind::Lines, NO_LIMITS);
+    holds!(&rt; ending.status == Some(2));
+    holds!(&rt; ending.written == 2 * NO_OBJECT.len());
+    holds!(&rt; ending.text().ends_with(NO_OBJECT.as_bytes()));
 }
 
 #[test]
 fn each_room_is_short(rt: HostRuntime) {
-    for by_line in [false, true] {
-        let needed = ended(rt.alloc(), by_line, NO_LIMITS).written;
-        assert!(rt; 0 < needed && needed < ROOM);
+    for kind in KINDS {
+        let needed = ended(rt.alloc(), kind, NO_LIMITS).written;
+        holds!(&rt; 0 < needed);
+        holds!(&rt; needed < ROOM);
         for room in 0..needed {
-            let ending = ended(rt.alloc(), by_line, Limits { room, ..NO_LIMITS });
-            assert!(rt; ending.status.is_none(), "at {room} bytes");
+            let ending = ended(rt.alloc(), kind, Limits { room, ..NO_LIMITS });
+            assert_at(&rt, room, ending.status.is_none());
         }
         let room = needed;
-        let ending = ended(rt.alloc(), by_line, Limits { room, ..NO_LIMITS });
-        assert!(rt; ending.status == Some(2) && ending.written == needed);
+        let ending = ended(rt.alloc(), kind, Limits { room, ..NO_LIMITS });
+        holds!(&rt; ending.status == Some(2));
+        holds!(&rt; ending.written == needed);
     }
 }
 
 #[test]
 fn a_flush_fails(rt: HostRuntime) {
     let flushes = false;
-    for by_line in [false, true] {
+    for kind in KINDS {
         let ending = ended(
             rt.alloc(),
-            by_line,
+            kind,
             Limits {
                 flushes,
                 ..NO_LIMITS
             },
         );
-        assert!(rt; ending.status.is_none());
+        holds!(&rt; ending.status.is_none());
     }
 }

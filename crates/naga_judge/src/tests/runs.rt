@@ -1,85 +1,86 @@
 //! Whole runs, from a reader to a writer.
 
-use json_verdict::run::{Form, run_document, run_lines};
+use crate::tests::{Ending, Kind, NO_OBJECT, ROOM, status_of};
+use json_verdict::run::Form;
 use std::alloc::Global;
-use std::collections::VecDeque;
 use std::io;
-use std::io::{Read, Write};
-use std::test::Fail;
+use std::process::Abort;
 
-/// A queue of these bytes.
-fn queue(alloc: Global, text: &str) -> Result<VecDeque<u8>, Fail> {
-    let mut queue = VecDeque::new(alloc);
-    queue.write_all(text.as_bytes())?;
-    Ok(queue)
+/// What is read: a text, or spaces without end, which a document may have in front.
+#[derive(Clone, Copy)]
+enum Input {
+    Text(&'static str),
+    Spaces,
 }
 
-/// What was written, and the status. Where memory is refused, the run is made again.
-fn document(alloc: Global, text: &str, form: Form) -> Result<(String, u8), Fail> {
-    let first = document_once(alloc, text, form)?;
-    if first.1 == 3 {
-        return document_once(alloc, text, form);
+/// A run over an input.
+fn run_once(alloc: Global, input: Input, kind: Kind) -> Ending {
+    let mut room = [0u8; ROOM];
+    let mut writer = room.as_mut_slice();
+    let status = match input {
+        Input::Text(text) => {
+            let mut reader = text.as_bytes();
+            status_of(alloc, &mut reader, &mut writer, kind)
+        }
+        Input::Spaces => status_of(alloc, &mut io::repeat(b' '), &mut writer, kind),
+    };
+    let left = writer.len();
+    Ending {
+        status,
+        room,
+        written: ROOM.saturating_sub(left),
     }
-    Ok(first)
 }
 
-fn document_once(alloc: Global, text: &str, form: Form) -> Result<(String, u8), Fail> {
-    let mut output = VecDeque::new(alloc);
-    let status = run_document(alloc, &mut queue(alloc, text)?, &mut output, form)?;
-    let mut written = String::new(alloc);
-    output.read_to_string(&mut written)?;
-    Ok((written, status))
-}
-
-/// The same of lines.
-fn lines(alloc: Global, text: &str) -> Result<(String, u8), Fail> {
-    let first = lines_once(alloc, text)?;
-    if first.1 == 3 {
-        return lines_once(alloc, text);
+/// The same. Where memory is refused, the run is made again.
+fn run(alloc: Global, input: Input, kind: Kind) -> Ending {
+    let first = run_once(alloc, input, kind);
+    if first.is_wanting() {
+        run_once(alloc, input, kind)
+    } else {
+        first
     }
-    Ok(first)
 }
 
-fn lines_once(alloc: Global, text: &str) -> Result<(String, u8), Fail> {
-    let mut output = VecDeque::new(alloc);
-    let status = run_lines(alloc, &mut queue(alloc, text)?, &mut output)?;
-    let mut written = String::new(alloc);
-    output.read_to_string(&mut written)?;
-    Ok((written, status))
+/// This is written of an input, and the run has this status.
+fn expect(rt: &(impl Abort + AllocGlobal), input: Input, kind: Kind, expected: &str, status: u8) {
+    let ending = run(rt.alloc(), input, kind);
+    holds!(rt; ending.text() == expected.as_bytes());
+    holds!(rt; ending.status == Some(status));
 }
 
-const NO_OBJECT: &str =
-    r#"{"unreadable":{"pointer":"","expected":"an object with exactly the fields of its form"}}
-"#;
+const JSON: Kind = Kind::Document(Form::Json);
+
+const FOR_A_PERSON: Kind = Kind::Document(Form::Lines);
 
 #[test]
-fn an_unreadable_document(rt: HostRuntime) -> Result<(), Fail> {
-    let (written, status) = document(rt.alloc(), "7", Form::Json)?;
-    assert_eq!(rt; written.as_str(), NO_OBJECT);
-    assert_eq!(rt; status, 2);
-    let (written, status) = document(rt.alloc(), "7", Form::Lines)?;
-    assert_eq!(rt;
-        written.as_str(),
-        "unreadable: expected an object with exactly the fields of its form\n"
+fn an_unreadable_document(rt: HostRuntime) {
+    let seven = Input::Text("7");
+    expect(&rt, seven, JSON, NO_OBJECT, 2);
+    expect(
+        &rt,
+        seven,
+        FOR_A_PERSON,
+        "unreadable: expected an object with exactly the fields of its form\n",
+        2,
     );
-    assert_eq!(rt; status, 2);
-    Ok(())
+}
+
+/// Whether a text is this line twice.
+fn is_twice(text: &[u8], line: &str) -> bool {
+    match text.split_at_checked(line.len()) {
+        Some((one, other)) => one == line.as_bytes() && other == line.as_bytes(),
+        None => false,
+    }
 }
 
 #[test]
-fn no_line_and_lines_without_an_end(rt: HostRuntime) -> Result<(), Fail> {
-    let (written, status) = lines(rt.alloc(), "")?;
-    assert_eq!(rt; written.as_str(), "");
-    assert_eq!(rt; status, 0);
-    let (written, status) = lines(rt.alloc(), "7")?;
-    assert_eq!(rt; written.as_str(), NO_OBJECT);
-    assert_eq!(rt; status, 2);
-    let (written, status) = lines(rt.alloc(), "7\n{}\r\n")?;
-    let (one, other) = written.as_str().split_once('\n').ok_or("one line")?;
-    assert_eq!(rt; one, NO_OBJECT.trim_end());
-    assert_eq!(rt; other, NO_OBJECT);
-    assert_eq!(rt; status, 2);
-    Ok(())
+fn no_line_and_lines_without_an_end(rt: HostRuntime) {
+    expect(&rt, Input::Text(""), Kind::Lines, "", 0);
+    expect(&rt, Input::Text("7"), Kind::Lines, NO_OBJECT, 2);
+    let ending = run(rt.alloc(), Input::Text("7\n{}\r\n"), Kind::Lines);
+    holds!(&rt; is_twice(ending.text(), NO_OBJECT));
+    holds!(&rt; ending.status == Some(2));
 }
 
 /// A function that does nothing, and a fragment entry point that calls it. Of the first it is said that it may run in two
@@ -148,54 +149,37 @@ const REFUSED: &str = r#"{
 
 /// A line for each part; of a fault its place, its span and what it means.
 #[test]
-fn verdicts_for_a_person(rt: HostRuntime) -> Result<(), Fail> {
-    let (written, status) = document(rt.alloc(), ACCEPTED, Form::Lines)?;
-    assert_eq!(rt;
-        written.as_str(),
+fn verdicts_for_a_person(rt: HostRuntime) {
+    expect(
+        &rt,
+        Input::Text(ACCEPTED),
+        FOR_A_PERSON,
         r#"ok
-function 0: VERTEX FRAGMENT
-entry point 0: FRAGMENT
-"#
+function 0: accepted; its body could run in: VERTEX FRAGMENT
+entry point 0 (FRAGMENT): accepted; its body could run in: FRAGMENT
+"#,
+        0,
     );
-    assert_eq!(rt; status, 0);
-    let (written, status) = document(rt.alloc(), REFUSED, Form::Lines)?;
-    assert_eq!(rt;
-        written.as_str(),
+    expect(
+        &rt,
+        Input::Text(REFUSED),
+        FOR_A_PERSON,
         r#"refused
 entry point 0: Function: Expression { handle: [1], source: NotInScope }
   at 50..64
   the function has a fault: an expression, or an operand of a statement, has a fault: it is not in scope where it is used
-"#
+"#,
+        1,
     );
-    assert_eq!(rt; status, 1);
-    Ok(())
 }
 
-/// Of spaces without end, which a document may have in front.
 #[test]
-fn input_without_end(rt: HostRuntime) -> Result<(), Fail> {
-    let (written, status) = endless(rt.alloc())?;
-    assert_eq!(rt;
-        written.as_str(),
-        "unreadable: expected a document of at most 16777216 bytes\n"
+fn input_without_end(rt: HostRuntime) {
+    expect(
+        &rt,
+        Input::Spaces,
+        FOR_A_PERSON,
+        "unreadable: expected a document of at most 16777216 bytes\n",
+        2,
     );
-    assert_eq!(rt; status, 2);
-    Ok(())
-}
-
-/// What is written of it, and the status. Where memory is refused, the run is made again.
-fn endless(alloc: Global) -> Result<(String, u8), Fail> {
-    let first = endless_once(alloc)?;
-    if first.1 == 3 {
-        return endless_once(alloc);
-    }
-    Ok(first)
-}
-
-fn endless_once(alloc: Global) -> Result<(String, u8), Fail> {
-    let mut output = VecDeque::new(alloc);
-    let status = run_document(alloc, &mut io::repeat(b' '), &mut output, Form::Lines)?;
-    let mut written = String::new(alloc);
-    output.read_to_string(&mut written)?;
-    Ok((written, status))
 }

@@ -1,4 +1,4 @@
-use Rattle.case_run.specs.Judged.{settings_of}
+use Rattle.case_run.specs.CaseJudgement.{settings_of}
 use Rattle.case_notation.specs.Case.{case_of}
 use Rattle.case_run.proofs.Benches.{told_of_bench}
 use Rattle.case_run.proofs.Cases.{judged_as}

@@ -1,5 +1,5 @@
 use Rattle.std.proofs.Common.{ap, ◌∙◌, arith}
-use Rattle.case_notation.specs.Blocks.{block_from}
+use Rattle.case_notation.specs.CaseBlocks.{block_from}
 use Rattle.case_notation.proofs.Reading.Stack.{moved, accept_closed, no_accept}
 use Rattle.case_notation.proofs.reader.Reader.close_accept.Goals as goal
 

@@ -1,5 +1,5 @@
 use Rattle.std.proofs.Common.{ap, ◌∙◌, arith}
-use Rattle.case_notation.specs.Blocks.{block_from}
+use Rattle.case_notation.specs.CaseBlocks.{block_from}
 use Rattle.case_notation.proofs.Reading.Stack.{moved, turn_closed, no_turn}
 use Rattle.case_notation.proofs.reader.Reader.close_turn.Goals as goal
 

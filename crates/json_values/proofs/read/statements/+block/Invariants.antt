@@ -6,40 +6,46 @@ use Rattle.json_values.proofs.Lists.{each_behind}
 use Rattle.json_values.proofs.read.statements.+block.Given as goal
 
 abbrev pub decreases-read_block : goal.decreases-read_block
-decreases-read_block l = l.levels * 9
+decreases-read_block l = l.levels * 10
 
 abbrev pub decreases-block_in : goal.decreases-block_in
-decreases-block_in l = l.levels * 9 + 1
+decreases-block_in l = l.levels * 10 + 1
+
+abbrev pub decreases-blocks_in : goal.decreases-blocks_in
+decreases-blocks_in l = l.levels * 10 + 2
 
 abbrev pub decreases-read_if : goal.decreases-read_if
-decreases-read_if l = l.levels * 9 + 2
+decreases-read_if l = l.levels * 10 + 3
 
 abbrev pub decreases-read_loop : goal.decreases-read_loop
-decreases-read_loop l = l.levels * 9 + 2
+decreases-read_loop l = l.levels * 10 + 3
 
 abbrev pub decreases-read_case : goal.decreases-read_case
-decreases-read_case l = l.levels * 9 + 2
+decreases-read_case l = l.levels * 10 + 2
 
 abbrev pub decreases-read_cases : goal.decreases-read_cases
-decreases-read_cases l = l.levels * 9 + 3
+decreases-read_cases l = l.levels * 10 + 3
 
 abbrev pub decreases-read_switch : goal.decreases-read_switch
-decreases-read_switch l = l.levels * 9 + 4
+decreases-read_switch l = l.levels * 10 + 4
+
+abbrev pub decreases-read_held_statement : goal.decreases-read_held_statement
+decreases-read_held_statement l = l.levels * 10 + 5
 
 abbrev pub decreases-read_statement : goal.decreases-read_statement
-decreases-read_statement l = l.levels * 9 + 5
+decreases-read_statement l = l.levels * 10 + 6
 
 abbrev pub decreases-read_long : goal.decreases-read_long
-decreases-read_long l = l.levels * 9 + 6
+decreases-read_long l = l.levels * 10 + 7
 
 abbrev pub decreases-read_located : goal.decreases-read_located
-decreases-read_located l = l.levels * 9 + 7
+decreases-read_located l = l.levels * 10 + 8
 
 abbrev pub decreases-read_statements : goal.decreases-read_statements
-decreases-read_statements l = l.levels * 9 + 8
+decreases-read_statements l = l.levels * 10 + 9
 
 abbrev pub invariant-read_statements-loop-index : goal.invariant-read_statements-loop-index
-invariant-read_statements-loop-index l = each_behind (located_with (block_at l.levels)) l.list (items_view (drop l.index l.value-items)) ≡ each_of (located_with (block_at l.levels)) (items_view l.value-items)
+invariant-read_statements-loop-index l = each_behind (located_with (block_at l.levels)) l.list (items_view (drop l.index l.items)) ≡ each_of (located_with (block_at l.levels)) (items_view l.items)
 
 abbrev pub invariant-read_cases-loop-index : goal.invariant-read_cases-loop-index
-invariant-read_cases-loop-index l = each_behind (case_with (block_at l.levels)) l.cases (items_view (drop l.index l.value-items)) ≡ each_of (case_with (block_at l.levels)) (items_view l.value-items)
+invariant-read_cases-loop-index l = each_behind (case_with (block_at l.levels)) l.cases (items_view (drop l.index l.items)) ≡ each_of (case_with (block_at l.levels)) (items_view l.items)

@@ -5,4 +5,4 @@ use Rattle.json_values.proofs.Lists.{each_behind}
 use Rattle.json_values.proofs.read.list.SequenceFromJson.from_json.Given as goal
 
 abbrev pub invariant-loop-index : goal.invariant-loop-index
-invariant-loop-index g l = each_behind g.T.FromJson.stands_for l.list (items_view (drop l.index l.value-items)) ≡ each_of g.T.FromJson.stands_for (items_view l.value-items)
+invariant-loop-index g l = each_behind g.T.FromJson.stands_for l.list (items_view (drop l.index l.items)) ≡ each_of g.T.FromJson.stands_for (items_view l.items)

@@ -9,7 +9,7 @@ use Rattle.ir_facts.specs.declared.valid.info.FunctionInfo.{FunctionInfo}
 use Rattle.ir_facts.specs.declared.valid.settings.Settings.{Settings}
 use Rattle.ir_facts.specs.declared.valid.types.TypeInfo.{TypeInfo}
 use Rattle.case_run.specs.BenchModule.{bench_module}
-use Rattle.case_notation.specs.Blocks.{block_of}
+use Rattle.case_notation.specs.CaseBlocks.{block_of}
 use Rattle.case_notation.specs.Case.{Case}
 use Rattle.naga_module.specs.ModuleJudgement.{Answer, IsJudgement, IsAnswered}
 use Rattle.naga_layers.specs.Plain.Meaning.{plain_meaning, plain_layer}
