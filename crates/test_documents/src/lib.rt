@@ -1,5 +1,4 @@
-//! The tests of `json_values` and `json_document`, over their public calls. A crate by itself, so that the gate does not prove these
-//! twice, and proves the tests beside the crates of the validator.
+//! Tests of JSON documents and of what is unreadable.
 #![tactic(auto)]
 
 #[cfg(test)]

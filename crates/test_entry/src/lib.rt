@@ -1,5 +1,4 @@
-//! The tests of entry points and of whole modules, over public calls alone: a crate by itself, so that the gate proves them beside
-//! those of `test_valid`.
+//! Tests of entry points and whole modules, also over a lower layer that runs out of memory.
 #![tactic(auto)]
 
 #[cfg(test)]

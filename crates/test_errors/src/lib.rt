@@ -1,5 +1,4 @@
-//! The tests of `check_errors`, over its public calls. A crate by itself, so that the gate does not prove `check_errors` twice, and
-//! proves these beside the crates above it.
+//! Tests of the errors and their messages, and of a small lower layer's laws.
 #![tactic(auto)]
 
 #[cfg(test)]

@@ -2,12 +2,28 @@
 //!
 //! What owns memory is made by a helper, looked at by helpers that take references, and let go by `drop`: so the proofs stay small.
 
+ghost use Rattle.std.specs.Prelude.{◌≡◌, true};
+
+use std::process::Abort;
+
+/// It holds; else the test ends with its text.
+fn assert_holds(rt: &impl Abort, text: &str, holds: bool)
+    ensures { holds ≡ true }
+{
+    assert!(rt; holds, "{text}");
+}
+
+/// What `assert!` does, by a call: a function that asserts much is then quick to prove.
+macro_rules! holds {
+    ($rt:expr; $holds:expr) => {
+        crate::tests::assert_holds($rt, stringify!($holds), $holds)
+    };
+}
+
 mod bools;
 mod clones;
 mod laws;
 mod texts;
-
-use std::process::Abort;
 
 /// What there was memory for.
 fn made<T, E>(rt: &impl Abort, answer: Result<T, E>) -> T {
@@ -19,5 +35,5 @@ fn made<T, E>(rt: &impl Abort, answer: Result<T, E>) -> T {
 
 /// Two values are equal.
 fn expect_equal<T: PartialEq>(rt: &impl Abort, first: &T, second: &T) {
-    assert!(rt; *first == *second);
+    holds!(rt; *first == *second);
 }

@@ -3,18 +3,26 @@
 //! A test makes what owns memory by a helper, hands references to helpers that assert, and lets it go by `drop`: so the
 //! proofs stay small.
 
+use naga_below::{Arena, Block, Scalar, Span, Statement, Tagged, Type, TypeInner};
+use std::alloc::AllocError;
+use std::process::Abort;
+
+/// What `assert!` does, by a call: a function that asserts much is then quick to prove.
+macro_rules! holds {
+    ($rt:expr; $holds:expr) => {
+        crate::tests::holding::assert_holds($rt, stringify!($holds), $holds)
+    };
+}
+
 mod arenas;
 mod clones;
 mod constructors;
 mod errors;
 mod flags;
+mod holding;
 mod operands;
 mod spaces;
 mod types;
-
-use naga_below::{Arena, Block, Scalar, Span, Statement, Tagged, Type, TypeInner};
-use std::alloc::AllocError;
-use std::process::Abort;
 
 /// What there was memory for.
 fn made<T>(rt: &impl Abort, answer: Result<T, AllocError>) -> T {
@@ -26,7 +34,7 @@ fn made<T>(rt: &impl Abort, answer: Result<T, AllocError>) -> T {
 
 /// Two values are equal.
 fn expect_equal<T: PartialEq>(rt: &impl Abort, first: &T, second: &T) {
-    assert!(rt; *first == *second);
+    holds!(rt; *first == *second);
 }
 
 fn unnamed(inner: TypeInner) -> Type {

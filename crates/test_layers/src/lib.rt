@@ -1,5 +1,4 @@
-//! The tests of `naga_layers`, over its public calls alone: a crate by itself, so that the gate proves them beside the crates above the
-//! layers.
+//! Tests of the lower layers `Recorded` and `Plain`.
 #![tactic(auto)]
 
 #[cfg(test)]

@@ -1,12 +1,20 @@
 //! The lower layers by themselves: the plain one, and recorded facts. Tests let modules, functions and arenas go by `drop`,
 //! since a function that lets them go itself is slow to prove.
 
-mod plain;
-mod recorded;
-
 use naga_below::{Arena, Expression, Function, Module, Span, Type, UniqueArena};
 use std::alloc::{AllocError, Global};
 use std::process::Abort;
+
+/// What `assert!` does, by a call: a function that asserts much is then quick to prove.
+macro_rules! holds {
+    ($rt:expr; $holds:expr) => {
+        crate::tests::holding::assert_holds($rt, stringify!($holds), $holds)
+    };
+}
+
+mod holding;
+mod plain;
+mod recorded;
 
 /// Where things are.
 const HERE: Span = Span { start: 3, end: 7 };

@@ -1,5 +1,4 @@
-//! The tests of hostile modules, over public calls alone: the greatest handle in each place that holds one, and long lists. A
-//! crate by itself, so that the gate proves them beside those of `test_valid` and `test_entry`.
+//! Tests of malicious modules: the largest handle in each place that holds one, and long lists.
 #![tactic(auto)]
 
 #[cfg(test)]

@@ -1,5 +1,4 @@
-//! The tests of `naga_module` and of the validator under it, over their public calls alone: a crate by itself, so that the gate proves
-//! them beside the library and not over its functions anew.
+//! Tests of ray traces, settings, globals and messages, through `Validator` and `check_module`.
 #![tactic(auto)]
 
 #[cfg(test)]

@@ -1,5 +1,4 @@
-//! The tests of `check_varyings`, over its public calls. A crate by itself, so that the gate does not prove `check_varyings` twice, and
-//! proves these beside the crates above it.
+//! Tests of stage inputs and outputs: built-ins, locations and groups.
 #![tactic(auto)]
 
 #[cfg(test)]

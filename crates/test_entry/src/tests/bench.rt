@@ -115,39 +115,47 @@ fn structure(rt: &(impl Abort + AllocGlobal), parts: [Option<Part>; 2]) -> TypeI
     TypeInner::Struct { members, span: 32 }
 }
 
-/// The types without members, 0 to 5.
-fn plain_types() -> [TypeInner; 6] {
-    let vector = |size, scalar| TypeInner::Vector { size, scalar };
-    [
-        TypeInner::Scalar(Scalar::U32),
-        TypeInner::Scalar(Scalar::F32),
-        vector(VectorSize::Tri, Scalar::U32),
-        vector(VectorSize::Quad, Scalar::F32),
-        TypeInner::Array {
-            base: Handle::new(F32),
-            size: match NonZeroU32::new(3) {
-                Some(three) => ArraySize::Constant(three),
-                None => ArraySize::Dynamic,
-            },
-            stride: 4,
+/// An array of three f32.
+fn corners() -> TypeInner {
+    TypeInner::Array {
+        base: Handle::new(F32),
+        size: match NonZeroU32::new(3) {
+            Some(three) => ArraySize::Constant(three),
+            None => ArraySize::Dynamic,
         },
-        TypeInner::AccelerationStructure {
+        stride: 4,
+    }
+}
+
+fn vector(size: VectorSize, scalar: Scalar) -> TypeInner {
+    TypeInner::Vector { size, scalar }
+}
+
+/// The type with this number, of those without members.
+fn plain_type(index: u32) -> TypeInner {
+    match index {
+        U32 => TypeInner::Scalar(Scalar::U32),
+        F32 => TypeInner::Scalar(Scalar::F32),
+        COUNTS => vector(VectorSize::Tri, Scalar::U32),
+        COLOR => vector(VectorSize::Quad, Scalar::F32),
+        CORNERS => corners(),
+        _ => TypeInner::AccelerationStructure {
             vertex_return: true,
         },
-    ]
+    }
 }
 
 /// Puts a type without a name last.
 fn add_type(rt: &impl Abort, types: &mut UniqueArena<Type>, inner: TypeInner) {
-    assert!(rt; !types.is_full());
+    holds!(rt; !types.is_full());
     made(rt, types.insert(Type { name: None, inner }, NOWHERE));
 }
 
 /// The types of the module.
 pub fn types_of(rt: &(impl Abort + AllocGlobal)) -> UniqueArena<Type> {
     let mut types = UniqueArena::new(rt.alloc());
-    for inner in plain_types() {
-        add_type(rt, &mut types, inner);
+    for index in 0..=STRUCTURE_TYPE {
+        add_type(rt, &mut types, plain_type(index));
     }
     for parts in members() {
         add_type(rt, &mut types, structure(rt, parts));
@@ -162,7 +170,7 @@ pub fn infos_of_types(rt: &(impl Abort + AllocGlobal)) -> Vec<TypeInfo> {
         ..GOOD
     };
     let mut infos = made(rt, vec![in rt.alloc(); unshared; TYPES]);
-    assert!(rt; infos.len() == TYPES);
+    holds!(rt; infos.len() == TYPES);
     for index in 0..=SOURCES as usize {
         infos[index] = GOOD;
     }
@@ -201,7 +209,7 @@ fn global(space: AddressSpace, ty: u32, binding: Option<u32>) -> GlobalVariable 
 fn globals_of(rt: &(impl Abort + AllocGlobal)) -> Arena<GlobalVariable> {
     let mut arena = Arena::new(rt.alloc());
     for (space, ty, binding) in globals() {
-        assert!(rt; !arena.is_full());
+        holds!(rt; !arena.is_full());
         made(rt, arena.append(global(space, ty, binding), NOWHERE));
     }
     arena
@@ -220,7 +228,7 @@ fn callee(rt: &(impl Abort + AllocGlobal), kills: bool) -> Function {
 fn functions_of(rt: &(impl Abort + AllocGlobal)) -> Arena<Function> {
     let mut functions = Arena::new(rt.alloc());
     for kills in [true, false] {
-        assert!(rt; !functions.is_full());
+        holds!(rt; !functions.is_full());
         made(rt, functions.append(callee(rt, kills), NOWHERE));
     }
     functions

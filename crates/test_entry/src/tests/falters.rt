@@ -6,7 +6,7 @@ use crate::tests::bench::{
 use crate::tests::faltering::Faltering;
 use crate::tests::judged::{layer, validator_over};
 use crate::tests::modules::{Parts, beside_a_kill, fault_over, in_entry_point};
-use crate::tests::rows::{Row, alone, bad, expect_own, good, is_own, refusal_of};
+use crate::tests::rows::{Row, alone, assert_own, bad, expect_own, good, refusal_of};
 use crate::tests::shape::{Case, Step, at, at_compute, at_fragment, at_mesh};
 use naga_below::{Refusal, ShaderStage};
 use naga_layers::plain::Plain;
@@ -44,7 +44,7 @@ fn falters<B: Below>(
     let before = validator.trace_state();
     match refusal_of(rt, validator, bench, row) {
         Some(Refusal::Memory) => {
-            assert!(rt; validator.trace_state() == before);
+            holds!(rt; validator.trace_state() == before);
             expect_own(rt, validator, bench, row);
             true
         }
@@ -57,7 +57,7 @@ fn falters<B: Below>(
 
 /// What was found where this call finds no memory is the row's own answer.
 fn expect_found(rt: &impl Abort, row: &Row, found: Option<Refusal<EntryPointError>>, refused: u32) {
-    assert!(rt; is_own(row, &found), "call {refused}: {found:?}");
+    assert_own(rt, refused as usize, row, &found);
 }
 
 /// Each call that a row takes finds no memory in turn: want of memory is answered no fewer times than this, and not any more
@@ -69,8 +69,8 @@ fn expect_refusals(rt: &(impl Abort + AllocGlobal), bench: &Bench, row: Row, cal
             refusals = refusals.saturating_add(1);
         }
     }
-    assert!(rt; refusals >= calls, "{refusals} of {calls}");
-    assert!(rt; !falters_at(rt, bench, &row, MANY));
+    holds!(rt; refusals >= calls);
+    holds!(rt; !falters_at(rt, bench, &row, MANY));
 }
 
 /// A ray generation entry point that traces a ray and does this.
@@ -161,8 +161,8 @@ fn expect_module_refusals(
             refusals = refusals.saturating_add(1);
         }
     }
-    assert!(rt; refusals >= calls, "{refusals} of {calls}");
-    assert!(rt; !module_falters_at(rt, &parts, &own, MANY));
+    holds!(rt; refusals >= calls);
+    holds!(rt; !module_falters_at(rt, &parts, &own, MANY));
 }
 
 /// The layer is asked of the kinds of the module, and three times of each function and entry point of one expression.

@@ -25,12 +25,12 @@ fn expressions_of(rt: &(impl Abort + AllocGlobal), globals: [Option<u32>; 2]) ->
     let mut expressions = Arena::new(rt.alloc());
     for global in globals {
         if let Some(global) = global {
-            assert!(rt; !expressions.is_full());
+            holds!(rt; !expressions.is_full());
             let named = Expression::GlobalVariable(Handle::new(global));
             made(rt, expressions.append(named, NOWHERE));
         }
     }
-    assert!(rt; !expressions.is_full());
+    holds!(rt; !expressions.is_full());
     let descriptor = Expression::ZeroValue(Handle::new(COLOR));
     made(rt, expressions.append(descriptor, NOWHERE));
     expressions
@@ -185,9 +185,11 @@ fn answer_to<B: Below>(
     ep: &EntryPoint,
 ) -> Answer {
     let Bench { module, infos, .. } = bench;
-    assert!(rt; validator.has_types_of(module) && validator.has_payload_sizes(module));
-    assert!(rt; fits_types(module) && fits_entry(ep, module));
-    assert!(rt; fits_function(&ep.function, module, infos.functions.len()));
+    holds!(rt; validator.has_types_of(module));
+    holds!(rt; validator.has_payload_sizes(module));
+    holds!(rt; fits_types(module));
+    holds!(rt; fits_entry(ep, module));
+    holds!(rt; fits_function(&ep.function, module, infos.functions.len()));
     validator.validate_entry_point(rt.alloc(), ep, module, infos)
 }
 
@@ -196,7 +198,7 @@ fn expect_place(rt: &impl Abort, answer: &Answer) {
     if let Err(Refusal::Fault(fault)) = answer {
         let in_function = matches!(fault.as_inner(), EntryPointError::Function(_));
         let places = if in_function { [HERE].as_slice() } else { &[] };
-        assert!(rt; fault.spans() == places);
+        holds!(rt; fault.spans() == places);
     }
 }
 
@@ -223,7 +225,7 @@ fn ask_again(
     let before = validator.trace_state();
     match ask(rt, validator, bench, case) {
         Err(Refusal::Memory) => {
-            assert!(rt; validator.trace_state() == before);
+            holds!(rt; validator.trace_state() == before);
             ask(rt, validator, bench, case)
         }
         answer => answer,

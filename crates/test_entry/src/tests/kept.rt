@@ -32,7 +32,7 @@ fn two_sources_of_a_blend_are_told(rt: HostRuntime) {
             declared,
             ..at_fragment()
         };
-        assert!(rt; is_blend_of(&rt, &bench, &case) == is_blend);
+        holds!(&rt; is_blend_of(&rt, &bench, &case) == is_blend);
     }
     drop(bench);
 }
@@ -65,7 +65,7 @@ fn the_stage_uses_globals_too(rt: HostRuntime) {
             GlobalUse::empty(),
         ),
     ] {
-        assert!(rt; use_of(&rt, &bench, &case, global) == Some(uses));
+        holds!(&rt; use_of(&rt, &bench, &case, global) == Some(uses));
     }
     drop(bench);
 }
@@ -98,7 +98,7 @@ fn expect_left(
     row: Row,
     left: TraceState,
 ) {
-    assert!(rt; expect_answer(rt, validator, bench, &row) == left);
+    holds!(rt; expect_answer(rt, validator, bench, &row) == left);
 }
 
 #[test]

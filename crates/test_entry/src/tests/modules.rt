@@ -87,10 +87,10 @@ fn fault_given<B: Below + Drop>(
 /// The fault of a function, or of an entry point's, stands at `HERE`, any other nowhere.
 fn expect_place(rt: &impl Abort, fault: &ModuleFault) {
     match fault {
-        ModuleFault::Function(_, error) => assert!(rt; error.spans() == [HERE].as_slice()),
+        ModuleFault::Function(_, error) => holds!(rt; error.spans() == [HERE].as_slice()),
         ModuleFault::EntryPoint(_, error) => {
             let in_function = matches!(error.as_inner(), EntryPointError::Function(_));
-            assert!(rt; error.spans().is_empty() != in_function);
+            holds!(rt; error.spans().is_empty() != in_function);
         }
         ModuleFault::NotFit | ModuleFault::Global(_, _) | ModuleFault::Memory => {}
     }
@@ -134,7 +134,7 @@ fn infos_that_claim_all_stages_are_believed(rt: HostRuntime) {
 
 /// It is this fault.
 fn expect_fault(rt: &impl Abort, found: Option<ModuleFault>, expected: ModuleFault) {
-    assert!(rt; found == Some(expected));
+    holds!(rt; found == Some(expected));
 }
 
 #[test]

@@ -76,7 +76,7 @@ fn refusal_in(
     match answer {
         Ok(_) => None,
         Err(Refusal::Fault(fault)) => {
-            assert!(rt; fault.spans() == [HERE].as_slice());
+            holds!(rt; fault.spans() == [HERE].as_slice());
             Some(Refusal::Fault(fault.into_other()))
         }
         Err(Refusal::Memory) => Some(Refusal::Memory),
@@ -91,8 +91,9 @@ fn answer_alone<B: Below>(
     fun: &Function,
 ) -> Result<FunctionInfo, Refusal<FunctionError>> {
     let Bench { module, infos, .. } = bench;
-    assert!(rt; validator.has_types_of(module) && fits_types(module));
-    assert!(rt; fits_function(fun, module, infos.functions.len()));
+    holds!(rt; validator.has_types_of(module));
+    holds!(rt; fits_types(module));
+    holds!(rt; fits_function(fun, module, infos.functions.len()));
     validator.validate_function(rt.alloc(), fun, module, infos, false)
 }
 
@@ -133,7 +134,7 @@ pub fn settled<B: Below>(
     let before = validator.trace_state();
     match refusal_of(rt, validator, bench, row) {
         Some(Refusal::Memory) => {
-            assert!(rt; validator.trace_state() == before);
+            holds!(rt; validator.trace_state() == before);
             refusal_of(rt, validator, bench, row)
         }
         found => found,
@@ -141,7 +142,7 @@ pub fn settled<B: Below>(
 }
 
 /// Whether what was found is the row's own answer.
-pub fn is_own(row: &Row, found: &Option<Refusal<EntryPointError>>) -> bool {
+fn is_own(row: &Row, found: &Option<Refusal<EntryPointError>>) -> bool {
     match found {
         None => row.fault.is_none(),
         Some(Refusal::Memory) => false,
@@ -152,6 +153,16 @@ pub fn is_own(row: &Row, found: &Option<Refusal<EntryPointError>>) -> bool {
     }
 }
 
+/// What was found at a place of a test is the row's own answer.
+pub fn assert_own(
+    rt: &impl Abort,
+    place: usize,
+    row: &Row,
+    found: &Option<Refusal<EntryPointError>>,
+) {
+    assert!(rt; is_own(row, found), "at {place}: {found:?}");
+}
+
 /// A validator gives a row its own answer. What ray traces leave it.
 pub fn expect_answer<B: Below>(
     rt: &(impl Abort + AllocGlobal),
@@ -160,7 +171,7 @@ pub fn expect_answer<B: Below>(
     row: &Row,
 ) -> TraceState {
     let found = settled(rt, validator, bench, row);
-    assert!(rt; is_own(row, &found), "{found:?}");
+    assert_own(rt, 0, row, &found);
     validator.trace_state()
 }
 
@@ -175,5 +186,5 @@ pub fn expect_own<B: Below>(
     let left = expect_answer(rt, later, bench, row);
     let mut fresh = validator(rt, bench, &row.case);
     let fresh_left = expect_answer(rt, &mut fresh, bench, row);
-    assert!(rt; left == fresh_left);
+    holds!(rt; left == fresh_left);
 }

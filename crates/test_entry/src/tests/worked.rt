@@ -5,7 +5,7 @@ use crate::tests::bench::{
     make_bench,
 };
 use crate::tests::judged::validator;
-use crate::tests::rows::{Row, alone, bad, expect_answer, expect_own, good, is_own, settled};
+use crate::tests::rows::{Row, alone, assert_own, bad, expect_answer, expect_own, good, settled};
 use crate::tests::shape::{
     Case, Part, Step, at, at_compute, at_fragment, at_vertex, built_in, smooth,
 };
@@ -86,70 +86,106 @@ fn tracing(payload: u32, step: Step) -> Case {
         .doing(step)
 }
 
-/// The rows, the last two of functions by themselves, whose payloads are of two types.
-fn rows() -> [Row; 21] {
-    let integer = EntryPointError::Argument(0, VaryingError::InvalidInterpolationForInteger);
-    let combination = VaryingError::InvalidInterpolationSamplingCombination {
-        interpolation: Interpolation::PerVertex,
-        sampling: Sampling::Center,
-    };
-    let last = VaryingError::BindingCollision { location: LAST };
-    let collision = EntryPointError::BindingCollision(Handle::new(TWIN));
-    let out_of_range = |width| {
-        bad(
-            sized(at_compute(), width),
-            EntryPointError::OutOfRangeWorkgroupSize,
-        )
-    };
-    [
-        good(sized(at_compute(), 16384)),
-        out_of_range(16385),
-        out_of_range(0),
-        out_of_range(4294967295),
-        bad(
+/// How many rows there are.
+const ROWS: usize = 21;
+
+/// The rows of sizes of work groups, of calls, and of positions that are there twice.
+fn row_of_parts(index: usize) -> Row {
+    match index {
+        0 => good(sized(at_compute(), 16384)),
+        1 => out_of_range(16385),
+        2 => out_of_range(0),
+        3 => out_of_range(4294967295),
+        4 => bad(
             sized(at_vertex(), 1),
             EntryPointError::UnexpectedWorkgroupSize,
         ),
-        bad(
+        5 => bad(
             at_compute().doing(Step::Call(KILLS)),
             EntryPointError::ForbiddenStageOperations,
         ),
-        good(at_fragment().doing(Step::Call(KILLS))),
-        bad(positions(true), twice(false)),
-        bad(positions(false), twice(true)),
-        bad(unchecked(positions(true)), twice(false)),
-        bad(unchecked(positions(false)), twice(true)),
-        bad(at_fragment().taking(smooth(U32, 0)), integer),
-        bad(
-            at_fragment().taking(corners()),
-            EntryPointError::Argument(0, combination),
+        6 => good(at_fragment().doing(Step::Call(KILLS))),
+        7 => bad(positions(true), twice(false)),
+        8 => bad(positions(false), twice(true)),
+        9 => bad(unchecked(positions(true)), twice(false)),
+        _ => bad(unchecked(positions(false)), twice(true)),
+    }
+}
+
+/// A compute entry point in groups of so many invocations, which is a fault.
+fn out_of_range(width: u32) -> Row {
+    bad(
+        sized(at_compute(), width),
+        EntryPointError::OutOfRangeWorkgroupSize,
+    )
+}
+
+/// The fault of corners that have a sampling.
+fn combination() -> EntryPointError {
+    EntryPointError::Argument(
+        0,
+        VaryingError::InvalidInterpolationSamplingCombination {
+            interpolation: Interpolation::PerVertex,
+            sampling: Sampling::Center,
+        },
+    )
+}
+
+/// The fault of the second color at the last location.
+fn collision() -> EntryPointError {
+    EntryPointError::Argument(1, VaryingError::BindingCollision { location: LAST })
+}
+
+/// The rows of locations, of bindings, and, last, of functions by themselves, whose payloads are of two types.
+fn row_of_bindings(index: usize) -> Row {
+    match index {
+        11 => bad(
+            at_fragment().taking(smooth(U32, 0)),
+            EntryPointError::Argument(0, VaryingError::InvalidInterpolationForInteger),
         ),
-        good(at_compute().naming(UNIFORM, UNIFORM)),
-        bad(at_compute().naming(UNIFORM, TWIN), collision),
-        good(with_any_bindings(at_compute().naming(UNIFORM, TWIN))),
-        good(at_fragment().taking(smooth(COLOR, LAST))),
-        bad(two_at_last(), EntryPointError::Argument(1, last)),
-        good(with_any_bindings(two_at_last())),
-        alone(
+        12 => bad(at_fragment().taking(corners()), combination()),
+        13 => good(at_compute().naming(UNIFORM, UNIFORM)),
+        14 => bad(
+            at_compute().naming(UNIFORM, TWIN),
+            EntryPointError::BindingCollision(Handle::new(TWIN)),
+        ),
+        15 => good(with_any_bindings(at_compute().naming(UNIFORM, TWIN))),
+        16 => good(at_fragment().taking(smooth(COLOR, LAST))),
+        17 => bad(two_at_last(), collision()),
+        18 => good(with_any_bindings(two_at_last())),
+        19 => alone(
             tracing(RAY_PAYLOAD, Step::MisledRay),
             Some(FunctionError::InvalidRayDescriptor(Handle::new(1))),
         ),
-        alone(tracing(OTHER_RAY_PAYLOAD, Step::TraceRay), None),
-    ]
+        _ => alone(tracing(OTHER_RAY_PAYLOAD, Step::TraceRay), None),
+    }
+}
+
+/// The row with this number.
+fn row_at(index: usize) -> Row {
+    if index < 11 {
+        row_of_parts(index)
+    } else {
+        row_of_bindings(index)
+    }
 }
 
 /// A fresh validator gives the row with this number its own answer.
-fn expect_row(rt: &(impl Abort + AllocGlobal), bench: &Bench, index: usize, row: &Row) {
+fn expect_row(rt: &(impl Abort + AllocGlobal), bench: &Bench, index: usize) {
+    let row = row_at(index);
     let mut validator = validator(rt, bench, &row.case);
-    let found = settled(rt, &mut validator, bench, row);
-    assert!(rt; is_own(row, &found), "row {index}: {found:?}");
+    let found = settled(rt, &mut validator, bench, &row);
+    assert_own(rt, index, &row, &found);
+    drop(found);
+    drop(validator);
+    drop(row);
 }
 
 #[test]
 fn worked_rows(rt: HostRuntime) {
     let bench = make_bench(&rt);
-    for (index, row) in rows().iter().enumerate() {
-        expect_row(&rt, &bench, index, row);
+    for index in 0..ROWS {
+        expect_row(&rt, &bench, index);
     }
     drop(bench);
 }
@@ -159,19 +195,33 @@ fn expect_behind(rt: &(impl Abort + AllocGlobal), bench: &Bench, refused: &Row, 
     let mut validator = validator(rt, bench, &refused.case);
     expect_answer(rt, &mut validator, bench, refused);
     expect_own(rt, &mut validator, bench, row);
+    drop(validator);
+}
+
+/// The row with this number behind one that is refused, if it is, where both are judged with the same checks.
+fn expect_next(rt: &(impl Abort + AllocGlobal), bench: &Bench, refused: &Row, index: usize) {
+    let row = row_at(index);
+    let alike = refused.case.flags == row.case.flags;
+    if alike && refused.fault.is_some() {
+        expect_behind(rt, bench, refused, &row);
+    }
+    drop(row);
+}
+
+/// Each row behind the one with this number.
+fn expect_all_behind(rt: &(impl Abort + AllocGlobal), bench: &Bench, index: usize) {
+    let refused = row_at(index);
+    for next in 0..ROWS {
+        expect_next(rt, bench, &refused, next);
+    }
+    drop(refused);
 }
 
 #[test]
 fn a_refusal_changes_no_later_answer(rt: HostRuntime) {
     let bench = make_bench(&rt);
-    let rows = rows();
-    for refused in &rows {
-        for row in &rows {
-            let alike = refused.case.flags == row.case.flags;
-            if alike && refused.fault.is_some() {
-                expect_behind(&rt, &bench, refused, row);
-            }
-        }
+    for index in 0..ROWS {
+        expect_all_behind(&rt, &bench, index);
     }
     drop(bench);
 }

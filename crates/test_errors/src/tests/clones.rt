@@ -42,7 +42,7 @@ fn bad_texel(rt: &(impl Abort + AllocGlobal), member: &str) -> FunctionError {
 
 /// Two errors differ.
 fn expect_other(rt: &impl Abort, first: &FunctionError, second: &FunctionError) {
-    assert!(rt; *first != *second);
+    holds!(rt; *first != *second);
 }
 
 #[test]
@@ -119,7 +119,7 @@ fn faulty_analysis(rt: &(impl Abort + AllocGlobal)) -> MeshAnalysis {
 /// The fault is at the place.
 fn expect_place(rt: &impl Abort, analysis: &MeshAnalysis) {
     let spans = analysis.fault.as_ref().map(|fault| fault.spans());
-    assert_eq!(rt; spans, Some([PLACE].as_slice()));
+    holds!(rt; spans == Some([PLACE].as_slice()));
 }
 
 #[test]
@@ -134,12 +134,12 @@ fn an_analysis(rt: HostRuntime) {
 
 /// The error holds the one of an atomic operation.
 fn expect_atomic(rt: &impl Abort, error: &FunctionError, held: &AtomicError) {
-    assert!(rt; matches!(error, FunctionError::InvalidAtomic(atomic) if *atomic == *held));
+    holds!(rt; matches!(error, FunctionError::InvalidAtomic(atomic) if *atomic == *held));
 }
 
 /// The error holds the one of a subgroup operation.
 fn expect_subgroup(rt: &impl Abort, error: &FunctionError, held: &SubgroupError) {
-    assert!(rt; matches!(error, FunctionError::InvalidSubgroup(subgroup) if *subgroup == *held));
+    holds!(rt; matches!(error, FunctionError::InvalidSubgroup(subgroup) if *subgroup == *held));
 }
 
 fn an_atomic_error_in_an_error(rt: &impl Abort) {

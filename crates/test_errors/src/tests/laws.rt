@@ -163,11 +163,8 @@ fn answered<T>(rt: &impl Abort, answer: Result<T, Refusal<FunctionError>>) -> T 
 
 /// The info is that of the small layer, with the use that was added, and its expression is no struct.
 fn assert_uses(rt: &impl Abort, info: &FunctionInfo, is_struct: bool) {
-    assert!(rt; !is_struct);
-    assert_eq!(rt;
-        info.global_uses.as_slice(),
-        [GlobalUse(GlobalUse::READ.0 | GlobalUse::QUERY.0)].as_slice()
-    );
+    holds!(rt; !is_struct);
+    holds!(rt; info.global_uses.as_slice() == [GlobalUse(GlobalUse::READ.0 | GlobalUse::QUERY.0)].as_slice());
 }
 
 /// The small layer has a fault where it is asked for stages.
@@ -177,7 +174,7 @@ fn assert_fault(rt: &impl Abort, answer: &Result<ShaderStages, Refusal<Expressio
         Err(Refusal::Memory) => panic!(rt; "no memory"),
         Ok(_) => panic!(rt; "no fault"),
     };
-    assert_eq!(rt; *fault.as_inner(), ExpressionError::NotInScope);
+    holds!(rt; *fault.as_inner() == ExpressionError::NotInScope);
 }
 
 /// Asks the small layer of the first expression and the first global.
@@ -189,11 +186,11 @@ fn assert_answers(
 ) {
     let handle = Handle::new(0);
     let global = Handle::new(0);
-    assert!(rt; fun.expressions.len() == 1);
-    assert!(rt; module.global_variables.len() == 1);
-    assert!(rt; made(rt, is_constant(&Bools, rt.alloc(), fun, handle)));
+    holds!(rt; fun.expressions.len() == 1);
+    holds!(rt; module.global_variables.len() == 1);
+    holds!(rt; made(rt, is_constant(&Bools, rt.alloc(), fun, handle)));
     let size = made(rt, output_size(&Bools, rt.alloc(), module, global));
-    assert!(rt; size == Some(1));
+    holds!(rt; size == Some(1));
     let subject = Subject {
         fun,
         program: module,

@@ -10,25 +10,31 @@ use std::fmt::Display;
 use std::process::Abort;
 
 /// The error has this name, and is told by this sentence.
-fn assert_told<E: Display + Explain>(
+fn expect_told<E: Display + Explain + Drop>(
     rt: &(impl Abort + AllocGlobal),
-    error: &E,
+    error: E,
     name: &str,
     sentence: &str,
 ) {
-    assert_prints(rt, error, name);
-    assert_explains(rt, error, sentence);
+    assert_prints(rt, &error, name);
+    assert_explains(rt, &error, sentence);
+    drop(error);
+}
+
+/// Two texts are the same.
+fn expect_text(rt: &impl Abort, found: &str, expected: &str) {
+    assert!(rt; found == expected, "{found}");
 }
 
 fn assert_prints(rt: &(impl Abort + AllocGlobal), error: &impl Display, name: &str) {
     let printed = made(rt, error.to_string(rt.alloc()));
-    assert_eq!(rt; printed.as_str(), name);
+    expect_text(rt, printed.as_str(), name);
     drop(printed);
 }
 
 fn assert_explains(rt: &(impl Abort + AllocGlobal), error: &impl Explain, sentence: &str) {
     let mut told = String::new(rt.alloc());
     made(rt, error.explain(&mut told));
-    assert_eq!(rt; told.as_str(), sentence);
+    expect_text(rt, told.as_str(), sentence);
     drop(told);
 }

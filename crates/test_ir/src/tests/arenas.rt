@@ -16,11 +16,11 @@ fn constant() -> Constant {
 
 /// Appends to an empty arena. A growth that is refused leaves it as it was, and the same call then succeeds.
 fn append_first(rt: &impl Abort, constants: &mut Arena<Constant>) {
-    assert!(rt; constants.is_empty());
+    holds!(rt; constants.is_empty());
     let handle = match constants.append(constant(), FIRST) {
         Ok(handle) => handle,
         Err(_) => {
-            assert_eq!(rt; constants.len(), 0);
+            holds!(rt; constants.len() == 0);
             made(rt, constants.append(constant(), FIRST))
         }
     };
@@ -29,23 +29,25 @@ fn append_first(rt: &impl Abort, constants: &mut Arena<Constant>) {
 
 /// The arena holds the one constant, with this handle.
 fn expect_first(rt: &impl Abort, constants: &Arena<Constant>, handle: Handle<tag::Constant>) {
-    assert!(rt; handle.index() == 0 && constants.len() == 1);
-    assert!(rt; constants[handle].ty.index() == 7);
-    assert!(rt; constants.get_span(handle) == FIRST);
+    holds!(rt; handle.index() == 0);
+    holds!(rt; constants.len() == 1);
+    holds!(rt; constants[handle].ty.index() == 7);
+    holds!(rt; constants.get_span(handle) == FIRST);
 }
 
 /// Appends another; the first keeps its span.
 fn append_second(rt: &impl Abort, constants: &mut Arena<Constant>) {
-    assert!(rt; !constants.is_full());
+    holds!(rt; !constants.is_full());
     let other = made(rt, constants.append(constant(), SECOND));
     expect_spans(rt, constants, other);
 }
 
 /// The arena holds two constants with their spans, and the second has this handle.
 fn expect_spans(rt: &impl Abort, constants: &Arena<Constant>, other: Handle<tag::Constant>) {
-    assert!(rt; other.index() == 1 && constants.as_slice().len() == 2);
-    assert!(rt; constants.get_span(other) == SECOND);
-    assert!(rt; constants.get_span(Handle::new(0)) == FIRST);
+    holds!(rt; other.index() == 1);
+    holds!(rt; constants.as_slice().len() == 2);
+    holds!(rt; constants.get_span(other) == SECOND);
+    holds!(rt; constants.get_span(Handle::new(0)) == FIRST);
 }
 
 #[test]
@@ -57,11 +59,11 @@ fn values_are_appended(rt: HostRuntime) {
 
 /// Inserts into an empty arena. As its two allocations are refused in turn, it stays empty.
 fn insert_first(rt: &impl Abort, types: &mut UniqueArena<Type>) -> Handle<tag::Type> {
-    assert!(rt; types.is_empty());
+    holds!(rt; types.is_empty());
     match types.insert(scalar_type(Scalar::U32), FIRST) {
         Ok(handle) => handle,
         Err(_) => {
-            assert_eq!(rt; types.len(), 0);
+            holds!(rt; types.len() == 0);
             made(rt, types.insert(scalar_type(Scalar::U32), FIRST))
         }
     }
@@ -73,7 +75,7 @@ fn insert_more(
     types: &mut UniqueArena<Type>,
     scalar: Scalar,
 ) -> Handle<tag::Type> {
-    assert!(rt; !types.is_full());
+    holds!(rt; !types.is_full());
     made(rt, types.insert(scalar_type(scalar), SECOND))
 }
 
@@ -84,17 +86,19 @@ fn expect_stored(
     first: Handle<tag::Type>,
     other: Handle<tag::Type>,
 ) {
-    assert!(rt; first.index() == 0 && other.index() == 1);
-    assert!(rt; types.len() == 2 && types.as_slice().len() == 2);
-    assert!(rt; types.get_span(first) == FIRST);
-    assert!(rt; types.get_span(other) == SECOND);
+    holds!(rt; first.index() == 0);
+    holds!(rt; other.index() == 1);
+    holds!(rt; types.len() == 2);
+    holds!(rt; types.as_slice().len() == 2);
+    holds!(rt; types.get_span(first) == FIRST);
+    holds!(rt; types.get_span(other) == SECOND);
     let inner = &types[other].inner;
-    assert!(rt; matches!(inner, TypeInner::Scalar(scalar) if *scalar == Scalar::I32));
+    holds!(rt; matches!(inner, TypeInner::Scalar(scalar) if *scalar == Scalar::I32));
 }
 
 /// The handle is that of the first value.
 fn expect_found(rt: &impl Abort, again: Handle<tag::Type>) {
-    assert!(rt; again.index() == 0);
+    holds!(rt; again.index() == 0);
 }
 
 #[test]
@@ -110,16 +114,16 @@ fn types_are_stored_once(rt: HostRuntime) {
 
 /// Pushes one item, and sets another in its place.
 fn push_and_set(rt: &impl Abort, items: &mut Sequence<u32>) {
-    assert!(rt; items.is_empty());
+    holds!(rt; items.is_empty());
     made(rt, items.push(3));
-    assert!(rt; items.len() == 1);
+    holds!(rt; items.len() == 1);
     items.set(0, 4);
-    assert!(rt; items[0] == 4);
+    holds!(rt; items[0] == 4);
 }
 
 /// The list holds the 4 alone.
 fn expect_four(rt: &impl Abort, items: &Sequence<u32>) {
-    assert!(rt; items.as_slice() == [4].as_slice());
+    holds!(rt; items.as_slice() == [4].as_slice());
 }
 
 #[test]

@@ -63,7 +63,7 @@ fn cloned(rt: &(impl Abort + AllocGlobal), name: &Option<Name>) -> Name {
 
 /// The text is the letter.
 fn expect_letter(rt: &impl Abort, text: &str) {
-    assert!(rt; text == "v");
+    holds!(rt; text == "v");
 }
 
 #[test]
@@ -124,7 +124,7 @@ fn expressions(rt: HostRuntime) {
 /// Two constants, the first with a span.
 fn two_constants(rt: &(impl Abort + AllocGlobal)) -> Arena<Constant> {
     let mut constants = arena_of(rt, SPAN, Constant { ty: Handle::new(7) });
-    assert!(rt; !constants.is_full());
+    holds!(rt; !constants.is_full());
     let second = Constant { ty: Handle::new(3) };
     made(rt, constants.append(second, Span::UNDEFINED));
     constants
@@ -132,10 +132,12 @@ fn two_constants(rt: &(impl Abort + AllocGlobal)) -> Arena<Constant> {
 
 /// The arena is that of `two_constants`.
 fn expect_two_constants(rt: &impl Abort, copy: &Arena<Constant>) {
-    assert!(rt; copy.len() == 2);
+    holds!(rt; copy.len() == 2);
     let (first, second) = (Handle::new(0), Handle::new(1));
-    assert!(rt; copy[first].ty.index() == 7 && copy[second].ty.index() == 3);
-    assert!(rt; copy.get_span(first) == SPAN && copy.get_span(second) == Span::UNDEFINED);
+    holds!(rt; copy[first].ty.index() == 7);
+    holds!(rt; copy[second].ty.index() == 3);
+    holds!(rt; copy.get_span(first) == SPAN);
+    holds!(rt; copy.get_span(second) == Span::UNDEFINED);
 }
 
 #[test]
@@ -157,19 +159,21 @@ fn two_types(rt: &(impl Abort + AllocGlobal)) -> UniqueArena<Type> {
 
 /// The arena is that of `two_types`.
 fn expect_two_types(rt: &impl Abort, copy: &UniqueArena<Type>) {
-    assert!(rt; copy.len() == 2);
+    holds!(rt; copy.len() == 2);
     let (first, second) = (Handle::new(0), Handle::new(1));
     let (one, two) = (&copy[first].inner, &copy[second].inner);
-    assert!(rt; matches!(one, TypeInner::Scalar(scalar) if *scalar == Scalar::U32));
-    assert!(rt; matches!(two, TypeInner::Scalar(scalar) if *scalar == Scalar::I32));
-    assert!(rt; copy.get_span(first) == SPAN && copy.get_span(second) == Span::UNDEFINED);
+    holds!(rt; matches!(one, TypeInner::Scalar(scalar) if *scalar == Scalar::U32));
+    holds!(rt; matches!(two, TypeInner::Scalar(scalar) if *scalar == Scalar::I32));
+    holds!(rt; copy.get_span(first) == SPAN);
+    holds!(rt; copy.get_span(second) == Span::UNDEFINED);
 }
 
 /// The arena of `two_types` finds the second.
 fn find_second(rt: &impl Abort, copy: &mut UniqueArena<Type>) {
-    assert!(rt; !copy.is_full());
+    holds!(rt; !copy.is_full());
     let again = made(rt, copy.insert(scalar_type(Scalar::I32), SPAN));
-    assert!(rt; again.index() == 1 && copy.len() == 2);
+    holds!(rt; again.index() == 1);
+    holds!(rt; copy.len() == 2);
 }
 
 /// The clone also finds the values that are there.
@@ -216,26 +220,24 @@ fn function_of_each(rt: &(impl Abort + AllocGlobal)) -> Function {
 
 /// Arguments and result are those of `function_of_each`.
 fn expect_signature(rt: &impl Abort, fun: &Function) {
-    assert!(rt; fun.arguments.len() == 1);
-    assert!(rt; fun.arguments[0].ty.index() == 1);
-    assert!(rt;
-        matches!(fun.result, Some(FunctionResult { ty, binding: None }) if ty.index() == 2)
-    );
+    holds!(rt; fun.arguments.len() == 1);
+    holds!(rt; fun.arguments[0].ty.index() == 1);
+    holds!(rt; matches!(fun.result, Some(FunctionResult { ty, binding: None }) if ty.index() == 2));
 }
 
 /// The local variable is that of `function_of_each`.
 fn expect_local(rt: &impl Abort, locals: &Arena<LocalVariable>) {
-    assert!(rt; locals.len() == 1);
-    assert!(rt; locals[Handle::new(0)].ty.index() == 3);
-    assert!(rt; locals.get_span(Handle::new(0)) == SPAN);
+    holds!(rt; locals.len() == 1);
+    holds!(rt; locals[Handle::new(0)].ty.index() == 3);
+    holds!(rt; locals.get_span(Handle::new(0)) == SPAN);
 }
 
 /// The expression is that of `function_of_each`.
 fn expect_argument(rt: &impl Abort, expressions: &Arena<Expression>) {
-    assert!(rt; expressions.len() == 1);
+    holds!(rt; expressions.len() == 1);
     let expression = &expressions[Handle::new(0)];
-    assert!(rt; matches!(expression, Expression::FunctionArgument(4)));
-    assert!(rt; expressions.get_span(Handle::new(0)) == SPAN);
+    holds!(rt; matches!(expression, Expression::FunctionArgument(4)));
+    holds!(rt; expressions.get_span(Handle::new(0)) == SPAN);
 }
 
 /// The function is that of `function_of_each`, whose body is given.
@@ -263,12 +265,12 @@ fn entry_points_of_each(rt: &(impl Abort + AllocGlobal)) -> Sequence<EntryPoint>
 
 /// The entry point is that of `entry_points_of_each`, whose body is given.
 fn expect_entry_of_each(rt: &impl Abort, ep: &EntryPoint, body: &Block) {
-    assert!(rt; ep.stage == ShaderStage::Task);
-    assert!(rt; ep.early_depth_test.is_none());
-    assert!(rt; ep.workgroup_size == [8, 4, 2]);
+    holds!(rt; ep.stage == ShaderStage::Task);
+    holds!(rt; ep.early_depth_test.is_none());
+    holds!(rt; ep.workgroup_size == [8, 4, 2]);
     expect_of_each(rt, &ep.function, body);
-    assert!(rt; ep.mesh_info.is_none());
-    assert!(rt; ep.task_payload == Some(Handle::new(6)));
+    holds!(rt; ep.mesh_info.is_none());
+    holds!(rt; ep.task_payload == Some(Handle::new(6)));
 }
 
 /// A module of one of each.
@@ -298,41 +300,41 @@ fn module_of_each(rt: &(impl Abort + AllocGlobal)) -> Module {
 
 /// The types are those of `module_of_each`.
 fn expect_types_of_each(rt: &impl Abort, module: &Module) {
-    assert!(rt; module.types.len() == 1);
+    holds!(rt; module.types.len() == 1);
     let inner = &module.types[Handle::new(0)].inner;
-    assert!(rt; matches!(inner, TypeInner::Scalar(scalar) if *scalar == Scalar::F32));
-    assert!(rt; module.types.get_span(Handle::new(0)) == SPAN);
-    assert!(rt; module.special_types.ray_desc == Some(Handle::new(0)));
+    holds!(rt; matches!(inner, TypeInner::Scalar(scalar) if *scalar == Scalar::F32));
+    holds!(rt; module.types.get_span(Handle::new(0)) == SPAN);
+    holds!(rt; module.special_types.ray_desc == Some(Handle::new(0)));
 }
 
 /// Constants and overrides are those of `module_of_each`.
 fn expect_constants_of_each(rt: &impl Abort, module: &Module) {
-    assert!(rt; module.constants.len() == 1);
-    assert!(rt; module.constants[Handle::new(0)].ty.index() == 7);
-    assert!(rt; module.overrides.len() == 1);
-    assert!(rt; module.overrides[Handle::new(0)].ty.index() == 8);
+    holds!(rt; module.constants.len() == 1);
+    holds!(rt; module.constants[Handle::new(0)].ty.index() == 7);
+    holds!(rt; module.overrides.len() == 1);
+    holds!(rt; module.overrides[Handle::new(0)].ty.index() == 8);
 }
 
 /// The global variable is that of `module_of_each`.
 fn expect_global(rt: &impl Abort, globals: &Arena<GlobalVariable>) {
-    assert!(rt; globals.len() == 1);
-    assert!(rt; globals[Handle::new(0)].ty.index() == 5);
-    assert!(rt; globals.get_span(Handle::new(0)) == SPAN);
+    holds!(rt; globals.len() == 1);
+    holds!(rt; globals[Handle::new(0)].ty.index() == 5);
+    holds!(rt; globals.get_span(Handle::new(0)) == SPAN);
 }
 
 /// The global expression is that of `module_of_each`.
 fn expect_zero(rt: &impl Abort, expressions: &Arena<Expression>) {
-    assert!(rt; expressions.len() == 1);
+    holds!(rt; expressions.len() == 1);
     let expression = &expressions[Handle::new(0)];
-    assert!(rt; matches!(expression, Expression::ZeroValue(ty) if ty.index() == 9));
+    holds!(rt; matches!(expression, Expression::ZeroValue(ty) if ty.index() == 9));
 }
 
 /// The functions and entry points are those of `module_of_each`, with bodies as given.
 fn expect_functions_of_each(rt: &impl Abort, module: &Module, body: &Block) {
-    assert!(rt; module.functions.len() == 1);
+    holds!(rt; module.functions.len() == 1);
     expect_of_each(rt, &module.functions[Handle::new(0)], body);
-    assert!(rt; module.functions.get_span(Handle::new(0)) == SPAN);
-    assert!(rt; module.entry_points.len() == 1);
+    holds!(rt; module.functions.get_span(Handle::new(0)) == SPAN);
+    holds!(rt; module.entry_points.len() == 1);
     expect_entry_of_each(rt, &module.entry_points[0], body);
 }
 

@@ -10,19 +10,24 @@ use std::process::Abort;
 
 /// The module holds nothing.
 fn expect_empty_module(rt: &impl Abort, module: &Module) {
-    assert!(rt; module.types.is_empty() && !module.types.is_full());
-    assert!(rt; module.functions.is_empty() && !module.functions.is_full());
-    assert!(rt; module.entry_points.is_empty() && module.special_types.ray_desc.is_none());
+    holds!(rt; module.types.is_empty());
+    holds!(rt; !module.types.is_full());
+    holds!(rt; module.functions.is_empty());
+    holds!(rt; !module.functions.is_full());
+    holds!(rt; module.entry_points.is_empty());
+    holds!(rt; module.special_types.ray_desc.is_none());
 }
 
 /// The function has neither expressions nor a result.
 fn expect_empty_function(rt: &impl Abort, function: &Function) {
-    assert!(rt; function.expressions.is_empty() && function.result.is_none());
+    holds!(rt; function.expressions.is_empty());
+    holds!(rt; function.result.is_none());
 }
 
 /// The info knows nothing.
 fn expect_empty_info(rt: &impl Abort, info: &ModuleInfo) {
-    assert!(rt; info.functions.is_empty() && info.global_types.is_empty());
+    holds!(rt; info.functions.is_empty());
+    holds!(rt; info.global_types.is_empty());
 }
 
 fn a_module_holds_nothing(rt: &(impl Abort + AllocGlobal)) {
@@ -55,7 +60,7 @@ fn what_is_made_holds_nothing(rt: HostRuntime) {
     a_module_holds_nothing(&rt);
     a_function_holds_nothing(&rt);
     an_info_holds_nothing(&rt);
-    assert_eq!(rt; Span::UNDEFINED, Span { start: 0, end: 0 });
+    holds!(&rt; Span::UNDEFINED == Span { start: 0, end: 0 });
 }
 
 const PLACE: Span = Span { start: 3, end: 5 };
@@ -86,7 +91,7 @@ fn listed(rt: &(impl Abort + AllocGlobal)) -> Block {
 
 /// The block has two statements.
 fn expect_two(rt: &impl Abort, block: &Block) {
-    assert!(rt; block.list.len() == 2);
+    holds!(rt; block.list.len() == 2);
 }
 
 #[test]
@@ -102,14 +107,15 @@ fn blocks_take_statements_in_order(rt: HostRuntime) {
 #[test]
 fn a_range_has_both_of_its_ends(rt: HostRuntime) {
     let emitted = Range::new(Handle::new(3), Handle::new(5));
-    assert_eq!(rt; emitted, Range { start: 3, end: 6 });
+    holds!(&rt; emitted == Range { start: 3, end: 6 });
     let none = Range::new(Handle::new(3), Handle::new(2));
-    assert_eq!(rt; none, Range { start: 3, end: 3 });
+    holds!(&rt; none == Range { start: 3, end: 3 });
 }
 
 /// The one kind is that of a constant.
 fn expect_const(rt: &impl Abort, kinds: &ExpressionKindTracker) {
-    assert!(rt; kinds.len() == 1 && kinds.is_const(Handle::new(0)));
+    holds!(rt; kinds.len() == 1);
+    holds!(rt; kinds.is_const(Handle::new(0)));
 }
 
 #[test]

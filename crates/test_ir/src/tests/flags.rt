@@ -28,17 +28,17 @@ fn bits_go_by_position(rt: HostRuntime) {
         (u32::from(Barrier::TEXTURE.bits()), 8),
         (u32::from(MemoryDecorations::VOLATILE.bits()), 2),
     ] {
-        assert_eq!(rt; bits, expected);
+        holds!(&rt; bits == expected);
     }
     all_names_fill_a_set(&rt);
 }
 
 /// All names of a set together fill it.
 fn all_names_fill_a_set(rt: &impl Abort) {
-    assert!(rt; all_of::<Capabilities>() == Capabilities::ALL);
-    assert!(rt; all_of::<ShaderStages>() == ShaderStages::ALL);
-    assert!(rt; all_of::<SubgroupOperationSet>() == SubgroupOperationSet::ALL);
-    assert!(rt; all_of::<ValidationFlags>().bits() == 0xf);
+    holds!(rt; all_of::<Capabilities>() == Capabilities::ALL);
+    holds!(rt; all_of::<ShaderStages>() == ShaderStages::ALL);
+    holds!(rt; all_of::<SubgroupOperationSet>() == SubgroupOperationSet::ALL);
+    holds!(rt; all_of::<ValidationFlags>().bits() == 0xf);
 }
 
 /// The info of a function that reads one global.
@@ -55,10 +55,10 @@ fn reading(rt: &(impl Abort + AllocGlobal)) -> FunctionInfo {
 
 /// The global, which is read, is written too.
 fn join_write(rt: &impl Abort, info: &mut FunctionInfo) {
-    assert!(rt; info.global_uses.len() == 1);
+    holds!(rt; info.global_uses.len() == 1);
     info.insert_global_use(GlobalUse::WRITE, Handle::new(0));
-    assert!(rt; info.global_uses.len() == 1);
-    assert!(rt; info.global_uses[0] == GlobalUse(GlobalUse::READ.0 | GlobalUse::WRITE.0));
+    holds!(rt; info.global_uses.len() == 1);
+    holds!(rt; info.global_uses[0] == GlobalUse(GlobalUse::READ.0 | GlobalUse::WRITE.0));
 }
 
 #[test]
@@ -71,7 +71,7 @@ fn uses_are_joined(rt: HostRuntime) {
 /// An error writes this name.
 fn expect_name(rt: &(impl Abort + AllocGlobal), error: &ExpressionError, name: &str) {
     let text = made(rt, error.to_string(rt.alloc()));
-    assert_eq!(rt; text.as_str(), name);
+    holds!(rt; text.as_str() == name);
 }
 
 #[test]
@@ -139,15 +139,15 @@ fn expect_places(
     placed: &WithSpan<ExpressionError>,
     bare: &WithSpan<ExpressionError>,
 ) {
-    assert!(rt; placed.spans() == [FIRST, SECOND].as_slice());
-    assert!(rt; *placed.as_inner() == FAULT);
-    assert!(rt; bare.spans().is_empty());
-    assert!(rt; *placed == *bare);
+    holds!(rt; placed.spans() == [FIRST, SECOND].as_slice());
+    holds!(rt; *placed.as_inner() == FAULT);
+    holds!(rt; bare.spans().is_empty());
+    holds!(rt; *placed == *bare);
 }
 
 /// This is the fault.
 fn expect_fault(rt: &impl Abort, error: ExpressionError) {
-    assert!(rt; error == FAULT);
+    holds!(rt; error == FAULT);
 }
 
 /// One refusal is not the other.
@@ -156,7 +156,7 @@ fn expect_other(
     first: &Refusal<ExpressionError>,
     second: &Refusal<ExpressionError>,
 ) {
-    assert!(rt; *first != *second);
+    holds!(rt; *first != *second);
 }
 
 /// A fault keeps the places that it is given, which `==` doesn't compare.

@@ -6,12 +6,12 @@ use std::process::Abort;
 
 /// An expression has these operands, and none behind them.
 fn expect(rt: &impl Abort, expression: &Expression, handles: &[u32]) {
-    assert!(rt; operand_count(expression) == handles.len());
+    holds!(rt; operand_count(expression) == handles.len());
     for k in 0..handles.len() {
-        assert!(rt; operand(expression, k) == Some(Handle::new(handles[k])));
+        holds!(rt; operand(expression, k) == Some(Handle::new(handles[k])));
     }
-    assert!(rt; operand(expression, handles.len()).is_none());
-    assert!(rt; operand(expression, handles.len() + 1).is_none());
+    holds!(rt; operand(expression, handles.len()).is_none());
+    holds!(rt; operand(expression, handles.len() + 1).is_none());
 }
 
 /// Operands 5 and 2.

@@ -80,7 +80,7 @@ fn globals_have_types_and_initializers(rt: HostRuntime) {
         (AddressSpace::Private, false, false),
         (AddressSpace::Handle, true, false),
     ] {
-        assert_eq!(rt; images_fit(&rt, space, is_typed), fits);
+        holds!(&rt; images_fit(&rt, space, is_typed) == fits);
     }
 }
 
@@ -139,6 +139,6 @@ fn an_entry_point_names_globals_of_its_module(rt: HostRuntime) {
         (AddressSpace::TaskPayload, None, true),
         (AddressSpace::Function, None, false),
     ] {
-        assert_eq!(rt; payload_fits(&rt, space, payload), fits);
+        holds!(&rt; payload_fits(&rt, space, payload) == fits);
     }
 }

@@ -45,9 +45,9 @@ fn expect_form(
     types: &UniqueArena<Type>,
     form: &Option<TypeInner>,
 ) {
-    assert!(rt; types.len() == 1);
-    assert!(rt; names_types_below(inner, types.len()));
-    assert!(rt; inner.canonical_form(types) == *form);
+    holds!(rt; types.len() == 1);
+    holds!(rt; names_types_below(inner, types.len()));
+    holds!(rt; inner.canonical_form(types) == *form);
 }
 
 /// The two types are written otherwise and are the same.
@@ -57,17 +57,17 @@ fn expect_equivalent(
     second: &TypeInner,
     types: &UniqueArena<Type>,
 ) {
-    assert!(rt; *first != *second);
-    assert!(rt; names_types_below(first, types.len()));
-    assert!(rt; names_types_below(second, types.len()));
-    assert!(rt; first.equivalent(second, types));
+    holds!(rt; *first != *second);
+    holds!(rt; names_types_below(first, types.len()));
+    holds!(rt; names_types_below(second, types.len()));
+    holds!(rt; first.equivalent(second, types));
 }
 
 /// The type is a pointer to type 0 in Function.
 fn expect_pointer(rt: &impl Abort, inner: &TypeInner) {
-    assert!(rt; inner.pointer_space() == Some(AddressSpace::Function));
+    holds!(rt; inner.pointer_space() == Some(AddressSpace::Function));
     let base = inner.pointer_base_type();
-    assert!(rt; matches!(&base, Some(TypeResolution::Handle(ty)) if *ty == Handle::new(0)));
+    holds!(rt; matches!(&base, Some(TypeResolution::Handle(ty)) if *ty == Handle::new(0)));
 }
 
 /// A pointer to u32 in Function and the value pointer of u32 there are the same type.
@@ -111,17 +111,17 @@ fn expect_same_type(
     first: &TypeResolution,
     second: &TypeResolution,
 ) {
-    assert!(rt; fits_types(module));
-    assert!(rt; fits_resolution(first, module.types.len()));
-    assert!(rt; fits_resolution(second, module.types.len()));
-    assert!(rt; compare_types(first, second, &module.types));
+    holds!(rt; fits_types(module));
+    holds!(rt; fits_resolution(first, module.types.len()));
+    holds!(rt; fits_resolution(second, module.types.len()));
+    holds!(rt; compare_types(first, second, &module.types));
 }
 
 /// The resolution resolves to u32.
 fn expect_u32(rt: &impl Abort, module: &Module, resolution: &TypeResolution) {
-    assert!(rt; fits_resolution(resolution, module.types.len()));
+    holds!(rt; fits_resolution(resolution, module.types.len()));
     let inner = resolution.inner_with(&module.types);
-    assert!(rt; matches!(inner, TypeInner::Scalar(scalar) if *scalar == Scalar::U32));
+    holds!(rt; matches!(inner, TypeInner::Scalar(scalar) if *scalar == Scalar::U32));
 }
 
 /// The pointer and the value pointer are compared as types of expressions.
@@ -158,13 +158,13 @@ fn vector(size: VectorSize) -> TypeInner {
 
 /// The type, as that of the coordinates of a storage image, is for these dimensions.
 fn expect_coordinates(rt: &impl Abort, inner: &TypeInner, dim: Option<ImageDimension>) {
-    assert!(rt; inner.image_storage_coordinates() == dim);
+    holds!(rt; inner.image_storage_coordinates() == dim);
 }
 
 /// The type is of u32.
 fn expect_scalar(rt: &impl Abort, inner: &TypeInner) {
-    assert!(rt; inner.scalar() == Some(Scalar::U32));
-    assert!(rt; inner.scalar_kind() == Some(ScalarKind::Uint));
+    holds!(rt; inner.scalar() == Some(Scalar::U32));
+    holds!(rt; inner.scalar_kind() == Some(ScalarKind::Uint));
 }
 
 #[test]
@@ -194,7 +194,7 @@ fn texels_have_scalars(rt: HostRuntime) {
         (StorageFormat::Rg11b10Ufloat, Scalar::F32),
         (StorageFormat::Bgra8Unorm, Scalar::F32),
     ] {
-        assert_eq!(rt; Scalar::from(format), scalar);
+        holds!(&rt; Scalar::from(format) == scalar);
     }
 }
 
@@ -207,16 +207,10 @@ fn spaces_and_statements_require(rt: HostRuntime) {
         (AddressSpace::Uniform, StorageAccess::LOAD),
         (AddressSpace::Storage { access }, access),
     ] {
-        assert_eq!(rt; space.access(), accessed);
+        holds!(&rt; space.access() == accessed);
     }
-    assert_eq!(rt;
-        SubgroupOperation::Xor.required_operations(),
-        SubgroupOperationSet::ARITHMETIC
-    );
-    assert_eq!(rt;
-        GatherMode::QuadSwap(0).required_operations(),
-        SubgroupOperationSet::QUAD
-    );
+    holds!(&rt; SubgroupOperation::Xor.required_operations() == SubgroupOperationSet::ARITHMETIC);
+    holds!(&rt; GatherMode::QuadSwap(0).required_operations() == SubgroupOperationSet::QUAD);
 }
 
 fn member(rt: &(impl Abort + AllocGlobal), name: &str, ty: u32) -> StructMember {
@@ -246,10 +240,10 @@ fn exchanged(rt: &(impl Abort + AllocGlobal)) -> TypeInner {
 
 /// The outcome is that of a compare exchange of i32, and not of u32.
 fn expect_exchange(rt: &impl Abort, outcome: &TypeInner, types: &UniqueArena<Type>) {
-    assert!(rt; types.len() == 2);
-    assert!(rt; names_types_below(outcome, types.len()));
-    assert!(rt; outcome.is_compare_exchange_struct(Scalar::I32, types));
-    assert!(rt; !outcome.is_compare_exchange_struct(Scalar::U32, types));
+    holds!(rt; types.len() == 2);
+    holds!(rt; names_types_below(outcome, types.len()));
+    holds!(rt; outcome.is_compare_exchange_struct(Scalar::I32, types));
+    holds!(rt; !outcome.is_compare_exchange_struct(Scalar::U32, types));
 }
 
 #[test]
@@ -263,16 +257,16 @@ fn a_compare_exchange_gives_a_struct(rt: HostRuntime) {
 
 /// Tracks an override, which is no constant.
 fn track_override(rt: &impl Abort, kinds: &mut ExpressionKindTracker) {
-    assert!(rt; kinds.is_empty());
+    holds!(rt; kinds.is_empty());
     made(rt, kinds.push(ExpressionKind::Override));
-    assert!(rt; kinds.len() == 1);
-    assert!(rt; !kinds.is_const(Handle::new(0)));
-    assert!(rt; kinds.is_const_or_override(Handle::new(0)));
+    holds!(rt; kinds.len() == 1);
+    holds!(rt; !kinds.is_const(Handle::new(0)));
+    holds!(rt; kinds.is_const_or_override(Handle::new(0)));
 }
 
 /// Whether an expression is there before the statements.
 fn expect_pre_emit(rt: &impl Abort, expression: &Expression, needs: bool) {
-    assert_eq!(rt; expression.needs_pre_emit(), needs);
+    holds!(rt; expression.needs_pre_emit() == needs);
 }
 
 #[test]

@@ -77,7 +77,7 @@ fn expect_type_in(rt: &impl Abort, info: &Option<FunctionInfo>, expected: &Optio
         Some(info) => info.expression_types.as_slice().get(1),
         None => None,
     };
-    assert!(rt; found == expected.as_ref());
+    holds!(rt; found == expected.as_ref());
 }
 
 /// An expression has this type, behind a u32 literal; `None` where the plain layer has none for it.
@@ -159,7 +159,7 @@ fn module_with_globals(rt: &(impl Abort + AllocGlobal)) -> Module {
 /// There is an info, with these uses.
 fn expect_uses(rt: &impl Abort, info: &Option<FunctionInfo>, expected: &[GlobalUse]) {
     match info {
-        Some(info) => assert!(rt; info.global_uses.as_slice() == expected),
+        Some(info) => holds!(rt; info.global_uses.as_slice() == expected),
         None => panic!(rt; "refused"),
     }
 }
@@ -210,10 +210,11 @@ fn expressions_of_kinds(rt: &(impl Abort + AllocGlobal)) -> Arena<Expression> {
 
 /// These are their kinds.
 fn expect_kinds(rt: &impl Abort, kinds: &ExpressionKindTracker) {
-    assert_eq!(rt; kinds.len(), 4);
-    assert!(rt; kinds.is_const(Handle::new(0)));
-    assert!(rt; !kinds.is_const(Handle::new(2)) && kinds.is_const_or_override(Handle::new(2)));
-    assert!(rt; !kinds.is_const_or_override(Handle::new(3)));
+    holds!(rt; kinds.len() == 4);
+    holds!(rt; kinds.is_const(Handle::new(0)));
+    holds!(rt; !kinds.is_const(Handle::new(2)));
+    holds!(rt; kinds.is_const_or_override(Handle::new(2)));
+    holds!(rt; !kinds.is_const_or_override(Handle::new(3)));
 }
 
 #[test]
@@ -232,7 +233,7 @@ fn expect_size(rt: &(impl Abort + AllocGlobal), inner: TypeInner, expected: Opti
     let module = module_of_types(rt.alloc(), types);
     let size = Plain::without_mesh_shaders().type_size(&module, handle);
     drop(module);
-    assert_eq!(rt; size, expected);
+    holds!(rt; size == expected);
 }
 
 /// An array of so many.

@@ -3,14 +3,12 @@
 
 use crate::tests::handles::{FIRST, GREATEST, SECOND};
 use crate::tests::module::{
-    expect_unfit, expressions_of, global_types_of, locals_of, made, module,
+    expect_function, expect_unfit, expressions_of, global_types_of, locals_of, made, module,
 };
 use naga_below::{
-    Expression, Function, Handle, ModuleInfo, Operands, Sequence, fits_function, fits_globals,
+    Expression, Function, Handle, Module, ModuleInfo, Operands, Sequence, fits_globals,
 };
-use std::alloc::{AllocError, Global};
 use std::process::Abort;
-use std::test::Fail;
 
 /// A kind that names something else than operands, of which it has none.
 #[derive(Clone, Copy)]
@@ -126,43 +124,41 @@ fn listed(kind: ListedKind, ty: u32, operands: Operands) -> Expression {
     }
 }
 
-fn operands_of(alloc: Global, handles: [u32; 2]) -> Result<Operands, AllocError> {
-    let mut operands = Sequence::new(alloc);
+fn operands_of(rt: &(impl Abort + AllocGlobal), handles: [u32; 2]) -> Operands {
+    let mut operands = Sequence::new(rt.alloc());
     for handle in handles {
-        operands.push(Handle::new(handle))?;
+        made(rt, operands.push(Handle::new(handle)));
     }
-    Ok(operands)
+    operands
 }
 
 /// A function with a local and this expression behind another one, in the module behind its own: it fits where this is so.
 fn expect_in_function(rt: &(impl Abort + AllocGlobal), expression: Expression, fits: bool) {
-    let alloc = rt.alloc();
-    let mut fun = Function::new(alloc);
-    fun.local_variables = made(rt, locals_of(alloc, 0, 0));
-    fun.expressions = made(rt, expressions_of(alloc, 0, Some(expression)));
-    let module = module(rt, &FIRST, Some(fun));
-    let Some(last) = module.functions.as_slice().last() else {
-        panic!(rt; "no function");
-    };
-    assert_eq!(rt; fits_function(last, &module, 1), fits);
-    expect_unfit(rt, &FIRST, &module, !fits);
-    drop(module);
+    let mut fun = Function::new(rt.alloc());
+    fun.local_variables = locals_of(rt, 0, 0);
+    fun.expressions = expressions_of(rt, 0, Some(expression));
+    expect_function(rt, fun, fits);
+}
+
+/// The globals of a module fit where this is so.
+fn expect_globals(rt: &(impl Abort + AllocGlobal), module: &Module, fits: bool) {
+    let mut known = ModuleInfo::new(rt.alloc());
+    known.global_types = Sequence::from(global_types_of(rt, &FIRST));
+    holds!(rt; fits_globals(module, &known) == fits);
+    drop(known);
 }
 
 /// The module with this expression as its second: its globals fit where this is so.
 fn expect_in_module(rt: &(impl Abort + AllocGlobal), expression: Expression, fits: bool) {
-    let alloc = rt.alloc();
     let mut module = module(rt, &FIRST, None);
-    module.global_expressions = made(rt, expressions_of(alloc, 0, Some(expression)));
-    let mut known = ModuleInfo::new(alloc);
-    known.global_types = Sequence::from(made(rt, global_types_of(alloc, &FIRST)));
-    assert_eq!(rt; fits_globals(&module, &known), fits);
+    module.global_expressions = expressions_of(rt, 0, Some(expression));
+    expect_globals(rt, &module, fits);
     expect_unfit(rt, &FIRST, &module, !fits);
     drop(module);
 }
 
 #[test]
-fn what_is_named_besides_operands(rt: HostRuntime) -> Result<(), Fail> {
+fn what_is_named_besides_operands(rt: HostRuntime) {
     for kind in [
         NamingKind::Constant,
         NamingKind::Override,
@@ -178,14 +174,13 @@ fn what_is_named_besides_operands(rt: HostRuntime) -> Result<(), Fail> {
         expect_in_function(&rt, naming(kind, GREATEST), false);
         expect_in_module(&rt, naming(kind, GREATEST), true);
     }
-    Ok(())
 }
 
 /// An expression of two operands has one that isn't there, or is the expression itself, be it the first or the second.
 const OPERANDS: [[u32; 2]; 4] = [[GREATEST, 0], [0, GREATEST], [SECOND, 0], [0, SECOND]];
 
 #[test]
-fn operands_that_are_fields(rt: HostRuntime) -> Result<(), Fail> {
+fn operands_that_are_fields(rt: HostRuntime) {
     for kind in [
         DirectKind::Access,
         DirectKind::AccessIndex,
@@ -201,7 +196,6 @@ fn operands_that_are_fields(rt: HostRuntime) -> Result<(), Fail> {
         expect_in_function(&rt, direct(DirectKind::Access, [0, handle]), false);
         expect_in_module(&rt, direct(DirectKind::Access, [0, handle]), false);
     }
-    Ok(())
 }
 
 /// An expression of a kind that lists operands.
@@ -211,11 +205,11 @@ fn of_operands(
     ty: u32,
     operands: [u32; 2],
 ) -> Expression {
-    listed(kind, ty, made(rt, operands_of(rt.alloc(), operands)))
+    listed(kind, ty, operands_of(rt, operands))
 }
 
 #[test]
-fn operands_that_are_listed(rt: HostRuntime) -> Result<(), Fail> {
+fn operands_that_are_listed(rt: HostRuntime) {
     for kind in [
         ListedKind::Compose,
         ListedKind::Splat,
@@ -244,5 +238,4 @@ fn operands_that_are_listed(rt: HostRuntime) -> Result<(), Fail> {
     }
     let untyped = of_operands(&rt, ListedKind::Compose, GREATEST, [0, 0]);
     expect_in_function(&rt, untyped, false);
-    Ok(())
 }

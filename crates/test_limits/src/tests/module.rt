@@ -1,7 +1,7 @@
 //! One module with a handle in each place but inside a body, what is known of it, and what is answered of it over the plain
 //! layer.
 
-use crate::tests::handles::{Handles, TYPES};
+use crate::tests::handles::{FIRST, Handles, TYPES};
 use bitflags::Flags;
 use naga_below::{
     AddressSpace, Arena, ArraySize, Capabilities, Constant, Disalignment, EntryPoint, Expression,
@@ -9,98 +9,93 @@ use naga_below::{
     MemoryDecorations, MeshOutputTopology, MeshStageInfo, Module, Override, Scalar, Sequence,
     Settings, ShaderStage, ShaderStages, Span, SpecialTypes, StructMember, SubgroupOperationSet,
     Type, TypeFlags, TypeInfo, TypeInner, TypeResolution, UniqueArena, ValidationFlags,
+    fits_function,
 };
 use naga_layers::plain::Plain;
 use naga_module::check::{Given, ModuleFault, check_module};
-use std::alloc::{AllocError, Global};
 use std::process::Abort;
 
 /// Where everything is.
 pub const NOWHERE: Span = Span::UNDEFINED;
 
 /// What there was memory for.
-pub fn made<T>(rt: &impl Abort, answer: Result<T, AllocError>) -> T {
+pub fn made<T, E>(rt: &impl Abort, answer: Result<T, E>) -> T {
     match answer {
         Ok(value) => value,
         Err(_) => panic!(rt; "no memory"),
     }
 }
 
-/// The types but for the struct, which is behind them.
-fn flat_types(handles: &Handles) -> [TypeInner; 4] {
-    [
-        TypeInner::Scalar(Scalar::U32),
-        TypeInner::Pointer {
+/// The type with this number, of those before the struct, which is last.
+fn flat_type(handles: &Handles, index: u32) -> TypeInner {
+    let size = ArraySize::Pending(Handle::new(handles.size));
+    match index {
+        0 => TypeInner::Scalar(Scalar::U32),
+        1 => TypeInner::Pointer {
             base: Handle::new(handles.pointer),
             space: AddressSpace::Private,
         },
-        TypeInner::Array {
+        2 => TypeInner::Array {
             base: Handle::new(handles.array),
-            size: ArraySize::Pending(Handle::new(handles.size)),
+            size,
             stride: 4,
         },
-        TypeInner::BindingArray {
+        _ => TypeInner::BindingArray {
             base: Handle::new(handles.binding_array),
-            size: ArraySize::Pending(Handle::new(handles.size)),
+            size,
         },
-    ]
+    }
 }
 
 /// How many types there are.
 const COUNT: usize = TYPES as usize;
 
 /// A struct of one member.
-fn structure(alloc: Global, member: u32) -> Result<TypeInner, AllocError> {
-    let mut members = Sequence::new(alloc);
-    members.push(StructMember {
-        name: None,
-        ty: Handle::new(member),
-        binding: None,
-        offset: 0,
-    })?;
-    Ok(TypeInner::Struct { members, span: 4 })
+fn structure(rt: &(impl Abort + AllocGlobal), member: u32) -> TypeInner {
+    let mut members = Sequence::new(rt.alloc());
+    made(
+        rt,
+        members.push(StructMember {
+            name: None,
+            ty: Handle::new(member),
+            binding: None,
+            offset: 0,
+        }),
+    );
+    TypeInner::Struct { members, span: 4 }
 }
 
 /// Puts a type without a name last.
-fn add_type(
-    rt: &(impl Abort + AllocGlobal),
-    types: &mut UniqueArena<Type>,
-    inner: TypeInner,
-) -> Result<(), AllocError> {
-    assert!(rt; !types.is_full());
-    types.insert(Type { name: None, inner }, NOWHERE)?;
-    Ok(())
+fn add_type(rt: &(impl Abort + AllocGlobal), types: &mut UniqueArena<Type>, inner: TypeInner) {
+    holds!(rt; !types.is_full());
+    made(rt, types.insert(Type { name: None, inner }, NOWHERE));
 }
 
-fn types_of(
-    rt: &(impl Abort + AllocGlobal),
-    handles: &Handles,
-) -> Result<UniqueArena<Type>, AllocError> {
+fn types_of(rt: &(impl Abort + AllocGlobal), handles: &Handles) -> UniqueArena<Type> {
     let mut types = UniqueArena::new(rt.alloc());
-    for inner in flat_types(handles) {
-        add_type(rt, &mut types, inner)?;
+    for index in 0..TYPES - 1 {
+        add_type(rt, &mut types, flat_type(handles, index));
     }
-    let last = structure(rt.alloc(), handles.member)?;
-    add_type(rt, &mut types, last)?;
-    Ok(types)
+    add_type(rt, &mut types, structure(rt, handles.member));
+    types
 }
 
-fn constants_of(alloc: Global, ty: u32) -> Result<Arena<Constant>, AllocError> {
-    let mut constants = Arena::new(alloc);
+fn constants_of(rt: &(impl Abort + AllocGlobal), ty: u32) -> Arena<Constant> {
+    let mut constants = Arena::new(rt.alloc());
     let ty = Handle::new(ty);
-    constants.append(Constant { ty }, NOWHERE)?;
-    Ok(constants)
+    made(rt, constants.append(Constant { ty }, NOWHERE));
+    constants
 }
 
-fn overrides_of(alloc: Global, ty: u32) -> Result<Arena<Override>, AllocError> {
-    let mut overrides = Arena::new(alloc);
+fn overrides_of(rt: &(impl Abort + AllocGlobal), ty: u32) -> Arena<Override> {
+    let mut overrides = Arena::new(rt.alloc());
     let ty = Handle::new(ty);
-    overrides.append(Override { ty }, NOWHERE)?;
-    Ok(overrides)
+    made(rt, overrides.append(Override { ty }, NOWHERE));
+    overrides
 }
 
-fn globals_of(alloc: Global, handles: &Handles) -> Result<Arena<GlobalVariable>, AllocError> {
-    let mut globals = Arena::new(alloc);
+fn globals_of(rt: &(impl Abort + AllocGlobal), handles: &Handles) -> Arena<GlobalVariable> {
+    let mut globals = Arena::new(rt.alloc());
     let global = GlobalVariable {
         space: AddressSpace::Private,
         binding: None,
@@ -108,71 +103,73 @@ fn globals_of(alloc: Global, handles: &Handles) -> Result<Arena<GlobalVariable>,
         init: Some(Handle::new(handles.initializer)),
         memory_decorations: MemoryDecorations::empty(),
     };
-    globals.append(global, NOWHERE)?;
-    Ok(globals)
+    made(rt, globals.append(global, NOWHERE));
+    globals
 }
 
 /// An expression of this one operand.
-fn unary(alloc: Global, operand: u32) -> Result<Expression, AllocError> {
-    let mut operands = Sequence::new(alloc);
-    operands.push(Handle::new(operand))?;
-    Ok(Expression::Unary {
+fn unary(rt: &(impl Abort + AllocGlobal), operand: u32) -> Expression {
+    let mut operands = Sequence::new(rt.alloc());
+    made(rt, operands.push(Handle::new(operand)));
+    Expression::Unary {
         operands,
         detail: 0,
-    })
+    }
 }
 
 /// The zero value of a type, and behind it another expression, if there is one.
 pub fn expressions_of(
-    alloc: Global,
+    rt: &(impl Abort + AllocGlobal),
     ty: u32,
     second: Option<Expression>,
-) -> Result<Arena<Expression>, AllocError> {
-    let mut expressions = Arena::new(alloc);
-    expressions.append(Expression::ZeroValue(Handle::new(ty)), NOWHERE)?;
+) -> Arena<Expression> {
+    let mut expressions = Arena::new(rt.alloc());
+    made(
+        rt,
+        expressions.append(Expression::ZeroValue(Handle::new(ty)), NOWHERE),
+    );
     if let Some(second) = second {
-        expressions.append(second, NOWHERE)?;
+        made(rt, expressions.append(second, NOWHERE));
     }
-    Ok(expressions)
+    expressions
 }
 
-fn argument_of(alloc: Global, ty: u32) -> Result<Sequence<FunctionArgument>, AllocError> {
-    let mut arguments = Sequence::new(alloc);
-    arguments.push(FunctionArgument {
-        name: None,
-        ty: Handle::new(ty),
-        binding: None,
-    })?;
-    Ok(arguments)
+fn argument_of(rt: &(impl Abort + AllocGlobal), ty: u32) -> Sequence<FunctionArgument> {
+    let mut arguments = Sequence::new(rt.alloc());
+    made(
+        rt,
+        arguments.push(FunctionArgument {
+            name: None,
+            ty: Handle::new(ty),
+            binding: None,
+        }),
+    );
+    arguments
 }
 
 /// A local of this type that begins as this expression.
-pub fn locals_of(
-    alloc: Global,
-    ty: u32,
-    beginning: u32,
-) -> Result<Arena<LocalVariable>, AllocError> {
-    let mut locals = Arena::new(alloc);
+pub fn locals_of(rt: &(impl Abort + AllocGlobal), ty: u32, beginning: u32) -> Arena<LocalVariable> {
+    let mut locals = Arena::new(rt.alloc());
     let local = LocalVariable {
         name: None,
         ty: Handle::new(ty),
         init: Some(Handle::new(beginning)),
     };
-    locals.append(local, NOWHERE)?;
-    Ok(locals)
+    made(rt, locals.append(local, NOWHERE));
+    locals
 }
 
 /// The function of the module.
 fn function(rt: &(impl Abort + AllocGlobal), handles: &Handles) -> Function {
     let alloc = rt.alloc();
     let mut fun = Function::new(alloc);
-    fun.arguments = made(rt, argument_of(alloc, handles.argument));
+    fun.arguments = argument_of(rt, handles.argument);
     fun.result = Some(FunctionResult {
         ty: Handle::new(handles.declared),
         binding: None,
     });
-    fun.local_variables = made(rt, locals_of(alloc, handles.local, handles.beginning));
-    fun.expressions = made(rt, expressions_of(alloc, 0, None));
+    fun.local_variables = locals_of(rt, handles.local, handles.beginning);
+    fun.expressions = expressions_of(rt, 0, None);
     fun
 }
 
@@ -181,19 +178,19 @@ fn functions_of(
     rt: &(impl Abort + AllocGlobal),
     handles: &Handles,
     second: Option<Function>,
-) -> Result<Arena<Function>, AllocError> {
+) -> Arena<Function> {
     let mut functions = Arena::new(rt.alloc());
-    functions.append(function(rt, handles), NOWHERE)?;
+    made(rt, functions.append(function(rt, handles), NOWHERE));
     if let Some(second) = second {
-        functions.append(second, NOWHERE)?;
+        made(rt, functions.append(second, NOWHERE));
     }
-    Ok(functions)
+    functions
 }
 
 /// The entry point of the module.
 fn entry_point(rt: &(impl Abort + AllocGlobal), handles: &Handles) -> EntryPoint {
     let mut fun = Function::new(rt.alloc());
-    fun.arguments = made(rt, argument_of(rt.alloc(), handles.taken));
+    fun.arguments = argument_of(rt, handles.taken);
     EntryPoint {
         stage: ShaderStage::Mesh,
         early_depth_test: None,
@@ -213,10 +210,10 @@ fn entry_point(rt: &(impl Abort + AllocGlobal), handles: &Handles) -> EntryPoint
     }
 }
 
-fn entries_of(alloc: Global, ep: EntryPoint) -> Result<Sequence<EntryPoint>, AllocError> {
-    let mut entries = Sequence::new(alloc);
-    entries.push(ep)?;
-    Ok(entries)
+fn entries_of(rt: &(impl Abort + AllocGlobal), ep: EntryPoint) -> Sequence<EntryPoint> {
+    let mut entries = Sequence::new(rt.alloc());
+    made(rt, entries.push(ep));
+    entries
 }
 
 /// The module of these handles, with one more function, if there is one.
@@ -226,18 +223,18 @@ pub fn module(
     second: Option<Function>,
 ) -> Module {
     let alloc = rt.alloc();
-    let operation = made(rt, unary(alloc, handles.operand));
+    let operation = unary(rt, handles.operand);
     let mut module = Module::new(alloc);
-    module.types = made(rt, types_of(rt, handles));
+    module.types = types_of(rt, handles);
     module.special_types = SpecialTypes {
         ray_desc: Some(Handle::new(handles.descriptor)),
     };
-    module.constants = made(rt, constants_of(alloc, handles.constant));
-    module.overrides = made(rt, overrides_of(alloc, handles.overridden));
-    module.global_variables = made(rt, globals_of(alloc, handles));
-    module.global_expressions = made(rt, expressions_of(alloc, handles.zero, Some(operation)));
-    module.functions = made(rt, functions_of(rt, handles, second));
-    module.entry_points = made(rt, entries_of(alloc, entry_point(rt, handles)));
+    module.constants = constants_of(rt, handles.constant);
+    module.overrides = overrides_of(rt, handles.overridden);
+    module.global_variables = globals_of(rt, handles);
+    module.global_expressions = expressions_of(rt, handles.zero, Some(operation));
+    module.functions = functions_of(rt, handles, second);
+    module.entry_points = entries_of(rt, entry_point(rt, handles));
     module
 }
 
@@ -250,28 +247,34 @@ const GOOD: TypeInfo = TypeInfo {
 };
 
 /// What is known of the types: the layouts of the last are bad.
-pub fn infos_of_types(alloc: Global, handles: &Handles) -> Result<Vec<TypeInfo>, AllocError> {
-    let mut infos = vec![in alloc; GOOD; COUNT - 1]?;
-    infos.push(TypeInfo {
-        storage_layout: Err((Handle::new(handles.storage), Disalignment(0))),
-        uniform_layout: Err((Handle::new(handles.uniform), Disalignment(0))),
-        ..GOOD
-    })?;
-    Ok(infos)
+pub fn infos_of_types(rt: &(impl Abort + AllocGlobal), handles: &Handles) -> Vec<TypeInfo> {
+    let mut infos = made(rt, vec![in rt.alloc(); GOOD; COUNT - 1]);
+    made(
+        rt,
+        infos.push(TypeInfo {
+            storage_layout: Err((Handle::new(handles.storage), Disalignment(0))),
+            uniform_layout: Err((Handle::new(handles.uniform), Disalignment(0))),
+            ..GOOD
+        }),
+    );
+    infos
 }
 
 /// The types of the two global expressions.
-pub fn global_types_of(
-    alloc: Global,
-    handles: &Handles,
-) -> Result<Vec<TypeResolution>, AllocError> {
-    let mut types = Vec::new(alloc);
-    types.push(TypeResolution::Handle(Handle::new(handles.resolved)))?;
-    types.push(TypeResolution::Value(TypeInner::Pointer {
-        base: Handle::new(handles.pointed),
-        space: AddressSpace::Private,
-    }))?;
-    Ok(types)
+pub fn global_types_of(rt: &(impl Abort + AllocGlobal), handles: &Handles) -> Vec<TypeResolution> {
+    let mut types = Vec::new(rt.alloc());
+    made(
+        rt,
+        types.push(TypeResolution::Handle(Handle::new(handles.resolved))),
+    );
+    made(
+        rt,
+        types.push(TypeResolution::Value(TypeInner::Pointer {
+            base: Handle::new(handles.pointed),
+            space: AddressSpace::Private,
+        })),
+    );
+    types
 }
 
 /// Every check, for a target with everything.
@@ -301,8 +304,8 @@ fn told_of(
     module: &Module,
 ) -> Option<ModuleFault> {
     let given = Given {
-        types: made(rt, infos_of_types(rt.alloc(), handles)),
-        global_types: made(rt, global_types_of(rt.alloc(), handles)),
+        types: infos_of_types(rt, handles),
+        global_types: global_types_of(rt, handles),
     };
     let below = Plain::without_mesh_shaders();
     match check_module(rt.alloc(), below, SETTINGS, given, module) {
@@ -319,6 +322,22 @@ pub fn expect_unfit(
     is_unfit: bool,
 ) {
     expect_not_fit(rt, fault_of(rt, handles, module), is_unfit);
+}
+
+/// The last function of a module, which has one before it, fits where this is so.
+fn expect_last(rt: &impl Abort, module: &Module, fits: bool) {
+    let Some(last) = module.functions.as_slice().last() else {
+        panic!(rt; "no function");
+    };
+    holds!(rt; fits_function(last, module, 1) == fits);
+}
+
+/// The module of the first handles with this function behind its own: the function fits, and so does the module, where this is so.
+pub fn expect_function(rt: &(impl Abort + AllocGlobal), fun: Function, fits: bool) {
+    let module = module(rt, &FIRST, Some(fun));
+    expect_last(rt, &module, fits);
+    expect_unfit(rt, &FIRST, &module, !fits);
+    drop(module);
 }
 
 /// A fault is that of a module that doesn't fit exactly where this is so.

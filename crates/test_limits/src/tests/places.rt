@@ -10,7 +10,6 @@ use naga_below::{
 use naga_layers::plain::Plain;
 use naga_valid::validator::Validator;
 use std::process::Abort;
-use std::test::Fail;
 
 // The tests of conditions, in the order of `tests_of`.
 /// `has_types_of`.
@@ -39,14 +38,17 @@ fn tests_of_givens(
     handles: &Handles,
     module: &Module,
 ) -> (bool, bool) {
-    let infos = made(rt, infos_of_types(rt.alloc(), handles));
+    let infos = infos_of_types(rt, handles);
     let below = Plain::without_mesh_shaders();
     let validator = Validator::new(below, ValidationFlags::ALL, Capabilities::ALL).with_types(
         infos,
     );
     let mut known = ModuleInfo::new(rt.alloc());
-    known.global_types = Sequence::from(made(rt, global_types_of(rt.alloc(), handles)));
-    (validator.has_types_of(module), fits_globals(module, &known))
+    known.global_types = Sequence::from(global_types_of(rt, handles));
+    let holding = (validator.has_types_of(module), fits_globals(module, &known));
+    drop(validator);
+    drop(known);
+    holding
 }
 
 /// Which tests hold of the module of these handles.
@@ -68,16 +70,21 @@ fn tests_of(rt: &(impl Abort + AllocGlobal), handles: &Handles, module: &Module)
     ]
 }
 
+/// The tests that hold are these.
+fn expect_tests(rt: &impl Abort, row: usize, found: &[bool], expected: &[bool]) {
+    assert!(rt; found == expected, "row {row}: {found:?}");
+}
+
 /// Of the module of these handles this test doesn't hold, if any, and all others do; with one it doesn't fit.
 fn expect(rt: &(impl Abort + AllocGlobal), row: usize, handles: &Handles, seen_by: Option<usize>) {
     let module = module(rt, handles, None);
     let mut expected = [true; TESTS];
     if let Some(test) = seen_by {
-        assert!(rt; test < TESTS);
+        holds!(rt; test < TESTS);
         expected[test] = false;
     }
     let found = tests_of(rt, handles, &module);
-    assert!(rt; found == expected, "row {row}: {found:?}");
+    expect_tests(rt, row, &found, &expected);
     expect_unfit(rt, handles, &module, seen_by.is_some());
     drop(module);
 }
@@ -91,7 +98,7 @@ fn expect_seen(rt: &(impl Abort + AllocGlobal), rows: &[Handles], test: usize) {
 
 /// Which override a size is of, and what a global expression names besides its operands, no test looks at. Last handles fit too.
 #[test]
-fn a_module_of_first_handles_fits(rt: HostRuntime) -> Result<(), Fail> {
+fn a_module_of_first_handles_fits(rt: HostRuntime) {
     let of_size = Handles {
         size: GREATEST,
         ..FIRST
@@ -103,11 +110,10 @@ fn a_module_of_first_handles_fits(rt: HostRuntime) -> Result<(), Fail> {
     for (row, handles) in [FIRST, LAST, of_size, of_zero].into_iter().enumerate() {
         expect(&rt, row, &handles, None);
     }
-    Ok(())
 }
 
 #[test]
-fn handles_of_types(rt: HostRuntime) -> Result<(), Fail> {
+fn handles_of_types(rt: HostRuntime) {
     let mut rows = [FIRST; 14];
     rows[0].pointer = GREATEST;
     rows[1].array = GREATEST;
@@ -124,22 +130,20 @@ fn handles_of_types(rt: HostRuntime) -> Result<(), Fail> {
     rows[12].constant = TYPES;
     rows[13].overridden = TYPES;
     expect_seen(&rt, &rows, FITS_TYPES);
-    Ok(())
 }
 
 #[test]
-fn handles_of_infos_of_types(rt: HostRuntime) -> Result<(), Fail> {
+fn handles_of_infos_of_types(rt: HostRuntime) {
     let mut rows = [FIRST; 4];
     rows[0].storage = GREATEST;
     rows[1].uniform = GREATEST;
     rows[2].storage = TYPES;
     rows[3].uniform = TYPES;
     expect_seen(&rt, &rows, INFOS);
-    Ok(())
 }
 
 #[test]
-fn handles_of_globals(rt: HostRuntime) -> Result<(), Fail> {
+fn handles_of_globals(rt: HostRuntime) {
     let mut rows = [FIRST; 10];
     rows[0].global = GREATEST;
     rows[1].initializer = GREATEST;
@@ -152,11 +156,10 @@ fn handles_of_globals(rt: HostRuntime) -> Result<(), Fail> {
     rows[8].resolved = TYPES;
     rows[9].pointed = TYPES;
     expect_seen(&rt, &rows, GLOBALS);
-    Ok(())
 }
 
 #[test]
-fn handles_of_functions(rt: HostRuntime) -> Result<(), Fail> {
+fn handles_of_functions(rt: HostRuntime) {
     let mut rows = [FIRST; 8];
     rows[0].argument = GREATEST;
     rows[1].declared = GREATEST;
@@ -171,11 +174,10 @@ fn handles_of_functions(rt: HostRuntime) -> Result<(), Fail> {
     taken[0].taken = GREATEST;
     taken[1].taken = TYPES;
     expect_seen(&rt, &taken, ENTRY_FUNCTION);
-    Ok(())
 }
 
 #[test]
-fn handles_of_entry_points(rt: HostRuntime) -> Result<(), Fail> {
+fn handles_of_entry_points(rt: HostRuntime) {
     let mut rows = [FIRST; 12];
     rows[0].payload = GREATEST;
     rows[1].vertices = GREATEST;
@@ -190,5 +192,4 @@ fn handles_of_entry_points(rt: HostRuntime) -> Result<(), Fail> {
     rows[10].primitive = TYPES;
     rows[11].output = SECOND;
     expect_seen(&rt, &rows, ENTRY);
-    Ok(())
 }

@@ -1,15 +1,13 @@
 //! The greatest handle, and the first that names nothing, in each place of each kind of statement.
 
-use crate::tests::handles::{FIRST, GREATEST, SECOND};
-use crate::tests::module::{NOWHERE, expect_unfit, expressions_of, made, module};
+use crate::tests::handles::{GREATEST, SECOND};
+use crate::tests::module::{NOWHERE, expect_function, expressions_of, made};
 use naga_below::{
     AtomicFunction, Block, CollectiveOperation, CooperativeData, Function, GatherMode, Handle,
     Range, RayPipelineFunction, RayQueryFunction, Sequence, Statement, SubgroupOperation,
-    SwitchCase, SwitchValue, fits_function, tag,
+    SwitchCase, SwitchValue, tag,
 };
-use std::alloc::{AllocError, Global};
 use std::process::Abort;
-use std::test::Fail;
 
 /// As many handles as a statement has at most.
 const HANDLES: usize = 5;
@@ -17,21 +15,15 @@ const HANDLES: usize = 5;
 /// A function of this statement behind one expression, in the module behind its own: it fits where this is so.
 fn expect(rt: &(impl Abort + AllocGlobal), statement: Statement, fits: bool) {
     let mut fun = Function::new(rt.alloc());
-    fun.expressions = made(rt, expressions_of(rt.alloc(), 0, None));
-    fun.body = made(rt, block_of(rt.alloc(), statement));
-    let module = module(rt, &FIRST, Some(fun));
-    let Some(last) = module.functions.as_slice().last() else {
-        panic!(rt; "no function");
-    };
-    assert_eq!(rt; fits_function(last, &module, 1), fits);
-    expect_unfit(rt, &FIRST, &module, !fits);
-    drop(module);
+    fun.expressions = expressions_of(rt, 0, None);
+    fun.body = block_of(rt, statement);
+    expect_function(rt, fun, fits);
 }
 
-fn block_of(alloc: Global, statement: Statement) -> Result<Block, AllocError> {
-    let mut body = Block::new(alloc);
-    body.push(statement, NOWHERE)?;
-    Ok(body)
+fn block_of(rt: &(impl Abort + AllocGlobal), statement: Statement) -> Block {
+    let mut body = Block::new(rt.alloc());
+    made(rt, body.push(statement, NOWHERE));
+    body
 }
 
 /// Kinds that hold handles of expressions alone, but for Emit.
@@ -173,7 +165,7 @@ fn gather(
 /// The first handles, but this one in one place.
 fn only_at(rt: &impl Abort, place: usize, handle: u32) -> [u32; HANDLES] {
     let mut handles = [0; HANDLES];
-    assert!(rt; place < HANDLES);
+    holds!(rt; place < HANDLES);
     handles[place] = handle;
     handles
 }
@@ -183,7 +175,7 @@ const MISSING: [u32; 2] = [SECOND, GREATEST];
 
 /// The ends of an Emit's range lie in order within the one expression.
 #[test]
-fn ranges_of_emits(rt: HostRuntime) -> Result<(), Fail> {
+fn ranges_of_emits(rt: HostRuntime) {
     for (start, end, fits) in [
         (0, 0, true),
         (0, 1, true),
@@ -196,12 +188,11 @@ fn ranges_of_emits(rt: HostRuntime) -> Result<(), Fail> {
     ] {
         expect(&rt, Statement::Emit(Range { start, end }), fits);
     }
-    Ok(())
 }
 
 /// A place that a kind hasn't makes no difference.
 #[test]
-fn handles_of_leaves(rt: HostRuntime) -> Result<(), Fail> {
+fn handles_of_leaves(rt: HostRuntime) {
     for (kind, count) in LEAVES {
         expect(&rt, leaf(kind, [0; HANDLES]), true);
         for place in 0..HANDLES {
@@ -210,7 +201,6 @@ fn handles_of_leaves(rt: HostRuntime) -> Result<(), Fail> {
             }
         }
     }
-    Ok(())
 }
 
 /// What a gather and a ray query do with this expression.
@@ -242,7 +232,7 @@ fn queries_with(handle: Handle<tag::Expression>) -> [RayQueryFunction; 4] {
 }
 
 #[test]
-fn handles_of_gathers(rt: HostRuntime) -> Result<(), Fail> {
+fn handles_of_gathers(rt: HostRuntime) {
     for (index, fits) in [(0, true), (SECOND, false), (GREATEST, false)] {
         for mode in modes_with(Handle::new(index)) {
             expect(&rt, gather(mode, Handle::new(0), Handle::new(0)), fits);
@@ -250,7 +240,6 @@ fn handles_of_gathers(rt: HostRuntime) -> Result<(), Fail> {
     }
     let direction = GatherMode::QuadSwap(GREATEST);
     expect(&rt, gather(direction, Handle::new(0), Handle::new(0)), true);
-    Ok(())
 }
 
 fn query(query: u32, fun: RayQueryFunction) -> Statement {
@@ -261,7 +250,7 @@ fn query(query: u32, fun: RayQueryFunction) -> Statement {
 }
 
 #[test]
-fn handles_of_ray_queries(rt: HostRuntime) -> Result<(), Fail> {
+fn handles_of_ray_queries(rt: HostRuntime) {
     for (index, fits) in [(0, true), (SECOND, false), (GREATEST, false)] {
         for fun in queries_with(Handle::new(index)) {
             expect(&rt, query(0, fun), fits);
@@ -273,30 +262,28 @@ fn handles_of_ray_queries(rt: HostRuntime) -> Result<(), Fail> {
         );
         expect(&rt, query(index, RayQueryFunction::Terminate), fits);
     }
-    Ok(())
 }
 
 /// A call of a function with this argument and this result.
-fn call(alloc: Global, handles: [u32; HANDLES]) -> Result<Statement, AllocError> {
-    let mut arguments = Sequence::new(alloc);
-    arguments.push(at(handles, 1))?;
-    Ok(Statement::Call {
+fn call(rt: &(impl Abort + AllocGlobal), handles: [u32; HANDLES]) -> Statement {
+    let mut arguments = Sequence::new(rt.alloc());
+    made(rt, arguments.push(at(handles, 1)));
+    Statement::Call {
         function: Handle::new(handles[0]),
         arguments,
         result: Some(at(handles, 2)),
-    })
+    }
 }
 
 #[test]
-fn handles_of_calls(rt: HostRuntime) -> Result<(), Fail> {
-    expect(&rt, made(&rt, call(rt.alloc(), [0; HANDLES])), true);
+fn handles_of_calls(rt: HostRuntime) {
+    expect(&rt, call(&rt, [0; HANDLES]), true);
     for place in 0..HANDLES {
         for handle in MISSING {
             let handles = only_at(&rt, place, handle);
-            expect(&rt, made(&rt, call(rt.alloc(), handles)), place >= 3);
+            expect(&rt, call(&rt, handles), place >= 3);
         }
     }
-    Ok(())
 }
 
 /// Kinds that hold lists of statements.
@@ -309,63 +296,61 @@ enum HoldingKind {
 }
 
 /// A block that returns this.
-fn returning(alloc: Global, value: Handle<tag::Expression>) -> Result<Block, AllocError> {
-    block_of(alloc, Statement::Return { value: Some(value) })
+fn returning(rt: &(impl Abort + AllocGlobal), value: Handle<tag::Expression>) -> Block {
+    block_of(rt, Statement::Return { value: Some(value) })
 }
 
 /// A statement over blocks that return the first handles, with the others as its own.
-fn holding(alloc: Global, kind: HoldingKind, h: [u32; HANDLES]) -> Result<Statement, AllocError> {
-    let first = returning(alloc, at(h, 0))?;
-    Ok(match kind {
+fn holding(rt: &(impl Abort + AllocGlobal), kind: HoldingKind, h: [u32; HANDLES]) -> Statement {
+    let first = returning(rt, at(h, 0));
+    match kind {
         HoldingKind::Block => Statement::Block(first),
         HoldingKind::If => Statement::If {
             condition: at(h, 2),
             accept: first,
-            reject: returning(alloc, at(h, 1))?,
+            reject: returning(rt, at(h, 1)),
         },
         HoldingKind::Switch => Statement::Switch {
             selector: at(h, 1),
-            cases: cases_of(alloc, first)?,
+            cases: cases_of(rt, first),
         },
         HoldingKind::Loop => Statement::Loop {
             body: first,
-            continuing: returning(alloc, at(h, 1))?,
+            continuing: returning(rt, at(h, 1)),
             break_if: Some(at(h, 2)),
         },
-    })
+    }
 }
 
 /// One case with this body.
-fn cases_of(alloc: Global, body: Block) -> Result<Sequence<SwitchCase>, AllocError> {
-    let mut cases = Sequence::new(alloc);
-    cases.push(SwitchCase {
-        value: SwitchValue::Default,
-        body,
-        fall_through: false,
-    })?;
-    Ok(cases)
+fn cases_of(rt: &(impl Abort + AllocGlobal), body: Block) -> Sequence<SwitchCase> {
+    let mut cases = Sequence::new(rt.alloc());
+    made(
+        rt,
+        cases.push(SwitchCase {
+            value: SwitchValue::Default,
+            body,
+            fall_through: false,
+        }),
+    );
+    cases
 }
 
 #[test]
-fn handles_of_statements_that_hold_others(rt: HostRuntime) -> Result<(), Fail> {
+fn handles_of_statements_that_hold_others(rt: HostRuntime) {
     for (kind, count) in [
         (HoldingKind::Block, 1),
         (HoldingKind::If, 3),
         (HoldingKind::Switch, 2),
         (HoldingKind::Loop, 3),
     ] {
-        expect(
-            &rt,
-            made(&rt, holding(rt.alloc(), kind, [0; HANDLES])),
-            true,
-        );
+        expect(&rt, holding(&rt, kind, [0; HANDLES]), true);
         for place in 0..HANDLES {
             for handle in MISSING {
                 let handles = only_at(&rt, place, handle);
-                let statement = made(&rt, holding(rt.alloc(), kind, handles));
+                let statement = holding(&rt, kind, handles);
                 expect(&rt, statement, place >= count);
             }
         }
     }
-    Ok(())
 }

@@ -6,53 +6,50 @@ use naga_below::{Block, Function, Handle, Sequence, Statement, SwitchCase, Switc
 use naga_module::check::ModuleFault;
 use naga_rules::FunctionError;
 use naga_valid::EntryPointError;
-use std::alloc::{AllocError, Global};
 use std::process::Abort;
 
 /// How many cases have a value of their own.
 const DISTINCT: u32 = 9999;
 
 /// Puts a case without statements last.
-fn add_case(
-    alloc: Global,
-    cases: &mut Sequence<SwitchCase>,
-    value: SwitchValue,
-) -> Result<(), AllocError> {
-    cases.push(SwitchCase {
-        value,
-        body: Block::new(alloc),
-        fall_through: false,
-    })?;
-    Ok(())
+fn add_case(rt: &(impl Abort + AllocGlobal), cases: &mut Sequence<SwitchCase>, value: SwitchValue) {
+    made(
+        rt,
+        cases.push(SwitchCase {
+            value,
+            body: Block::new(rt.alloc()),
+            fall_through: false,
+        }),
+    );
 }
 
 /// Cases with the values from 0 on, and a last one.
-fn cases_of(alloc: Global, last: SwitchValue) -> Result<Sequence<SwitchCase>, AllocError> {
-    let mut cases = Sequence::new(alloc);
+fn cases_of(rt: &(impl Abort + AllocGlobal), last: SwitchValue) -> Sequence<SwitchCase> {
+    let mut cases = Sequence::new(rt.alloc());
     for value in 0..DISTINCT {
-        add_case(alloc, &mut cases, SwitchValue::U32(value))?;
+        add_case(rt, &mut cases, SwitchValue::U32(value));
     }
-    add_case(alloc, &mut cases, last)?;
-    Ok(cases)
+    add_case(rt, &mut cases, last);
+    cases
 }
 
 /// A body that goes by expression 0.
-fn body_of(alloc: Global, cases: Sequence<SwitchCase>) -> Result<Block, AllocError> {
-    let mut body = Block::new(alloc);
+fn body_of(rt: &(impl Abort + AllocGlobal), cases: Sequence<SwitchCase>) -> Block {
+    let mut body = Block::new(rt.alloc());
     let switch = Statement::Switch {
         selector: Handle::new(0),
         cases,
     };
-    body.push(switch, NOWHERE)?;
-    Ok(body)
+    made(rt, body.push(switch, NOWHERE));
+    body
 }
 
 /// What is answered of the module with a function of such a Switch behind its own.
 fn answer_of(rt: &(impl Abort + AllocGlobal), last: SwitchValue) -> Option<ModuleFault> {
-    let cases = made(rt, cases_of(rt.alloc(), last));
+    let cases = cases_of(rt, last);
     let mut fun = Function::new(rt.alloc());
-    fun.expressions = made(rt, expressions_of(rt.alloc(), 0, None));
-    fun.body = made(rt, body_of(rt.alloc(), cases));
+    fun.expressions = expressions_of(rt, 0, None);
+    fun.body = body_of(rt, cases);
     let module = module(rt, &FIRST, Some(fun));
     let fault = fault_of(rt, &FIRST, &module);
     drop(module);
@@ -61,7 +58,7 @@ fn answer_of(rt: &(impl Abort + AllocGlobal), last: SwitchValue) -> Option<Modul
 
 /// What is answered is this fault.
 fn expect(rt: &impl Abort, answer: Option<ModuleFault>, fault: ModuleFault) {
-    assert!(rt; answer == Some(fault));
+    holds!(rt; answer == Some(fault));
 }
 
 /// The last value is the first again, or that of the case before it.

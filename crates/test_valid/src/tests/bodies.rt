@@ -52,7 +52,7 @@ pub fn made<T, E>(rt: &impl Abort, answer: Result<T, E>) -> T {
 
 /// Puts a type without a name last.
 pub fn add_type(rt: &impl Abort, types: &mut UniqueArena<Type>, inner: TypeInner) {
-    assert!(rt; !types.is_full());
+    holds!(rt; !types.is_full());
     made(rt, types.insert(Type { name: None, inner }, NOWHERE));
 }
 
@@ -81,9 +81,9 @@ fn ask_once(
     module: &Module,
     infos: &ModuleInfo,
 ) -> Result<FunctionInfo, Refusal<FunctionError>> {
-    assert!(rt; validator.has_types_of(module));
-    assert!(rt; fits_types(module));
-    assert!(rt; fits_function(fun, module, infos.functions.len()));
+    holds!(rt; validator.has_types_of(module));
+    holds!(rt; fits_types(module));
+    holds!(rt; fits_function(fun, module, infos.functions.len()));
     validator.validate_function(rt.alloc(), fun, module, infos, false)
 }
 
@@ -98,7 +98,7 @@ fn ask(
     let before = validator.trace_state();
     match ask_once(rt, validator, fun, module, infos) {
         Err(Refusal::Memory) => {
-            assert!(rt; validator.trace_state() == before);
+            holds!(rt; validator.trace_state() == before);
             ask_once(rt, validator, fun, module, infos)
         }
         answer => answer,
@@ -108,8 +108,8 @@ fn ask(
 /// A fault is at this place, or at none.
 fn expect_at(rt: &impl Abort, fault: &WithSpan<FunctionError>, place: Option<Span>) {
     match place {
-        Some(span) => assert!(rt; fault.spans() == [span].as_slice()),
-        None => assert!(rt; fault.spans().is_empty()),
+        Some(span) => holds!(rt; fault.spans() == [span].as_slice()),
+        None => holds!(rt; fault.spans().is_empty()),
     }
 }
 
@@ -132,7 +132,12 @@ pub fn judge(
     }
 }
 
+/// Two texts are the same.
+pub fn expect_text(rt: &impl Abort, found: &str, expected: &str) {
+    assert!(rt; found == expected, "{found}");
+}
+
 /// An answer is the expected one.
 pub fn expect(rt: &impl Abort, answer: Answer, expected: Answer) {
-    assert!(rt; answer == expected);
+    holds!(rt; answer == expected);
 }

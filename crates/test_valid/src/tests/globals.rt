@@ -107,27 +107,33 @@ fn literal(scalar: Scalar) -> Expression {
     Expression::Literal(Literal { scalar, bits: 0 })
 }
 
-/// The types of the module.
-fn types_of(rt: &(impl Abort + AllocGlobal)) -> UniqueArena<Type> {
-    let alloc = rt.alloc();
-    let mut types = UniqueArena::new(alloc);
-    for inner in [
-        TypeInner::Scalar(Scalar::U32),
-        TypeInner::Scalar(Scalar::I32),
-        TypeInner::BindingArray {
+/// A struct without members of this size.
+fn structure(alloc: Global, span: u32) -> TypeInner {
+    TypeInner::Struct {
+        members: Members::new(alloc),
+        span,
+    }
+}
+
+/// The type with this number.
+fn type_at(alloc: Global, index: u32) -> TypeInner {
+    match index {
+        U32 => TypeInner::Scalar(Scalar::U32),
+        I32 => TypeInner::Scalar(Scalar::I32),
+        ARRAY => TypeInner::BindingArray {
             base: Handle::new(U32),
             size: ArraySize::Dynamic,
         },
-        TypeInner::Struct {
-            members: Members::new(alloc),
-            span: 0,
-        },
-        TypeInner::Struct {
-            members: Members::new(alloc),
-            span: 3,
-        },
-    ] {
-        add_type(rt, &mut types, inner);
+        EMPTY => structure(alloc, 0),
+        _ => structure(alloc, 3),
+    }
+}
+
+/// The types of the module.
+fn types_of(rt: &(impl Abort + AllocGlobal)) -> UniqueArena<Type> {
+    let mut types = UniqueArena::new(rt.alloc());
+    for index in 0..=SHORT {
+        add_type(rt, &mut types, type_at(rt.alloc(), index));
     }
     types
 }
@@ -136,7 +142,7 @@ fn types_of(rt: &(impl Abort + AllocGlobal)) -> UniqueArena<Type> {
 fn globals_of(rt: &(impl Abort + AllocGlobal), rows: &[Row]) -> Arena<GlobalVariable> {
     let mut globals = Arena::new(rt.alloc());
     for row in rows {
-        assert!(rt; !globals.is_full());
+        holds!(rt; !globals.is_full());
         made(rt, globals.append(row.var, NOWHERE));
     }
     globals
@@ -202,6 +208,16 @@ struct Subject<'a> {
     kinds: &'a ExpressionKindTracker,
 }
 
+/// The answer to a row is the expected one.
+fn expect_answer(
+    rt: &impl Abort,
+    place: usize,
+    answer: Result<(), GlobalVariableError>,
+    expected: Result<(), GlobalVariableError>,
+) {
+    assert!(rt; answer == expected, "row {place}: {answer:?}");
+}
+
 /// Each global of the module is answered as its row says. It takes no memory: behind the mark each request may be refused.
 fn expect(
     rt: &(impl Abort + AllocGlobal),
@@ -215,15 +231,17 @@ fn expect(
         kinds,
     } = subject;
     let globals = module.global_variables.as_slice();
-    assert!(rt; globals.len() == rows.len() && validators.len() == rows.len());
-    assert!(rt; kinds.len() == module.global_expressions.len());
+    holds!(rt; globals.len() == rows.len());
+    holds!(rt; validators.len() == rows.len());
+    holds!(rt; kinds.len() == module.global_expressions.len());
     mark(rt.alloc());
-    assert!(rt; fits_types(module) && fits_globals(module, infos));
+    holds!(rt; fits_types(module));
+    holds!(rt; fits_globals(module, infos));
     for (place, row) in rows.iter().enumerate() {
         let validator = &validators[place];
-        assert!(rt; validator.has_types_of(module));
+        holds!(rt; validator.has_types_of(module));
         let answer = validator.validate_global_var(&globals[place], module, infos, kinds);
-        assert!(rt; answer == row.answer, "row {place}: {answer:?}");
+        expect_answer(rt, place, answer, row.answer);
     }
 }
 

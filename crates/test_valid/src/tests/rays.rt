@@ -15,23 +15,27 @@ use std::process::Abort;
 
 /// Types 0 u32 and 1 f32, of payloads; 2 an acceleration structure with the flag and 3 one without; 4 four f32, as ray
 /// descriptors are.
-fn types_of(rt: &(impl Abort + AllocGlobal)) -> UniqueArena<Type> {
-    let mut types = UniqueArena::new(rt.alloc());
-    for inner in [
-        TypeInner::Scalar(Scalar::U32),
-        TypeInner::Scalar(Scalar::F32),
-        TypeInner::AccelerationStructure {
+fn type_at(index: u32) -> TypeInner {
+    match index {
+        0 => TypeInner::Scalar(Scalar::U32),
+        1 => TypeInner::Scalar(Scalar::F32),
+        2 => TypeInner::AccelerationStructure {
             vertex_return: true,
         },
-        TypeInner::AccelerationStructure {
+        3 => TypeInner::AccelerationStructure {
             vertex_return: false,
         },
-        TypeInner::Vector {
+        _ => TypeInner::Vector {
             size: VectorSize::Quad,
             scalar: Scalar::F32,
         },
-    ] {
-        add_type(rt, &mut types, inner);
+    }
+}
+
+fn types_of(rt: &(impl Abort + AllocGlobal)) -> UniqueArena<Type> {
+    let mut types = UniqueArena::new(rt.alloc());
+    for index in 0..5 {
+        add_type(rt, &mut types, type_at(index));
     }
     types
 }
@@ -56,7 +60,7 @@ fn globals_of(rt: &(impl Abort + AllocGlobal)) -> Arena<GlobalVariable> {
         (AddressSpace::Handle, 2),
         (AddressSpace::Handle, 3),
     ] {
-        assert!(rt; !globals.is_full());
+        holds!(rt; !globals.is_full());
         made(rt, globals.append(global(space, ty), NOWHERE));
     }
     globals
@@ -77,12 +81,12 @@ fn module(rt: &(impl Abort + AllocGlobal)) -> Module {
 fn expressions_of(rt: &(impl Abort + AllocGlobal)) -> Arena<Expression> {
     let mut expressions = Arena::new(rt.alloc());
     for global in 0..4 {
-        assert!(rt; !expressions.is_full());
+        holds!(rt; !expressions.is_full());
         let named = Expression::GlobalVariable(Handle::new(global));
         made(rt, expressions.append(named, NOWHERE));
     }
     for ty in [4, 0] {
-        assert!(rt; !expressions.is_full());
+        holds!(rt; !expressions.is_full());
         made(
             rt,
             expressions.append(Expression::ZeroValue(Handle::new(ty)), NOWHERE),
@@ -133,7 +137,7 @@ fn trace(ray: &Ray) -> Statement {
 fn traces(rt: &(impl Abort + AllocGlobal), rays: &[Ray]) -> Function {
     let mut body = Block::new(rt.alloc());
     for (place, ray) in rays.iter().enumerate() {
-        assert!(rt; place < 16);
+        holds!(rt; place < 16);
         made(rt, body.push(trace(ray), at(place as u32)));
     }
     let mut fun = Function::new(rt.alloc());
@@ -158,7 +162,7 @@ fn a_structure_without_the_flag_stays_in_the_trace_state(rt: HostRuntime) {
     let fun = traces(&rt, [GOOD, without, GOOD].as_slice());
     let trace = expect_of(&rt, &fun, NOWHERE, Ok(ShaderStages::ALL));
     drop(fun);
-    assert!(rt; trace.vertex_return == TraceRayVertexReturnState::NoVertexReturn(at(1)));
+    holds!(&rt; trace.vertex_return == TraceRayVertexReturnState::NoVertexReturn(at(1)));
 }
 
 /// On one validator a function that is refused for the descriptor of its first ray, and then one that is accepted. What
@@ -191,5 +195,5 @@ fn a_refused_function_leaves_no_payload_type(rt: HostRuntime) {
     let trace = after_a_refusal(&rt, &refused, &fun);
     drop(refused);
     drop(fun);
-    assert!(rt; trace.payload == Some(Handle::new(1)));
+    holds!(&rt; trace.payload == Some(Handle::new(1)));
 }

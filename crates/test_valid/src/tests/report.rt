@@ -1,6 +1,6 @@
 //! What is told of refusals, and that they pass into `anyhow`.
 
-use crate::tests::bodies::{EVERYTHING, HERE, made, validator_for};
+use crate::tests::bodies::{EVERYTHING, HERE, expect_text, made, validator_for};
 use naga_below::{
     AddressSpace, Capabilities, Expression, ExpressionError, Function, FunctionInfo, Handle,
     Literal, Module, ModuleInfo, Name, Refusal, Scalar, Span, Statement, TypeInner, WithSpan,
@@ -24,7 +24,8 @@ fn assert_told(
         rt,
         write_refusal(&mut told, Subject::Function(Handle::new(function)), refusal),
     );
-    assert!(rt; told.as_str() == expected, "{told}");
+    expect_text(rt, told.as_str(), expected);
+    drop(told);
 }
 
 /// The refusal for a fault at this place.
@@ -36,94 +37,85 @@ fn at(
     Refusal::Fault(made(rt, WithSpan::new(rt.alloc(), fault).with_span(place)))
 }
 
-/// Faults, and what is told of them between 50 and 55 in function 2.
-fn rows(name: Name) -> [(FunctionError, &'static str); 7] {
-    [
-        (
-            FunctionError::InvalidStoreTypes {
-                pointer: Handle::new(4),
-                value: Handle::new(1),
+/// What is told of each fault between 50 and 55 in function 2, in the order of `fault_at`.
+static TOLD: [&str; 7] = [
+    "function [2]: 50..55: InvalidStoreTypes { pointer: [4], value: [1] }: the value is not of the type that the pointer points to",
+    "function [2]: 50..55: MissingCapability(Capabilities(SUBGROUP)): the target lacks what a statement needs",
+    "function [2]: 50..55: InvalidPayloadAddressSpace(Private): the payload of a ray lies in this space and not in one for ray payloads",
+    "function [2]: 50..55: InvalidStoreTexture { actual: [3], actual_ty: Sampler { comparison: true } }: the value of a store is an image or a sampler",
+    "function [2]: 50..55: InvalidReturnType { expression: None, expected_ty: Some([1]) }: what is returned, if anything, doesn't match the declared type, if any",
+    "function [2]: 50..55: LocalVariable { handle: [0], name: \"color\", source: InitializerType }: a local variable has a fault: the initializer is of another type than the variable",
+    "function [2]: 50..55: InvalidCall { function: [1], error: Argument { index: 0, source: NotInScope } }: a call of the function has a fault: an argument has a fault: it is not in scope where it is used",
+];
+
+/// The fault at this place.
+fn fault_at(rt: &(impl Abort + AllocGlobal), index: usize) -> FunctionError {
+    match index {
+        0 => FunctionError::InvalidStoreTypes {
+            pointer: Handle::new(4),
+            value: Handle::new(1),
+        },
+        1 => FunctionError::MissingCapability(Capabilities::SUBGROUP),
+        2 => FunctionError::InvalidPayloadAddressSpace(AddressSpace::Private),
+        3 => FunctionError::InvalidStoreTexture {
+            actual: Handle::new(3),
+            actual_ty: TypeInner::Sampler { comparison: true },
+        },
+        4 => FunctionError::InvalidReturnType {
+            expression: None,
+            expected_ty: Some(Handle::new(1)),
+        },
+        5 => FunctionError::LocalVariable {
+            handle: Handle::new(0),
+            name: Name::from(made(rt, String::from_str(rt.alloc(), "color"))),
+            source: LocalVariableError::InitializerType,
+        },
+        _ => FunctionError::InvalidCall {
+            function: Handle::new(1),
+            error: CallError::Argument {
+                index: 0,
+                source: ExpressionError::NotInScope,
             },
-            "function [2]: 50..55: InvalidStoreTypes { pointer: [4], value: [1] }: the value is not of the type that the pointer points to",
-        ),
-        (
-            FunctionError::MissingCapability(Capabilities::SUBGROUP),
-            "function [2]: 50..55: MissingCapability(Capabilities(SUBGROUP)): the target lacks what a statement needs",
-        ),
-        (
-            FunctionError::InvalidPayloadAddressSpace(AddressSpace::Private),
-            "function [2]: 50..55: InvalidPayloadAddressSpace(Private): the payload of a ray lies in this space and not in one for ray payloads",
-        ),
-        (
-            FunctionError::InvalidStoreTexture {
-                actual: Handle::new(3),
-                actual_ty: TypeInner::Sampler { comparison: true },
-            },
-            "function [2]: 50..55: InvalidStoreTexture { actual: [3], actual_ty: Sampler { comparison: true } }: the value of a store is an image or a sampler",
-        ),
-        (
-            FunctionError::InvalidReturnType {
-                expression: None,
-                expected_ty: Some(Handle::new(1)),
-            },
-            "function [2]: 50..55: InvalidReturnType { expression: None, expected_ty: Some([1]) }: what is returned, if anything, doesn't match the declared type, if any",
-        ),
-        (
-            FunctionError::LocalVariable {
-                handle: Handle::new(0),
-                name,
-                source: LocalVariableError::InitializerType,
-            },
-            "function [2]: 50..55: LocalVariable { handle: [0], name: \"color\", source: InitializerType }: a local variable has a fault: the initializer is of another type than the variable",
-        ),
-        (
-            FunctionError::InvalidCall {
-                function: Handle::new(1),
-                error: CallError::Argument {
-                    index: 0,
-                    source: ExpressionError::NotInScope,
-                },
-            },
-            "function [2]: 50..55: InvalidCall { function: [1], error: Argument { index: 0, source: NotInScope } }: a call of the function has a fault: an argument has a fault: it is not in scope where it is used",
-        ),
-    ]
+        },
+    }
 }
 
 #[test]
 fn faults_are_told_with_their_fields(rt: HostRuntime) {
     let place = Span { start: 50, end: 55 };
-    let name = Name::from(made(&rt, String::from_str(rt.alloc(), "color")));
-    for (fault, expected) in rows(name) {
-        assert_told(&rt, 2, &at(&rt, place, fault), expected);
+    for (index, expected) in TOLD.iter().enumerate() {
+        let refusal = at(&rt, place, fault_at(&rt, index));
+        assert_told(&rt, 2, &refusal, expected);
+        drop(refusal);
     }
 }
 
-/// A refusal without a place, one with two, and want of memory, and what is told of them in function 0.
-fn placed(rt: &(impl Abort + AllocGlobal)) -> [(Refusal<FunctionError>, &'static str); 3] {
-    let none = WithSpan::new(rt.alloc(), FunctionError::MissingDefaultCase);
-    let two = WithSpan::new(rt.alloc(), FunctionError::MissingDefaultCase);
-    let two = made(rt, two.with_span(Span { start: 3, end: 5 }));
-    let two = made(rt, two.with_span(Span { start: 7, end: 9 }));
-    [
-        (
-            Refusal::Fault(none),
-            "function [0]: MissingDefaultCase: a switch has no default case",
-        ),
-        (
-            Refusal::Fault(two),
-            "function [0]: 3..5, 7..9: MissingDefaultCase: a switch has no default case",
-        ),
-        (
-            Refusal::Memory,
-            "function [0]: Memory: there was not enough memory",
-        ),
-    ]
+/// A refusal without a place, one with two, and want of memory.
+fn placed(rt: &(impl Abort + AllocGlobal), index: usize) -> Refusal<FunctionError> {
+    let fault = WithSpan::new(rt.alloc(), FunctionError::MissingDefaultCase);
+    match index {
+        0 => Refusal::Fault(fault),
+        1 => {
+            let fault = made(rt, fault.with_span(Span { start: 3, end: 5 }));
+            Refusal::Fault(made(rt, fault.with_span(Span { start: 7, end: 9 })))
+        }
+        _ => Refusal::Memory,
+    }
 }
+
+/// What is told of them in function 0.
+static PLACED: [&str; 3] = [
+    "function [0]: MissingDefaultCase: a switch has no default case",
+    "function [0]: 3..5, 7..9: MissingDefaultCase: a switch has no default case",
+    "function [0]: Memory: there was not enough memory",
+];
 
 #[test]
 fn places_stand_before_the_fault(rt: HostRuntime) {
-    for (refusal, expected) in &placed(&rt) {
-        assert_told(&rt, 0, refusal, *expected);
+    for (index, expected) in PLACED.iter().enumerate() {
+        let refusal = placed(&rt, index);
+        assert_told(&rt, 0, &refusal, expected);
+        drop(refusal);
     }
 }
 
@@ -137,7 +129,8 @@ fn assert_fault_told<E: Explain>(
 ) {
     let mut told = String::new(rt.alloc());
     made(rt, write_fault(&mut told, subject, places, fault));
-    assert!(rt; told.as_str() == expected, "{told}");
+    expect_text(rt, told.as_str(), expected);
+    drop(told);
 }
 
 #[test]
@@ -167,7 +160,7 @@ const SEVEN: Literal = Literal {
 /// A function that returns a number although it declares no result.
 fn function(rt: &(impl Abort + AllocGlobal)) -> Function {
     let mut fun = Function::new(rt.alloc());
-    assert!(rt; !fun.expressions.is_full());
+    holds!(rt; !fun.expressions.is_full());
     made(
         rt,
         fun.expressions
@@ -188,8 +181,9 @@ fn judged(
 ) -> anyhow::Result<FunctionInfo> {
     let infos = ModuleInfo::new(rt.alloc());
     let mut validator = validator_for(rt, EVERYTHING, module);
-    assert!(rt; validator.has_types_of(module) && fits_types(module));
-    assert!(rt; fits_function(fun, module, infos.functions.len()));
+    holds!(rt; validator.has_types_of(module));
+    holds!(rt; fits_types(module));
+    holds!(rt; fits_function(fun, module, infos.functions.len()));
     let info = validator.validate_function(rt.alloc(), fun, module, &infos, false)?;
     Ok(info)
 }
@@ -207,9 +201,9 @@ fn expect_passed(rt: &(impl Abort + AllocGlobal), fun: &Function, module: &Modul
     let text = passed_text(rt, fun, module);
     if text.as_str() == "Memory" {
         let again = passed_text(rt, fun, module);
-        assert!(rt; again.as_str() == expected, "{again}");
+        expect_text(rt, again.as_str(), expected);
     } else {
-        assert!(rt; text.as_str() == expected, "{text}");
+        expect_text(rt, text.as_str(), expected);
     }
 }
 
@@ -236,64 +230,70 @@ fn faults_pass_into_anyhow(rt: HostRuntime) {
         Ok(()) => panic!(rt; "no error"),
         Err(error) => {
             let text = made(&rt, error.to_string(rt.alloc()));
-            assert!(rt; text.as_str() == "InvalidBinding", "{text}");
+            expect_text(&rt, text.as_str(), "InvalidBinding");
         }
     }
 }
 
-/// The fault of a module prints as its name, and is told so.
-fn assert_module_told(
-    rt: &(impl Abort + AllocGlobal),
-    fault: &ModuleFault,
-    name: &str,
-    expected: &str,
-) {
+/// The fault of a module prints as its name.
+fn expect_name(rt: &(impl Abort + AllocGlobal), fault: &ModuleFault, name: &str) {
     let printed = made(rt, fault.to_string(rt.alloc()));
-    assert!(rt; printed.as_str() == name, "{printed}");
-    let mut told = String::new(rt.alloc());
-    made(rt, write_module_fault(&mut told, fault));
-    assert!(rt; told.as_str() == expected, "{told}");
+    expect_text(rt, printed.as_str(), name);
+    drop(printed);
 }
 
-/// The faults of modules, with their names and what is told of them; that of the function is at `HERE`.
-fn module_faults(
-    rt: &(impl Abort + AllocGlobal),
-) -> [(ModuleFault, &'static str, &'static str); 5] {
-    let in_function = WithSpan::new(rt.alloc(), FunctionError::InvalidPayloadType);
-    let in_function = made(rt, in_function.with_span(HERE));
-    let in_entry = WithSpan::new(rt.alloc(), EntryPointError::ExpectedTaskPayload);
-    [
-        (
-            ModuleFault::NotFit,
-            "NotFit",
-            "NotFit: something that is named isn't there, or the size of a task payload isn't known",
-        ),
-        (
-            ModuleFault::Global(Handle::new(1), GlobalVariableError::InvalidBinding),
-            "Global",
-            "global [1]: InvalidBinding: a binding is missing where the space is bound, or is there where it isn't",
-        ),
-        (
-            ModuleFault::Function(Handle::new(2), in_function),
-            "Function",
-            "function [2]: 3..7: InvalidPayloadType: the payload of a ray is no pointer",
-        ),
-        (
-            ModuleFault::EntryPoint(0, in_entry),
-            "EntryPoint",
-            "entry point 0: ExpectedTaskPayload: a task entry point has no payload",
-        ),
-        (
-            ModuleFault::Memory,
-            "Memory",
-            "Memory: there was not enough memory",
-        ),
-    ]
+/// The fault of a module is told so.
+fn assert_module_told(rt: &(impl Abort + AllocGlobal), fault: &ModuleFault, expected: &str) {
+    let mut told = String::new(rt.alloc());
+    made(rt, write_module_fault(&mut told, fault));
+    expect_text(rt, told.as_str(), expected);
+    drop(told);
+}
+
+/// Name of each fault of a module, and what is told of it, in the order of `module_fault_at`.
+static MODULE_FAULTS: [(&str, &str); 5] = [
+    (
+        "NotFit",
+        "NotFit: something that is named isn't there, or the size of a task payload isn't known",
+    ),
+    (
+        "Global",
+        "global [1]: InvalidBinding: a binding is missing where the space is bound, or is there where it isn't",
+    ),
+    (
+        "Function",
+        "function [2]: 3..7: InvalidPayloadType: the payload of a ray is no pointer",
+    ),
+    (
+        "EntryPoint",
+        "entry point 0: ExpectedTaskPayload: a task entry point has no payload",
+    ),
+    ("Memory", "Memory: there was not enough memory"),
+];
+
+/// The fault of a module at this place; that of the function is at `HERE`.
+fn module_fault_at(rt: &(impl Abort + AllocGlobal), index: usize) -> ModuleFault {
+    match index {
+        0 => ModuleFault::NotFit,
+        1 => ModuleFault::Global(Handle::new(1), GlobalVariableError::InvalidBinding),
+        2 => {
+            let fault = WithSpan::new(rt.alloc(), FunctionError::InvalidPayloadType);
+            ModuleFault::Function(Handle::new(2), made(rt, fault.with_span(HERE)))
+        },
+        3 => {
+            let error = EntryPointError::ExpectedTaskPayload;
+            ModuleFault::EntryPoint(0, WithSpan::new(rt.alloc(), error))
+        },
+        _ => ModuleFault::Memory,
+    }
 }
 
 #[test]
 fn faults_of_modules_are_told(rt: HostRuntime) {
-    for (fault, name, expected) in &module_faults(&rt) {
-        assert_module_told(&rt, fault, *name, *expected);
+    for (index, (name, expected)) in MODULE_FAULTS.iter().enumerate() {
+        let fault = module_fault_at(&rt, index);
+        expect_name(&rt, &fault, name);
+        assert_module_told(&rt, &fault, expected);
+        drop(fault);
     }
 }

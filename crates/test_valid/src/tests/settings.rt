@@ -54,7 +54,7 @@ fn settings_let_subgroups_be_used(rt: HostRuntime) {
     validator.subgroup_operations(basic);
     let accepted = Ok(ShaderStages::COMPUTE_LIKE);
     expect(&rt, answer(&rt, &mut validator, None), accepted);
-    assert!(rt; validator.trace_state() == NOTHING);
+    holds!(&rt; validator.trace_state() == NOTHING);
 }
 
 /// What is known of a type of data.
@@ -67,7 +67,7 @@ const DATA: TypeInfo = TypeInfo {
 
 /// Whether a validator has one info for each type of a module.
 fn expect_types(rt: &impl Abort, validator: &Validator<Plain>, module: &Module, expected: bool) {
-    assert!(rt; validator.has_types_of(module) == expected);
+    holds!(rt; validator.has_types_of(module) == expected);
 }
 
 #[test]

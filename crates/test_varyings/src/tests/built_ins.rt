@@ -8,7 +8,7 @@ use std::process::Abort;
 /// neighbor of that type that it doesn't have, as in the bench of `varyings`. A place is two letters, that of the stage and one
 /// for how: `i` in, `o` out, `p` out with the primitives of a mesh, `n` in without a task payload. `prim` is wherever primitives
 /// of a mesh are put out.
-pub const ROWS: [(BuiltIn, &str, u32, u32); 51] = [
+pub static ROWS: [(BuiltIn, &str, u32, u32); 51] = [
     (BuiltIn::BaseInstance, "Vi", 0, 11),
     (BuiltIn::BaseVertex, "Vi", 0, 11),
     (BuiltIn::VertexIndex, "Vi", 0, 11),
@@ -67,30 +67,30 @@ pub const ROWS: [(BuiltIn, &str, u32, u32); 51] = [
     (BuiltIn::Primitives, "", 0, 1),
 ];
 
-/// Which capability a built-in needs. (PrimitiveIndex at the two stages of a hit none.)
-const CAPABILITIES: [(BuiltIn, Capabilities); 12] = [
-    (BuiltIn::DrawIndex, Capabilities::DRAW_INDEX),
-    (BuiltIn::ClipDistances, Capabilities::CLIP_DISTANCES),
-    (BuiltIn::CullDistance, Capabilities::CULL_DISTANCE),
-    (BuiltIn::ViewIndex, Capabilities::MULTIVIEW),
-    (BuiltIn::PrimitiveIndex, Capabilities::PRIMITIVE_INDEX),
+/// Which capability a built-in needs, as its bit. (PrimitiveIndex at the two stages of a hit none.)
+static CAPABILITIES: [(BuiltIn, u32); 12] = [
+    (BuiltIn::DrawIndex, Capabilities::DRAW_INDEX.0),
+    (BuiltIn::ClipDistances, Capabilities::CLIP_DISTANCES.0),
+    (BuiltIn::CullDistance, Capabilities::CULL_DISTANCE.0),
+    (BuiltIn::ViewIndex, Capabilities::MULTIVIEW.0),
+    (BuiltIn::PrimitiveIndex, Capabilities::PRIMITIVE_INDEX.0),
     (
         BuiltIn::Barycentric { perspective: false },
-        Capabilities::SHADER_BARYCENTRICS,
+        Capabilities::SHADER_BARYCENTRICS.0,
     ),
     (
         BuiltIn::Barycentric { perspective: true },
-        Capabilities::SHADER_BARYCENTRICS,
+        Capabilities::SHADER_BARYCENTRICS.0,
     ),
-    (BuiltIn::SampleIndex, Capabilities::MULTISAMPLED_SHADING),
-    (BuiltIn::NumSubgroups, Capabilities::SUBGROUP),
-    (BuiltIn::SubgroupId, Capabilities::SUBGROUP),
-    (BuiltIn::SubgroupSize, Capabilities::SUBGROUP),
-    (BuiltIn::SubgroupInvocationId, Capabilities::SUBGROUP),
+    (BuiltIn::SampleIndex, Capabilities::MULTISAMPLED_SHADING.0),
+    (BuiltIn::NumSubgroups, Capabilities::SUBGROUP.0),
+    (BuiltIn::SubgroupId, Capabilities::SUBGROUP.0),
+    (BuiltIn::SubgroupSize, Capabilities::SUBGROUP.0),
+    (BuiltIn::SubgroupInvocationId, Capabilities::SUBGROUP.0),
 ];
 
 /// Which built-ins need mesh shaders.
-const OF_MESH_SHADERS: [BuiltIn; 9] = [
+static OF_MESH_SHADERS: [BuiltIn; 9] = [
     BuiltIn::CullPrimitive,
     BuiltIn::PointIndex,
     BuiltIn::LineIndices,
@@ -102,7 +102,7 @@ const OF_MESH_SHADERS: [BuiltIn; 9] = [
     BuiltIn::Primitives,
 ];
 
-pub const STAGES: [ShaderStage; 9] = [
+pub static STAGES: [ShaderStage; 9] = [
     ShaderStage::Vertex,
     ShaderStage::Fragment,
     ShaderStage::Compute,
@@ -171,9 +171,9 @@ fn capability_of(built_in: BuiltIn, stage: ShaderStage) -> Option<Capabilities> 
     if is_hit && built_in == BuiltIn::PrimitiveIndex {
         return None;
     }
-    for (needing, capability) in CAPABILITIES {
+    for &(needing, bits) in &CAPABILITIES {
         if needing == built_in {
-            return Some(capability);
+            return Some(Capabilities(bits));
         }
     }
     None
@@ -182,9 +182,9 @@ fn capability_of(built_in: BuiltIn, stage: ShaderStage) -> Option<Capabilities> 
 /// What is said of a built-in at a place is what the tables say.
 fn compare(rt: &impl Abort, built_in: BuiltIn, places: &str, place: &VaryingPlace) {
     let rule = builtin_rule(built_in, place);
-    assert!(rt; rule.visible == is_listed(places, place));
-    assert!(rt; rule.required == capability_of(built_in, place.stage));
-    assert!(rt; rule.mesh_shader == OF_MESH_SHADERS.contains(&built_in));
+    holds!(rt; rule.visible == is_listed(places, place));
+    holds!(rt; rule.required == capability_of(built_in, place.stage));
+    holds!(rt; rule.mesh_shader == OF_MESH_SHADERS.contains(&built_in));
 }
 
 /// At a stage in a direction, as each output of a mesh or none, with and without a task payload.
@@ -205,7 +205,7 @@ fn compare_all(rt: &impl Abort, built_in: BuiltIn, places: &str, stage: ShaderSt
 
 /// At all stages, in both directions.
 fn compare_at_stages(rt: &impl Abort, built_in: BuiltIn, places: &str) {
-    for stage in STAGES {
+    for &stage in &STAGES {
         compare_all(rt, built_in, places, stage, false);
         compare_all(rt, built_in, places, stage, true);
     }

@@ -98,7 +98,7 @@ fn made<T>(rt: &impl Abort, answer: Result<T, AllocError>) -> T {
 
 /// Puts a type without a name last.
 fn add(rt: &impl Abort, types: &mut UniqueArena<Type>, inner: TypeInner) {
-    assert!(rt; !types.is_full());
+    holds!(rt; !types.is_full());
     made(
         rt,
         types.insert(Type { name: None, inner }, Span::UNDEFINED),
@@ -165,7 +165,7 @@ struct Bench {
 
 /// Two of the structs aren't shared.
 fn unshare(rt: &impl Abort, infos: &mut [TypeInfo]) {
-    assert!(rt; infos.len() == 22);
+    holds!(rt; infos.len() == 22);
     infos[COLLIDING as usize] = UNSHARED;
     infos[UNBOUND as usize] = UNSHARED;
 }
@@ -254,9 +254,9 @@ fn answer_of(
     item: &Item,
 ) -> Result<Option<VaryingError>, AllocError> {
     let Bench { module, infos } = bench;
-    assert!(rt; fits_types(module));
-    assert!(rt; infos.len() == module.types.len());
-    assert!(rt; (item.ty as usize) < module.types.len());
+    holds!(rt; fits_types(module));
+    holds!(rt; infos.len() == module.types.len());
+    holds!(rt; (item.ty as usize) < module.types.len());
     let (place, ty) = (&item.place, Handle::new(item.ty));
     let binding = item.binding;
     match check_varying_item(rt.alloc(), place, state, &module.types, infos, ty, binding) {
@@ -281,7 +281,7 @@ fn fault_of(
 
 /// A fault is the expected one.
 fn expect_fault(rt: &impl Abort, fault: &Option<VaryingError>, expected: &Option<VaryingError>) {
-    assert!(rt; fault == expected);
+    holds!(rt; fault == expected);
 }
 
 /// An item behind what the state has gets its answer.
@@ -298,5 +298,5 @@ fn alone(rt: &(impl Abort + AllocGlobal), bench: &Bench, row: Row) {
 
 /// A location is taken, or isn't.
 fn expect_location(rt: &impl Abort, state: &VaryingState, location: u32, is_taken: bool) {
-    assert!(rt; state.has_location(location) == is_taken);
+    holds!(rt; state.has_location(location) == is_taken);
 }

@@ -1,250 +1,290 @@
 //! Errors inside errors of functions.
 
-use crate::tests::texts::assert_told;
+use crate::tests::texts::{assert_explains, assert_prints, expect_told};
 use naga_below::{
     AddressSpace, AtomicFunction, Capabilities, ExpressionError, Handle, ImageClass,
     ImageDimension, StorageAccess, StorageFormat, SubgroupOperationSet,
 };
 use naga_rules::{AtomicError, CallError, LocalVariableError, SubgroupError};
+use std::process::Abort;
+
+/// Name and sentence of each, in the order of `call_error`.
+static CALLS: [(&str, &str); 6] = [
+    (
+        "Argument",
+        "an argument has a fault: it is not in scope where it is used",
+    ),
+    (
+        "ResultAlreadyInScope",
+        "the result is in scope before the call",
+    ),
+    (
+        "ResultAlreadyPopulated",
+        "an earlier call or atomic operation names the result too, or expressions are not looked at",
+    ),
+    (
+        "ArgumentCount",
+        "there are more or fewer arguments than the callee declares",
+    ),
+    (
+        "ArgumentType",
+        "an argument has another type than the callee declares",
+    ),
+    (
+        "ExpressionMismatch",
+        "the result isn't one of this callee, or is there although the callee has none, or is missing although it has one",
+    ),
+];
+
+/// An error of a call.
+fn call_error(index: usize) -> CallError {
+    let expression = Handle::new(1);
+    let ty = Handle::new(2);
+    match index {
+        0 => CallError::Argument {
+            index: 1,
+            source: ExpressionError::NotInScope,
+        },
+        1 => CallError::ResultAlreadyInScope(expression),
+        2 => CallError::ResultAlreadyPopulated(expression),
+        3 => CallError::ArgumentCount {
+            required: 1,
+            seen: 1,
+        },
+        4 => CallError::ArgumentType {
+            index: 1,
+            required: ty,
+            seen_expression: expression,
+        },
+        _ => CallError::ExpressionMismatch(None),
+    }
+}
+
+/// The error of a call at this place has this name and this sentence.
+fn expect_call_error(rt: &(impl Abort + AllocGlobal), index: usize, name: &str, sentence: &str) {
+    let error = call_error(index);
+    assert_prints(rt, &error, name);
+    assert_explains(rt, &error, sentence);
+}
 
 #[test]
 fn call_errors(rt: HostRuntime) {
-    let expression = Handle::new(1);
-    let ty = Handle::new(2);
-    let rows = [
-        (
-            CallError::Argument {
-                index: 1,
-                source: ExpressionError::NotInScope,
-            },
-            "Argument",
-            "an argument has a fault: it is not in scope where it is used",
-        ),
-        (
-            CallError::ResultAlreadyInScope(expression),
-            "ResultAlreadyInScope",
-            "the result is in scope before the call",
-        ),
-        (
-            CallError::ResultAlreadyPopulated(expression),
-            "ResultAlreadyPopulated",
-            "an earlier call or atomic operation names the result too, or expressions are not looked at",
-        ),
-        (
-            CallError::ArgumentCount {
-                required: 1,
-                seen: 1,
-            },
-            "ArgumentCount",
-            "there are more or fewer arguments than the callee declares",
-        ),
-        (
-            CallError::ArgumentType {
-                index: 1,
-                required: ty,
-                seen_expression: expression,
-            },
-            "ArgumentType",
-            "an argument has another type than the callee declares",
-        ),
-        (
-            CallError::ExpressionMismatch(None),
-            "ExpressionMismatch",
-            "the result isn't one of this callee, or is there although the callee has none, or is missing although it has one",
-        ),
-    ];
-    for (error, name, sentence) in &rows {
-        assert_told(&rt, error, name, sentence);
+    for (index, (name, sentence)) in CALLS.iter().enumerate() {
+        expect_call_error(&rt, index, name, sentence);
     }
+}
+
+/// Name and sentence of each, in the order of `atomic_error`.
+static ATOMICS: [(&str, &str); 11] = [
+    ("InvalidPointer", "the pointer doesn't point to an atomic"),
+    (
+        "InvalidAddressSpace",
+        "the atomic lies in a space where the operation isn't done on its scalar",
+    ),
+    (
+        "InvalidOperand",
+        "the value, or the value to compare with, is not of the atomic's scalar",
+    ),
+    (
+        "InvalidOperator",
+        "the operation isn't done on the atomic's scalar",
+    ),
+    ("InvalidResultExpression", "the result is no `AtomicResult`"),
+    (
+        "ResultExpressionExchange",
+        "the result is that of a compare exchange, and the operation is none",
+    ),
+    (
+        "ResultExpressionNotExchange",
+        "the operation is a compare exchange, and the result isn't one's",
+    ),
+    (
+        "ResultTypeMismatch",
+        "the result has another type than the operation gives",
+    ),
+    (
+        "MissingReturnValue",
+        "an exchange that compares nothing has no result",
+    ),
+    (
+        "MissingCapability",
+        "the target lacks what the operation needs",
+    ),
+    (
+        "ResultAlreadyPopulated",
+        "an earlier call or atomic operation names the result too, or expressions are not looked at",
+    ),
+];
+
+/// An error of an atomic operation.
+fn atomic_error(index: usize) -> AtomicError {
+    let expression = Handle::new(1);
+    match index {
+        0 => AtomicError::InvalidPointer(expression),
+        1 => AtomicError::InvalidAddressSpace(AddressSpace::Private),
+        2 => AtomicError::InvalidOperand(expression),
+        3 => AtomicError::InvalidOperator(AtomicFunction::Add),
+        4 => AtomicError::InvalidResultExpression(expression),
+        5 => AtomicError::ResultExpressionExchange(expression),
+        6 => AtomicError::ResultExpressionNotExchange(expression),
+        7 => AtomicError::ResultTypeMismatch(expression),
+        8 => AtomicError::MissingReturnValue,
+        9 => AtomicError::MissingCapability(Capabilities::MULTIVIEW),
+        _ => AtomicError::ResultAlreadyPopulated(expression),
+    }
+}
+
+/// The error of an atomic operation at this place has this name and this sentence.
+fn expect_atomic_error(rt: &(impl Abort + AllocGlobal), index: usize, name: &str, sentence: &str) {
+    let error = atomic_error(index);
+    assert_prints(rt, &error, name);
+    assert_explains(rt, &error, sentence);
 }
 
 #[test]
 fn atomic_errors(rt: HostRuntime) {
+    for (index, (name, sentence)) in ATOMICS.iter().enumerate() {
+        expect_atomic_error(&rt, index, name, sentence);
+    }
+}
+
+/// Name and sentence of each, in the order of `subgroup_error`.
+static SUBGROUPS: [(&str, &str); 5] = [
+    (
+        "InvalidOperand",
+        "the operand is of a type that the operation isn't done on",
+    ),
+    (
+        "ResultTypeMismatch",
+        "the result is of another kind or type than the operation gives",
+    ),
+    ("UnsupportedOperation", "the target lacks these operations"),
+    ("UnknownOperation", "there is no scan by this operation"),
+    (
+        "InvalidInvocationIdExprType",
+        "the index of an invocation has to be a constant here",
+    ),
+];
+
+/// An error of a subgroup operation.
+fn subgroup_error(index: usize) -> SubgroupError {
     let expression = Handle::new(1);
-    let rows = [
-        (
-            AtomicError::InvalidPointer(expression),
-            "InvalidPointer",
-            "the pointer doesn't point to an atomic",
-        ),
-        (
-            AtomicError::InvalidAddressSpace(AddressSpace::Private),
-            "InvalidAddressSpace",
-            "the atomic lies in a space where the operation isn't done on its scalar",
-        ),
-        (
-            AtomicError::InvalidOperand(expression),
-            "InvalidOperand",
-            "the value, or the value to compare with, is not of the atomic's scalar",
-        ),
-        (
-            AtomicError::InvalidOperator(AtomicFunction::Add),
-            "InvalidOperator",
-            "the operation isn't done on the atomic's scalar",
-        ),
-        (
-            AtomicError::InvalidResultExpression(expression),
-            "InvalidResultExpression",
-            "the result is no `AtomicResult`",
-        ),
-        (
-            AtomicError::ResultExpressionExchange(expression),
-            "ResultExpressionExchange",
-            "the result is that of a compare exchange, and the operation is none",
-        ),
-        (
-            AtomicError::ResultExpressionNotExchange(expression),
-            "ResultExpressionNotExchange",
-            "the operation is a compare exchange, and the result isn't one's",
-        ),
-        (
-            AtomicError::ResultTypeMismatch(expression),
-            "ResultTypeMismatch",
-            "the result has another type than the operation gives",
-        ),
-        (
-            AtomicError::MissingReturnValue,
-            "MissingReturnValue",
-            "an exchange that compares nothing has no result",
-        ),
-        (
-            AtomicError::MissingCapability(Capabilities::MULTIVIEW),
-            "MissingCapability",
-            "the target lacks what the operation needs",
-        ),
-        (
-            AtomicError::ResultAlreadyPopulated(expression),
-            "ResultAlreadyPopulated",
-            "an earlier call or atomic operation names the result too, or expressions are not looked at",
-        ),
-    ];
-    for (error, name, sentence) in &rows {
-        assert_told(&rt, error, name, sentence);
+    match index {
+        0 => SubgroupError::InvalidOperand(expression),
+        1 => SubgroupError::ResultTypeMismatch(expression),
+        2 => SubgroupError::UnsupportedOperation(SubgroupOperationSet::VOTE),
+        3 => SubgroupError::UnknownOperation,
+        _ => SubgroupError::InvalidInvocationIdExprType(expression),
     }
 }
 
 #[test]
 fn subgroup_errors(rt: HostRuntime) {
-    let expression = Handle::new(1);
-    let rows = [
-        (
-            SubgroupError::InvalidOperand(expression),
-            "InvalidOperand",
-            "the operand is of a type that the operation isn't done on",
-        ),
-        (
-            SubgroupError::ResultTypeMismatch(expression),
-            "ResultTypeMismatch",
-            "the result is of another kind or type than the operation gives",
-        ),
-        (
-            SubgroupError::UnsupportedOperation(SubgroupOperationSet::VOTE),
-            "UnsupportedOperation",
-            "the target lacks these operations",
-        ),
-        (
-            SubgroupError::UnknownOperation,
-            "UnknownOperation",
-            "there is no scan by this operation",
-        ),
-        (
-            SubgroupError::InvalidInvocationIdExprType(expression),
-            "InvalidInvocationIdExprType",
-            "the index of an invocation has to be a constant here",
-        ),
-    ];
-    for (error, name, sentence) in &rows {
-        assert_told(&rt, error, name, sentence);
+    for (index, (name, sentence)) in SUBGROUPS.iter().enumerate() {
+        expect_told(&rt, subgroup_error(index), name, sentence);
+    }
+}
+
+/// Name and sentence of each, in the order of `local_error`.
+static LOCALS: [(&str, &str); 3] = [
+    (
+        "InvalidType",
+        "a local can't be of this type, since it isn't constructible",
+    ),
+    (
+        "InitializerType",
+        "the initializer is of another type than the variable",
+    ),
+    (
+        "NonConstOrOverrideInitializer",
+        "the initializer is known only as the function runs",
+    ),
+];
+
+/// An error of a local variable.
+fn local_error(index: usize) -> LocalVariableError {
+    let ty = Handle::new(2);
+    match index {
+        0 => LocalVariableError::InvalidType(ty),
+        1 => LocalVariableError::InitializerType,
+        _ => LocalVariableError::NonConstOrOverrideInitializer,
     }
 }
 
 #[test]
 fn local_variable_errors(rt: HostRuntime) {
+    for (index, (name, sentence)) in LOCALS.iter().enumerate() {
+        expect_told(&rt, local_error(index), name, sentence);
+    }
+}
+
+/// Name and sentence of each, in the order of `expression_error`.
+static EXPRESSIONS: [(&str, &str); 11] = [
+    ("NotInScope", "it is not in scope where it is used"),
+    (
+        "ExpectedGlobalVariable",
+        "it is no global variable, and no element of one",
+    ),
+    (
+        "ExpectedBindingArrayType",
+        "what it is an element of is no binding array",
+    ),
+    (
+        "ExpectedImageType",
+        "the global is of this type, which is no image",
+    ),
+    (
+        "InvalidImageClass",
+        "this isn't done on images of this class",
+    ),
+    (
+        "InvalidImageCoordinateType",
+        "the coordinate doesn't fit an image of this dimension",
+    ),
+    (
+        "InvalidImageArrayIndex",
+        "there is an array index, and the image isn't arrayed, or the other way round",
+    ),
+    (
+        "InvalidImageArrayIndexType",
+        "the array index is no integer scalar",
+    ),
+    (
+        "InvalidImageStorageAccess",
+        "the access of the image doesn't allow this",
+    ),
+    (
+        "InvalidImageFormat",
+        "this isn't done on texels of this format",
+    ),
+    (
+        "Lower",
+        "the lower layer refuses it, for a reason of its own",
+    ),
+];
+
+/// An error of an expression.
+fn expression_error(index: usize) -> ExpressionError {
+    let expression = Handle::new(1);
     let ty = Handle::new(2);
-    let rows = [
-        (
-            LocalVariableError::InvalidType(ty),
-            "InvalidType",
-            "a local can't be of this type, since it isn't constructible",
-        ),
-        (
-            LocalVariableError::InitializerType,
-            "InitializerType",
-            "the initializer is of another type than the variable",
-        ),
-        (
-            LocalVariableError::NonConstOrOverrideInitializer,
-            "NonConstOrOverrideInitializer",
-            "the initializer is known only as the function runs",
-        ),
-    ];
-    for (error, name, sentence) in &rows {
-        assert_told(&rt, error, name, sentence);
+    match index {
+        0 => ExpressionError::NotInScope,
+        1 => ExpressionError::ExpectedGlobalVariable,
+        2 => ExpressionError::ExpectedBindingArrayType(ty),
+        3 => ExpressionError::ExpectedImageType(ty),
+        4 => ExpressionError::InvalidImageClass(ImageClass::External),
+        5 => ExpressionError::InvalidImageCoordinateType(ImageDimension::D2, expression),
+        6 => ExpressionError::InvalidImageArrayIndex,
+        7 => ExpressionError::InvalidImageArrayIndexType(expression),
+        8 => ExpressionError::InvalidImageStorageAccess(StorageAccess::LOAD),
+        9 => ExpressionError::InvalidImageFormat(StorageFormat::R8Uint),
+        _ => ExpressionError::Lower(7),
     }
 }
 
 #[test]
 fn expression_errors(rt: HostRuntime) {
-    let expression = Handle::new(1);
-    let ty = Handle::new(2);
-    let rows = [
-        (
-            ExpressionError::NotInScope,
-            "NotInScope",
-            "it is not in scope where it is used",
-        ),
-        (
-            ExpressionError::ExpectedGlobalVariable,
-            "ExpectedGlobalVariable",
-            "it is no global variable, and no element of one",
-        ),
-        (
-            ExpressionError::ExpectedBindingArrayType(ty),
-            "ExpectedBindingArrayType",
-            "what it is an element of is no binding array",
-        ),
-        (
-            ExpressionError::ExpectedImageType(ty),
-            "ExpectedImageType",
-            "the global is of this type, which is no image",
-        ),
-        (
-            ExpressionError::InvalidImageClass(ImageClass::External),
-            "InvalidImageClass",
-            "this isn't done on images of this class",
-        ),
-        (
-            ExpressionError::InvalidImageCoordinateType(ImageDimension::D2, expression),
-            "InvalidImageCoordinateType",
-            "the coordinate doesn't fit an image of this dimension",
-        ),
-        (
-            ExpressionError::InvalidImageArrayIndex,
-            "InvalidImageArrayIndex",
-            "there is an array index, and the image isn't arrayed, or the other way round",
-        ),
-        (
-            ExpressionError::InvalidImageArrayIndexType(expression),
-            "InvalidImageArrayIndexType",
-            "the array index is no integer scalar",
-        ),
-        (
-            ExpressionError::InvalidImageStorageAccess(StorageAccess::LOAD),
-            "InvalidImageStorageAccess",
-            "the access of the image doesn't allow this",
-        ),
-        (
-            ExpressionError::InvalidImageFormat(StorageFormat::R8Uint),
-            "InvalidImageFormat",
-            "this isn't done on texels of this format",
-        ),
-        (
-            ExpressionError::Lower(7),
-            "Lower",
-            "the lower layer refuses it, for a reason of its own",
-        ),
-    ];
-    for (error, name, sentence) in &rows {
-        assert_told(&rt, error, name, sentence);
+    for (index, (name, sentence)) in EXPRESSIONS.iter().enumerate() {
+        expect_told(&rt, expression_error(index), name, sentence);
     }
 }

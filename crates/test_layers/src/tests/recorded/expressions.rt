@@ -99,7 +99,7 @@ fn expect_stages(rt: &(impl Abort + AllocGlobal), asked: &Asked) {
         (1, Err(ExpressionError::InvalidImageArrayIndex)),
         (2, Err(ExpressionError::Lower(0))),
     ] {
-        assert!(rt; stages_of(rt, asked, handle) == expected);
+        holds!(rt; stages_of(rt, asked, handle) == expected);
     }
 }
 
@@ -116,7 +116,7 @@ fn an_expression_of_an_error(rt: HostRuntime) {
     let asked = facts_asked(&rt, FunctionFact::Error(error));
     let answer = stages_of(&rt, &asked, 0);
     drop(asked);
-    assert!(rt; answer == Err(ExpressionError::Lower(0)));
+    holds!(&rt; answer == Err(ExpressionError::Lower(0)));
 }
 
 /// A Unary of two expressions.
@@ -162,7 +162,7 @@ fn expect_kinds(rt: &impl Abort, kinds: &ExpressionKindTracker) {
         (4, Some((false, false))),
         (5, None),
     ] {
-        assert!(rt; known_at(kinds, index) == expected);
+        holds!(rt; known_at(kinds, index) == expected);
     }
 }
 

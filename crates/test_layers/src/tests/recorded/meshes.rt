@@ -72,7 +72,7 @@ fn expect_meshes(rt: &(impl Abort + AllocGlobal), recorded: &Recorded, module: &
         (2, (Some(MeshFault::OutputField), Some(6))),
         (3, (Some(MeshFault::OutputType), None)),
     ] {
-        assert!(rt; fault_of_mesh(rt, recorded, module, handle) == expected);
+        holds!(rt; fault_of_mesh(rt, recorded, module, handle) == expected);
     }
 }
 
@@ -98,7 +98,7 @@ fn facts_of_sizes(rt: &(impl Abort + AllocGlobal)) -> Facts {
 fn expect_sizes(rt: &impl Abort, recorded: &Recorded, module: &Module) {
     for (handle, expected) in [(0, None), (1, Some(12)), (2, None)] {
         let size = recorded.type_size(module, Handle::new(handle));
-        assert!(rt; size == expected);
+        holds!(rt; size == expected);
     }
 }
 

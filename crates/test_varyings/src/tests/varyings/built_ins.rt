@@ -49,7 +49,7 @@ fn built_ins(rt: HostRuntime) {
 
 /// The first place where a built-in is visible, in the order of stages, in before out.
 fn first_place(places: &str) -> Option<VaryingPlace> {
-    for stage in STAGES {
+    for &stage in &STAGES {
         for output in [false, true] {
             let mut place = at(stage, output);
             if output {
@@ -71,14 +71,14 @@ fn expect_wrong_type(
     built_in: BuiltIn,
     ty: u32,
 ) {
-    assert!(rt; (ty as usize) < bench.module.types.len());
+    holds!(rt; (ty as usize) < bench.module.types.len());
     let given = &bench.module.types[Handle::new(ty)].inner;
     let is_expected = match fault {
         Some(VaryingError::InvalidBuiltInType(refused, inner)) => *refused == built_in
             && inner == given,
         _ => false,
     };
-    assert!(rt; is_expected);
+    holds!(rt; is_expected);
 }
 
 /// A built-in doesn't have a neighbor of its type.

@@ -42,8 +42,9 @@ fn sources_of_a_blend(rt: HostRuntime) {
 
 /// What the members at the colliding locations and at Position take is there, or isn't.
 fn expect_taken(rt: &impl Abort, state: &VaryingState, are_taken: bool) {
-    assert!(rt; state.has_location(1) == are_taken && state.has_location(2) == are_taken);
-    assert!(rt; state.has_built_in(BuiltIn::Position { invariant: false }) == are_taken);
+    holds!(rt; state.has_location(1) == are_taken);
+    holds!(rt; state.has_location(2) == are_taken);
+    holds!(rt; state.has_built_in(BuiltIn::Position { invariant: false }) == are_taken);
 }
 
 /// Bindings are looked at: nothing is taken.

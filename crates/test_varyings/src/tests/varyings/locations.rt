@@ -11,7 +11,7 @@ use naga_rules::{MeshOutputType, VaryingError, VaryingPlace, VaryingState};
 use std::process::Abort;
 
 /// The interpolations, and the samplings, and none.
-const INTERPOLATIONS: [Option<Interpolation>; 5] = [
+static INTERPOLATIONS: [Option<Interpolation>; 5] = [
     None,
     Some(Interpolation::Perspective),
     Some(Interpolation::Linear),
@@ -19,7 +19,7 @@ const INTERPOLATIONS: [Option<Interpolation>; 5] = [
     Some(Interpolation::PerVertex),
 ];
 
-const SAMPLINGS: [Option<Sampling>; 6] = [
+static SAMPLINGS: [Option<Sampling>; 6] = [
     None,
     Some(Sampling::Center),
     Some(Sampling::Centroid),
@@ -29,7 +29,7 @@ const SAMPLINGS: [Option<Sampling>; 6] = [
 ];
 
 /// Which go together.
-const PAIRS: [(Interpolation, Sampling); 8] = [
+static PAIRS: [(Interpolation, Sampling); 8] = [
     (Interpolation::Perspective, Sampling::Center),
     (Interpolation::Perspective, Sampling::Centroid),
     (Interpolation::Perspective, Sampling::Sample),
@@ -41,7 +41,7 @@ const PAIRS: [(Interpolation, Sampling); 8] = [
 ];
 
 /// Where an interpolation is asked for: at a stage, out or in.
-const INTERPOLATED: [(ShaderStage, bool); 3] = [
+static INTERPOLATED: [(ShaderStage, bool); 3] = [
     (ShaderStage::Vertex, true),
     (ShaderStage::Mesh, true),
     (ShaderStage::Fragment, false),
@@ -125,13 +125,13 @@ fn interpolated_at(
 
 /// Each interpolation with each sampling, at a place: a float and an integer, or an array of 3 for each vertex.
 fn all_interpolated_at(rt: &(impl Abort + AllocGlobal), bench: &Bench, place: &VaryingPlace) {
-    for interpolation in INTERPOLATIONS {
+    for &interpolation in &INTERPOLATIONS {
         let types = if interpolation == Some(Interpolation::PerVertex) {
             [THREE_F32, THREE_U32]
         } else {
             [F32, U32]
         };
-        for sampling in SAMPLINGS {
+        for &sampling in &SAMPLINGS {
             interpolated_at(rt, bench, place, types[0], interpolation, sampling);
             interpolated_at(rt, bench, place, types[1], interpolation, sampling);
         }
@@ -140,7 +140,7 @@ fn all_interpolated_at(rt: &(impl Abort + AllocGlobal), bench: &Bench, place: &V
 
 /// The same at all places.
 fn interpolated_at_all(rt: &(impl Abort + AllocGlobal), bench: &Bench) {
-    for stage in STAGES {
+    for &stage in &STAGES {
         all_interpolated_at(rt, bench, &at(stage, false));
         all_interpolated_at(rt, bench, &at(stage, true));
     }
