@@ -1,5 +1,5 @@
 //! Reads one case of naga_check's notation from standard input and judges it by naga's own code: `ok` and the stages, `fault` and
-//! the fault as naga's `Debug` has it, or `unreadable`. For timings (docs/SPEED.md) and comparisons (`bodies`): options are read, and
+//! the fault as naga's `Debug` has it, or `unreadable`. For timings (docs/lab/SPEED.md) and comparisons (`bodies`): options are read, and
 //! the judgement is with all flags.
 //!
 //! It is no crate of this repository: it is built as a binary beside naga 30.0.1's `function.rs` and `interface.rs` in a stub of the rest of
