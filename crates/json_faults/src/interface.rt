@@ -110,10 +110,11 @@ impl ToJson for EntryPointError {
                 holding(out, self, capabilities)
             }
             EntryPointError::TaskPayloadTooSmall(size) => holding(out, self, size),
-            EntryPointError::RayPayloadInInvalidStage(stage)
-            | EntryPointError::IncomingRayPayloadInInvalidStage(stage) => {
-                holding(out, self, stage)
+            // its `Display` is a sentence, and not its name
+            EntryPointError::RayPayloadInInvalidStage(stage) => {
+                holding(out, "RayPayloadInInvalidStage", stage)
             }
+            EntryPointError::IncomingRayPayloadInInvalidStage(stage) => holding(out, self, stage),
             EntryPointError::Conflict
             | EntryPointError::MissingVertexOutputPosition
             | EntryPointError::UnexpectedEarlyDepthTest
