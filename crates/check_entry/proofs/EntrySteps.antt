@@ -6,25 +6,25 @@ use Rattle.ir_facts.proofs.Points.{first_of_both, first_within, first_turn, firs
 use Rattle.ir_facts.specs.Points.{Point, first_fault, points_from, within}
 use Rattle.ir_arena.specs.declared.span.Refusal.{Refusal}
 use Rattle.ir_arena.specs.declared.span.Refusal.TheVariants as refusal
-use Rattle.check_varyings.specs.VaryingFaults.{VaryingFault}
-use Rattle.check_varyings.specs.VaryingFaults as varying
+use Rattle.check_varyings.specs.VaryingFaults.{VaryingFault, varying_fault_of}
 use Rattle.check_errors.specs.declared.interface.VaryingError.{VaryingError}
-use Rattle.check_entry.specs.EntryFaults.{EntryFault, OfArgument, OfResult, fault_of, Judges}
-use Rattle.check_entry.specs.EntryAnswers.{EntryPoints, Meets}
+use Rattle.check_entry.specs.EntryFaults.{EntryFault, OfArgument, OfResult, fault_of}
+use Rattle.check_entry.specs.EntryAnswers.{EntryPoints}
 use Rattle.check_entry.specs.declared.error.EntryPointError.{EntryPointError}
 use Rattle.check_entry.specs.declared.error.EntryPointError.TheVariants as fault
 use Rattle.check_scope.proofs.Refusals.{fault_first, fault_second}
+use Rattle.check_errors.specs.Answers.{Answers, FirstOf, read_by}
 
 pub ruleset finding = (fault_first, fault_second)
 
 -- a refusal at the first of them
-pub meets_first : {T : Type 0} (r : Result T (Refusal EntryPointError)) (first second : EntryPoints) → IsErr r → Meets first r → Meets (first ++ second) r
+pub meets_first : {T : Type 0} (r : Result T (Refusal EntryPointError)) (first second : EntryPoints) → IsErr r → Answers (FirstOf first) r → Answers (FirstOf (first ++ second)) r
 meets_first (Err (refusal.Fault f)) first second e h = first_of_both first second ∙ ap (λ o. option_or o (first_fault second)) h
 meets_first (Err refusal.Memory) first second e h = tt
 meets_first (Ok t) first second e h = cc
 
 -- an answer at the second, where no point of the first fails
-pub meets_second : {T : Type 0} (r : Result T (Refusal EntryPointError)) (first second : EntryPoints) → first_fault first ≡ None → Meets second r → Meets (first ++ second) r
+pub meets_second : {T : Type 0} (r : Result T (Refusal EntryPointError)) (first second : EntryPoints) → first_fault first ≡ None → Answers (FirstOf second) r → Answers (FirstOf (first ++ second)) r
 meets_second (Ok t) first second e h = first_of_both first second ∙ ap (λ o. option_or o (first_fault second)) e ∙ h
 meets_second (Err (refusal.Fault f)) first second e h = first_of_both first second ∙ ap (λ o. option_or o (first_fault second)) e ∙ h
 meets_second (Err refusal.Memory) first second e h = tt
@@ -32,12 +32,12 @@ meets_second (Err refusal.Memory) first second e h = tt
 pub ruleset meeting = (meets_first, meets_second)
 
 -- a refusal at the first of them, and an answer at the second
-pub judges_first : {T : Type 0} (r : Result T (Refusal EntryPointError)) (first second : List (Point EntryFault)) → IsErr r → Judges first r → Judges (first ++ second) r
+pub judges_first : {T : Type 0} (r : Result T (Refusal EntryPointError)) (first second : List (Point EntryFault)) → IsErr r → Answers (FirstOf first) (read_by fault_of r) → Answers (FirstOf (first ++ second)) (read_by fault_of r)
 judges_first (Err (refusal.Fault f)) first second e h = first_of_both first second ∙ ap (λ o. option_or o (first_fault second)) h
 judges_first (Err refusal.Memory) first second e h = tt
 judges_first (Ok t) first second e h = cc
 
-pub judges_second : {T : Type 0} (r : Result T (Refusal EntryPointError)) (first second : List (Point EntryFault)) → first_fault first ≡ None → Judges second r → Judges (first ++ second) r
+pub judges_second : {T : Type 0} (r : Result T (Refusal EntryPointError)) (first second : List (Point EntryFault)) → first_fault first ≡ None → Answers (FirstOf second) (read_by fault_of r) → Answers (FirstOf (first ++ second)) (read_by fault_of r)
 judges_second (Ok t) first second e h = first_of_both first second ∙ ap (λ o. option_or o (first_fault second)) e ∙ h
 judges_second (Err (refusal.Fault f)) first second e h = first_of_both first second ∙ ap (λ o. option_or o (first_fault second)) e ∙ h
 judges_second (Err refusal.Memory) first second e h = tt
@@ -49,7 +49,7 @@ pub passes_within : {Inner Outer : Type 0} (outer : Inner → Outer) (points : L
 passes_within outer points h = first_within outer points ∙ ap (option_map outer) h
 
 -- an answer about points, as one about the faults that they are
-pub judges_within : {T : Type 0} (r : Result T (Refusal EntryPointError)) (points : EntryPoints) → Meets points r → Judges (within fault_of points) r
+pub judges_within : {T : Type 0} (r : Result T (Refusal EntryPointError)) (points : EntryPoints) → Answers (FirstOf points) r → Answers (FirstOf (within fault_of points)) (read_by fault_of r)
 judges_within (Ok t) points h = passes_within fault_of points h
 judges_within (Err (refusal.Fault f)) points h = first_within fault_of points ∙ ap (option_map fault_of) h
 judges_within (Err refusal.Memory) points h = tt
@@ -58,7 +58,7 @@ module _ {A : Type 0} (points : ℕ → A → EntryPoints) (xs : List A) (i : �
   -- the fault of this item is that of all, where those before it have none
   pub each_meets : {T : Type 0} (r : Result T (Refusal EntryPointError)) (x : A) → i < length xs → x ≡ get_or xs i x →
       first_fault (points_from points i (drop i xs)) ≡ first_fault (points_from points 0 xs) →
-      IsErr r → Meets (points i x) r → Meets (points_from points 0 xs) r
+      IsErr r → Answers (FirstOf (points i x)) r → Answers (FirstOf (points_from points 0 xs)) r
   each_meets (Ok t) x lt is left err h = cc
   each_meets (Err (refusal.Fault f)) x lt is left err h =
       sym left ∙ first_turn points xs i x lt is ∙ ap (λ o. option_or o (first_fault (points_from points (i + 1) (drop (i + 1) xs)))) h
@@ -77,10 +77,10 @@ module _ {A : Type 0} (points : ℕ → A → EntryPoints) (xs : List A) (i : �
   each_has_ended le left = sym left ∙ first_end points xs i le
 
 -- a fault of an input or an output, as one of the entry point
-pub argument_fault : (index : ℕ) (points : List (Point VaryingFault)) (error : VaryingError) → first_fault points ≡ Some (varying.fault_of error) →
+pub argument_fault : (index : ℕ) (points : List (Point VaryingFault)) (error : VaryingError) → first_fault points ≡ Some (varying_fault_of error) →
     first_fault (within (OfArgument index) points) ≡ Some (fault_of (fault.Argument index error))
 argument_fault index points error h = first_within (OfArgument index) points ∙ ap (option_map (OfArgument index)) h
 
-pub result_fault : (points : List (Point VaryingFault)) (error : VaryingError) → first_fault points ≡ Some (varying.fault_of error) →
+pub result_fault : (points : List (Point VaryingFault)) (error : VaryingError) → first_fault points ≡ Some (varying_fault_of error) →
     first_fault (within OfResult points) ≡ Some (fault_of (fault.Result error))
 result_fault points error h = first_within OfResult points ∙ ap (option_map OfResult) h

@@ -69,18 +69,8 @@ entry_judgement below settings infos trace program earlier ep =
     and_then (of_function (function_judgement below settings infos trace program earlier ep.function true)) (λ outcome.
     interface_step below settings infos program ep outcome))
 
--- the refusal is for the fault that is right; or there was no memory, and no point up to the function fails
-abbrev pub RefusesEntry : {A : Type 0} → EntryPoints → Result A EntryFault → Refusal EntryPointError → Type 0
-RefusesEntry first right (Fault error) = right ≡ Err (fault_of error)
-RefusesEntry first right Memory = first_fault first ≡ None
-
--- an answer with all that is left: the judgement; or there was no memory, and no point up to the function fails
-abbrev pub AnswersOutcome : {A : Type 0} → EntryPoints → Result A EntryFault → Result A (Refusal EntryPointError) → Type 0
-AnswersOutcome first right (Ok outcome) = right ≡ Ok outcome
-AnswersOutcome first right (Err refused) = RefusesEntry first right refused
-
--- an answer with what is left of ray traces: the judgement; or there was no memory, and no point up to the function fails
-abbrev pub AnswersEntry : EntryPoints → Result FunctionOutcome EntryFault → TraceState →
-    Result FunctionInfo (Refusal EntryPointError) → Type 0
-AnswersEntry first right trace (Ok info) = right ≡ Ok (record { info = info; trace = trace })
-AnswersEntry first right trace (Err refused) = RefusesEntry first right refused
+-- the answer is right; or there was no memory, and none of these points, which come first, fails
+abbrev pub AnswersAfter : {A E Fault : Type 0} → List (Point Fault) → Result A E → Result A (Refusal E) → Type 0
+AnswersAfter first right (Ok x) = right ≡ Ok x
+AnswersAfter first right (Err (Fault e)) = right ≡ Err e
+AnswersAfter first right (Err Memory) = first_fault first ≡ None

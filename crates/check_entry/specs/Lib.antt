@@ -8,5 +8,5 @@ pub mod Mesh
 pub mod EntryJudgement
 pub mod GlobalPoints
 pub mod TakenBindings
-pub use Rattle.check_entry.specs.EntryJudgement.{HasPayloadSizes, AnswersEntry}
+pub use Rattle.check_entry.specs.EntryJudgement.{HasPayloadSizes, AnswersAfter}
 unfoldable pub use Rattle.check_entry.specs.EntryJudgement.{entry_judgement}

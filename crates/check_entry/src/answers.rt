@@ -2,12 +2,11 @@
 
 ghost use Rattle.std.specs.Prelude.{◌≡◌, Result};
 ghost use Rattle.ir_facts.specs.Points.{within};
-ghost use Rattle.check_errors.specs.Answers.{Answers};
+ghost use Rattle.check_errors.specs.Answers.{Answers, Finds, FirstOf, Exactly, read_by};
 ghost use Rattle.check_errors.specs.declared.function.FunctionError.{FunctionError as Inner};
-ghost use Rattle.check_scope.specs.walk.Findings.{Finds};
-ghost use Rattle.check_entry.specs.EntryFaults.{fault_of, Judges, AnswersFault};
+ghost use Rattle.check_entry.specs.EntryFaults.{fault_of};
 ghost use Rattle.check_entry.specs.EntryJudgement.{of_function};
-ghost use Rattle.check_entry.specs.EntryAnswers.{EntryPoints, Meets};
+ghost use Rattle.check_entry.specs.EntryAnswers.{EntryPoints};
 ghost use Rattle.check_statement.specs.FunctionJudgement.{FunctionOutcome as Outcome};
 
 use crate::error::EntryPointError;
@@ -28,8 +27,9 @@ pub fn answer(
     alloc: Global,
     checked: Result<(), EntryPointError>,
 ) -> Result<(), Refusal<EntryPointError>>
-    ensures meets { (points : EntryPoints) → Finds points checked → Meets points result }
-    ensures judges { (points : EntryPoints) → Finds points checked → Judges (within fault_of points) result }
+    ensures meets { (points : EntryPoints) → Finds (FirstOf points) checked → Answers (FirstOf points) result }
+    ensures judges { (points : EntryPoints) → Finds (FirstOf points) checked → Answers
+        (FirstOf (within fault_of points)) (read_by fault_of result) }
 {
     match checked {
         Ok(()) => Ok(()),
@@ -41,7 +41,8 @@ pub fn answer(
 pub fn answer_of_function(
     judged: Result<FunctionOutcome, Refusal<FunctionError>>,
 ) -> Result<FunctionOutcome, Refusal<EntryPointError>>
-    ensures { (right : Result Outcome Inner) → Answers right judged → AnswersFault (of_function right) result }
+    ensures { (right : Result Outcome Inner) → Answers (Exactly right) judged → Answers (Exactly (of_function right))
+        (read_by fault_of result) }
 {
     match judged {
         Ok(outcome) => Ok(outcome),

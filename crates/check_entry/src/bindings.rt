@@ -3,9 +3,9 @@
 ghost use Rattle.std.specs.Prelude.{◌≡◌, ◌+◌, List, OnOk};
 ghost use Rattle.ir_flags.specs.declared.valid.GlobalUse.{GlobalUse as Use};
 ghost use Rattle.ir_module.specs.declared.module.GlobalVariable.{GlobalVariable as Variable};
-ghost use Rattle.check_scope.specs.walk.Findings.{Finds};
 ghost use Rattle.check_entry.specs.TakenBindings.{AreTaken};
 ghost use Rattle.check_entry.specs.UsedGlobals.{binding_at, binding_points};
+ghost use Rattle.check_errors.specs.Answers.{Finds, FirstOf};
 
 use crate::error::EntryPointError;
 use crate::globals::is_used;
@@ -35,7 +35,7 @@ pub fn check_binding(
     binding: Option<ResourceBinding>,
 ) -> Result<(), EntryPointError>
     ensures { (uses : List Use) (globals : List Variable) → AreTaken taken.now uses globals handle →
-        Finds (binding_points flags uses globals handle binding) result }
+        Finds (FirstOf (binding_points flags uses globals handle binding)) result }
 {
     let Some(binding) = binding else {
         return Ok(());

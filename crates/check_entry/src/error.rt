@@ -1,4 +1,4 @@
-//! What can be wrong with an entry point: the errors of naga 30.0.1's `valid::interface`, with its variants and fields.
+//! The errors of entry points: those of naga 30.0.1's `valid::interface`, with its variants and fields.
 
 ghost use Rattle.std.specs.Prelude.{◌≡◌};
 ghost use Rattle.check_entry.specs.declared.error.EntryPointError.TheVariants as fault;
@@ -20,61 +20,61 @@ use ir_module::module::ShaderStage;
 pub enum EntryPointError {
     /// Two entry points have one name and stage. It is never made here.
     Conflict,
-    /// A vertex entry point, or the vertex output of a mesh, doesn't put out a position.
+    /// A vertex entry point, or the vertex output of a mesh, has no position.
     MissingVertexOutputPosition,
-    /// Depth is to be tested early at another stage than the fragment's.
+    /// An early depth test is for the fragment stage only.
     UnexpectedEarlyDepthTest,
-    /// A stage without work groups has a size of them.
+    /// A stage without workgroups has a workgroup size.
     UnexpectedWorkgroupSize,
-    /// A work group has no invocation along a dimension, or more than 16384.
+    /// A dimension of the workgroup size is 0, or more than 16384.
     OutOfRangeWorkgroupSize,
-    /// What the function does, or a function that it calls, is not for this stage.
+    /// The function, or one that it calls, does what this stage doesn't allow.
     ForbiddenStageOperations,
-    /// A global is used, in all, in more ways than its space allows at this stage.
+    /// A global has all these uses, and its address space doesn't allow all of them at this stage.
     InvalidGlobalUsage(Handle<tag::GlobalVariable>, GlobalUse),
-    /// Two globals in `Immediate` are used.
+    /// The entry point uses two globals in `Immediate`.
     MoreThanOneImmediateUsed,
-    /// A global that is used has the binding of an earlier one that is used.
+    /// The entry point uses this global, and an earlier one with the same binding.
     BindingCollision(Handle<tag::GlobalVariable>),
     /// An argument, counted from 0, has this fault.
     Argument(u32, VaryingError),
-    /// The result, an output of a mesh, or the request to test depth early has this fault.
+    /// The result, a mesh output or the early depth test has this fault.
     Result(VaryingError),
     /// The function has this fault.
     Function(FunctionError),
-    /// The target lacks what the entry point needs.
+    /// The target lacks a capability that the entry point needs.
     UnsupportedCapability(Capabilities),
-    /// A mesh entry point says nothing of its mesh.
+    /// A mesh entry point has no `mesh_info`.
     ExpectedMeshShaderAttributes,
-    /// An entry point at another stage says something of a mesh.
+    /// Only a mesh entry point can have a `mesh_info`.
     UnexpectedMeshShaderAttributes,
-    /// A stage that takes no task payload has one.
+    /// An entry point at this stage can't have a task payload.
     UnexpectedTaskPayload,
-    /// The payload doesn't lie in `TaskPayload`.
+    /// The task payload is not in `TaskPayload`.
     TaskPayloadWrongAddressSpace,
-    /// A global in `TaskPayload` is used that isn't the payload.
+    /// The entry point uses a global in `TaskPayload` that is not its task payload.
     WrongTaskPayloadUsed,
-    /// A task entry point doesn't return three counts.
+    /// A task entry point must return a vector of three `u32`.
     WrongTaskShaderEntryResult,
-    /// A task entry point has no payload.
+    /// A task entry point has no task payload.
     ExpectedTaskPayload,
-    /// What a mesh entry point says of its mesh isn't what the type of its output variable implies.
+    /// The `mesh_info` is not what the type of the output variable implies.
     BadMeshOutputVariableType,
-    /// A member of the type of a mesh's output variable can't be put out.
+    /// A member of the output variable's type can't be an output of a mesh.
     BadMeshOutputVariableField,
-    /// A mesh entry point returns something.
+    /// A mesh entry point can't return a value.
     UnexpectedMeshShaderEntryResult,
-    /// An output of a mesh is no struct.
+    /// An output of a mesh is not a struct.
     InvalidMeshOutputType,
-    /// A primitive output of a mesh hasn't exactly one built-in of indices.
+    /// The primitive output of a mesh must have exactly one built-in of indices.
     InvalidMeshPrimitiveOutputType,
-    /// The output variable of a mesh doesn't lie in `WorkGroup`.
+    /// The output variable of a mesh is not in `WorkGroup`.
     WrongMeshOutputAddressSpace,
-    /// The payload has only so many bytes; it has at least 4.
+    /// The task payload has only this many bytes, and must have at least 4.
     TaskPayloadTooSmall(u32),
-    /// A ray payload is used at a stage that hands none to a ray.
+    /// A global in `RayPayload` can't be used at this stage.
     RayPayloadInInvalidStage(ShaderStage),
-    /// An incoming ray payload is used at a stage that no ray brings one to.
+    /// A global in `IncomingRayPayload` can't be used at this stage.
     IncomingRayPayloadInInvalidStage(ShaderStage),
 }
 

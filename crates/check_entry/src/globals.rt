@@ -3,9 +3,9 @@
 ghost use Rattle.std.specs.Prelude.{◌≡◌, ◌++◌, length, slice_get};
 ghost use Rattle.std.specs.Option.{option_copied};
 ghost use Rattle.ir_types.specs.Types.{inner_at};
-ghost use Rattle.check_scope.specs.walk.Findings.{Finds};
 ghost use Rattle.check_entry.specs.UsedGlobals.{is_used, is_used_immediate, used_immediates, immediate_points, image_access, access_in, ray_points, is_within, allowed_points};
 ghost use Rattle.check_variables.specs.Spaces.{is_task_payload};
+ghost use Rattle.check_errors.specs.Answers.{Finds, FirstOf};
 
 use crate::error::EntryPointError;
 use bitflags::Flags;
@@ -37,7 +37,7 @@ pub(crate) fn is_used(info: &FunctionInfo, index: usize) -> bool
 
 /// Of immediates at most one is used.
 pub fn check_immediates(module: &Module, info: &FunctionInfo) -> Result<(), EntryPointError>
-    ensures { Finds (immediate_points info.now.global_uses «module».now.global_variables) result }
+    ensures { Finds (FirstOf (immediate_points info.now.global_uses «module».now.global_variables)) result }
 {
     if count_used_immediates(module, info) > 1 {
         return Err(EntryPointError::MoreThanOneImmediateUsed);
@@ -82,7 +82,8 @@ pub fn check_allowed(
     var: &GlobalVariable,
     uses: GlobalUse,
 ) -> Result<(), EntryPointError>
-    ensures { Finds (ray_points stage var.now.space ++ allowed_points «module».now.types stage handle var.now uses) result }
+    ensures { Finds (FirstOf (ray_points stage var.now.space ++ allowed_points «module».now.types stage handle var.now
+        uses)) result }
 {
     check_ray(stage, var.space)?;
     let storage = access_in(module, inner_at(module, var.ty));
@@ -93,7 +94,7 @@ pub fn check_allowed(
 }
 
 fn check_ray(stage: ShaderStage, space: AddressSpace) -> Result<(), EntryPointError>
-    ensures { Finds (ray_points stage space) result }
+    ensures { Finds (FirstOf (ray_points stage space)) result }
 {
     match space {
         AddressSpace::RayPayload if !hands_payload(stage) => Err(

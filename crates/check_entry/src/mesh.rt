@@ -1,9 +1,9 @@
 //! The checks of what an entry point says of its mesh.
 
 ghost use Rattle.std.specs.Prelude.{◌≡◌};
-ghost use Rattle.check_scope.specs.walk.Findings.{Finds};
 ghost use Rattle.check_entry.specs.Mesh.{mesh_error, override_at, is_implied, with_overrides_of, is_points, variable_points, stated_points};
 ghost use Rattle.check_entry.specs.EntryUses.{is_work_group, lies_in};
+ghost use Rattle.check_errors.specs.Answers.{Finds, FirstOf};
 
 use crate::error::EntryPointError;
 use check_errors::mesh::MeshFault;
@@ -35,7 +35,7 @@ fn is_in_work_group(module: &Module, global: Handle<tag::GlobalVariable>) -> boo
 
 /// The output variable lies in a work group.
 pub fn check_variable(module: &Module, mesh: &MeshStageInfo) -> Result<(), EntryPointError>
-    ensures { Finds (variable_points «module».now mesh.now) result }
+    ensures { Finds (FirstOf (variable_points «module».now mesh.now)) result }
 {
     if !is_in_work_group(module, mesh.output_variable) {
         return Err(EntryPointError::WrongMeshOutputAddressSpace);
@@ -97,7 +97,7 @@ pub fn check_stated(
     implied: &MeshStageInfo,
     mesh: &MeshStageInfo,
 ) -> Result<(), EntryPointError>
-    ensures { Finds (stated_points capabilities «module».now overrides.now implied.now mesh.now) result }
+    ensures { Finds (FirstOf (stated_points capabilities «module».now overrides.now implied.now mesh.now)) result }
 {
     if !is_implied(
         overrides[0],

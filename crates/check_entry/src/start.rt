@@ -2,8 +2,8 @@
 
 ghost use Rattle.std.specs.Prelude.{◌≡◌};
 ghost use Rattle.std.specs.List.{list_all};
-ghost use Rattle.check_scope.specs.walk.Findings.{Finds};
 ghost use Rattle.check_entry.specs.Start.{needed_by, needed_points, is_fragment, depth_points, has_work_groups, is_group_size, is_zero, size_points, mesh_info_points, start_points};
+ghost use Rattle.check_errors.specs.Answers.{Finds, FirstOf};
 
 use crate::error::EntryPointError;
 use check_errors::interface::VaryingError;
@@ -16,7 +16,7 @@ const MAX_WORKGROUP_SIZE: u32 = 16384;
 /// What the stage needs, the early depth test, the size of a work group, and whether something is said of a mesh.
 #[tactic(auto, using(crate::proofs::EntrySteps::finding))]
 pub fn check_start(capabilities: Capabilities, ep: &EntryPoint) -> Result<(), EntryPointError>
-    ensures { Finds (start_points capabilities ep.now) result }
+    ensures { Finds (FirstOf (start_points capabilities ep.now)) result }
 {
     check_needed(capabilities, needed_by(ep.stage))?;
     check_depth_test(capabilities, ep.stage, ep.early_depth_test)?;
@@ -42,7 +42,7 @@ fn check_needed(
     capabilities: Capabilities,
     needed: Option<Capabilities>,
 ) -> Result<(), EntryPointError>
-    ensures { Finds (needed_points capabilities needed) result }
+    ensures { Finds (FirstOf (needed_points capabilities needed)) result }
 {
     match needed {
         Some(some) if !capabilities.contains(some) => Err(EntryPointError::UnsupportedCapability(
@@ -58,7 +58,7 @@ fn check_depth_test(
     stage: ShaderStage,
     test: Option<EarlyDepthTest>,
 ) -> Result<(), EntryPointError>
-    ensures { Finds (depth_points capabilities stage test) result }
+    ensures { Finds (FirstOf (depth_points capabilities stage test)) result }
 {
     if test.is_none() {
         return Ok(());
@@ -114,7 +114,7 @@ fn are_zero(size: &[u32]) -> bool
 
 /// The invocations of a work group along each dimension; 0 at a stage without work groups.
 fn check_workgroup_size(stage: ShaderStage, size: &[u32]) -> Result<(), EntryPointError>
-    ensures { Finds (size_points stage size.now) result }
+    ensures { Finds (FirstOf (size_points stage size.now)) result }
 {
     if has_work_groups(stage) {
         if !are_group_sizes(size) {
@@ -130,7 +130,7 @@ fn check_workgroup_size(stage: ShaderStage, size: &[u32]) -> Result<(), EntryPoi
 
 /// What is said of a mesh: something at the mesh stage, nothing at others.
 fn check_mesh_info(stage: ShaderStage, info: Option<MeshStageInfo>) -> Result<(), EntryPointError>
-    ensures { Finds (mesh_info_points stage info) result }
+    ensures { Finds (FirstOf (mesh_info_points stage info)) result }
 {
     match stage {
         ShaderStage::Mesh => if info.is_none() {

@@ -2,8 +2,8 @@
 
 ghost use Rattle.std.specs.Prelude.{◌≡◌, ◌<◌, IfSome, length};
 ghost use Rattle.check_variables.specs.Spaces.{is_task_payload};
-ghost use Rattle.check_scope.specs.walk.Findings.{Finds};
 ghost use Rattle.check_entry.specs.EntryUses.{lies_in, place_points, made_points, taken_points, payload_points, with_use_of, output_variable_of, with_own_uses, only, stage_points};
+ghost use Rattle.check_errors.specs.Answers.{Finds, FirstOf};
 
 use crate::error::EntryPointError;
 use bitflags::Flags;
@@ -16,7 +16,7 @@ use ir_types::types::AddressSpace;
 
 /// The task payload: the task stage has one, the mesh stage may have one, others have none; and it lies in its space.
 pub fn check_payload(module: &Module, ep: &EntryPoint) -> Result<(), EntryPointError>
-    ensures { Finds (payload_points «module».now.global_variables ep.now.stage ep.now.task_payload) result }
+    ensures { Finds (FirstOf (payload_points «module».now.global_variables ep.now.stage ep.now.task_payload)) result }
 {
     match ep.stage {
         ShaderStage::Task => check_made(module, ep.task_payload),
@@ -38,7 +38,7 @@ fn check_made(
     module: &Module,
     payload: Option<Handle<tag::GlobalVariable>>,
 ) -> Result<(), EntryPointError>
-    ensures { Finds (made_points «module».now.global_variables payload) result }
+    ensures { Finds (FirstOf (made_points «module».now.global_variables payload)) result }
 {
     match payload {
         Some(payload) => check_place(module, payload),
@@ -50,7 +50,7 @@ fn check_taken(
     module: &Module,
     payload: Option<Handle<tag::GlobalVariable>>,
 ) -> Result<(), EntryPointError>
-    ensures { Finds (taken_points «module».now.global_variables payload) result }
+    ensures { Finds (FirstOf (taken_points «module».now.global_variables payload)) result }
 {
     match payload {
         Some(payload) => check_place(module, payload),
@@ -60,7 +60,7 @@ fn check_taken(
 
 /// A payload lies in its space.
 fn check_place(module: &Module, payload: Handle<tag::GlobalVariable>) -> Result<(), EntryPointError>
-    ensures { Finds (place_points «module».now.global_variables payload) result }
+    ensures { Finds (FirstOf (place_points «module».now.global_variables payload)) result }
 {
     if !is_payload(module, payload) {
         return Err(EntryPointError::TaskPayloadWrongAddressSpace);
@@ -143,7 +143,7 @@ fn only(stage: ShaderStage) -> ShaderStages
 
 /// What the function does is for this stage.
 pub fn check_stage(stage: ShaderStage, available: ShaderStages) -> Result<(), EntryPointError>
-    ensures { Finds (stage_points stage available) result }
+    ensures { Finds (FirstOf (stage_points stage available)) result }
 {
     if !available.contains(only(stage)) {
         return Err(EntryPointError::ForbiddenStageOperations);

@@ -7,11 +7,11 @@ ghost use Rattle.ir_facts.specs.Points.{Point, within};
 ghost use Rattle.ir_types.specs.TypeTests.{it_is};
 ghost use Rattle.ir_types.specs.declared.built_in.BuiltIn.TheVariants.{PointIndex, LineIndices, TriangleIndices};
 ghost use Rattle.check_errors.specs.TypeInfos.{type_has};
-ghost use Rattle.check_varyings.specs.VaryingFaults.{IsFirstVaryingFault, VaryingFault as Given};
+ghost use Rattle.check_varyings.specs.VaryingFaults.{VaryingFault as Given, varying_fault_of};
 ghost use Rattle.check_varyings.specs.Varyings.{seen_in};
-ghost use Rattle.check_scope.specs.walk.Findings.{Finds};
-ghost use Rattle.check_entry.specs.EntryFaults.{IsForFirstFault, OfArgument, OfResult};
+ghost use Rattle.check_entry.specs.EntryFaults.{OfArgument, OfResult, fault_of};
 ghost use Rattle.check_entry.specs.EntryVaryings.{is_struct, is_three_counts, returns_counts, is_one_of_three, returned_points, are_blend_sources, with_blending};
+ghost use Rattle.check_errors.specs.Answers.{Finds, FirstOf, IsFirstFault, refusal_read_by};
 
 use crate::answers::refusal;
 use crate::error::EntryPointError;
@@ -58,7 +58,7 @@ pub fn check_returned(
     position: bool,
     declared: Option<FunctionResult>,
 ) -> Result<(), EntryPointError>
-    ensures { Finds (returned_points «module».now.types stage position declared) result }
+    ensures { Finds (FirstOf (returned_points «module».now.types stage position declared)) result }
 {
     match stage {
         ShaderStage::Vertex if !position => Err(EntryPointError::MissingVertexOutputPosition),
@@ -96,8 +96,8 @@ pub fn argument_refused(
     index: u32,
     refused: Refusal<VaryingError>,
 ) -> Refusal<EntryPointError>
-    ensures { (points : List (Point Given)) → IsFirstVaryingFault points refused →
-        IsForFirstFault (within (OfArgument index) points) result }
+    ensures { (points : List (Point Given)) → IsFirstFault points (refusal_read_by varying_fault_of refused) →
+        IsFirstFault (within (OfArgument index) points) (refusal_read_by fault_of result) }
 {
     match refused {
         Refusal::Fault(fault) => refusal(
@@ -110,8 +110,8 @@ pub fn argument_refused(
 
 /// The refusal of the result, or of an output of a mesh.
 pub fn result_refused(refused: Refusal<VaryingError>) -> Refusal<EntryPointError>
-    ensures { (points : List (Point Given)) → IsFirstVaryingFault points refused →
-        IsForFirstFault (within OfResult points) result }
+    ensures { (points : List (Point Given)) → IsFirstFault points (refusal_read_by varying_fault_of refused) →
+        IsFirstFault (within OfResult points) (refusal_read_by fault_of result) }
 {
     match refused {
         Refusal::Fault(fault) => Refusal::Fault(fault.into_other()),

@@ -1,9 +1,9 @@
-//! What the analysis of uniformity says. This layer carries it unread.
+//! What the analysis of uniformity found. No check here reads it.
 
-/// What asks for uniform control flow: a number that is carried unread.
+/// What needs uniform control flow: a number that no check reads.
 #[derive(Clone, Copy, PartialEq, Eq, PartialOrd, Ord, Hash, Debug)]
 pub struct UniformityRequirements(pub u32);
 
-/// What makes control flow not uniform: a number that is carried unread.
+/// What makes control flow non-uniform: a number that no check reads.
 #[derive(Clone, Copy, PartialEq, Eq, PartialOrd, Ord, Hash, Debug)]
 pub struct UniformityDisruptor(pub u32);

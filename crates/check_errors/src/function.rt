@@ -1,4 +1,4 @@
-//! What can be wrong with a function: the errors of naga 30.0.1's `valid::function`, with its variants and fields.
+//! The errors of functions: those of naga 30.0.1's `valid::function`, with its variants and fields.
 
 ghost use Rattle.std.specs.Prelude.{◌≡◌};
 ghost use Rattle.check_errors.specs.declared.function.FunctionError.TheVariants.{InvalidAtomic, InvalidSubgroup};
@@ -21,7 +21,7 @@ use thiserror::Error;
 /// What is wrong with a call of a function.
 #[derive(Clone, Copy, PartialEq, Debug, Error)]
 pub enum CallError {
-    /// An argument, counted from 0, has this fault as an expression: it isn't in scope.
+    /// An argument, counted from 0, has this fault: it isn't in scope.
     #[error("Argument")]
     Argument {
         index: usize,
@@ -30,24 +30,23 @@ pub enum CallError {
     /// The result is in scope before the call.
     #[error("ResultAlreadyInScope")]
     ResultAlreadyInScope(Handle<tag::Expression>),
-    /// An earlier call or atomic operation names the result too, or expressions are not looked at.
+    /// An earlier call or atomic operation has this result, or the flag EXPRESSIONS is off.
     #[error("ResultAlreadyPopulated")]
     ResultAlreadyPopulated(Handle<tag::Expression>),
-    /// So many arguments are given where the callee declares another number.
+    /// The call passes another number of arguments than the function declares.
     #[error("ArgumentCount")]
     ArgumentCount {
         required: usize,
         seen: usize,
     },
-    /// An argument, counted from 0, has another type than the callee declares.
+    /// An argument, counted from 0, is of another type than the function declares.
     #[error("ArgumentType")]
     ArgumentType {
         index: usize,
         required: Handle<tag::Type>,
         seen_expression: Handle<tag::Expression>,
     },
-    /// The result isn't one of this callee, or is there although the callee has none, or is missing although it has
-    /// one.
+    /// The call must have a result, a `CallResult` of its function, exactly if the function returns a value.
     #[error("ExpressionMismatch")]
     ExpressionMismatch(Option<Handle<tag::Expression>>),
 }
@@ -58,34 +57,34 @@ pub enum AtomicError {
     /// The pointer doesn't point to an atomic.
     #[error("InvalidPointer")]
     InvalidPointer(Handle<tag::Expression>),
-    /// The atomic lies in a space where the operation isn't done on its scalar.
+    /// The operation isn't supported on this scalar type in this address space.
     #[error("InvalidAddressSpace")]
     InvalidAddressSpace(AddressSpace),
-    /// The value, or the value to compare with, is not of the atomic's scalar.
+    /// The value, or the value to compare with, is not of the atomic's scalar type.
     #[error("InvalidOperand")]
     InvalidOperand(Handle<tag::Expression>),
-    /// The operation isn't done on the atomic's scalar.
+    /// The operation isn't supported on the atomic's scalar type.
     #[error("InvalidOperator")]
     InvalidOperator(AtomicFunction),
-    /// The result is no `AtomicResult`.
+    /// The result is not an `AtomicResult`.
     #[error("InvalidResultExpression")]
     InvalidResultExpression(Handle<tag::Expression>),
-    /// The result is that of a compare exchange, and the operation is none.
+    /// The result is marked as that of a compare exchange, and the operation compares nothing.
     #[error("ResultExpressionExchange")]
     ResultExpressionExchange(Handle<tag::Expression>),
-    /// The operation is a compare exchange, and the result isn't one's.
+    /// The operation is a compare exchange, and the result isn't marked as that of one.
     #[error("ResultExpressionNotExchange")]
     ResultExpressionNotExchange(Handle<tag::Expression>),
-    /// The result has another type than the operation gives.
+    /// The result is of another type than the operation returns.
     #[error("ResultTypeMismatch")]
     ResultTypeMismatch(Handle<tag::Expression>),
-    /// An exchange that compares nothing has no result.
+    /// An exchange that compares nothing must have a result.
     #[error("MissingReturnValue")]
     MissingReturnValue,
-    /// The target lacks what the operation needs.
+    /// The target lacks a capability that the operation needs.
     #[error("MissingCapability")]
     MissingCapability(Capabilities),
-    /// An earlier call or atomic operation names the result too, or expressions are not looked at.
+    /// An earlier call or atomic operation has this result, or the flag EXPRESSIONS is off.
     #[error("ResultAlreadyPopulated")]
     ResultAlreadyPopulated(Handle<tag::Expression>),
 }
@@ -93,19 +92,19 @@ pub enum AtomicError {
 /// What is wrong with an operation among the invocations of a subgroup.
 #[derive(Clone, Copy, PartialEq, Debug, Error)]
 pub enum SubgroupError {
-    /// The operand is of a type that the operation isn't done on.
+    /// The operation isn't supported on the operand's type.
     #[error("InvalidOperand")]
     InvalidOperand(Handle<tag::Expression>),
-    /// The result is of another kind or type than the operation gives.
+    /// The result is of another kind or type than the operation returns.
     #[error("ResultTypeMismatch")]
     ResultTypeMismatch(Handle<tag::Expression>),
-    /// The target lacks these operations.
+    /// The target doesn't support these subgroup operations.
     #[error("UnsupportedOperation")]
     UnsupportedOperation(SubgroupOperationSet),
-    /// There is no scan by this operation.
+    /// A scan supports only Add and Mul.
     #[error("UnknownOperation")]
     UnknownOperation,
-    /// The index of an invocation has to be a constant here.
+    /// The index of a broadcast must be a constant.
     #[error("InvalidInvocationIdExprType")]
     InvalidInvocationIdExprType(Handle<tag::Expression>),
 }
@@ -113,13 +112,13 @@ pub enum SubgroupError {
 /// What is wrong with a local variable.
 #[derive(Clone, Copy, PartialEq, Debug, Error)]
 pub enum LocalVariableError {
-    /// A local can't be of this type, since it isn't constructible.
+    /// The type of a local variable must be constructible.
     #[error("InvalidType")]
     InvalidType(Handle<tag::Type>),
     /// The initializer is of another type than the variable.
     #[error("InitializerType")]
     InitializerType,
-    /// The initializer is known only as the function runs.
+    /// The initializer must be a constant or an override expression.
     #[error("NonConstOrOverrideInitializer")]
     NonConstOrOverrideInitializer,
 }
@@ -132,9 +131,9 @@ pub enum FunctionError {
         handle: Handle<tag::Expression>,
         source: ExpressionError,
     },
-    /// A statement puts an expression in scope that is there already.
+    /// A statement brings an expression into scope that is already in scope.
     ExpressionAlreadyInScope(Handle<tag::Expression>),
-    /// A local has this fault.
+    /// A local variable has this fault.
     LocalVariable {
         handle: Handle<tag::LocalVariable>,
         name: Name,
@@ -145,32 +144,32 @@ pub enum FunctionError {
         index: usize,
         name: Name,
     },
-    /// The result is of a type that can't be returned, since it isn't constructible.
+    /// The return type must be constructible.
     NonConstructibleReturnType,
-    /// An argument, counted from 0, points into a space other than `Function` and `Private`.
+    /// A pointer argument, counted from 0, points into an address space other than `Function` and `Private`.
     InvalidArgumentPointerSpace {
         index: usize,
         name: Name,
         space: AddressSpace,
     },
-    /// A break has no case of a switch and no loop body to leave, or stands in a continuing part between.
+    /// A break must be inside a loop body or a switch case, with no continuing block between.
     BreakOutsideOfLoopOrSwitch,
-    /// A continue has no loop body around it, or stands in a continuing part between.
+    /// A continue must be inside a loop body, with no continuing block between.
     ContinueOutsideOfLoop,
-    /// A return stands in a continuing part.
+    /// A return stands in a continuing block.
     InvalidReturnSpot,
-    /// What is returned, if anything, doesn't match the declared type, if any.
+    /// The returned value doesn't match the declared return type, or only one of them is there.
     InvalidReturnType {
         expression: Option<Handle<tag::Expression>>,
         expected_ty: Option<Handle<tag::Type>>,
     },
-    /// The condition of an if or of a loop's end is no bool.
+    /// The condition of an if, or the `break_if` of a loop, is not a bool.
     InvalidIfType(Handle<tag::Expression>),
     /// The selector of a switch is not made of integers.
     InvalidSwitchType(Handle<tag::Expression>),
     /// Two cases of a switch have this value.
     ConflictingSwitchCase(SwitchValue),
-    /// A case value has another signedness than the selector.
+    /// A case value is signed and the selector isn't, or the other way round.
     ConflictingCaseType,
     /// A switch has no default case.
     MissingDefaultCase,
@@ -178,95 +177,95 @@ pub enum FunctionError {
     MultipleDefaultCases,
     /// The last case of a switch falls through.
     LastCaseFallTrough,
-    /// The pointer doesn't lead back to a variable or an argument (then this is where it stops), or its space takes
-    /// no stores.
+    /// The pointer doesn't lead to a variable or an argument (this is where it ends), or its address space is not
+    /// writable.
     InvalidStorePointer(Handle<tag::Expression>),
-    /// The value of a store is an image or a sampler.
+    /// The stored value is an image or a sampler.
     InvalidStoreTexture {
         actual: Handle<tag::Expression>,
         actual_ty: TypeInner,
     },
-    /// The texel of an image store is of another type than the image's format has.
+    /// The value of an image store is of another type than the image's format has.
     InvalidStoreValue {
         actual: Handle<tag::Expression>,
         actual_ty: TypeInner,
         expected_ty: TypeInner,
     },
-    /// The value of a store is of another type than the pointer points to.
+    /// The stored value is not of the type that the pointer points to.
     InvalidStoreTypes {
         pointer: Handle<tag::Expression>,
         value: Handle<tag::Expression>,
     },
     /// The image, the coordinate or the array index of an image store has this fault.
     InvalidImageStore(ExpressionError),
-    /// The image, the coordinate or the array index of an atomic operation on an image has this fault.
+    /// The image, the coordinate or the array index of an image atomic has this fault.
     InvalidImageAtomic(ExpressionError),
-    /// The operation isn't done on texels of the image's format.
+    /// The image's format doesn't support this atomic operation.
     InvalidImageAtomicFunction(AtomicFunction),
-    /// The value of an atomic operation on an image isn't of the scalar of the image's format.
+    /// The value of an image atomic is not of the scalar type of the image's format.
     InvalidImageAtomicValue(Handle<tag::Expression>),
-    /// A call of the function has this fault.
+    /// A call of this function has this fault.
     InvalidCall {
         function: Handle<tag::Function>,
         error: CallError,
     },
     /// An atomic operation has this fault.
     InvalidAtomic(AtomicError),
-    /// The query isn't a local variable.
+    /// The ray query is not a local variable.
     InvalidRayQueryExpression(Handle<tag::Expression>),
-    /// The expression is no acceleration structure.
+    /// The expression is not an acceleration structure.
     InvalidAccelerationStructure(Handle<tag::Expression>),
-    /// The query, which is second, returns vertices, and the acceleration structure, which is first, doesn't.
+    /// The ray query (second) returns vertices, and the acceleration structure (first) doesn't.
     MissingAccelerationStructureVertexReturn(Handle<tag::Expression>, Handle<tag::Expression>),
-    /// The query doesn't return vertices. It comes from a lower layer alone.
+    /// The ray query doesn't return vertices. Only a lower layer reports it.
     MissingRayQueryVertexReturn(Handle<tag::Expression>),
-    /// The expression isn't of the module's type of ray descriptors.
+    /// The expression is not of the module's ray descriptor type.
     InvalidRayDescriptor(Handle<tag::Expression>),
-    /// The query is a variable of this other type.
+    /// The ray query is a variable of this other type.
     InvalidRayQueryType(Handle<tag::Type>),
-    /// The distance of a hit is no float.
+    /// The hit distance is not a float.
     InvalidHitDistanceType(Handle<tag::Expression>),
-    /// The target lacks what a statement needs.
+    /// The target lacks a capability that a statement needs.
     MissingCapability(Capabilities),
-    /// Control flow has to be uniform at the expression, and isn't. It comes from a lower layer alone.
+    /// The expression needs uniform control flow. Only a lower layer reports it.
     NonUniformControlFlow(UniformityRequirements, Handle<tag::Expression>, UniformityDisruptor),
-    /// An argument is bound, and the function is no entry point's.
+    /// An argument has a binding, and the function is not an entry point.
     PipelineInputRegularFunction {
         name: Name,
     },
-    /// The result is bound, and the function is no entry point's.
+    /// The result has a binding, and the function is not an entry point.
     PipelineOutputRegularFunction,
-    /// Control flow has to be uniform at a uniform load, and isn't. It comes from a lower layer alone.
+    /// A workgroup uniform load needs uniform control flow. Only a lower layer reports it.
     NonUniformWorkgroupUniformLoad(UniformityDisruptor),
-    /// The result of a uniform load isn't one.
+    /// The result of a workgroup uniform load is not a `WorkGroupUniformLoadResult`.
     WorkgroupUniformLoadExpressionMismatch(Handle<tag::Expression>),
-    /// A uniform load reads outside of `WorkGroup`, or another type than its result has.
+    /// A workgroup uniform load reads outside of `WorkGroup`, or another type than its result has.
     WorkgroupUniformLoadInvalidPointer(Handle<tag::Expression>),
     /// A subgroup operation or a subgroup barrier has this fault.
     InvalidSubgroup(SubgroupError),
-    /// The target of a cooperative store is no cooperative matrix.
+    /// The target of a cooperative store is not a cooperative matrix.
     InvalidCooperativeStoreTarget(Handle<tag::Expression>),
-    /// The data pointer of a cooperative store points to another scalar than the matrix has.
+    /// The data pointer of a cooperative store points to another scalar type than the matrix has.
     InvalidCooperativeDataPointer(Handle<tag::Expression>),
-    /// An emit names a result that another kind of statement puts in scope.
+    /// An emit covers the result of another statement, which alone brings it into scope.
     EmitResult(Handle<tag::Expression>),
-    /// No call and no atomic operation of the body names this result.
+    /// No call and no atomic operation of the body has this result.
     UnvisitedExpression(Handle<tag::Expression>),
-    /// A count that a mesh shader sets is no `u32`. It comes from a lower layer alone.
+    /// A count that a mesh shader sets is not a `u32`. Only a lower layer reports it.
     InvalidMeshFunctionCall(Handle<tag::Expression>),
-    /// A mesh shader has outputs of two types. It comes from a lower layer alone.
+    /// A mesh shader has outputs of two types. Only a lower layer reports it.
     ConflictingMeshOutputTypes(Handle<tag::Expression>, Handle<tag::Expression>),
-    /// A function uses two task payloads. It comes from a lower layer alone.
+    /// A function uses two task payloads. Only a lower layer reports it.
     ConflictingTaskPayloadVariables(Handle<tag::Expression>, Handle<tag::Expression>),
-    /// An output of a mesh shader is no struct. It comes from a lower layer alone.
+    /// An output of a mesh shader is not a struct. Only a lower layer reports it.
     InvalidMeshShaderOutputType(Handle<tag::Expression>),
-    /// The payload of a ray is no pointer.
+    /// The payload of a ray is not a pointer.
     InvalidPayloadType,
-    /// The payload of a ray lies in this space and not in one for ray payloads.
+    /// The payload of a ray is in this address space, which is not for ray payloads.
     InvalidPayloadAddressSpace(AddressSpace),
-    /// The payload of a ray is of the first type, and that of an earlier ray of the second.
+    /// The payload of this ray is of the first type, and that of an earlier ray of the second.
     MismatchedPayloadType(Handle<tag::Type>, Handle<tag::Type>),
-    /// The payload of a ray is no global.
+    /// The payload of a ray is not a global variable.
     PayloadPointerNotGlobal,
 }
 

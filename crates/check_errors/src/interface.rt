@@ -1,5 +1,5 @@
-//! What can be wrong with a global variable, and with what a stage takes in and puts out: errors of naga 30.0.1's
-//! `valid::interface`, with its variants and fields.
+//! The errors of global variables, and of inputs and outputs of a stage: those of naga 30.0.1's `valid::interface`,
+//! with its variants and fields.
 
 mod clones;
 mod texts;
@@ -17,55 +17,55 @@ use thiserror::Error;
 /// What is wrong with a global variable.
 #[derive(Clone, Copy, PartialEq, Debug, Error)]
 pub enum GlobalVariableError {
-    /// No global of this type lies in this space.
+    /// A global of this type can't be in this address space.
     #[error("InvalidUsage")]
     InvalidUsage(AddressSpace),
-    /// The space holds resources alone, and this type is none.
+    /// Only images, samplers, acceleration structures and ray queries can be in this address space.
     #[error("InvalidType")]
     InvalidType(AddressSpace),
     /// The type can't be in a binding array. It is never made here.
     #[error("InvalidBindingArray")]
     InvalidBindingArray(Handle<tag::Type>),
-    /// The type can't be used as the space requires.
+    /// The type lacks flags that the address space needs.
     #[error("MissingTypeFlags")]
     MissingTypeFlags {
         required: TypeFlags,
         seen: TypeFlags,
     },
-    /// The target lacks what the global needs.
+    /// The target lacks a capability that the global needs.
     #[error("UnsupportedCapability")]
     UnsupportedCapability(Capabilities),
-    /// A binding is missing where the space is bound, or is there where it isn't.
+    /// A global must have a binding exactly if it is in `Storage`, `Uniform` or `Handle`.
     #[error("InvalidBinding")]
     InvalidBinding,
-    /// The layout of the type, which this inner type spoils, is bad in this space.
+    /// The layout of the type isn't valid in this address space, because of this inner type.
     #[error("Alignment")]
     Alignment(AddressSpace, Handle<tag::Type>, Disalignment),
-    /// The initializer is known only as a shader runs.
+    /// The initializer must be a constant or an override expression.
     #[error("InitializerExprType")]
     InitializerExprType,
     /// The initializer is of another type than the variable.
     #[error("InitializerType")]
     InitializerType,
-    /// A global in this space has no initializer.
+    /// A global in this address space can't have an initializer.
     #[error("InitializerNotAllowed")]
     InitializerNotAllowed(AddressSpace),
-    /// Storage that can be stored to has to be loaded from too.
+    /// A global in `Storage` can't be write-only.
     #[error("StorageAddressSpaceWriteOnlyNotSupported")]
     StorageAddressSpaceWriteOnlyNotSupported,
-    /// The type can't be an immediate.
+    /// The type can't be that of an immediate.
     #[error("InvalidImmediateType")]
     InvalidImmediateType(ImmediateError),
-    /// A task payload takes no bytes.
+    /// A task payload has a size of 0 bytes.
     #[error("ZeroSizedTaskPayload")]
     ZeroSizedTaskPayload,
-    /// Memory decorations are for storage alone.
+    /// Only a global in `Storage` can have memory decorations.
     #[error("InvalidMemoryDecorationsAddressSpace")]
     InvalidMemoryDecorationsAddressSpace,
-    /// The target has no coherent memory.
+    /// The target doesn't support coherent memory.
     #[error("CoherentNotSupported")]
     CoherentNotSupported,
-    /// The target has no volatile memory.
+    /// The target doesn't support volatile memory.
     #[error("VolatileNotSupported")]
     VolatileNotSupported,
 }
@@ -73,73 +73,73 @@ pub enum GlobalVariableError {
 /// What is wrong with an input or an output of a stage.
 #[derive(PartialEq, Debug, Drop)]
 pub enum VaryingError {
-    /// Nothing of this type goes in or out at a location.
+    /// An input or output at a location can't be of this type.
     InvalidType(Handle<tag::Type>),
-    /// The type isn't shared between stages.
+    /// The type can't be shared between stages.
     NotIOShareableType(Handle<tag::Type>),
-    /// The interpolation is for this stage alone.
+    /// The interpolation is for this stage only.
     InvalidInterpolationInStage(Interpolation, ShaderStage),
-    /// The interpolation doesn't go with the sampling.
+    /// The interpolation can't be combined with the sampling.
     InvalidInterpolationSamplingCombination {
         interpolation: Interpolation,
         sampling: Sampling,
     },
-    /// An integer has to be interpolated flat here.
+    /// An integer must have the interpolation `Flat` here.
     InvalidInterpolationForInteger,
-    /// A float has to have an interpolation here.
+    /// A float must have an interpolation here.
     MissingInterpolation,
-    /// The built-in isn't visible at this stage in this direction.
+    /// The built-in doesn't exist at this stage in this direction.
     InvalidBuiltInStage(BuiltIn),
-    /// The built-in is of another type than the one that is given, which is carried.
+    /// The built-in can't be of this type, which is the given one.
     InvalidBuiltInType(BuiltIn, TypeInner),
-    /// An argument or a result that is no struct has no binding.
+    /// An argument or a result that is not a struct must have a binding.
     MissingBinding,
-    /// A member of a struct, counted from 0, has no binding.
+    /// The member of a struct with this index, counted from 0, has no binding.
     MemberMissingBinding(u32),
-    /// Two parts of a group are at this location.
+    /// Two inputs or two outputs have this location.
     BindingCollision {
         location: u32,
     },
-    /// Two members are this source of a blend. It is never made here.
+    /// Two members have this blend source. It is never made here.
     BindingCollisionBlendSrc {
         blend_src: u32,
     },
-    /// A group has the built-in twice; this is the later one, with its own flags.
+    /// Two inputs or two outputs have this built-in.
     DuplicateBuiltIn(BuiltIn),
-    /// The target lacks what the part needs.
+    /// The target lacks a capability that the input or output needs.
     UnsupportedCapability(Capabilities),
-    /// The attribute is for outputs of this stage alone.
+    /// The attribute is for outputs of this stage only.
     InvalidInputAttributeInStage(&'static str, ShaderStage),
     /// The attribute is not for this stage.
     InvalidAttributeInStage(&'static str, ShaderStage),
-    /// A source of a blend stands elsewhere than at location 0, or is neither 0 nor 1. It is never made here.
+    /// A blend source must be at location 0, and must be 0 or 1. It is never made here.
     InvalidBlendSrcIndex {
         location: u32,
         blend_src: u32,
     },
-    /// Only one source of a blend is there. It is never made here.
+    /// Only one of the two blend sources is there. It is never made here.
     IncompleteBlendSrcUsage {
         present_blend_src: u32,
     },
-    /// A location stands beside the sources of a blend. It is never made here.
+    /// Blend sources can't be combined with other locations. It is never made here.
     InvalidBlendSrcWithOtherBindings {
         location: u32,
     },
-    /// The sources of a blend are of two types. It is never made here.
+    /// The two blend sources are of different types. It is never made here.
     BlendSrcOutputTypeMismatch {
         blend_src_0_type: Handle<tag::Type>,
         blend_src_1_type: Handle<tag::Type>,
     },
-    /// A source of a blend is no member of a struct.
+    /// A blend source is not on a member of a struct.
     BlendSrcNotOnStructMember,
-    /// The built-in is for work groups of one dimension alone.
+    /// The built-in needs a workgroup of one dimension.
     InvalidMultiDimensionalSubgroupBuiltIn,
-    /// Only primitive outputs of a mesh and fragment inputs go by primitive.
+    /// Only primitive outputs of a mesh and fragment inputs can be per primitive.
     InvalidPerPrimitive,
-    /// A primitive output of a mesh has to go by primitive.
+    /// A primitive output of a mesh must be per primitive.
     MissingPerPrimitive,
-    /// An input for each vertex has to be an array of 3.
+    /// A per-vertex input must be an array of 3.
     PerVertexNotArrayOfThree,
-    /// An input for each vertex has no sampling, or one at the center.
+    /// A per-vertex input must have the sampling `Center`, or none.
     InvalidPerVertexSampling,
 }

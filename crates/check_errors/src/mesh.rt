@@ -1,4 +1,4 @@
-//! What a lower layer finds out about the output variable of a mesh shader.
+//! The analysis of the output variable of a mesh shader, by a lower layer.
 
 ghost use Rattle.std.specs.Prelude.{◌≡◌, IfOk};
 
@@ -9,19 +9,19 @@ use ir_module::module::MeshStageInfo;
 use std::alloc::{AllocError, Global};
 use thiserror::Error;
 
-/// What is wrong with the variable that a mesh shader puts its output in.
+/// What is wrong with the output variable of a mesh shader.
 #[derive(Clone, Copy, PartialEq, Eq, Debug, Error)]
 pub enum MeshFault {
-    /// The type isn't one that a mesh shader can put out.
+    /// The type can't be that of a mesh shader's output.
     #[error("OutputType")]
     OutputType,
-    /// A member of the type isn't one that a mesh shader can put out.
+    /// A member of the type can't be an output of a mesh shader.
     #[error("OutputField")]
     OutputField,
 }
 
-/// What the type of the output variable of a mesh shader implies of its stage. `overrides` are those of the
-/// greatest number of vertices and of primitives.
+/// What the type of a mesh shader's output variable implies. `overrides` are those of the maximum number of vertices
+/// and of primitives.
 #[derive(PartialEq, Debug, Drop)]
 pub struct MeshAnalysis {
     pub implied: MeshStageInfo,
@@ -30,7 +30,7 @@ pub struct MeshAnalysis {
 }
 
 impl MeshAnalysis {
-    /// An equal analysis, its fault with the same spans.
+    /// Clones the analysis, its fault with the same spans. An Err is out of memory.
     pub fn clone(&self, alloc: Global) -> Result<Self, AllocError>
         ensures { IfOk result (λ made. made ≡ self.now) }
     {

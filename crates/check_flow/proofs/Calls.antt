@@ -22,7 +22,7 @@ use Rattle.check_flow.specs.Call.{arguments_of, has_result, is_passed_as, passed
 use Rattle.check_scope.specs.Context.{Context}
 use Rattle.naga_runs.specs.PutsAndUses.{puts_of}
 use Rattle.check_scope.specs.ScopePoints.{Points, may_use, is_in_scope}
-use Rattle.check_errors.specs.Answers.{AnswersPoints}
+use Rattle.check_errors.specs.Answers.{Answers, FirstOf}
 use Rattle.check_scope.specs.walk.Findings.{AllHold, RefusesFaultsAlone}
 use Rattle.check_scope.specs.Results.{is_fresh}
 use Rattle.check_scope.specs.ExpressionTypes.{expression_at}
@@ -123,11 +123,11 @@ module _ (context : Context) (filled : Handles) (place : Place) (f : ℕ) (gs : 
       ap (λ z. within (InvalidCall f) (all_passed_points context place (arguments_of z) gs ++ call_result_points context filled place f (has_result z) named)) is
       ∙ within-append (InvalidCall f) (all_passed_points context place callee.arguments gs) (call_result_points context filled place f (is_some callee.result) named)
 
-  pub call_stops : {T : Type 0} (r : Result T (Refusal FunctionError)) → IsErr r → AnswersPoints arguments r → AnswersPoints (call_points context filled place f gs named) r
-  call_stops r err a = subst (λ ps. AnswersPoints ps r) (sym split) (refuses_first r arguments results err a)
+  pub call_stops : {T : Type 0} (r : Result T (Refusal FunctionError)) → IsErr r → Answers (FirstOf arguments) r → Answers (FirstOf (call_points context filled place f gs named)) r
+  call_stops r err a = subst (λ ps. Answers (FirstOf ps) r) (sym split) (refuses_first r arguments results err a)
 
-  pub call_next : {T : Type 0} (r : Result T (Refusal FunctionError)) → first_fault arguments ≡ None → AnswersPoints results r → AnswersPoints (call_points context filled place f gs named) r
-  call_next r none a = subst (λ ps. AnswersPoints ps r) (sym split) (refuses_second r arguments results none a)
+  pub call_next : {T : Type 0} (r : Result T (Refusal FunctionError)) → first_fault arguments ≡ None → Answers (FirstOf results) r → Answers (FirstOf (call_points context filled place f gs named)) r
+  call_next r none a = subst (λ ps. Answers (FirstOf ps) r) (sym split) (refuses_second r arguments results none a)
 
   both_alone : first_fault (call_points context filled place f gs named) ≡ None → (first_fault arguments ≡ None) × (first_fault results ≡ None)
   both_alone none = both_hold arguments results (ap first_fault (sym split) ∙ none)

@@ -10,7 +10,7 @@ ghost use Rattle.check_errors.specs.declared.function.CallError.TheVariants.{Arg
 ghost use Rattle.check_errors.specs.declared.function.FunctionError.TheVariants.{InvalidCall};
 ghost use Rattle.naga_runs.specs.PutsAndUses.{puts_of};
 ghost use Rattle.check_scope.specs.walk.Findings.{AllHold, IsRefusalFor, RefusesFaultsAlone};
-ghost use Rattle.check_errors.specs.Answers.{AnswersPoints};
+ghost use Rattle.check_errors.specs.Answers.{Answers, Finds, FirstOf};
 ghost use Rattle.check_flow.specs.Call.{is_passed_as, passed_points, all_passed_points, is_call_result_of, call_result_points, call_points};
 ghost use Rattle.check_scope.specs.Context.{ContextFits};
 ghost use Rattle.check_scope.specs.walk.Place.{place_at};
@@ -51,10 +51,8 @@ pub fn validate_call(
     requires context { ContextFits (context_of context.now) }
     requires callee { CalleeFits (context_of context.now).program site.now.function }
     requires result { IfSome site.now.named (λ r. r < count scope.old) }
-    ensures fault { AnswersPoints
-        (call_points (context_of context.now) (filled_in filled.now) (place_at (known scope.old)) site.now.function
-        arguments.now site.now.named)
-        result }
+    ensures fault { Answers (FirstOf (call_points (context_of context.now) (filled_in filled.now)
+        (place_at (known scope.old)) site.now.function arguments.now site.now.named)) result }
     ensures refused { RefusesFaultsAlone
         (call_points (context_of context.now) (filled_in filled.now) (place_at (known scope.old)) site.now.function
         arguments.now site.now.named)
@@ -78,10 +76,8 @@ fn check_call(
 ) -> Result<(), Refused>
     requires context { ContextFits (context_of context.now) }
     requires callee { CalleeFits (context_of context.now).program site.now.function }
-    ensures fault { AnswersPoints
-        (call_points (context_of context.now) (filled_in filled.now) (place_at (known scope.now)) site.now.function
-        arguments.now site.now.named)
-        result }
+    ensures fault { Answers (FirstOf (call_points (context_of context.now) (filled_in filled.now)
+        (place_at (known scope.now)) site.now.function arguments.now site.now.named)) result }
     ensures refused { RefusesFaultsAlone
         (call_points (context_of context.now) (filled_in filled.now) (place_at (known scope.now)) site.now.function
         arguments.now site.now.named)
@@ -177,10 +173,8 @@ fn first_fault_of_call(
 ) -> Result<(), Refused>
     requires context { ContextFits (context_of context.now) }
     requires callee { CalleeFits (context_of context.now).program site.now.function }
-    ensures fault { AnswersPoints
-        (call_points (context_of context.now) (filled_in filled.now) (place_at (known scope.now)) site.now.function
-        arguments.now site.now.named)
-        result }
+    ensures fault { Answers (FirstOf (call_points (context_of context.now) (filled_in filled.now)
+        (place_at (known scope.now)) site.now.function arguments.now site.now.named)) result }
     ensures refused { RefusesFaultsAlone
         (call_points (context_of context.now) (filled_in filled.now) (place_at (known scope.now)) site.now.function
         arguments.now site.now.named)
@@ -202,9 +196,9 @@ fn check_arguments(
 ) -> Result<(), Refused>
     requires context { ContextFits (context_of context.now) }
     requires types { All (λ argument. argument.ty < length (context_of context.now).program.types) declared.now }
-    ensures fault { AnswersPoints
-        (within (InvalidCall site.now.function)
-        (all_passed_points (context_of context.now) (place_at (known scope.now)) declared.now given.now))
+    ensures fault { Answers
+        (FirstOf (within (InvalidCall site.now.function)
+        (all_passed_points (context_of context.now) (place_at (known scope.now)) declared.now given.now)))
         result }
     ensures refused { RefusesFaultsAlone
         (within (InvalidCall site.now.function)
@@ -219,14 +213,10 @@ fn check_arguments(
         return Err(refused_call(scope.allocator(), site, error));
     }
     for index in 0..given.len() {
-        check_argument(
-            scope,
-            context,
-            site,
-            index,
-            declared[index].ty,
-            given[index],
-        )?;
+        let checked = check_argument(scope, context, index, declared[index].ty, given[index]);
+        if let Err(error) = checked {
+            return Err(refused_call(scope.allocator(), site, error));
+        }
     }
     Ok(())
 }
@@ -235,34 +225,25 @@ fn check_arguments(
 fn check_argument(
     scope: &ScopeColumn,
     context: &BlockContext,
-    site: &CallSite,
     index: usize,
     declared: Handle<tag::Type>,
     given: Handle<tag::Expression>,
-) -> Result<(), Refused>
+) -> Result<(), CallError>
     requires context { ContextFits (context_of context.now) }
     requires declared { declared < length (context_of context.now).program.types }
-    ensures fault { AnswersPoints
-        (within (InvalidCall site.now.function)
-        (passed_points (context_of context.now) (place_at (known scope.now)) index declared given))
-        result }
-    ensures refused { RefusesFaultsAlone
-        (within (InvalidCall site.now.function)
-        (passed_points (context_of context.now) (place_at (known scope.now)) index declared given))
-        result }
+    ensures { Finds (FirstOf (passed_points (context_of context.now) (place_at (known scope.now)) index declared
+        given)) result }
 {
     if !scope.may_use(given) {
         let source = ExpressionError::NotInScope;
-        let error = CallError::Argument { index, source };
-        return Err(refused_call(scope.allocator(), site, error));
+        return Err(CallError::Argument { index, source });
     }
     if !is_passed_as(context, given, declared) {
-        let error = CallError::ArgumentType {
+        return Err(CallError::ArgumentType {
             index,
             required: declared,
             seen_expression: given,
-        };
-        return Err(refused_call(scope.allocator(), site, error));
+        });
     }
     Ok(())
 }
@@ -276,10 +257,9 @@ fn check_call_result(
     site: &CallSite,
     returns: bool,
 ) -> Result<(), Refused>
-    ensures fault { AnswersPoints
-        (within (InvalidCall site.now.function) (call_result_points (context_of context.now) (filled_in filled.now)
-        (place_at (known scope.now)) site.now.function returns site.now.named))
-        result }
+    ensures fault { Answers (FirstOf (within (InvalidCall site.now.function) (call_result_points
+        (context_of context.now) (filled_in filled.now) (place_at (known scope.now)) site.now.function returns
+        site.now.named))) result }
     ensures refused { RefusesFaultsAlone
         (within (InvalidCall site.now.function) (call_result_points (context_of context.now) (filled_in filled.now)
         (place_at (known scope.now)) site.now.function returns site.now.named))

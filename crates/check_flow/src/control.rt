@@ -7,8 +7,8 @@ ghost use Rattle.check_scope.specs.Results.{is_result};
 ghost use Rattle.check_scope.specs.walk.Place.{no_sets, place_at};
 ghost use Rattle.check_flow.specs.walk.Emitted.{handles_between, place};
 ghost use Rattle.check_errors.specs.declared.function.FunctionError.TheVariants.{BreakOutsideOfLoopOrSwitch, ContinueOutsideOfLoop, InvalidReturnType};
-ghost use Rattle.check_scope.specs.walk.Findings.{AllHold, Finds, IsRefusalFor, RefusesFaultsAlone};
-ghost use Rattle.check_errors.specs.Answers.{AnswersPoints};
+ghost use Rattle.check_scope.specs.walk.Findings.{AllHold, IsRefusalFor, RefusesFaultsAlone};
+ghost use Rattle.check_errors.specs.Answers.{Answers, Finds, FirstOf};
 ghost use Rattle.check_scope.specs.Context.{ContextFits};
 ghost use Rattle.check_scope.specs.walk.SeenContext.{context_of};
 ghost use Rattle.check_scope.specs.BodyTrees.{operands_if};
@@ -32,7 +32,7 @@ use ir_types::typifier::TypeResolution;
 use naga_runs::Abilities;
 use std::alloc::Global;
 
-/// Emit: puts the expressions of a range in scope, one by one, each behind its operands.
+/// Emit: brings the expressions of a range into scope, one by one, each after its operands.
 pub fn validate_emit(
     scope: &mut ScopeColumn,
     context: &BlockContext,
@@ -40,8 +40,8 @@ pub fn validate_emit(
     span: Span,
 ) -> Result<(), Refused>
     requires { range.end ≤ count scope.old }
-    ensures fault { AnswersPoints
-        (emit_points (context_of context.now) (place_at (known scope.old)) range.start range.end) result }
+    ensures fault { Answers
+        (FirstOf (emit_points (context_of context.now) (place_at (known scope.old)) range.start range.end)) result }
     ensures refused { RefusesFaultsAlone
         (emit_points (context_of context.now) (place_at (known scope.old)) range.start range.end) result }
     ensures scope { OnOk result (HasPut scope.old scope.new (handles_between range.start range.end)) }
@@ -54,16 +54,16 @@ pub fn validate_emit(
     Ok(())
 }
 
-/// An expression that is emitted: no result of another statement, its operands put by every run, and itself not in scope yet.
+/// An expression that is emitted: no result of another statement, its operands put by every run, and itself not in
+/// scope yet.
 fn check_emitted(
     scope: &ScopeColumn,
     context: &BlockContext,
     handle: Handle<tag::Expression>,
     span: Span,
 ) -> Result<(), Refused>
-    ensures fault { AnswersPoints
-        (emitted_points (context_of context.now) (place_at (known scope.now)) (place_at (known scope.now)) handle)
-        result }
+    ensures fault { Answers (FirstOf (emitted_points (context_of context.now) (place_at (known scope.now))
+        (place_at (known scope.now)) handle)) result }
     ensures refused { RefusesFaultsAlone
         (emitted_points (context_of context.now) (place_at (known scope.now)) (place_at (known scope.now)) handle)
         result }
@@ -128,9 +128,8 @@ fn first_fault_of_emitted(
     handle: Handle<tag::Expression>,
     span: Span,
 ) -> Result<(), Refused>
-    ensures fault { AnswersPoints
-        (emitted_points (context_of context.now) (place_at (known scope.now)) (place_at (known scope.now)) handle)
-        result }
+    ensures fault { Answers (FirstOf (emitted_points (context_of context.now) (place_at (known scope.now))
+        (place_at (known scope.now)) handle)) result }
     ensures refused { RefusesFaultsAlone
         (emitted_points (context_of context.now) (place_at (known scope.now)) (place_at (known scope.now)) handle)
         result }
@@ -145,9 +144,8 @@ fn check_emitted_points(
     context: &BlockContext,
     handle: Handle<tag::Expression>,
 ) -> Result<(), FunctionError>
-    ensures { Finds
-        (emitted_points (context_of context.now) (place_at (known scope.now)) (place_at (known scope.now)) handle)
-        result }
+    ensures { Finds (FirstOf (emitted_points (context_of context.now) (place_at (known scope.now))
+        (place_at (known scope.now)) handle)) result }
 {
     let expression = context.expression(handle);
     if is_result(expression) {
@@ -159,7 +157,8 @@ fn check_emitted_points(
 
 /// The operands of an expression, each put by every run.
 fn check_operands(scope: &ScopeColumn, expression: Option<&Expression>) -> Result<(), FunctionError>
-    ensures { Finds (map (use_point (place_at (known scope.now))) (operands_if (option_copied expression.entry))) result }
+    ensures { Finds (FirstOf (map (use_point (place_at (known scope.now))) (operands_if
+        (option_copied expression.entry)))) result }
 {
     match expression {
         Some(Expression::Load { pointer }) => check_use(scope, *pointer),
@@ -178,7 +177,7 @@ fn check_listed(
     scope: &ScopeColumn,
     operands: &[Handle<tag::Expression>],
 ) -> Result<(), FunctionError>
-    ensures { Finds (map (use_point (place_at (known scope.now))) operands.now) result }
+    ensures { Finds (FirstOf (map (use_point (place_at (known scope.now))) operands.now)) result }
 {
     for index in 0..operands.len() {
         check_use(scope, operands[index])?;
@@ -210,7 +209,8 @@ pub fn check_condition(
     condition: Handle<tag::Expression>,
     span: Span,
 ) -> Result<(), Refused>
-    ensures fault { AnswersPoints (condition_points (context_of context.now) (place_at (known scope.now)) condition) result }
+    ensures fault { Answers (FirstOf (condition_points (context_of context.now) (place_at (known scope.now))
+        condition)) result }
     ensures refused { RefusesFaultsAlone
         (condition_points (context_of context.now) (place_at (known scope.now)) condition) result }
 {
@@ -240,7 +240,8 @@ fn first_fault_of_condition(
     condition: Handle<tag::Expression>,
     span: Span,
 ) -> Result<(), Refused>
-    ensures fault { AnswersPoints (condition_points (context_of context.now) (place_at (known scope.now)) condition) result }
+    ensures fault { Answers (FirstOf (condition_points (context_of context.now) (place_at (known scope.now))
+        condition)) result }
     ensures refused { RefusesFaultsAlone
         (condition_points (context_of context.now) (place_at (known scope.now)) condition) result }
 {
@@ -275,7 +276,8 @@ pub fn check_return(
     span: Span,
 ) -> Result<(), Refused>
     requires { ContextFits (context_of context.now) }
-    ensures fault { AnswersPoints (return_points (context_of context.now) (place abilities (known scope.now)) value.now) result }
+    ensures fault { Answers (FirstOf (return_points (context_of context.now) (place abilities (known scope.now))
+        value.now)) result }
     ensures refused { RefusesFaultsAlone
         (return_points (context_of context.now) (place abilities (known scope.now)) value.now) result }
 {
@@ -331,7 +333,7 @@ fn is_returned_as(
 
 /// Break: allowed here.
 pub fn check_break(alloc: Global, abilities: Abilities, span: Span) -> Result<(), Refused>
-    ensures fault { AnswersPoints (break_points (place abilities no_sets)) result }
+    ensures fault { Answers (FirstOf (break_points (place abilities no_sets))) result }
     ensures refused { RefusesFaultsAlone (break_points (place abilities no_sets)) result }
 {
     if !abilities.can_break {
@@ -342,7 +344,7 @@ pub fn check_break(alloc: Global, abilities: Abilities, span: Span) -> Result<()
 
 /// Continue: allowed here.
 pub fn check_continue(alloc: Global, abilities: Abilities, span: Span) -> Result<(), Refused>
-    ensures fault { AnswersPoints (continue_points (place abilities no_sets)) result }
+    ensures fault { Answers (FirstOf (continue_points (place abilities no_sets))) result }
     ensures refused { RefusesFaultsAlone (continue_points (place abilities no_sets)) result }
 {
     if !abilities.can_continue {
@@ -369,7 +371,8 @@ fn continue_outside_of_loop(alloc: Global, span: Span) -> Refused
     Refused::placed(alloc, FunctionError::ContinueOutsideOfLoop, span)
 }
 
-/// The refusal of a Return of another type than is declared, or of a value where none is declared, or of none where one is.
+/// The refusal of a Return of another type than is declared, or of a value where none is declared, or of none where
+/// one is.
 fn invalid_return_type(
     alloc: Global,
     context: &BlockContext,

@@ -6,8 +6,7 @@ ghost use Rattle.ir_facts.specs.Points.{first_fault};
 ghost use Rattle.ir_module.specs.declared.statements.SwitchCase.{out-SwitchCase};
 ghost use Rattle.check_scope.specs.BodyTrees.{case_list};
 ghost use Rattle.check_flow.specs.Switch.{has_signedness_of, is_default, repeated_fault, value_points, values_of, last_falls_through, switch_points};
-ghost use Rattle.check_scope.specs.walk.Findings.{Finds};
-ghost use Rattle.check_errors.specs.Answers.{AnswersPoints};
+ghost use Rattle.check_errors.specs.Answers.{Answers, Finds, FirstOf};
 ghost use Rattle.check_scope.specs.walk.Place.{place_at};
 ghost use Rattle.check_scope.specs.walk.SeenContext.{context_of};
 ghost use Rattle.check_flow.specs.walk.SwitchParts.{StandOnce, selector_points, cases_points, number_of, risen, risen_to};
@@ -36,8 +35,8 @@ pub fn check_switch(
     cases: &[SwitchCase],
     span: Span,
 ) -> Result<(), Refused>
-    ensures { AnswersPoints
-        (switch_points (context_of context.now) (place_at (known scope.now)) selector (case_list cases.now)) result }
+    ensures { Answers (FirstOf (switch_points (context_of context.now) (place_at (known scope.now)) selector
+        (case_list cases.now))) result }
 {
     let alloc = scope.allocator();
     answer(alloc, check_selector(scope, context, selector), span)?;
@@ -50,7 +49,7 @@ fn check_selector(
     context: &BlockContext,
     selector: Handle<tag::Expression>,
 ) -> Result<(), FunctionError>
-    ensures { Finds (selector_points (context_of context.now) (place_at (known scope.now)) selector) result }
+    ensures { Finds (FirstOf (selector_points (context_of context.now) (place_at (known scope.now)) selector)) result }
 {
     check_use(scope, selector)?;
     if !is_integer(context.scalar_kind(selector)) {
@@ -66,7 +65,7 @@ fn check_values(
     cases: &[SwitchCase],
     span: Span,
 ) -> Result<(), Refused>
-    ensures { AnswersPoints (value_points selector [] (values_of (case_list cases.now))) result }
+    ensures { Answers (FirstOf (value_points selector [] (values_of (case_list cases.now)))) result }
 {
     if are_rising(selector, cases) || are_distinct(alloc, selector, cases)? {
         return Ok(());
@@ -81,8 +80,8 @@ pub struct Rising {
     has_default: bool,
 }
 
-/// Whether all values have the selector's signedness, their numbers rise, and there is one default at most: then no value stands
-/// twice. Cases are mostly written so, and need no set.
+/// Whether all values have the selector's signedness, their numbers rise, and there is one default at most: then no
+/// value stands twice. Cases are mostly written so, and need no set.
 fn are_rising(selector: Option<ScalarKind>, cases: &[SwitchCase]) -> bool
     ensures { IsTrue result → first_fault (value_points selector [] (values_of (case_list cases.now))) ≡ None }
 {
@@ -102,7 +101,7 @@ fn are_rising(selector: Option<ScalarKind>, cases: &[SwitchCase]) -> bool
     true
 }
 
-/// What is known behind a value, if its number is above those before it, or it is the first default.
+/// What is known after a value, if its number is above those before it, or it is the first default.
 fn risen(so_far: Rising, value: SwitchValue) -> Option<Rising>
     ensures { result ≡ risen so_far value }
 {
@@ -153,7 +152,7 @@ fn are_distinct(
     Ok(rise(numbers.as_slice()))
 }
 
-/// The number, from 1 on, that tells a value from others of its sign.
+/// The number, from 1 on, that distinguishes a value from others of its sign.
 fn number_of(value: SwitchValue) -> u64
     ensures { result ≡ number_of value }
 {
@@ -187,7 +186,7 @@ fn check_each_value(
     cases: &[SwitchCase],
     span: Span,
 ) -> Result<(), Refused>
-    ensures { AnswersPoints (value_points selector [] (values_of (case_list cases.now))) result }
+    ensures { Answers (FirstOf (value_points selector [] (values_of (case_list cases.now)))) result }
 {
     let mut earlier = BTreeSet::new(alloc);
     for case in cases {
@@ -225,7 +224,7 @@ fn repeated_fault(value: SwitchValue) -> FunctionError
 /// The cases as a whole: a default among them, and no fall through of the last.
 #[tactic(auto, using(crate::proofs::Lists::any_value))]
 fn check_cases(cases: &[SwitchCase]) -> Result<(), FunctionError>
-    ensures { Finds (cases_points (case_list cases.now)) result }
+    ensures { Finds (FirstOf (cases_points (case_list cases.now))) result }
 {
     if !has_default(cases) {
         return Err(FunctionError::MissingDefaultCase);

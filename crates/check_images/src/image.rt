@@ -2,13 +2,13 @@
 
 ghost use Rattle.std.specs.Prelude.{◌≡◌};
 ghost use Rattle.std.specs.Option.{option_copied};
-ghost use Rattle.check_scope.specs.walk.Findings.{Finds};
 ghost use Rattle.check_images.specs.walk.ImageParts.{image_fault, coordinate_points, texel_points};
 ghost use Rattle.check_variables.specs.Globals.{element_of};
 ghost use Rattle.check_images.specs.Image.{global_type_at, image_global_at, is_dimension, is_integer_scalar, array_index_points};
 ghost use Rattle.check_scope.specs.walk.Place.{place_at};
 ghost use Rattle.check_scope.specs.walk.SeenContext.{context_of};
 ghost use Rattle.check_scope.specs.walk.Table.{known};
+ghost use Rattle.check_errors.specs.Answers.{Finds, FirstOf};
 
 use check_errors::function::FunctionError;
 use check_memory::store::access_base;
@@ -104,8 +104,8 @@ pub(crate) fn check_texel(
     texel: Texel,
 ) -> Result<(), FunctionError>
     ensures { Finds
-        (texel_points statement (context_of context.now) (place_at (known scope.now)) shape.dim shape.arrayed
-        texel.coordinate texel.array_index)
+        (FirstOf (texel_points statement (context_of context.now) (place_at (known scope.now)) shape.dim shape.arrayed
+        texel.coordinate texel.array_index))
         result }
 {
     check_coordinate(statement, scope, context, shape.dim, texel.coordinate)?;
@@ -120,7 +120,8 @@ fn check_coordinate(
     dim: ImageDimension,
     coordinate: Handle<tag::Expression>,
 ) -> Result<(), FunctionError>
-    ensures { Finds (coordinate_points statement (context_of context.now) (place_at (known scope.now)) dim coordinate) result }
+    ensures { Finds (FirstOf (coordinate_points statement (context_of context.now) (place_at (known scope.now)) dim
+        coordinate)) result }
 {
     check_use(scope, coordinate)?;
     let given = match context.type_inner(coordinate) {
@@ -151,9 +152,8 @@ fn check_array_index(
     arrayed: bool,
     array_index: Option<Handle<tag::Expression>>,
 ) -> Result<(), FunctionError>
-    ensures { Finds
-        (array_index_points (image_fault statement) (context_of context.now) (place_at (known scope.now)) arrayed array_index)
-        result }
+    ensures { Finds (FirstOf (array_index_points (image_fault statement) (context_of context.now)
+        (place_at (known scope.now)) arrayed array_index)) result }
 {
     match array_index {
         Some(handle) => {

@@ -3,8 +3,8 @@
 ghost use Rattle.std.specs.Prelude.{◌≡◌, ◌++◌};
 ghost use Rattle.std.specs.Option.{option_copied};
 ghost use Rattle.ir_types.specs.Types.{inner_at};
-ghost use Rattle.check_scope.specs.walk.Findings.{Finds, RefusesFaultsAlone};
-ghost use Rattle.check_errors.specs.Answers.{AnswersPoints};
+ghost use Rattle.check_scope.specs.walk.Findings.{RefusesFaultsAlone};
+ghost use Rattle.check_errors.specs.Answers.{Answers, Finds, FirstOf};
 ghost use Rattle.check_images.specs.walk.ImageParts.{changed_points, changed_format_points, changed_value_points, changed_class_points};
 ghost use Rattle.check_images.specs.ImageAtomic.{element_or_itself, is_done_on_texels, operation_points, format_points, image_atomic_points};
 ghost use Rattle.check_scope.specs.walk.Place.{place_at};
@@ -44,10 +44,8 @@ pub fn check_image_atomic(
     operation: TexelOperation,
     span: Span,
 ) -> Result<(), Refused>
-    ensures fault { AnswersPoints
-        (image_atomic_points (context_of context.now) (place_at (known scope.now)) image operation.texel.coordinate
-        operation.texel.array_index operation.fun operation.value)
-        result }
+    ensures fault { Answers (FirstOf (image_atomic_points (context_of context.now) (place_at (known scope.now)) image
+        operation.texel.coordinate operation.texel.array_index operation.fun operation.value)) result }
     ensures refused { RefusesFaultsAlone
         (image_atomic_points (context_of context.now) (place_at (known scope.now)) image operation.texel.coordinate
         operation.texel.array_index operation.fun operation.value)
@@ -65,10 +63,8 @@ fn check_image_atomic_points(
     image: Handle<tag::Expression>,
     operation: TexelOperation,
 ) -> Result<(), FunctionError>
-    ensures { Finds
-        (image_atomic_points (context_of context.now) (place_at (known scope.now)) image operation.texel.coordinate
-        operation.texel.array_index operation.fun operation.value)
-        result }
+    ensures { Finds (FirstOf (image_atomic_points (context_of context.now) (place_at (known scope.now)) image
+        operation.texel.coordinate operation.texel.array_index operation.fun operation.value)) result }
 {
     let Some(ty) = image_global(context, image) else {
         let error = ExpressionError::ExpectedGlobalVariable;
@@ -112,10 +108,9 @@ fn check_changed_image(
     class: ImageClass,
     operation: TexelOperation,
 ) -> Result<(), FunctionError>
-    ensures { Finds
-        (changed_points (context_of context.now) (place_at (known scope.now)) shape.dim shape.arrayed operation.texel.coordinate
-        operation.texel.array_index class operation.fun operation.value)
-        result }
+    ensures { Finds (FirstOf (changed_points (context_of context.now) (place_at (known scope.now)) shape.dim
+        shape.arrayed operation.texel.coordinate operation.texel.array_index class operation.fun
+        operation.value)) result }
 {
     check_texel(
         ImageStatement::Atomic,
@@ -135,7 +130,8 @@ fn check_class(
     fun: &AtomicFunction,
     value: Handle<tag::Expression>,
 ) -> Result<(), FunctionError>
-    ensures { Finds (changed_class_points (context_of context.now) (place_at (known scope.now)) class fun.now value) result }
+    ensures { Finds (FirstOf (changed_class_points (context_of context.now) (place_at (known scope.now)) class fun.now
+        value)) result }
 {
     let ImageClass::Storage { format, access } = class else {
         let error = ExpressionError::InvalidImageClass(class);
@@ -157,7 +153,8 @@ fn check_changed(
     value: Handle<tag::Expression>,
     format: StorageFormat,
 ) -> Result<(), FunctionError>
-    ensures { Finds (changed_format_points (context_of context.now) (place_at (known scope.now)) format fun.now value) result }
+    ensures { Finds (FirstOf (changed_format_points (context_of context.now) (place_at (known scope.now)) format fun.now
+        value)) result }
 {
     check_format(context.settings.capabilities, format, fun)?;
     check_value(scope, context, format, value)
@@ -169,7 +166,7 @@ fn check_format(
     format: StorageFormat,
     fun: &AtomicFunction,
 ) -> Result<(), FunctionError>
-    ensures { Finds (format_points capabilities format fun.now) result }
+    ensures { Finds (FirstOf (format_points capabilities format fun.now)) result }
 {
     match format {
         StorageFormat::R64Uint => {
@@ -194,7 +191,7 @@ fn check_operation(
     is_done: bool,
     fun: &AtomicFunction,
 ) -> Result<(), FunctionError>
-    ensures { Finds (operation_points capabilities needed is_done fun.now) result }
+    ensures { Finds (FirstOf (operation_points capabilities needed is_done fun.now)) result }
 {
     if !capabilities.contains(needed) {
         return Err(FunctionError::MissingCapability(needed));
@@ -227,7 +224,8 @@ fn check_value(
     format: StorageFormat,
     value: Handle<tag::Expression>,
 ) -> Result<(), FunctionError>
-    ensures { Finds (changed_value_points (context_of context.now) (place_at (known scope.now)) format value) result }
+    ensures { Finds (FirstOf (changed_value_points (context_of context.now) (place_at (known scope.now)) format
+        value)) result }
 {
     check_use(scope, value)?;
     if !is_scalar(Scalar::from(format), context.type_inner(value)) {

@@ -3,8 +3,8 @@
 ghost use Rattle.std.specs.Prelude.{◌≡◌, ◌++◌, IfOk, IfSome, IsOk};
 ghost use Rattle.std.specs.Option.{option_copied};
 ghost use Rattle.ir_types.specs.Members.{HasNoMembers};
-ghost use Rattle.check_scope.specs.walk.Findings.{Finds, RefusesFaultsAlone};
-ghost use Rattle.check_errors.specs.Answers.{AnswersPoints};
+ghost use Rattle.check_scope.specs.walk.Findings.{RefusesFaultsAlone};
+ghost use Rattle.check_errors.specs.Answers.{Answers, Finds, FirstOf};
 ghost use Rattle.check_images.specs.walk.ImageParts.{stored_points, texel_value_points};
 ghost use Rattle.check_images.specs.ImageStore.{stored_type, image_store_points};
 ghost use Rattle.check_scope.specs.walk.Place.{place_at};
@@ -34,6 +34,13 @@ struct StorageImage {
     format: StorageFormat,
 }
 
+/// The value that is stored, with its type, for the fault that names it.
+#[derive(Drop)]
+struct StoredValue {
+    handle: Handle<tag::Expression>,
+    ty: Option<TypeInner>,
+}
+
 /// ImageStore: its image, the texel, and the value.
 pub fn check_image_store(
     scope: &ScopeColumn,
@@ -43,16 +50,19 @@ pub fn check_image_store(
     value: Handle<tag::Expression>,
     span: Span,
 ) -> Result<(), Refused>
-    ensures fault { AnswersPoints
-        (image_store_points (context_of context.now) (place_at (known scope.now)) image texel.coordinate texel.array_index value)
-        result }
+    ensures fault { Answers (FirstOf (image_store_points (context_of context.now) (place_at (known scope.now)) image
+        texel.coordinate texel.array_index value)) result }
     ensures refused { RefusesFaultsAlone
         (image_store_points (context_of context.now) (place_at (known scope.now)) image texel.coordinate texel.array_index value)
         result }
 {
     let alloc = scope.allocator();
     let given = type_of(alloc, context, value)?;
-    let checked = check_image_store_points(scope, context, image, texel, value, given);
+    let stored = StoredValue {
+        handle: value,
+        ty: given,
+    };
+    let checked = check_image_store_points(scope, context, image, texel, stored);
     answer(alloc, checked, span)
 }
 
@@ -77,13 +87,11 @@ fn check_image_store_points(
     context: &BlockContext,
     image: Handle<tag::Expression>,
     texel: Texel,
-    value: Handle<tag::Expression>,
-    given: Option<TypeInner>,
+    value: StoredValue,
 ) -> Result<(), FunctionError>
-    requires { given ≡ type_at (context_of context.now) value }
-    ensures { Finds
-        (image_store_points (context_of context.now) (place_at (known scope.now)) image texel.coordinate texel.array_index value)
-        result }
+    requires { value.ty ≡ type_at (context_of context.now) value.handle }
+    ensures { Finds (FirstOf (image_store_points (context_of context.now) (place_at (known scope.now)) image
+        texel.coordinate texel.array_index value.handle)) result }
 {
     let Some(ty) = image_global(context, image) else {
         let error = ExpressionError::ExpectedGlobalVariable;
@@ -116,7 +124,7 @@ fn check_image_store_points(
         },
         format,
     };
-    check_stored(scope, context, image, texel, value, given)
+    check_stored(scope, context, image, texel, value)
 }
 
 /// The type of a global, or that of its elements.
@@ -144,17 +152,14 @@ fn check_stored(
     context: &BlockContext,
     image: StorageImage,
     texel: Texel,
-    value: Handle<tag::Expression>,
-    given: Option<TypeInner>,
+    value: StoredValue,
 ) -> Result<(), FunctionError>
-    requires { given ≡ type_at (context_of context.now) value }
-    ensures { Finds
-        (stored_points (context_of context.now) (place_at (known scope.now)) image.shape.dim image.shape.arrayed
-        texel.coordinate texel.array_index image.format value)
-        result }
+    requires { value.ty ≡ type_at (context_of context.now) value.handle }
+    ensures { Finds (FirstOf (stored_points (context_of context.now) (place_at (known scope.now)) image.shape.dim
+        image.shape.arrayed texel.coordinate texel.array_index image.format value.handle)) result }
 {
     check_texel(ImageStatement::Store, scope, context, image.shape, texel)?;
-    check_texel_value(scope, context, image.format, value, given)
+    check_texel_value(scope, context, image.format, value)
 }
 
 /// The value: put by every run, and what a texel holds.
@@ -162,24 +167,25 @@ fn check_texel_value(
     scope: &ScopeColumn,
     context: &BlockContext,
     format: StorageFormat,
-    value: Handle<tag::Expression>,
-    given: Option<TypeInner>,
+    value: StoredValue,
 ) -> Result<(), FunctionError>
-    requires { given ≡ type_at (context_of context.now) value }
-    ensures { Finds (texel_value_points (context_of context.now) (place_at (known scope.now)) format value) result }
+    requires { value.ty ≡ type_at (context_of context.now) value.handle }
+    ensures { Finds (FirstOf (texel_value_points (context_of context.now) (place_at (known scope.now)) format
+        value.handle)) result }
 {
-    check_use(scope, value)?;
+    let StoredValue { handle, ty } = value;
+    check_use(scope, handle)?;
     let expected_ty = TypeInner::Vector {
         size: VectorSize::Quad,
         scalar: Scalar::from(format),
     };
-    match given {
+    match ty {
         Some(actual_ty) => {
             if actual_ty == expected_ty {
                 return Ok(());
             }
             Err(FunctionError::InvalidStoreValue {
-                actual: value,
+                actual: handle,
                 actual_ty,
                 expected_ty,
             })

@@ -4,11 +4,11 @@ ghost use Rattle.std.specs.Prelude.{◌≡◌, ◌<◌, OnOk, IfSome, Some, is_s
 ghost use Rattle.std.specs.Option.{option_copied};
 ghost use Rattle.ir_module.specs.View.{put_if};
 ghost use Rattle.naga_runs.specs.PutsAndUses.{puts_of};
-ghost use Rattle.check_scope.specs.walk.Findings.{Finds, RefusesFaultsAlone};
-ghost use Rattle.check_errors.specs.Answers.{AnswersPoints};
+ghost use Rattle.check_scope.specs.walk.Findings.{RefusesFaultsAlone};
+ghost use Rattle.check_errors.specs.Answers.{Answers, Finds, FirstOf};
 ghost use Rattle.check_memory.specs.Atomic.{atomic_scalar_at, is_int64, is_float32, is_min_or_max, is_plain_exchange, is_done_on_floats, int64_capability, scalar_points, is_atomic_result, is_comparison, result_type_at, atomic_result_points, atomic_points};
 ghost use Rattle.check_variables.specs.Spaces.{is_storage};
-ghost use Rattle.check_memory.specs.walk.AtomicParts.{operated_points, compared_points, uncompared_points};
+ghost use Rattle.check_memory.specs.walk.AtomicParts.{operated_points, compared_points, exchanged_points, uncompared_points};
 ghost use Rattle.check_scope.specs.Context.{ContextFits};
 ghost use Rattle.check_scope.specs.walk.Place.{place_at};
 ghost use Rattle.check_scope.specs.walk.SeenContext.{context_of};
@@ -38,6 +38,13 @@ pub struct AtomicOperation {
     pub named: Option<Handle<tag::Expression>>,
 }
 
+/// The atomic that a pointer points to: its scalar, and where it lies.
+#[derive(Clone, Copy)]
+pub struct Atomic {
+    scalar: Scalar,
+    space: AddressSpace,
+}
+
 /// Atomic: its pointer, its value and its result, which is in scope afterwards.
 pub fn validate_atomic(
     scope: &mut ScopeColumn,
@@ -48,10 +55,9 @@ pub fn validate_atomic(
 ) -> Result<(), Refused>
     requires context { ContextFits (context_of context.now) }
     requires result { IfSome operation.now.named (λ r. r < count scope.old) }
-    ensures fault { AnswersPoints
-        (atomic_points (context_of context.now) (filled_in filled.now) (place_at (known scope.old)) operation.now.pointer
-        operation.now.fun operation.now.value operation.now.named)
-        result }
+    ensures fault { Answers (FirstOf (atomic_points (context_of context.now) (filled_in filled.now)
+        (place_at (known scope.old)) operation.now.pointer operation.now.fun operation.now.value
+        operation.now.named)) result }
     ensures refused { RefusesFaultsAlone
         (atomic_points (context_of context.now) (filled_in filled.now) (place_at (known scope.old)) operation.now.pointer
         operation.now.fun operation.now.value operation.now.named)
@@ -75,10 +81,8 @@ fn check_atomic(
     operation: &AtomicOperation,
 ) -> Result<(), FunctionError>
     requires { ContextFits (context_of context.now) }
-    ensures { Finds
-        (atomic_points (context_of context.now) (filled_in filled.now) (place_at (known scope.now)) operation.now.pointer
-        operation.now.fun operation.now.value operation.now.named)
-        result }
+    ensures { Finds (FirstOf (atomic_points (context_of context.now) (filled_in filled.now) (place_at (known scope.now))
+        operation.now.pointer operation.now.fun operation.now.value operation.now.named)) result }
 {
     let AtomicOperation { pointer, value, .. } = *operation;
     check_use(scope, pointer)?;
@@ -92,7 +96,11 @@ fn check_atomic(
     if !is_scalar(*scalar, context.type_inner(value)) {
         return Err(FunctionError::InvalidAtomic(AtomicError::InvalidOperand(value)));
     }
-    check_operation(scope, filled, context, *scalar, *space, operation)
+    let atomic = Atomic {
+        scalar: *scalar,
+        space: *space,
+    };
+    check_operation(scope, filled, context, atomic, operation)
 }
 
 /// The scalar of the atomic that an expression points to.
@@ -117,24 +125,22 @@ fn check_operation(
     scope: &ScopeColumn,
     filled: &FilledColumn,
     context: &BlockContext,
-    scalar: Scalar,
-    space: AddressSpace,
+    atomic: Atomic,
     operation: &AtomicOperation,
 ) -> Result<(), FunctionError>
     requires { ContextFits (context_of context.now) }
-    ensures { Finds
-        (operated_points (context_of context.now) (filled_in filled.now) (place_at (known scope.now)) scalar space
-        operation.now.fun operation.now.value operation.now.named)
-        result }
+    ensures { Finds (FirstOf (operated_points (context_of context.now) (filled_in filled.now)
+        (place_at (known scope.now)) atomic.scalar atomic.space operation.now.fun operation.now.value
+        operation.now.named)) result }
 {
     check_scalar(
         context.settings.capabilities,
-        scalar,
-        &space,
+        atomic.scalar,
+        &atomic.space,
         &operation.fun,
         operation.named.is_some(),
     )?;
-    check_atomic_result(scope, filled, context, scalar, operation)
+    check_atomic_result(scope, filled, context, atomic.scalar, operation)
 }
 
 /// What the atomic's scalar asks for.
@@ -145,7 +151,7 @@ fn check_scalar(
     fun: &AtomicFunction,
     has_result: bool,
 ) -> Result<(), FunctionError>
-    ensures { Finds (scalar_points capabilities scalar space.now fun.now has_result) result }
+    ensures { Finds (FirstOf (scalar_points capabilities scalar space.now fun.now has_result)) result }
 {
     if is_int64(scalar) {
         let needed = int64_capability(fun, space, has_result);
@@ -212,7 +218,9 @@ fn is_done_on_floats(fun: &AtomicFunction) -> bool
     )
 }
 
-/// The result. An exchange that compares nothing has one.
+/// The result. One that is named is an atomic result, fresh, of the right type, and not in scope yet. An exchange that
+/// compares nothing names one.
+#[tactic(auto, using(ir_facts::proofs::Points::first_of_both))]
 fn check_atomic_result(
     scope: &ScopeColumn,
     filled: &FilledColumn,
@@ -221,44 +229,15 @@ fn check_atomic_result(
     operation: &AtomicOperation,
 ) -> Result<(), FunctionError>
     requires { ContextFits (context_of context.now) }
-    ensures { Finds
-        (atomic_result_points (context_of context.now) (filled_in filled.now) (place_at (known scope.now)) scalar
-        operation.now.fun operation.now.value operation.now.named)
-        result }
+    ensures { Finds (FirstOf (atomic_result_points (context_of context.now) (filled_in filled.now)
+        (place_at (known scope.now)) scalar operation.now.fun operation.now.value operation.now.named)) result }
 {
-    match operation.named {
-        Some(handle) => check_named(scope, filled, context, scalar, operation, handle),
-        None => {
-            if is_plain_exchange(&operation.fun) {
-                return Err(FunctionError::InvalidAtomic(AtomicError::MissingReturnValue));
-            }
-            Ok(())
+    let Some(handle) = operation.named else {
+        if is_plain_exchange(&operation.fun) {
+            return Err(FunctionError::InvalidAtomic(AtomicError::MissingReturnValue));
         }
-    }
-}
-
-/// Whether an operation is an exchange that compares nothing.
-fn is_plain_exchange(fun: &AtomicFunction) -> bool
-    ensures { result ≡ is_plain_exchange fun.now }
-{
-    matches!(fun, AtomicFunction::Exchange { compare: None })
-}
-
-/// The result that is named: an atomic result, fresh, of the right type, and not in scope yet.
-fn check_named(
-    scope: &ScopeColumn,
-    filled: &FilledColumn,
-    context: &BlockContext,
-    scalar: Scalar,
-    operation: &AtomicOperation,
-    handle: Handle<tag::Expression>,
-) -> Result<(), FunctionError>
-    requires { ContextFits (context_of context.now) }
-    ensures { Finds
-        (atomic_result_points (context_of context.now) (filled_in filled.now) (place_at (known scope.now)) scalar
-        operation.now.fun operation.now.value (Some handle))
-        result }
-{
+        return Ok(());
+    };
     if !is_atomic_result(context.expression(handle)) {
         let error = AtomicError::InvalidResultExpression(handle);
         return Err(FunctionError::InvalidAtomic(error));
@@ -270,9 +249,19 @@ fn check_named(
     match &operation.fun {
         AtomicFunction::Exchange {
             compare: Some(compare),
-        } => check_compared(scope, context, scalar, *compare, value, handle),
+        } => {
+            check_compared(scope, context, *compare, value)?;
+            check_exchanged(scope, context, scalar, handle)
+        }
         _ => check_uncompared(scope, context, value, handle),
     }
+}
+
+/// Whether an operation is an exchange that compares nothing.
+fn is_plain_exchange(fun: &AtomicFunction) -> bool
+    ensures { result ≡ is_plain_exchange fun.now }
+{
+    matches!(fun, AtomicFunction::Exchange { compare: None })
 }
 
 fn is_atomic_result(expression: Option<&Expression>) -> bool
@@ -281,28 +270,40 @@ fn is_atomic_result(expression: Option<&Expression>) -> bool
     matches!(expression, Some(Expression::AtomicResult { .. }))
 }
 
-/// Of a compare exchange: what is compared with, and a result of the struct that it gives, not in scope yet.
+/// What a compare exchange compares with.
 fn check_compared(
     scope: &ScopeColumn,
     context: &BlockContext,
-    scalar: Scalar,
     compare: Handle<tag::Expression>,
     value: Handle<tag::Expression>,
-    handle: Handle<tag::Expression>,
 ) -> Result<(), FunctionError>
     requires { ContextFits (context_of context.now) }
-    ensures { Finds (compared_points (context_of context.now) (place_at (known scope.now)) scalar compare value handle) result }
+    ensures { Finds (FirstOf (compared_points (context_of context.now) (place_at (known scope.now)) compare
+        value)) result }
 {
     check_use(scope, compare)?;
-    let program = context.program;
     if !is_equivalent(
-        program,
+        context.program,
         context.type_inner(compare),
         context.type_inner(value),
     ) {
         return Err(FunctionError::InvalidAtomic(AtomicError::InvalidOperand(compare)));
     }
-    if !is_exchange_struct(program, scalar, result_type(context, handle)) {
+    Ok(())
+}
+
+/// The result of a compare exchange: of the struct that it gives, not in scope yet.
+fn check_exchanged(
+    scope: &ScopeColumn,
+    context: &BlockContext,
+    scalar: Scalar,
+    handle: Handle<tag::Expression>,
+) -> Result<(), FunctionError>
+    requires { ContextFits (context_of context.now) }
+    ensures { Finds (FirstOf (exchanged_points (context_of context.now) (place_at (known scope.now)) scalar
+        handle)) result }
+{
+    if !is_exchange_struct(context.program, scalar, result_type(context, handle)) {
         return Err(FunctionError::InvalidAtomic(AtomicError::ResultTypeMismatch(handle)));
     }
     if !is_comparison(context.expression(handle)) {
@@ -320,7 +321,8 @@ fn check_uncompared(
     handle: Handle<tag::Expression>,
 ) -> Result<(), FunctionError>
     requires { ContextFits (context_of context.now) }
-    ensures { Finds (uncompared_points (context_of context.now) (place_at (known scope.now)) value handle) result }
+    ensures { Finds (FirstOf (uncompared_points (context_of context.now) (place_at (known scope.now)) value
+        handle)) result }
 {
     let program = context.program;
     if !is_equivalent(

@@ -1,8 +1,8 @@
 //! The check list of CooperativeStore.
 
 ghost use Rattle.std.specs.Prelude.{◌≡◌};
-ghost use Rattle.check_scope.specs.walk.Findings.{Finds, RefusesFaultsAlone};
-ghost use Rattle.check_errors.specs.Answers.{AnswersPoints};
+ghost use Rattle.check_scope.specs.walk.Findings.{RefusesFaultsAlone};
+ghost use Rattle.check_errors.specs.Answers.{Answers, Finds, FirstOf};
 ghost use Rattle.check_scope.specs.Context.{ContextFits};
 ghost use Rattle.check_memory.specs.Cooperative.{matrix_scalar_at, base_scalar_at, cooperative_points};
 ghost use Rattle.check_scope.specs.walk.Place.{place_at};
@@ -29,8 +29,8 @@ pub fn check_cooperative_store(
     span: Span,
 ) -> Result<(), Refused>
     requires { ContextFits (context_of context.now) }
-    ensures fault { AnswersPoints
-        (cooperative_points (context_of context.now) (place_at (known scope.now)) target pointer) result }
+    ensures fault { Answers
+        (FirstOf (cooperative_points (context_of context.now) (place_at (known scope.now)) target pointer)) result }
     ensures refused { RefusesFaultsAlone
         (cooperative_points (context_of context.now) (place_at (known scope.now)) target pointer) result }
 {
@@ -46,7 +46,8 @@ fn check_cooperative_store_points(
     pointer: Handle<tag::Expression>,
 ) -> Result<(), FunctionError>
     requires { ContextFits (context_of context.now) }
-    ensures { Finds (cooperative_points (context_of context.now) (place_at (known scope.now)) target pointer) result }
+    ensures { Finds (FirstOf (cooperative_points (context_of context.now) (place_at (known scope.now)) target
+        pointer)) result }
 {
     check_use(scope, target)?;
     let Some(scalar) = matrix_scalar(context, target) else {

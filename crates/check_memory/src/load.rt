@@ -2,8 +2,8 @@
 
 ghost use Rattle.std.specs.Prelude.{◌≡◌, ◌<◌, ◌∷◌, [], OnOk, IfSome, length};
 ghost use Rattle.std.specs.Option.{option_copied};
-ghost use Rattle.check_scope.specs.walk.Findings.{Finds, RefusesFaultsAlone};
-ghost use Rattle.check_errors.specs.Answers.{AnswersPoints};
+ghost use Rattle.check_scope.specs.walk.Findings.{RefusesFaultsAlone};
+ghost use Rattle.check_errors.specs.Answers.{Answers, Finds, FirstOf};
 ghost use Rattle.check_scope.specs.Context.{ContextFits};
 ghost use Rattle.check_memory.specs.Load.{is_work_group, loaded_type_at, points_to, load_points};
 ghost use Rattle.check_scope.specs.walk.Place.{place_at};
@@ -34,7 +34,8 @@ pub fn validate_load(
 ) -> Result<(), Refused>
     requires context { ContextFits (context_of context.now) }
     requires result { loaded < count scope.old }
-    ensures fault { AnswersPoints (load_points (context_of context.now) (place_at (known scope.old)) pointer loaded) result }
+    ensures fault { Answers (FirstOf (load_points (context_of context.now) (place_at (known scope.old)) pointer
+        loaded)) result }
     ensures refused { RefusesFaultsAlone
         (load_points (context_of context.now) (place_at (known scope.old)) pointer loaded) result }
     ensures scope { OnOk result (HasPut scope.old scope.new (loaded ∷ [])) }
@@ -54,7 +55,8 @@ fn check_load(
     loaded: Handle<tag::Expression>,
 ) -> Result<(), FunctionError>
     requires { ContextFits (context_of context.now) }
-    ensures { Finds (load_points (context_of context.now) (place_at (known scope.now)) pointer loaded) result }
+    ensures { Finds (FirstOf (load_points (context_of context.now) (place_at (known scope.now)) pointer
+        loaded)) result }
 {
     check_use(scope, pointer)?;
     if !is_work_group(space(context, pointer)) {

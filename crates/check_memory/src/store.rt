@@ -4,7 +4,7 @@ ghost use Rattle.std.specs.Prelude.{◌≡◌, ◌<◌, ◌↔◌, true, IsTrue,
 ghost use Rattle.std.specs.Option.{option_copied};
 ghost use Rattle.check_errors.specs.declared.function.FunctionError.TheVariants.{InvalidStoreTexture};
 ghost use Rattle.check_scope.specs.walk.Findings.{AllHold, IsRefusalFor, RefusesFaultsAlone};
-ghost use Rattle.check_errors.specs.Answers.{AnswersPoints};
+ghost use Rattle.check_errors.specs.Answers.{Answers, FirstOf};
 ghost use Rattle.check_scope.specs.Context.{ContextFits};
 ghost use Rattle.check_scope.specs.walk.Place.{place_at};
 ghost use Rattle.check_scope.specs.walk.SeenContext.{context_of};
@@ -39,7 +39,8 @@ pub fn check_store(
     span: Span,
 ) -> Result<(), Refused>
     requires { ContextFits (context_of context.now) }
-    ensures fault { AnswersPoints (store_points (context_of context.now) (place_at (known scope.now)) pointer value) result }
+    ensures fault { Answers (FirstOf (store_points (context_of context.now) (place_at (known scope.now)) pointer
+        value)) result }
     ensures refused { RefusesFaultsAlone
         (store_points (context_of context.now) (place_at (known scope.now)) pointer value) result }
 {
@@ -77,7 +78,8 @@ fn first_fault_of_store(
     span: Span,
 ) -> Result<(), Refused>
     requires { ContextFits (context_of context.now) }
-    ensures fault { AnswersPoints (store_points (context_of context.now) (place_at (known scope.now)) pointer value) result }
+    ensures fault { Answers (FirstOf (store_points (context_of context.now) (place_at (known scope.now)) pointer
+        value)) result }
     ensures refused { RefusesFaultsAlone
         (store_points (context_of context.now) (place_at (known scope.now)) pointer value) result }
 {

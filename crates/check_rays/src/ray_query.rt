@@ -5,9 +5,8 @@ ghost use Rattle.std.specs.Option.{option_copied};
 ghost use Rattle.ir_facts.specs.FitsBody.{QueryFits};
 ghost use Rattle.ir_module.specs.View.{query_acts};
 ghost use Rattle.naga_runs.specs.PutsAndUses.{puts_of};
-ghost use Rattle.check_scope.specs.walk.Findings.{Finds, RefusesFaultsAlone};
-ghost use Rattle.check_errors.specs.Answers.{AnswersPoints};
-ghost use Rattle.ir_module.specs.declared.operations.RayQueryFunction.TheVariants.{Initialize};
+ghost use Rattle.check_scope.specs.walk.Findings.{RefusesFaultsAlone};
+ghost use Rattle.check_errors.specs.Answers.{Answers, Finds, FirstOf};
 ghost use Rattle.check_rays.specs.RayQuery.{local_type_at, query_flag_of, structure_flag_at, descriptor_type, descriptor_points, is_float_scalar, query_function_points, ray_query_points};
 ghost use Rattle.check_scope.specs.walk.Place.{place_at};
 ghost use Rattle.check_scope.specs.walk.SeenContext.{context_of};
@@ -37,7 +36,8 @@ pub fn validate_ray_query(
     span: Span,
 ) -> Result<(), Refused>
     requires { QueryFits (count scope.old) fun.now }
-    ensures fault { AnswersPoints (ray_query_points (context_of context.now) (place_at (known scope.old)) query fun.now) result }
+    ensures fault { Answers (FirstOf (ray_query_points (context_of context.now) (place_at (known scope.old)) query
+        fun.now)) result }
     ensures refused { RefusesFaultsAlone
         (ray_query_points (context_of context.now) (place_at (known scope.old)) query fun.now) result }
     ensures scope { OnOk result (HasPut scope.old scope.new (puts_of (query_acts fun.now))) }
@@ -58,7 +58,8 @@ fn check_ray_query(
     query: Handle<tag::Expression>,
     fun: &RayQueryFunction,
 ) -> Result<(), FunctionError>
-    ensures { Finds (ray_query_points (context_of context.now) (place_at (known scope.now)) query fun.now) result }
+    ensures { Finds (FirstOf (ray_query_points (context_of context.now) (place_at (known scope.now)) query
+        fun.now)) result }
 {
     let Some(ty) = local_type(context, query) else {
         return Err(FunctionError::InvalidRayQueryExpression(query));
@@ -97,7 +98,8 @@ fn query_flag_of(inner: Option<&TypeInner>) -> Option<bool>
     }
 }
 
-/// What is done with a query.
+/// What is done with a query. One begins with an acceleration structure, which has the flag where the query has it, and
+/// a descriptor.
 fn check_query_function(
     scope: &ScopeColumn,
     context: &BlockContext,
@@ -105,21 +107,26 @@ fn check_query_function(
     vertex_return: bool,
     fun: &RayQueryFunction,
 ) -> Result<(), FunctionError>
-    ensures { Finds
-        (query_function_points (context_of context.now) (place_at (known scope.now)) query vertex_return fun.now) result }
+    ensures { Finds (FirstOf (query_function_points (context_of context.now) (place_at (known scope.now)) query
+        vertex_return fun.now)) result }
 {
     match fun {
         RayQueryFunction::Initialize {
             acceleration_structure,
             descriptor,
-        } => check_initialize(
-            scope,
-            context,
-            query,
-            vertex_return,
-            *acceleration_structure,
-            *descriptor,
-        ),
+        } => {
+            let structure = *acceleration_structure;
+            check_use(scope, structure)?;
+            let Some(returns) = structure_flag(context, structure) else {
+                return Err(FunctionError::InvalidAccelerationStructure(structure));
+            };
+            if vertex_return && !returns {
+                return Err(FunctionError::MissingAccelerationStructureVertexReturn(
+                    structure, query,
+                ));
+            }
+            check_descriptor(scope, context, *descriptor)
+        }
         RayQueryFunction::Proceed { result } => check_put(scope, *result),
         RayQueryFunction::GenerateIntersection { hit_t } => {
             check_use(scope, *hit_t)?;
@@ -130,30 +137,6 @@ fn check_query_function(
         }
         RayQueryFunction::ConfirmIntersection | RayQueryFunction::Terminate => Ok(()),
     }
-}
-
-/// A query begins: its acceleration structure, which has the flag where the query has it, and its descriptor.
-fn check_initialize(
-    scope: &ScopeColumn,
-    context: &BlockContext,
-    query: Handle<tag::Expression>,
-    vertex_return: bool,
-    structure: Handle<tag::Expression>,
-    descriptor: Handle<tag::Expression>,
-) -> Result<(), FunctionError>
-    ensures { Finds
-        (query_function_points (context_of context.now) (place_at (known scope.now)) query vertex_return
-        (Initialize structure descriptor))
-        result }
-{
-    check_use(scope, structure)?;
-    let Some(returns) = structure_flag(context, structure) else {
-        return Err(FunctionError::InvalidAccelerationStructure(structure));
-    };
-    if vertex_return && !returns {
-        return Err(FunctionError::MissingAccelerationStructureVertexReturn(structure, query));
-    }
-    check_descriptor(scope, context, descriptor)
 }
 
 /// Whether an acceleration structure returns vertices.
@@ -175,7 +158,8 @@ pub(crate) fn check_descriptor(
     context: &BlockContext,
     descriptor: Handle<tag::Expression>,
 ) -> Result<(), FunctionError>
-    ensures { Finds (descriptor_points (context_of context.now) (place_at (known scope.now)) descriptor) result }
+    ensures { Finds (FirstOf (descriptor_points (context_of context.now) (place_at (known scope.now))
+        descriptor)) result }
 {
     check_use(scope, descriptor)?;
     if !is_descriptor(context, descriptor) {

@@ -3,8 +3,8 @@
 ghost use Rattle.std.specs.Prelude.{◌≡◌, true};
 ghost use Rattle.std.specs.Option.{option_copied, option_or};
 ghost use Rattle.naga_runs.specs.Positions.{StatementNode};
-ghost use Rattle.check_scope.specs.walk.Findings.{Finds, RefusesFaultsAlone};
-ghost use Rattle.check_errors.specs.Answers.{AnswersPoints};
+ghost use Rattle.check_scope.specs.walk.Findings.{RefusesFaultsAlone};
+ghost use Rattle.check_errors.specs.Answers.{Answers, Finds, FirstOf};
 ghost use Rattle.check_scope.specs.BodyTrees.{tree_of};
 ghost use Rattle.check_rays.specs.RayTrace.{is_payload_space, is_global, trace_ray_points};
 ghost use Rattle.check_scope.specs.walk.Place.{place_at};
@@ -44,10 +44,8 @@ pub fn check_trace_ray(
     ray: Ray,
     span: Span,
 ) -> Result<(), Refused>
-    ensures fault { AnswersPoints
-        (trace_ray_points (context_of context.now) so_far.now (place_at (known scope.now)) ray.structure ray.descriptor
-        ray.payload)
-        result }
+    ensures fault { Answers (FirstOf (trace_ray_points (context_of context.now) so_far.now (place_at (known scope.now))
+        ray.structure ray.descriptor ray.payload)) result }
     ensures refused { RefusesFaultsAlone
         (trace_ray_points (context_of context.now) so_far.now (place_at (known scope.now)) ray.structure ray.descriptor
         ray.payload)
@@ -64,10 +62,8 @@ fn check_trace_ray_points(
     so_far: &Option<Handle<tag::Type>>,
     ray: Ray,
 ) -> Result<(), FunctionError>
-    ensures { Finds
-        (trace_ray_points (context_of context.now) so_far.now (place_at (known scope.now)) ray.structure ray.descriptor
-        ray.payload)
-        result }
+    ensures { Finds (FirstOf (trace_ray_points (context_of context.now) so_far.now (place_at (known scope.now))
+        ray.structure ray.descriptor ray.payload)) result }
 {
     check_use(scope, ray.structure)?;
     if structure_flag(context, ray.structure).is_none() {
@@ -108,7 +104,7 @@ fn is_global(expression: Option<&Expression>) -> bool
     matches!(expression, Some(Expression::GlobalVariable(_)))
 }
 
-/// What ray traces leave behind a statement: only a ray trace changes it.
+/// What ray traces leave after a statement: only a ray trace changes it.
 pub fn advance_trace(trace: &mut TraceState, context: &BlockContext, located: &Located)
     ensures { trace.new
         ≡ with_trace (context_of context.now) trace.old (StatementNode (tree_of (context_of context.now) located.now)) }
@@ -135,7 +131,7 @@ pub fn advance_trace(trace: &mut TraceState, context: &BlockContext, located: &L
     }
 }
 
-/// The payload type behind a ray trace: the one so far, if there was one, else its own.
+/// The payload type after a ray trace: the one so far, if there was one, else its own.
 fn payload_behind(
     context: &BlockContext,
     so_far: &Option<Handle<tag::Type>>,
@@ -162,7 +158,7 @@ fn payload_type(
     }
 }
 
-/// How vertices are returned behind a ray trace: where it stands, if its structure lacks the flag.
+/// How vertices are returned after a ray trace: where it stands, if its structure lacks the flag.
 fn vertex_return_behind(
     context: &BlockContext,
     so_far: TraceRayVertexReturnState,

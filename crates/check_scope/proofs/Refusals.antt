@@ -5,10 +5,10 @@ use Rattle.std.specs.Option.{option_or}
 use Rattle.std.specs.Result.{result_err}
 use Rattle.ir_arena.specs.declared.span.Refusal.{Refusal}
 use Rattle.ir_arena.specs.declared.span.Refusal.TheVariants as refusal
-use Rattle.check_errors.specs.Answers.{AnswersPoints, IsFirstFault, Refuses}
+use Rattle.check_errors.specs.Answers.{IsFirstFault, Answers, FirstOf, Exactly, leaving}
 use Rattle.check_errors.specs.declared.function.FunctionError.{FunctionError}
 use Rattle.ir_facts.specs.Points.{and_then, Point, first_fault}
-use Rattle.check_scope.specs.walk.Findings.{AnswersLeaving, IsRefusalFor}
+use Rattle.check_scope.specs.walk.Findings.{IsRefusalFor}
 use Rattle.check_scope.specs.ScopePoints.{Points}
 use Rattle.ir_facts.proofs.Points.{first_of_both}
 
@@ -24,13 +24,13 @@ first_refused (refusal.Fault f) here behind whole e first =
 first_refused refusal.Memory here behind whole e first = tt
 
 -- a refusal at the first of them
-pub refuses_first : {T : Type 0} (r : Result T (Refusal FunctionError)) (first second : Points) → IsErr r → AnswersPoints first r → AnswersPoints (first ++ second) r
+pub refuses_first : {T : Type 0} (r : Result T (Refusal FunctionError)) (first second : Points) → IsErr r → Answers (FirstOf first) r → Answers (FirstOf (first ++ second)) r
 refuses_first (Err (refusal.Fault f)) first second e h = first_of_both first second ∙ ap (λ o. option_or o (first_fault second)) h
 refuses_first (Err refusal.Memory) first second e h = tt
 refuses_first (Ok t) first second e h = cc
 
 -- an answer at the second, where no point of the first fails
-pub refuses_second : {T : Type 0} (r : Result T (Refusal FunctionError)) (first second : Points) → first_fault first ≡ None → AnswersPoints second r → AnswersPoints (first ++ second) r
+pub refuses_second : {T : Type 0} (r : Result T (Refusal FunctionError)) (first second : Points) → first_fault first ≡ None → Answers (FirstOf second) r → Answers (FirstOf (first ++ second)) r
 refuses_second (Ok t) first second e h = first_of_both first second ∙ ap (λ o. option_or o (first_fault second)) e ∙ h
 refuses_second (Err (refusal.Fault f)) first second e h = first_of_both first second ∙ ap (λ o. option_or o (first_fault second)) e ∙ h
 refuses_second (Err refusal.Memory) first second e h = tt
@@ -38,15 +38,15 @@ refuses_second (Err refusal.Memory) first second e h = tt
 pub passes : {S : Type 0} (o : Result S FunctionError) (f : S → Result S FunctionError) (st end : S) → o ≡ Ok st → f st ≡ Ok end → and_then o f ≡ Ok end
 passes o f st end e g = ap (λ z. and_then z f) e ∙ g
 
-pub stops_first : {S : Type 0} (e : Refusal FunctionError) (o : Result S FunctionError) (f : S → Result S FunctionError) → Refuses o e → Refuses (and_then o f) e
+pub stops_first : {S : Type 0} (e : Refusal FunctionError) (o : Result S FunctionError) (f : S → Result S FunctionError) → Answers (Exactly o) (Err e) → Answers (Exactly (and_then o f)) (Err e)
 stops_first (refusal.Fault x) o f h = ap (λ z. and_then z f) h
 stops_first refusal.Memory o f h = tt
 
-pub stops_next : {S : Type 0} (e : Refusal FunctionError) (o : Result S FunctionError) (f : S → Result S FunctionError) (st : S) → o ≡ Ok st → Refuses (f st) e → Refuses (and_then o f) e
+pub stops_next : {S : Type 0} (e : Refusal FunctionError) (o : Result S FunctionError) (f : S → Result S FunctionError) (st : S) → o ≡ Ok st → Answers (Exactly (f st)) (Err e) → Answers (Exactly (and_then o f)) (Err e)
 stops_next (refusal.Fault x) o f st e h = ap (λ z. and_then z f) e ∙ h
 stops_next refusal.Memory o f st e h = tt
 
-pub answers_next : {S T : Type 0} (r : Result T (Refusal FunctionError)) (o : Result S FunctionError) (f : S → Result S FunctionError) (st end : S) → o ≡ Ok st → AnswersLeaving (f st) end r → AnswersLeaving (and_then o f) end r
+pub answers_next : {S T : Type 0} (r : Result T (Refusal FunctionError)) (o : Result S FunctionError) (f : S → Result S FunctionError) (st end : S) → o ≡ Ok st → Answers (Exactly (f st)) (leaving end r) → Answers (Exactly (and_then o f)) (leaving end r)
 answers_next (Ok n) o f st end e h = ap (λ z. and_then z f) e ∙ h
 answers_next (Err x) o f st end e h = stops_next x o f st e h
 

@@ -3,8 +3,8 @@
 ghost use Rattle.std.specs.Prelude.{[], ◌∷◌};
 ghost use Rattle.ir_facts.specs.declared.valid.expression_error.ExpressionError.TheVariants.{NotInScope};
 ghost use Rattle.check_errors.specs.declared.function.FunctionError.TheVariants.{Expression};
-ghost use Rattle.check_scope.specs.walk.Findings.{Finds, IsRefusalFor, RefusesFaultsAlone};
-ghost use Rattle.check_errors.specs.Answers.{AnswersPoints};
+ghost use Rattle.check_scope.specs.walk.Findings.{IsRefusalFor, RefusesFaultsAlone};
+ghost use Rattle.check_errors.specs.Answers.{Answers, Finds, FirstOf};
 ghost use Rattle.check_scope.specs.ScopePoints.{Points, use_point, put_point};
 ghost use Rattle.check_scope.specs.walk.Place.{place_at};
 ghost use Rattle.check_scope.specs.walk.Table.{known};
@@ -18,9 +18,9 @@ use ir_arena::tag;
 use ir_facts::valid::expression_error::ExpressionError;
 use std::alloc::Global;
 
-/// A use: every run has put the expression where it comes here.
+/// A use: every run that comes here has emitted the expression.
 pub fn check_use(scope: &ScopeColumn, handle: Handle<tag::Expression>) -> Result<(), FunctionError>
-    ensures { Finds (use_point (place_at (known scope.now)) handle ∷ []) result }
+    ensures { Finds (FirstOf (use_point (place_at (known scope.now)) handle ∷ [])) result }
 {
     if !scope.may_use(handle) {
         return Err(FunctionError::Expression {
@@ -31,9 +31,9 @@ pub fn check_use(scope: &ScopeColumn, handle: Handle<tag::Expression>) -> Result
     Ok(())
 }
 
-/// A put, before it is made: the expression is not in scope.
+/// An emission, before it is made: the expression is not in scope.
 pub fn check_put(scope: &ScopeColumn, handle: Handle<tag::Expression>) -> Result<(), FunctionError>
-    ensures { Finds (put_point (place_at (known scope.now)) handle ∷ []) result }
+    ensures { Finds (FirstOf (put_point (place_at (known scope.now)) handle ∷ [])) result }
 {
     if scope.contains(handle) {
         return Err(FunctionError::ExpressionAlreadyInScope(handle));
@@ -41,8 +41,8 @@ pub fn check_put(scope: &ScopeColumn, handle: Handle<tag::Expression>) -> Result
     Ok(())
 }
 
-/// The refusal of a use. What makes refusals stands apart from the checks that are asked most often, so that these hold no
-/// fault while all is well.
+/// The refusal of a use. What makes refusals stands apart from the checks that are asked most often, so that these
+/// hold no fault while all is well.
 #[cold]
 #[inline(never)]
 pub fn not_in_scope(alloc: Global, handle: Handle<tag::Expression>, span: Span) -> Refused
@@ -58,8 +58,8 @@ pub fn not_in_scope(alloc: Global, handle: Handle<tag::Expression>, span: Span) 
 /// The answer of a check of the statement at a place.
 #[tactic(auto, using(crate::proofs::Refusals::refuses_fault))]
 pub fn answer(alloc: Global, checked: Result<(), FunctionError>, span: Span) -> Result<(), Refused>
-    ensures fault { (points : Points) → Finds points checked → AnswersPoints points result }
-    ensures refused { (points : Points) → Finds points checked → RefusesFaultsAlone points result }
+    ensures fault { (points : Points) → Finds (FirstOf points) checked → Answers (FirstOf points) result }
+    ensures refused { (points : Points) → Finds (FirstOf points) checked → RefusesFaultsAlone points result }
 {
     match checked {
         Ok(()) => Ok(()),
@@ -70,8 +70,8 @@ pub fn answer(alloc: Global, checked: Result<(), FunctionError>, span: Span) -> 
 /// The answer of a check of the function as a whole.
 #[tactic(auto, using(crate::proofs::Refusals::refuses_fault))]
 pub fn answer_of_function(alloc: Global, checked: Result<(), FunctionError>) -> Result<(), Refused>
-    ensures fault { (points : Points) → Finds points checked → AnswersPoints points result }
-    ensures refused { (points : Points) → Finds points checked → RefusesFaultsAlone points result }
+    ensures fault { (points : Points) → Finds (FirstOf points) checked → Answers (FirstOf points) result }
+    ensures refused { (points : Points) → Finds (FirstOf points) checked → RefusesFaultsAlone points result }
 {
     match checked {
         Ok(()) => Ok(()),

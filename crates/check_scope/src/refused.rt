@@ -8,7 +8,7 @@ use std::marker::Model;
 /// A refusal of a body. The fault lies on the heap, so that what each step of the walk answers is small.
 #[derive(Drop)]
 pub struct Refused {
-    // none for want of memory
+    // none if it is out of memory
     fault: Option<Box<WithSpan<FunctionError>>>,
 }
 

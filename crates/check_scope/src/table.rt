@@ -14,15 +14,16 @@ pub enum ScopeState {
     Closed,
     /// It is entered, and not left yet.
     Open,
-    /// It has what a Loop's body puts behind its first Continue, and that body is left: what it put is in scope in the
-    /// continuing part and at the break condition, and may not be used there, since a Continue may have skipped it.
+    /// It has what a Loop's body emits after its first Continue, and that body is left: what it emitted is in scope in
+    /// the continuing part and at the break condition, and may not be used there, since a Continue may have skipped
+    /// it.
     Skipped,
 }
 
-/// Which expressions are in scope (naga's `valid_expression_set` and `valid_expression_list`). Scopes have numbers, none of
-/// which is used twice in a function: 0 is never open, 1 is that of the function's body and of what needs no emission, and
-/// each scope that is entered takes the next. An expression is in scope where the scope that put it is not closed, and may be used
-/// where it is open.
+/// Which expressions are in scope (naga's `valid_expression_set` and `valid_expression_list`). Scopes have numbers,
+/// none of which is used twice in a function: 0 is never open, 1 is that of the function's body and of what needs no
+/// emission, and each scope that is entered takes the next. An expression is in scope where the scope that put it is
+/// not closed, and may be used where it is open.
 #[derive(Drop)]
 pub struct ScopeColumn {
     // by expression, the scope that put it, 0 where none did

@@ -1,15 +1,13 @@
 -- The judgement of a function's body, and of a function: a chain of steps, each an answer of the lower layer or the fault
 -- of the first of its points that fails.
-use Rattle.std.specs.Prelude.{◌≡◌, Bool, List, [], Result, Ok, Err, if◌then◌else◌}
+use Rattle.std.specs.Prelude.{Bool, List, [], Result, Ok, Err, if◌then◌else◌}
 use Rattle.ir_facts.specs.Points.{first_fault, answer, and_then}
 use Rattle.ir_module.specs.declared.functions.Function.{Function}
 use Rattle.ir_module.specs.declared.module.Module.{Module}
-use Rattle.ir_arena.specs.declared.span.Refusal.{Refusal}
 use Rattle.ir_facts.specs.declared.valid.info.FunctionInfo.{FunctionInfo}
 use Rattle.ir_facts.specs.declared.valid.info.ModuleInfo.{ModuleInfo}
 use Rattle.ir_facts.specs.declared.valid.settings.Settings.{Settings}
 use Rattle.ir_facts.specs.declared.valid.types.TypeInfo.{TypeInfo}
-use Rattle.check_errors.specs.Answers.{Refuses}
 use Rattle.check_errors.specs.Meaning.{Meaning}
 use Rattle.check_errors.specs.declared.function.FunctionError.{FunctionError}
 use Rattle.naga_runs.specs.Judgement.{judgement}
@@ -94,8 +92,7 @@ module _ (below : Meaning) (settings : Settings) (infos : List TypeInfo) (trace 
       and_then (declarations_step infos entry_point (context_with info)) (λ info.
       and_then (expressions_known below (context_with info)) (λ info. judged_with (context_with info))))
 
--- an answer with what is left of ray traces: the judgement, or there was no memory
-abbrev pub AnswersTracing : {Fault : Type 0} → Result FunctionOutcome Fault → TraceState →
-    Result FunctionInfo (Refusal Fault) → Type 0
-AnswersTracing right trace (Ok info) = right ≡ Ok (record { info = info; trace = trace })
-AnswersTracing right trace (Err refused) = Refuses right refused
+-- the answer about a function, with what is left of ray traces
+abbrev pub outcome_of : {Fault : Type 0} → TraceState → Result FunctionInfo Fault → Result FunctionOutcome Fault
+outcome_of trace (Ok info) = Ok (record { info = info; trace = trace })
+outcome_of trace (Err fault) = Err fault

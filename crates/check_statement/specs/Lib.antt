@@ -9,7 +9,7 @@ pub mod Declarations
 pub mod ExpressionStages
 pub use Rattle.check_scope.specs.BodyTrees.{body_of}
 pub use Rattle.check_scope.specs.Context.{pre_emitted_of}
-pub use Rattle.check_statement.specs.FunctionJudgement.{FunctionOutcome, AnswersTracing}
+pub use Rattle.check_statement.specs.FunctionJudgement.{FunctionOutcome, outcome_of}
 pub use Rattle.check_statement.specs.ValidatorParts.{AreInfosOf}
 pub use Rattle.check_errors.specs.WhatIsChecked.{checks_blocks, checks_expressions}
 unfoldable pub use Rattle.check_statement.specs.FunctionJudgement.{function_judgement}

@@ -1,7 +1,7 @@
 //! The check lists of the statements that neither jump nor hold others, but for the kinds that bodies have most.
 
 ghost use Rattle.std.specs.Prelude.{◌≡◌, false, OnOk};
-ghost use Rattle.check_errors.specs.Answers.{AnswersPoints};
+ghost use Rattle.check_errors.specs.Answers.{Answers, FirstOf};
 ghost use Rattle.check_scope.specs.BodyTrees.{tree_of};
 ghost use Rattle.check_scope.specs.Context.{ContextFits};
 ghost use Rattle.check_statement.specs.Ready.{IsStatementReady};
@@ -32,9 +32,9 @@ use check_subgroups::subgroup_gather::validate_gather;
 use ir_module::operations::RayPipelineFunction;
 use ir_module::statements::{Located, Statement};
 
-/// The check list of a statement that is neither a jump nor holds others, of another kind than those that bodies have most; of
-/// jumps and of what holds others it is empty. What the statement puts is in scope afterwards. It stands apart from the
-/// frequent kinds, so that nothing is set up for it where one of them is judged.
+/// The check list of a statement that is neither a jump nor holds others, of another kind than those that bodies have
+/// most; of jumps and of what holds others it is empty. What the statement emits is in scope afterwards. It stands
+/// apart from the frequent kinds, so that nothing is set up for it where one of them is judged.
 #[inline(never)]
 pub(crate) fn validate_rarer_leaf(
     table: &mut Table,
@@ -46,10 +46,8 @@ pub(crate) fn validate_rarer_leaf(
     requires statement { IsStatementReady (context_of context.now) (tree_of (context_of context.now) located.now) }
     requires kind { is_frequent located.now.statement ≡ false }
     requires table { IsTableOf (context_of context.now) table.old }
-    ensures fault { AnswersPoints
-        (leaf_points (context_of context.now) (seen (kept table.old.filled state.now)) (place_at (known table.old.scope))
-        located.now.statement)
-        result }
+    ensures fault { Answers (FirstOf (leaf_points (context_of context.now) (seen (kept table.old.filled state.now))
+        (place_at (known table.old.scope)) located.now.statement)) result }
     ensures scope { OnOk result (HasPut table.old.scope table.new.scope (puts (tree_of (context_of context.now) located.now))) }
     ensures filled { table.new.filled ≡ table.old.filled }
 {

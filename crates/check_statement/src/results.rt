@@ -1,10 +1,10 @@
 //! Results of calls and of atomic operations.
 
 ghost use Rattle.std.specs.Prelude.{◌≡◌, length};
-ghost use Rattle.check_scope.specs.walk.Findings.{Finds};
 ghost use Rattle.check_scope.specs.Results.{filled_points_from, filled_points};
 ghost use Rattle.check_scope.specs.walk.SeenContext.{context_of};
 ghost use Rattle.check_scope.specs.walk.Table.{KnowsResults, count, filled_in};
+ghost use Rattle.check_errors.specs.Answers.{Finds, FirstOf};
 
 use check_errors::function::FunctionError;
 use check_scope::context::BlockContext;
@@ -12,10 +12,10 @@ use check_scope::table::FilledColumn;
 use ir_arena::handle::Handle;
 use ir_flags::valid::ValidationFlags;
 
-/// Behind a body, where expressions are looked at: each result of the function is filled.
+/// After a body, with EXPRESSIONS: each result of the function is filled.
 pub fn check_filled(filled: &FilledColumn, context: &BlockContext) -> Result<(), FunctionError>
     requires { KnowsResults (context_of context.now) filled.now }
-    ensures { Finds (filled_points (context_of context.now) (filled_in filled.now)) result }
+    ensures { Finds (FirstOf (filled_points (context_of context.now) (filled_in filled.now))) result }
 {
     let flags = context.settings.flags;
     if flags.contains(ValidationFlags::EXPRESSIONS) {
@@ -27,9 +27,8 @@ pub fn check_filled(filled: &FilledColumn, context: &BlockContext) -> Result<(),
 
 fn check_each_filled(filled: &FilledColumn, context: &BlockContext) -> Result<(), FunctionError>
     requires { KnowsResults (context_of context.now) filled.now }
-    ensures { Finds
-        (filled_points_from (context_of context.now) (filled_in filled.now) 0 (length (context_of context.now).fun.expressions))
-        result }
+    ensures { Finds (FirstOf (filled_points_from (context_of context.now) (filled_in filled.now) 0
+        (length (context_of context.now).fun.expressions))) result }
 {
     let count = context.fun.expressions.len() as u32;
     for index in 0..count {

@@ -21,7 +21,7 @@ use ir_arena::tag;
 use ir_flags::valid::ShaderStages;
 use ir_module::statements::{Located, Statement};
 
-/// What the statements so far leave, and behind the last one what an accepted body leaves.
+/// What the statements so far leave, and after the last one what an accepted body leaves.
 #[derive(Clone, Copy)]
 pub struct BodyOutcome {
     /// The stages that all of them may run in.

@@ -2,7 +2,7 @@
 
 ghost use Rattle.std.specs.Prelude.{◌≡◌, false, IfOk, OnOk};
 ghost use Rattle.check_scope.specs.walk.Findings.{RefusesFaultsAlone};
-ghost use Rattle.check_errors.specs.Answers.{AnswersPoints};
+ghost use Rattle.check_errors.specs.Answers.{Answers, FirstOf};
 ghost use Rattle.check_scope.specs.BodyTrees.{tree_of};
 ghost use Rattle.check_scope.specs.Context.{ContextFits};
 ghost use Rattle.check_flow.specs.Control.{break_if_points};
@@ -33,9 +33,9 @@ use ir_flags::valid::ShaderStages;
 use ir_module::statements::{Located, Statement};
 use naga_runs::Abilities;
 
-/// A statement itself: its check list, what it puts, which is in scope afterwards, and what it leaves; its parts are left out.
-/// Answers whether that is all of it: true for Emit, Store, Call and Kill, false for all others, whether they hold statements
-/// or not.
+/// A statement itself: its check list, what it puts, which is in scope afterwards, and what it leaves; its parts are
+/// left out. Answers whether that is all of it: true for Emit, Store, Call and Kill, false for all others, whether
+/// they hold statements or not.
 pub fn validate_own(
     table: &mut Table,
     state: &mut BodyOutcome,
@@ -46,9 +46,9 @@ pub fn validate_own(
     requires context { ContextFits (context_of context.now) }
     requires statement { IsStatementReady (context_of context.now) (tree_of (context_of context.now) located.now) }
     requires table { IsTableOf (context_of context.now) table.old }
-    ensures fault { AnswersPoints
-        (statement_points (context_of context.now) (seen (kept table.old.filled state.old))
-        (place abilities.now (known table.old.scope)) (tree_of (context_of context.now) located.now))
+    ensures fault { Answers
+        (FirstOf (statement_points (context_of context.now) (seen (kept table.old.filled state.old))
+        (place abilities.now (known table.old.scope)) (tree_of (context_of context.now) located.now)))
         result }
     ensures scope { OnOk result (HasPut table.old.scope table.new.scope (puts (tree_of (context_of context.now) located.now))) }
     ensures state { OnOk result (kept table.new.filled state.new
@@ -106,8 +106,8 @@ pub fn validate_own(
     }
 }
 
-/// The same of a statement of any other kind. It stands apart from these, so that nothing is set up for it where one of them is
-/// judged.
+/// The same of a statement of any other kind. It stands apart from these, so that nothing is set up for it where one
+/// of them is judged.
 #[inline(never)]
 fn validate_rarer(
     table: &mut Table,
@@ -120,9 +120,9 @@ fn validate_rarer(
     requires statement { IsStatementReady (context_of context.now) (tree_of (context_of context.now) located.now) }
     requires kind { is_frequent located.now.statement ≡ false }
     requires table { IsTableOf (context_of context.now) table.old }
-    ensures fault { AnswersPoints
-        (statement_points (context_of context.now) (seen (kept table.old.filled state.old))
-        (place abilities.now (known table.old.scope)) (tree_of (context_of context.now) located.now))
+    ensures fault { Answers
+        (FirstOf (statement_points (context_of context.now) (seen (kept table.old.filled state.old))
+        (place abilities.now (known table.old.scope)) (tree_of (context_of context.now) located.now)))
         result }
     ensures scope { OnOk result (HasPut table.old.scope table.new.scope (puts (tree_of (context_of context.now) located.now))) }
     ensures state { OnOk result (kept table.new.filled state.new
@@ -135,7 +135,7 @@ fn validate_rarer(
     Ok(())
 }
 
-/// The check list of a statement of such a kind. What it puts is in scope afterwards.
+/// The check list of a statement of such a kind. What it emits is in scope afterwards.
 fn validate_points(
     table: &mut Table,
     state: &BodyOutcome,
@@ -147,9 +147,9 @@ fn validate_points(
     requires statement { IsStatementReady (context_of context.now) (tree_of (context_of context.now) located.now) }
     requires kind { is_frequent located.now.statement ≡ false }
     requires table { IsTableOf (context_of context.now) table.old }
-    ensures fault { AnswersPoints
-        (statement_points (context_of context.now) (seen (kept table.old.filled state.now))
-        (place abilities.now (known table.old.scope)) (tree_of (context_of context.now) located.now))
+    ensures fault { Answers
+        (FirstOf (statement_points (context_of context.now) (seen (kept table.old.filled state.now))
+        (place abilities.now (known table.old.scope)) (tree_of (context_of context.now) located.now)))
         result }
     ensures scope { OnOk result (HasPut table.old.scope table.new.scope (puts (tree_of (context_of context.now) located.now))) }
     ensures filled { table.new.filled ≡ table.old.filled }
@@ -178,7 +178,8 @@ pub fn check_break_if(
     break_if: Option<Handle<tag::Expression>>,
     span: Span,
 ) -> Result<(), Refused>
-    ensures fault { AnswersPoints (break_if_points (context_of context.now) (place_at (known scope.now)) break_if) result }
+    ensures fault { Answers (FirstOf (break_if_points (context_of context.now) (place_at (known scope.now))
+        break_if)) result }
     ensures refused { RefusesFaultsAlone (break_if_points (context_of context.now) (place_at (known scope.now)) break_if) result }
 {
     match break_if {

@@ -1,8 +1,8 @@
 //! The check list of ControlBarrier and of MemoryBarrier.
 
 ghost use Rattle.std.specs.Prelude.{◌≡◌};
-ghost use Rattle.check_scope.specs.walk.Findings.{Finds, RefusesFaultsAlone};
-ghost use Rattle.check_errors.specs.Answers.{AnswersPoints};
+ghost use Rattle.check_scope.specs.walk.Findings.{RefusesFaultsAlone};
+ghost use Rattle.check_errors.specs.Answers.{Answers, Finds, FirstOf};
 ghost use Rattle.check_subgroups.specs.Barrier.{barrier_capabilities, barrier_points};
 
 use crate::subgroup::check_operations;
@@ -24,7 +24,7 @@ pub fn check_barrier(
     barrier: Barrier,
     span: Span,
 ) -> Result<(), Refused>
-    ensures fault { AnswersPoints (barrier_points settings.now barrier) result }
+    ensures fault { Answers (FirstOf (barrier_points settings.now barrier)) result }
     ensures refused { RefusesFaultsAlone (barrier_points settings.now barrier) result }
 {
     answer(alloc, check_barrier_points(settings, barrier), span)
@@ -32,7 +32,7 @@ pub fn check_barrier(
 
 /// A barrier of a subgroup needs what the target has.
 fn check_barrier_points(settings: &Settings, barrier: Barrier) -> Result<(), FunctionError>
-    ensures { Finds (barrier_points settings.now barrier) result }
+    ensures { Finds (FirstOf (barrier_points settings.now barrier)) result }
 {
     if !barrier.contains(Barrier::SUB_GROUP) {
         return Ok(());

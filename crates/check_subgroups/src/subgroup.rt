@@ -2,8 +2,8 @@
 
 ghost use Rattle.std.specs.Prelude.{◌≡◌, ◌<◌, ◌∷◌, [], OnOk};
 ghost use Rattle.std.specs.Option.{option_copied};
-ghost use Rattle.check_scope.specs.walk.Findings.{Finds, RefusesFaultsAlone};
-ghost use Rattle.check_errors.specs.Answers.{AnswersPoints};
+ghost use Rattle.check_scope.specs.walk.Findings.{RefusesFaultsAlone};
+ghost use Rattle.check_errors.specs.Answers.{Answers, Finds, FirstOf};
 ghost use Rattle.check_scope.specs.walk.Place.{place_at};
 ghost use Rattle.check_subgroups.specs.walk.SubgroupParts.{combined_points};
 ghost use Rattle.check_scope.specs.walk.SeenContext.{context_of};
@@ -30,7 +30,7 @@ pub(crate) fn check_operations(
     settings: &Settings,
     needed: SubgroupOperationSet,
 ) -> Result<(), FunctionError>
-    ensures { Finds (operations_point settings.now needed ∷ []) result }
+    ensures { Finds (FirstOf (operations_point settings.now needed ∷ [])) result }
 {
     if !settings.subgroup_operations.contains(needed) {
         let error = SubgroupError::UnsupportedOperation(needed);
@@ -41,7 +41,7 @@ pub(crate) fn check_operations(
 
 /// Subgroups, which the target has at all.
 pub fn check_subgroups(settings: &Settings) -> Result<(), FunctionError>
-    ensures { Finds (subgroups_point settings.now ∷ []) result }
+    ensures { Finds (FirstOf (subgroups_point settings.now ∷ [])) result }
 {
     let needed = Capabilities::SUBGROUP;
     if !settings.capabilities.contains(needed) {
@@ -59,8 +59,8 @@ pub fn validate_ballot(
     span: Span,
 ) -> Result<(), Refused>
     requires { ballot < count scope.old }
-    ensures fault { AnswersPoints
-        (ballot_points (context_of context.now) (place_at (known scope.old)) ballot predicate.now) result }
+    ensures fault { Answers
+        (FirstOf (ballot_points (context_of context.now) (place_at (known scope.old)) ballot predicate.now)) result }
     ensures refused { RefusesFaultsAlone
         (ballot_points (context_of context.now) (place_at (known scope.old)) ballot predicate.now) result }
     ensures scope { OnOk result (HasPut scope.old scope.new (ballot ∷ [])) }
@@ -80,7 +80,8 @@ fn check_ballot(
     ballot: Handle<tag::Expression>,
     predicate: &Option<Handle<tag::Expression>>,
 ) -> Result<(), FunctionError>
-    ensures { Finds (ballot_points (context_of context.now) (place_at (known scope.now)) ballot predicate.now) result }
+    ensures { Finds (FirstOf (ballot_points (context_of context.now) (place_at (known scope.now)) ballot
+        predicate.now)) result }
 {
     check_subgroups(&context.settings)?;
     check_operations(&context.settings, SubgroupOperationSet::BALLOT)?;
@@ -94,7 +95,8 @@ fn check_predicate(
     context: &BlockContext,
     predicate: &Option<Handle<tag::Expression>>,
 ) -> Result<(), FunctionError>
-    ensures { Finds (predicate_points (context_of context.now) (place_at (known scope.now)) predicate.now) result }
+    ensures { Finds (FirstOf (predicate_points (context_of context.now) (place_at (known scope.now))
+        predicate.now)) result }
 {
     match predicate {
         Some(handle) => {
@@ -126,7 +128,8 @@ pub(crate) fn check_combined(
     argument: Handle<tag::Expression>,
     combined: Handle<tag::Expression>,
 ) -> Result<(), FunctionError>
-    ensures { Finds (combined_points (context_of context.now) (place_at (known scope.now)) argument combined) result }
+    ensures { Finds (FirstOf (combined_points (context_of context.now) (place_at (known scope.now)) argument
+        combined)) result }
 {
     check_put(scope, combined)?;
     if !are_same_inners(

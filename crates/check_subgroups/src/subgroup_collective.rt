@@ -2,8 +2,8 @@
 
 ghost use Rattle.std.specs.Prelude.{◌≡◌, ◌<◌, ◌∷◌, [], OnOk};
 ghost use Rattle.std.specs.Option.{option_copied};
-ghost use Rattle.check_scope.specs.walk.Findings.{Finds, RefusesFaultsAlone};
-ghost use Rattle.check_errors.specs.Answers.{AnswersPoints};
+ghost use Rattle.check_scope.specs.walk.Findings.{RefusesFaultsAlone};
+ghost use Rattle.check_errors.specs.Answers.{Answers, Finds, FirstOf};
 ghost use Rattle.check_scope.specs.walk.Place.{place_at};
 ghost use Rattle.check_scope.specs.walk.SeenContext.{context_of};
 ghost use Rattle.check_subgroups.specs.SubgroupCollective.{is_wide_integer, is_combined_by, takes_vectors, is_operand_of, is_scanned, is_done_over, collective_points};
@@ -39,9 +39,9 @@ pub fn validate_collective(
     span: Span,
 ) -> Result<(), Refused>
     requires { collective.now.combined < count scope.old }
-    ensures fault { AnswersPoints
-        (collective_points (context_of context.now) (place_at (known scope.old)) collective.now.operation
-        collective.now.part collective.now.argument collective.now.combined)
+    ensures fault { Answers
+        (FirstOf (collective_points (context_of context.now) (place_at (known scope.old)) collective.now.operation
+        collective.now.part collective.now.argument collective.now.combined))
         result }
     ensures refused { RefusesFaultsAlone
         (collective_points (context_of context.now) (place_at (known scope.old)) collective.now.operation
@@ -63,8 +63,8 @@ fn check_collective(
     collective: &Collective,
 ) -> Result<(), FunctionError>
     ensures { Finds
-        (collective_points (context_of context.now) (place_at (known scope.now)) collective.now.operation
-        collective.now.part collective.now.argument collective.now.combined)
+        (FirstOf (collective_points (context_of context.now) (place_at (known scope.now)) collective.now.operation
+        collective.now.part collective.now.argument collective.now.combined))
         result }
 {
     let Collective {

@@ -2,8 +2,8 @@
 
 ghost use Rattle.std.specs.Prelude.{◌≡◌, ◌<◌, ◌∷◌, [], OnOk, Some};
 ghost use Rattle.std.specs.Option.{option_copied};
-ghost use Rattle.check_scope.specs.walk.Findings.{Finds, RefusesFaultsAlone};
-ghost use Rattle.check_errors.specs.Answers.{AnswersPoints};
+ghost use Rattle.check_scope.specs.walk.Findings.{RefusesFaultsAlone};
+ghost use Rattle.check_errors.specs.Answers.{Answers, Finds, FirstOf};
 ghost use Rattle.check_scope.specs.walk.Place.{place_at};
 ghost use Rattle.check_subgroups.specs.walk.SubgroupParts.{indexed_points, gathered_points};
 ghost use Rattle.check_scope.specs.walk.SeenContext.{context_of};
@@ -33,8 +33,8 @@ pub fn validate_gather(
     span: Span,
 ) -> Result<(), Refused>
     requires { gathered < count scope.old }
-    ensures fault { AnswersPoints
-        (gather_points (context_of context.now) (place_at (known scope.old)) mode.now argument gathered)
+    ensures fault { Answers
+        (FirstOf (gather_points (context_of context.now) (place_at (known scope.old)) mode.now argument gathered))
         result }
     ensures refused { RefusesFaultsAlone
         (gather_points (context_of context.now) (place_at (known scope.old)) mode.now argument gathered)
@@ -57,7 +57,8 @@ fn check_gather(
     argument: Handle<tag::Expression>,
     gathered: Handle<tag::Expression>,
 ) -> Result<(), FunctionError>
-    ensures { Finds (gather_points (context_of context.now) (place_at (known scope.now)) mode.now argument gathered) result }
+    ensures { Finds (FirstOf (gather_points (context_of context.now) (place_at (known scope.now)) mode.now argument
+        gathered)) result }
 {
     check_subgroups(&context.settings)?;
     check_operations(&context.settings, mode.required_operations())?;
@@ -73,7 +74,8 @@ fn check_indexed(
     argument: Handle<tag::Expression>,
     gathered: Handle<tag::Expression>,
 ) -> Result<(), FunctionError>
-    ensures { Finds (indexed_points (context_of context.now) (place_at (known scope.now)) mode.now argument gathered) result }
+    ensures { Finds (FirstOf (indexed_points (context_of context.now) (place_at (known scope.now)) mode.now argument
+        gathered)) result }
 {
     if let Some(index) = index_of(mode) {
         check_index(scope, context, is_broadcast(mode), argument, index)?;
@@ -106,7 +108,8 @@ fn is_broadcast(mode: &GatherMode) -> bool
     )
 }
 
-/// The index: put by every run, a u32, and in a broadcast const. What is no u32 is told of the argument, as naga does.
+/// The index: emitted by every run, a u32, and in a broadcast const. A fault of its type names the argument, as in
+/// naga.
 fn check_index(
     scope: &ScopeColumn,
     context: &BlockContext,
@@ -114,7 +117,8 @@ fn check_index(
     argument: Handle<tag::Expression>,
     index: Handle<tag::Expression>,
 ) -> Result<(), FunctionError>
-    ensures { Finds (index_points (context_of context.now) (place_at (known scope.now)) broadcasts argument (Some index)) result }
+    ensures { Finds (FirstOf (index_points (context_of context.now) (place_at (known scope.now)) broadcasts argument
+        (Some index))) result }
 {
     check_use(scope, index)?;
     if !is_scalar(Scalar::U32, context.type_inner(index)) {
@@ -142,7 +146,8 @@ fn check_gathered(
     argument: Handle<tag::Expression>,
     gathered: Handle<tag::Expression>,
 ) -> Result<(), FunctionError>
-    ensures { Finds (gathered_points (context_of context.now) (place_at (known scope.now)) argument gathered) result }
+    ensures { Finds (FirstOf (gathered_points (context_of context.now) (place_at (known scope.now)) argument
+        gathered)) result }
 {
     check_use(scope, argument)?;
     if !is_gathered(context.type_inner(argument)) {

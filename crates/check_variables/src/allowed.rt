@@ -9,10 +9,11 @@ use ir_flags::valid::GlobalUse;
 use ir_module::module::ShaderStage;
 use ir_types::types::AddressSpace;
 
-/// What the function of an entry point at this stage may do with a global in this space, where such a global may be used
-/// at all: none in `Function` may, one in `RayPayload` at RayGeneration, ClosestHit and Miss alone, and one in
-/// `IncomingRayPayload` at AnyHit, ClosestHit and Miss alone. `storage` is the access of a storage image or of a binding
-/// array of such images; it is read in `Handle` alone.
+/// How an entry point at this stage may use a global in this address space.
+///
+/// It is for globals that may be used at all. None in `Function` may, one in `RayPayload` only at RayGeneration,
+/// ClosestHit and Miss, and one in `IncomingRayPayload` only at AnyHit, ClosestHit and Miss. `storage` is the access
+/// of a storage image, or of a binding array of such images. It is read for `Handle` only.
 pub fn allowed_use(
     space: AddressSpace,
     storage: Option<StorageAccess>,
@@ -94,7 +95,7 @@ fn payload_use(stage: ShaderStage) -> GlobalUse
     }
 }
 
-/// Whether a stage traces rays, and hands them a payload.
+/// Whether a stage traces rays, and passes them a payload.
 pub fn hands_payload(stage: ShaderStage) -> bool
     ensures { result ≡ hands_payload stage }
 {
@@ -104,7 +105,7 @@ pub fn hands_payload(stage: ShaderStage) -> bool
     )
 }
 
-/// Whether a ray comes to a stage with a payload.
+/// Whether a stage receives the payload of a ray.
 pub fn takes_payload(stage: ShaderStage) -> bool
     ensures { result ≡ takes_payload stage }
 {

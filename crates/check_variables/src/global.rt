@@ -22,17 +22,32 @@ use ir_types::types::{AddressSpace, ImageClass, StorageFormat, Type, TypeInner};
 use ir_types::typifier::TypeResolution;
 use ir_types::unique_arena::UniqueArena;
 
-/// Checks a global variable, in this order, and answers the first fault: a binding array lies where one may, and the
-/// target can do it (`InvalidUsage`, `UnsupportedCapability`); the type, or what the array has, is one for the space, whose
-/// row in the table by space says what it asks for (`Alignment`, `StorageAddressSpaceWriteOnlyNotSupported`, `InvalidType`,
-/// `UnsupportedCapability`, `InvalidImmediateType`, `MissingTypeFlags`, and `InvalidUsage` in Function); with BINDINGS a
-/// binding is there exactly where the space is one of resources (`InvalidBinding`); a task payload isn't of size 0
-/// (`ZeroSizedTaskPayload`); only storage is decorated, as the target can do (`InvalidMemoryDecorationsAddressSpace`,
-/// `CoherentNotSupported`, `VolatileNotSupported`); an initializer is in space Private, known before the pipeline runs,
-/// and of the variable's type (`InitializerNotAllowed`, `InitializerExprType`, `InitializerType`).
+/// What the checks of a global's type read: the types of the module, their infos, and what is asked and possible.
+#[derive(Drop)]
+struct TypeContext<'a> {
+    types: &'a UniqueArena<Type>,
+    infos: &'a [TypeInfo],
+    flags: ValidationFlags,
+    capabilities: Capabilities,
+}
+
+/// Checks a global variable, and answers the first fault. It allocates nothing.
 ///
-/// `infos` is indexed by the types of the module, `kinds` and `global_types` by its global expressions; `size` is that of
-/// the variable's type in bytes, where it is known. It takes no memory.
+/// The checks, in order, each with its faults:
+/// - A binding array is in an address space for binding arrays, and the target supports it: `InvalidUsage`,
+///   `UnsupportedCapability`.
+/// - The type, or the type of the array's items, is one for the address space: `Alignment`,
+///   `StorageAddressSpaceWriteOnlyNotSupported`, `InvalidType`, `UnsupportedCapability`, `InvalidImmediateType`,
+///   `MissingTypeFlags`, and `InvalidUsage` in Function.
+/// - With BINDINGS it has a binding exactly if its address space is one of resources: `InvalidBinding`.
+/// - A task payload isn't of size 0: `ZeroSizedTaskPayload`.
+/// - Only storage has memory decorations, and only supported ones: `InvalidMemoryDecorationsAddressSpace`,
+///   `CoherentNotSupported`, `VolatileNotSupported`.
+/// - An initializer is in Private, is a constant or an override expression, and is of the variable's type:
+///   `InitializerNotAllowed`, `InitializerExprType`, `InitializerType`.
+///
+/// `infos` is indexed by the types of the module, `kinds` and `global_types` by its global expressions. `size` is that
+/// of the variable's type in bytes, if it is known.
 #[tactic(auto, using(ir_facts::proofs::Points::first_of_both))]
 pub fn check_global(
     var: &GlobalVariable,
@@ -53,7 +68,13 @@ pub fn check_global(
     ensures { result_err result
         ≡ first_fault (global_points types.now infos.now flags capabilities size kinds.now global_types.now var.now) }
 {
-    check_type(var.space, var.ty, types, infos, flags, capabilities)?;
+    let context = TypeContext {
+        types,
+        infos,
+        flags,
+        capabilities,
+    };
+    check_type(&context, var.space, var.ty)?;
     check_variable(var, flags, capabilities, size)?;
     match var.init {
         Some(init) => check_initializer(var, init, types, kinds, global_types),
@@ -61,24 +82,22 @@ pub fn check_global(
     }
 }
 
-/// The type of a variable in its space: a binding array lies where one may, and the type that the space is asked about is
-/// one for it.
+/// The type of a variable in its space: a binding array lies where one may, and the type that the space is asked about
+/// is one for it.
 #[tactic(auto, using(ir_facts::proofs::Points::first_of_both))]
 fn check_type(
+    context: &TypeContext,
     space: AddressSpace,
     ty: Handle<tag::Type>,
-    types: &UniqueArena<Type>,
-    infos: &[TypeInfo],
-    flags: ValidationFlags,
-    capabilities: Capabilities,
 ) -> Result<(), GlobalVariableError>
-    requires one_info_each { length infos.now ≡ length types.now }
-    requires ty { ty < length types.now }
-    requires types { NameEachOther types.now }
-    ensures { result_err result ≡ first_fault (type_points types.now infos.now flags capabilities space ty) }
+    requires one_info_each { length context.now.infos.now ≡ length context.now.types.now }
+    requires ty { ty < length context.now.types.now }
+    requires types { NameEachOther context.now.types.now }
+    ensures { result_err result ≡ first_fault (type_points context.now.types.now context.now.infos.now
+        context.now.flags context.now.capabilities space ty) }
 {
-    let asked = check_array(space, ty, types, capabilities)?;
-    check_asked(space, asked, types, infos, flags, capabilities)
+    let asked = check_array(space, ty, context.types, context.capabilities)?;
+    check_asked(context, space, asked)
 }
 
 /// What the target has to be able to do, if there is such a thing.
@@ -96,7 +115,8 @@ fn check_capability(
     }
 }
 
-/// The type that the space is asked about: what a binding array has, where one may lie in the space, any other type itself.
+/// The type that the space is asked about: what a binding array has, where one may lie in the space, any other type
+/// itself.
 fn check_array(
     space: AddressSpace,
     ty: Handle<tag::Type>,
@@ -161,20 +181,17 @@ fn resource_array_needs(base: &TypeInner) -> Option<Capabilities>
 
 /// A type that the space is asked about.
 fn check_asked(
+    context: &TypeContext,
     space: AddressSpace,
     ty: Handle<tag::Type>,
-    types: &UniqueArena<Type>,
-    infos: &[TypeInfo],
-    flags: ValidationFlags,
-    capabilities: Capabilities,
 ) -> Result<(), GlobalVariableError>
-    requires one_info_each { length infos.now ≡ length types.now }
-    requires ty { ty < length types.now }
-    ensures { result_err result
-        ≡ first_fault (space_points flags capabilities space (inner_at types.now ty) (slice_get infos.now ty)) }
+    requires one_info_each { length context.now.infos.now ≡ length context.now.types.now }
+    requires ty { ty < length context.now.types.now }
+    ensures { result_err result ≡ first_fault (space_points context.now.flags context.now.capabilities space
+        (inner_at context.now.types.now ty) (slice_get context.now.infos.now ty)) }
 {
-    let (inner, info) = (&types[ty].inner, &infos[ty.index()]);
-    check_in_space(space, inner, info, flags, capabilities)
+    let (inner, info) = (&context.types[ty].inner, &context.infos[ty.index()]);
+    check_in_space(space, inner, info, context.flags, context.capabilities)
 }
 
 /// A type in a space, with what is known of it: what the space asks for, and then what the type can be used for.
@@ -232,7 +249,7 @@ fn check_space(
     }
 }
 
-/// A layout, where layouts are looked at.
+/// A layout, with STRUCT_LAYOUTS.
 fn check_layout(
     space: AddressSpace,
     layout: Result<u32, (Handle<tag::Type>, Disalignment)>,

@@ -19,9 +19,13 @@ use ir_types::types::Type;
 use ir_types::typifier::TypeResolution;
 use ir_types::unique_arena::UniqueArena;
 
-/// Checks a local variable of a function: its type can be constructed (else `InvalidType`), its initializer has that
-/// type (else `InitializerType`) and is known before the pipeline runs (else `NonConstOrOverrideInitializer`). `infos`
-/// is indexed by the types of the module; `kinds` and the types in `fun_info` by the expressions of the function.
+/// Checks a local variable of a function, and answers the first fault. It allocates nothing.
+///
+/// Its type is constructible (`InvalidType`). Its initializer is of that type (`InitializerType`), and is a constant
+/// or an override expression (`NonConstOrOverrideInitializer`).
+///
+/// `infos` is indexed by the types of the module, `kinds` and the types in `fun_info` by the expressions of the
+/// function.
 pub fn check_local(
     var: &LocalVariable,
     types: &UniqueArena<Type>,

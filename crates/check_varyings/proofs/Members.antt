@@ -11,11 +11,12 @@ use Rattle.ir_arena.specs.declared.span.Refusal.{Refusal}
 use Rattle.ir_arena.specs.declared.span.Refusal.TheVariants.{Fault, Memory}
 use Rattle.ir_facts.specs.declared.valid.types.TypeInfo.{TypeInfo}
 use Rattle.check_varyings.specs.Seen.{Seen}
-use Rattle.check_varyings.specs.VaryingFaults.{AnswersVaryings, VaryingFault}
+use Rattle.check_varyings.specs.VaryingFaults.{VaryingFault, varying_fault_of}
 use Rattle.check_varyings.specs.Varyings.{Part, member_part, member_parts, part_points, points_behind, seen_with}
 use Rattle.check_errors.specs.declared.interface.VaryingError.{VaryingError}
 use Rattle.check_varyings.specs.declared.varying.VaryingPlace.{VaryingPlace}
 use Rattle.check_varyings.proofs.Kept.{seen_with-append, seen_with_none}
+use Rattle.check_errors.specs.Answers.{Answers, FirstOf, read_by}
 
 member_parts-push : (k : ℕ) (xs : List StructMember) (m : StructMember) →
     member_parts k (xs ++ m ∷ []) ≡ member_parts k xs ++ member_part (k + length xs) m.ty m.binding ∷ []
@@ -65,7 +66,7 @@ module _ (ms : List StructMember) (i : ℕ) (m : StructMember) (lt : i < length 
 
 -- where the first points have this answer, and the whole is these and others
 pub refused_at : {T : Type 0} (r : Result T (Refusal VaryingError)) (ps whole : List (Point VaryingFault)) (o : Option VaryingFault) → IsErr r →
-    first_fault whole ≡ option_or (first_fault ps) o → AnswersVaryings ps r → AnswersVaryings whole r
+    first_fault whole ≡ option_or (first_fault ps) o → Answers (FirstOf ps) (read_by varying_fault_of r) → Answers (FirstOf whole) (read_by varying_fault_of r)
 refused_at (Ok t) ps whole o err e h = cc
 refused_at (Err (Fault x)) ps whole o err e h = e ∙ ap (λ z. option_or z o) h
 refused_at (Err Memory) ps whole o err e h = tt

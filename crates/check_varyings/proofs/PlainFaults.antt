@@ -18,17 +18,17 @@ use Rattle.ir_types.specs.declared.types.TypeInner.{TypeInner}
 use Rattle.ir_arena.specs.declared.span.Refusal.{Refusal}
 use Rattle.ir_arena.specs.declared.span.Refusal.TheVariants.{Fault, Memory}
 use Rattle.ir_facts.specs.declared.valid.types.TypeInfo.{TypeInfo}
-use Rattle.check_errors.specs.Answers.{AnswersPoints}
+use Rattle.check_errors.specs.Answers.{Answers, FirstOf, read_by}
 use Rattle.check_varyings.specs.Locations.{carried_type, combination_points, interpolation_points, is_interpolated, is_per_vertex, kind_points, per_vertex_points, sharing_points}
 use Rattle.check_varyings.specs.Seen.{Seen}
-use Rattle.check_varyings.specs.VaryingFaults.{AnswersVaryings, Itself, fault_of}
+use Rattle.check_varyings.specs.VaryingFaults.{Itself, varying_fault_of}
 use Rattle.check_varyings.specs.Varyings.{bound_points, built_in_points}
 use Rattle.check_errors.specs.declared.interface.VaryingError.{VaryingError}
 use Rattle.check_varyings.specs.declared.varying.VaryingPlace.{VaryingPlace}
 
 abbrev ArePlain : List (Point VaryingError) → Type 0
 ArePlain [] = Unit {0}
-ArePlain (p ∷ ps) = (fault_of p.1 ≡ Itself p.1) × ArePlain ps
+ArePlain (p ∷ ps) = (varying_fault_of p.1 ≡ Itself p.1) × ArePlain ps
 
 both_plain : (ps qs : List (Point VaryingError)) → ArePlain ps → ArePlain qs → ArePlain (ps ++ qs)
 both_plain [] qs h k = k
@@ -70,17 +70,17 @@ bound_plain place types infos seen ty (binding.Location location i s blend_src p
     both_plain sharing interpolation (refl, (refl, (refl, (refl, (refl, tt))))) (interpolation_plain place types carried i s per_primitive) in
     (refl, both_plain (per_vertex_points place types ty i s) (sharing ++ interpolation) (refl, (refl, (refl, (refl, tt)))) behind)
 
-first_plain : (ps : List (Point VaryingError)) (e : VaryingError) → ArePlain ps → first_fault ps ≡ Some e → Itself e ≡ fault_of e
+first_plain : (ps : List (Point VaryingError)) (e : VaryingError) → ArePlain ps → first_fault ps ≡ Some e → Itself e ≡ varying_fault_of e
 first_plain [] e all h = cc
 first_plain ((true, f) ∷ ps) e all h = first_plain ps e all.1 h
 first_plain ((false, f) ∷ ps) e all h =
     let same : f ≡ e = cc in
-    let P : VaryingError → Type 0 = λ e. Itself e ≡ fault_of e in
+    let P : VaryingError → Type 0 = λ e. Itself e ≡ varying_fault_of e in
     subst P same (sym all.0)
 
 -- an answer of the points of what is bound is one of the points of the part
 pub part_answers : (place : VaryingPlace) (types : List IrType) (infos : List TypeInfo) (seen : Seen) (ty : ℕ) (given : Binding) {T : Type 0} (r : Result T (Refusal VaryingError)) →
-    AnswersPoints (bound_points place types infos seen ty given) r → AnswersVaryings (within Itself (bound_points place types infos seen ty given)) r
+    Answers (FirstOf (bound_points place types infos seen ty given)) r → Answers (FirstOf (within Itself (bound_points place types infos seen ty given))) (read_by varying_fault_of r)
 part_answers place types infos seen ty given (Ok t) h = first_within Itself (bound_points place types infos seen ty given) ∙ ap (option_map Itself) h
 part_answers place types infos seen ty given (Err (Fault e)) h =
     first_within Itself (bound_points place types infos seen ty given)

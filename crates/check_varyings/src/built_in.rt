@@ -3,7 +3,7 @@
 ghost use Rattle.std.specs.Prelude.{◌≡◌, ◌<◌, ◌||◌, not, None, length, if◌then◌else◌};
 ghost use Rattle.ir_flags.specs.Capabilities.{MESH_SHADER, has_capability};
 ghost use Rattle.ir_types.specs.Types.{NamesTypesBelow, NameEachOther, inner_at};
-ghost use Rattle.check_errors.specs.Answers.{AnswersPoints};
+ghost use Rattle.check_errors.specs.Answers.{Answers, FirstOf};
 ghost use Rattle.check_varyings.specs.Varyings.{built_in_points, has_built_in_type, has_one_dimension, has_required, is_distances, is_of_one_dimension, seen_in};
 
 use crate::context::VaryingContext;
@@ -27,9 +27,9 @@ pub(crate) fn check_built_in(
 ) -> Result<(), Refusal<VaryingError>>
     requires ty { ty < length context.now.types.now }
     requires types { NameEachOther context.now.types.now }
-    ensures { AnswersPoints
-        (built_in_points context.now.place.now context.now.types.now (seen_in state.now)
-        (inner_at context.now.types.now ty) built_in)
+    ensures { Answers
+        (FirstOf (built_in_points context.now.place.now context.now.types.now (seen_in state.now)
+        (inner_at context.now.types.now ty) built_in))
         result }
 {
     let place = context.place;

@@ -4,11 +4,11 @@ ghost use Rattle.std.specs.Prelude.{◌≡◌, ◌<◌, All, None, [], ◌∷◌
 ghost use Rattle.ir_facts.specs.Fits.{MemberCountFits};
 ghost use Rattle.ir_facts.specs.FitsBody.{FitsCount};
 ghost use Rattle.ir_types.specs.Types.{NameEachOther};
-ghost use Rattle.check_errors.specs.Answers.{AnswersPoints};
+ghost use Rattle.check_errors.specs.Answers.{Answers, FirstOf, read_by};
 ghost use Rattle.check_varyings.specs.CodeVaryings.{seen_less, seen_more, with_location};
 ghost use Rattle.check_errors.specs.WhatIsChecked.{checks_bindings};
 ghost use Rattle.check_errors.specs.declared.interface.VaryingError.TheVariants.{MissingBinding};
-ghost use Rattle.check_varyings.specs.VaryingFaults.{AnswersVaryings, Itself};
+ghost use Rattle.check_varyings.specs.VaryingFaults.{Itself, varying_fault_of};
 ghost use Rattle.check_varyings.specs.Varyings.{Bound, bound_points, blend_points, member_part, member_parts, part_points, parts_of, points_behind, points_from, seen_in, seen_with};
 
 use crate::built_in::check_built_in;
@@ -26,11 +26,12 @@ use ir_types::types::{Binding, StructMember, Type, TypeInner};
 use ir_types::unique_arena::UniqueArena;
 use std::alloc::{AllocError, Global};
 
-/// Checks an argument, a result or an output of a mesh, an item, at its place: itself where it has a binding; its members
-/// where it is a struct without one; as the two sources of a blend where such a struct is shared between stages. The fault
-/// is that of the first of its parts that fails, where `state` has what the items of the group so far have taken. What the
-/// item takes goes into the state. A refused call, for want of memory too, leaves the state as it was. `infos` is indexed by
-/// the types of the module.
+/// Checks an item (an argument, a result or a mesh output) at its place, and answers the fault of its first bad part.
+///
+/// An item with a binding is one part. The parts of a struct without a binding are its members. If such a struct is
+/// shared between stages, it is the two sources of a blend. `state` has the locations and built-ins of earlier items
+/// of the group; those of this item are added to it. An Err, out of memory too, leaves the state as it was. `infos` is
+/// indexed by the types of the module.
 ///
 /// - A built-in: `DuplicateBuiltIn`, `UnsupportedCapability`, `InvalidMultiDimensionalSubgroupBuiltIn`,
 ///   `InvalidBuiltInStage`, `InvalidBuiltInType`, which carries the part's own type and so may find no memory.
@@ -53,7 +54,8 @@ pub fn check_varying_item(
     requires one_info_each { length infos.now ≡ length types.now }
     requires types { NameEachOther types.now }
     requires counts { All (λ t. MemberCountFits t.inner) types.now }
-    ensures fault { AnswersVaryings (points_from place.now types.now infos.now (seen_in state.old) ty binding) result }
+    ensures fault { Answers (FirstOf (points_from place.now types.now infos.now (seen_in state.old) ty binding))
+        (read_by varying_fault_of result) }
     ensures seen { OnOk result (seen_in state.new ≡ seen_with (seen_in state.old) (parts_of types.now infos.now ty binding)) }
     ensures refused { OnErr result (seen_in state.new ≡ seen_in state.old) }
 {
@@ -79,9 +81,9 @@ fn check_bound_item(
     requires ty { ty < length context.now.types.now }
     requires infos { length context.now.infos.now ≡ length context.now.types.now }
     requires types { NameEachOther context.now.types.now }
-    ensures fault { AnswersVaryings
-        (part_points context.now.place.now context.now.types.now context.now.infos.now (seen_in state.old)
-        (Bound ty binding)) result }
+    ensures fault { Answers
+        (FirstOf (part_points context.now.place.now context.now.types.now context.now.infos.now (seen_in state.old)
+        (Bound ty binding))) (read_by varying_fault_of result) }
     ensures seen { OnOk result (seen_in state.new ≡ seen_more (seen_in state.old) binding) }
     ensures refused { OnErr result (seen_in state.new ≡ seen_in state.old) }
 {
@@ -100,9 +102,9 @@ fn check_unbound_item(
     requires infos { length context.now.infos.now ≡ length context.now.types.now }
     requires types { NameEachOther context.now.types.now }
     requires counts { All (λ t. MemberCountFits t.inner) context.now.types.now }
-    ensures fault { AnswersVaryings
-        (points_from context.now.place.now context.now.types.now context.now.infos.now (seen_in state.old)
-        ty None) result }
+    ensures fault { Answers
+        (FirstOf (points_from context.now.place.now context.now.types.now context.now.infos.now (seen_in state.old)
+        ty None)) (read_by varying_fault_of result) }
     ensures seen { OnOk result
         (seen_in state.new ≡ seen_with (seen_in state.old) (parts_of context.now.types.now context.now.infos.now ty None)) }
     ensures refused { OnErr result (seen_in state.new ≡ seen_in state.old) }
@@ -119,7 +121,8 @@ fn check_unbound_item(
 
 /// An item without binding that is no struct.
 fn check_unbound(context: &VaryingContext) -> Result<(), Refusal<VaryingError>>
-    ensures { AnswersVaryings ((not (checks_bindings context.now.place.now.flags), Itself MissingBinding) ∷ []) result }
+    ensures { Answers (FirstOf ((not (checks_bindings context.now.place.now.flags), Itself MissingBinding) ∷ []))
+        (read_by varying_fault_of result) }
 {
     if context.place.flags.contains(ValidationFlags::BINDINGS) {
         return Err(context.refusal(VaryingError::MissingBinding));
@@ -137,9 +140,8 @@ fn check_bound(
     requires ty { ty < length context.now.types.now }
     requires infos { length context.now.infos.now ≡ length context.now.types.now }
     requires types { NameEachOther context.now.types.now }
-    ensures { AnswersPoints
-        (bound_points context.now.place.now context.now.types.now context.now.infos.now (seen_in state.now) ty binding)
-        result }
+    ensures { Answers (FirstOf (bound_points context.now.place.now context.now.types.now context.now.infos.now
+        (seen_in state.now) ty binding)) result }
 {
     match binding {
         Binding::BuiltIn(built_in) => check_built_in(context, state, ty, built_in),
@@ -165,8 +167,8 @@ fn check_bound(
     }
 }
 
-/// A member of a struct, with its index. What it puts into the state and wasn't there goes last into `added`, before it is
-/// put there.
+/// A member of a struct, with its index. What it puts into the state and wasn't there goes last into `added`, before
+/// it is put there.
 fn check_member(
     context: &VaryingContext,
     state: &mut VaryingState,
@@ -177,9 +179,9 @@ fn check_member(
     requires ty { member.now.ty < length context.now.types.now }
     requires infos { length context.now.infos.now ≡ length context.now.types.now }
     requires types { NameEachOther context.now.types.now }
-    ensures fault { AnswersVaryings
-        (part_points context.now.place.now context.now.types.now context.now.infos.now (seen_in state.old)
-        (member_part index member.now.ty member.now.binding)) result }
+    ensures fault { Answers
+        (FirstOf (part_points context.now.place.now context.now.types.now context.now.infos.now (seen_in state.old)
+        (member_part index member.now.ty member.now.binding))) (read_by varying_fault_of result) }
     ensures seen { OnOk result
         (seen_in state.new ≡ seen_with (seen_in state.old) (member_part index member.now.ty member.now.binding ∷ [])) }
     ensures added { seen_less (seen_in state.new) added.new.items ≡ seen_less (seen_in state.old) added.old.items }
@@ -211,7 +213,7 @@ fn hold(
     state.put(binding)
 }
 
-/// The members of a struct, each behind those before it. What they put into the state goes into `added`.
+/// The members of a struct, in order. What they add to the state goes into `added`.
 fn check_members(
     context: &VaryingContext,
     state: &mut VaryingState,
@@ -222,9 +224,9 @@ fn check_members(
     requires count { FitsCount (length members.now) }
     requires infos { length context.now.infos.now ≡ length context.now.types.now }
     requires types { NameEachOther context.now.types.now }
-    ensures fault { AnswersVaryings
-        (points_behind context.now.place.now context.now.types.now context.now.infos.now (seen_in state.old)
-        [] (member_parts 0 members.now)) result }
+    ensures fault { Answers
+        (FirstOf (points_behind context.now.place.now context.now.types.now context.now.infos.now (seen_in state.old)
+        [] (member_parts 0 members.now))) (read_by varying_fault_of result) }
     ensures seen { OnOk result (seen_in state.new ≡ seen_with (seen_in state.old) (member_parts 0 members.now)) }
     ensures added { seen_less (seen_in state.new) added.new.items ≡ seen_less (seen_in state.old) added.old.items }
 {
@@ -244,9 +246,9 @@ fn check_struct(
     requires count { FitsCount (length members.now) }
     requires infos { length context.now.infos.now ≡ length context.now.types.now }
     requires types { NameEachOther context.now.types.now }
-    ensures fault { AnswersVaryings
-        (points_behind context.now.place.now context.now.types.now context.now.infos.now (seen_in state.old)
-        [] (member_parts 0 members.now)) result }
+    ensures fault { Answers
+        (FirstOf (points_behind context.now.place.now context.now.types.now context.now.infos.now (seen_in state.old)
+        [] (member_parts 0 members.now))) (read_by varying_fault_of result) }
     ensures seen { OnOk result (seen_in state.new ≡ seen_with (seen_in state.old) (member_parts 0 members.now)) }
     ensures refused { OnErr result (seen_in state.new ≡ seen_in state.old) }
 {
@@ -260,13 +262,14 @@ fn check_struct(
     }
 }
 
-/// A struct without binding that is shared between stages, the two sources of a blend. A refused call leaves the state as
-/// it was.
+/// A struct without binding that is shared between stages, the two sources of a blend. A refused call leaves the state
+/// as it was.
 fn check_blend_sources(
     context: &VaryingContext,
     state: &mut VaryingState,
 ) -> Result<(), Refusal<VaryingError>>
-    ensures fault { AnswersVaryings (blend_points context.now.place.now (seen_in state.old)) result }
+    ensures fault { Answers (FirstOf (blend_points context.now.place.now (seen_in state.old)))
+        (read_by varying_fault_of result) }
     ensures seen { OnOk result (seen_in state.new ≡ with_location (seen_in state.old) 0) }
     ensures refused { OnErr result (seen_in state.new ≡ seen_in state.old) }
 {

@@ -55,7 +55,8 @@ pub(crate) fn check_location(
     )
 }
 
-/// What is given for each vertex: at the fragment stage alone, with the capability, at the center, and of an array of 3.
+/// What is given for each vertex: at the fragment stage alone, with the capability, at the center, and of an array of
+/// 3.
 fn check_per_vertex(
     context: &VaryingContext,
     ty: Handle<tag::Type>,
@@ -184,7 +185,7 @@ fn is_fragment_input(place: &VaryingPlace) -> bool
     place.stage == ShaderStage::Fragment && !place.output
 }
 
-/// Whether a location is free, or bindings aren't looked at.
+/// Whether a location is free, or the flag BINDINGS is off.
 pub(crate) fn may_take(place: &VaryingPlace, state: &VaryingState, location: u32) -> bool
     ensures { result ≡ may_take place.now (seen_in state.now) location }
 {
@@ -246,8 +247,8 @@ fn go_together(interpolation: Interpolation, sampling: Sampling) -> bool
     }
 }
 
-/// Whether an interpolation is asked for: of outputs of a vertex or a mesh stage, and of inputs of a fragment that go by
-/// vertex.
+/// Whether an interpolation is needed: for outputs of a vertex or mesh stage, and for fragment inputs that aren't per
+/// primitive.
 fn is_interpolated(place: &VaryingPlace, per_primitive: bool) -> bool
     ensures { result ≡ is_interpolated place.now.stage place.now.output per_primitive }
 {

@@ -21,8 +21,8 @@ pub enum BuiltInType {
     Any,
 }
 
-/// What is asked of a built-in at a place: what the target has to have, whether it also has to have mesh shaders,
-/// whether the built-in is visible there, and its type.
+/// The rule for a built-in at a place: the capability that it needs, whether it needs mesh shaders, whether it exists
+/// there, and its type.
 #[derive(PartialEq, Debug, Drop)]
 pub struct BuiltInRule {
     pub required: Option<Capabilities>,
@@ -31,7 +31,7 @@ pub struct BuiltInRule {
     pub ty: BuiltInType,
 }
 
-/// What is asked of a built-in at a place. `invariant` and `perspective` make no difference.
+/// The rule for a built-in at a place. `invariant` and `perspective` make no difference.
 #[tactic(auto, using(crate::proofs::RuleColumns::rule_is))]
 pub fn builtin_rule(built_in: Bi, place: &VaryingPlace) -> BuiltInRule
     ensures { result ≡ built_in_rule built_in place.now }

@@ -1,5 +1,4 @@
-//! What a stage takes in and puts out, its arguments, its result and the outputs of a mesh: naga 30.0.1's
-//! `VaryingContext`.
+//! The inputs and outputs of a stage, that is arguments, result and mesh outputs: naga 30.0.1's `VaryingContext`.
 
 ghost use Rattle.std.specs.Prelude.{◌≡◌, ◌||◌, ◌&&◌, not, [], ◌∷◌, OnOk, OnErr};
 ghost use Rattle.std.specs.BTreeSet.{contains as set_contains};
@@ -23,9 +22,10 @@ pub enum MeshOutputType {
     PrimitiveOutput,
 }
 
-/// Where items stand: at a stage, going in or out (`output`), as an output of a mesh or not, in an entry point with or
-/// without a task payload and with a work group of so many invocations along each axis; and what the target has, and
-/// which checks are made.
+/// The place of an item: the stage, whether it is an output, and whether it is an output of a mesh.
+///
+/// It also has what the checks need: whether the entry point has a task payload, the workgroup size (invocations in
+/// each dimension), the target's capabilities, and which checks run.
 #[derive(Clone, Copy, PartialEq, Eq, Hash, Debug)]
 pub struct VaryingPlace {
     pub stage: ShaderStage,
@@ -37,8 +37,9 @@ pub struct VaryingPlace {
     pub flags: ValidationFlags,
 }
 
-/// What the items of a group so far have taken: their locations, and their built-ins, each with `invariant` and
-/// `perspective` cleared. It keeps the allocator that it is made with.
+/// The locations and built-ins of the items of a group so far. It keeps its allocator.
+///
+/// Built-ins are stored with `invariant` and `perspective` cleared.
 #[derive(Drop)]
 pub struct VaryingState {
     pub locations: BTreeSet<u32>,
@@ -46,7 +47,7 @@ pub struct VaryingState {
 }
 
 impl VaryingState {
-    /// Nothing is taken.
+    /// An empty state, which keeps the allocator.
     pub fn new(alloc: Global) -> VaryingState
         ensures { seen_in result ≡ nothing_seen }
     {
@@ -63,14 +64,14 @@ impl VaryingState {
         self.locations.contains(&location)
     }
 
-    /// Whether a built-in is there, which stands with `invariant` and `perspective` cleared.
+    /// Whether a built-in is there. It must have `invariant` and `perspective` cleared.
     pub fn has_built_in(&self, built_in: BuiltIn) -> bool
         ensures { result ≡ (seen_in self.now).built_ins built_in }
     {
         self.built_ins.contains(&built_in)
     }
 
-    /// Lets the built-ins go and keeps the locations, as from one output of a mesh to the other.
+    /// Drops the built-ins and keeps the locations, as from one output of a mesh to the other.
     pub fn clear_built_ins(&mut self)
         ensures { seen_in self.new ≡ without_built_ins (seen_in self.old) }
     {

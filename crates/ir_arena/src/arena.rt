@@ -10,11 +10,12 @@ use std::alloc::{AllocError, Global};
 use std::marker::Model;
 use std::ops::Index;
 
-/// How many values an arena can hold: so many that 32 bits count them, and each has a handle.
+/// The most values that an arena can hold: as many as 32 bits can count. So each value has a handle.
 pub const MAX_LEN: usize = 4294967295;
 
-/// A list of at most `MAX_LEN` values, each with its span. A handle is the place of a value, and contracts see
-/// the list of the values.
+/// A list of at most [`MAX_LEN`] values, each with its span. A handle is the index of a value.
+///
+/// Contracts see the list of the values, and no spans.
 #[derive(Drop)]
 pub struct Arena<T: Tagged> {
     values: Vec<T>,
@@ -58,14 +59,16 @@ impl<T: Tagged + Drop> Arena<T> {
         self.values.is_empty()
     }
 
-    /// Whether no further value can be put in.
+    /// Whether no further value can be added.
     pub fn is_full(&self) -> bool
         ensures { IsTrue result ↔ (max_len ≤ length self.now) }
     {
         self.len() >= MAX_LEN
     }
 
-    /// Puts a value last. The arena must not be full; a refused call leaves it as it was.
+    /// Adds a value at the end, and returns its handle. The arena must not be full.
+    ///
+    /// An Err is out of memory. It leaves the arena as it was.
     pub fn append(&mut self, value: T, span: Span) -> Result<Handle<T::Tag>, AllocError>
         requires { length self.old < max_len }
         ensures appended { OnOk result (self.new ≡ self.old ++ value ∷ []) }
@@ -97,7 +100,7 @@ impl<T: Tagged + Drop> Arena<T> {
 }
 
 impl<T: Tagged + Duplicate> Arena<T> {
-    /// An arena of equal values, each with the same span.
+    /// Clones the arena: equal values with the same spans. An Err is out of memory.
     pub fn clone(&self, alloc: Global) -> Result<Self, AllocError>
         ensures { IfOk result (λ made. made ≡ self.now) }
     {

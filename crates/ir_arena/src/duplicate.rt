@@ -1,18 +1,19 @@
-//! Values of which an equal one can be made, so that lists and arenas of them can be cloned.
+//! Values that can be cloned with an allocator, so that lists and arenas of them can be cloned too.
 
 ghost use Rattle.std.specs.Prelude.{◌≡◌, IfOk};
 
 use std::alloc::{AllocError, Global};
 
-/// A type of which an equal value can be made. What lists and arenas hold has it beside its inherent `clone`, which a
-/// type parameter can't name.
+/// A type whose values can be cloned with an allocator.
+///
+/// Items of lists and arenas implement it beside their inherent `clone`, which a type parameter can't name.
 pub trait Duplicate: Drop {
-    /// An equal value.
+    /// Clones the value. An Err is out of memory.
     fn duplicate(&self, alloc: Global) -> Result<Self, AllocError>
         ensures { IfOk result (λ made. made ≡ self.now) };
 }
 
-/// Equal values in the same order.
+/// Clones the values, in the same order. An Err is out of memory.
 pub fn duplicates<T: Duplicate>(alloc: Global, items: &[T]) -> Result<Vec<T>, AllocError>
     ensures { IfOk result (λ made. made.items ≡ items.now) }
 {

@@ -5,7 +5,7 @@ ghost use Rattle.std.specs.Prelude.{◌≡◌, ◌^◌, ◌<◌, ◌++◌, Some,
 use std::fmt;
 use std::marker::{Model, PhantomData};
 
-/// The index of a value in the arena of the values of the tag `T`: 32 bits, from 0. Contracts see the index.
+/// The index of a value in an arena whose values have the tag `T`: 32 bits, counted from 0. Contracts see the index.
 #[derive_where(Clone, Copy, PartialEq, Eq, PartialOrd, Ord, Hash)]
 pub struct Handle<T> {
     index: u32,
@@ -28,7 +28,7 @@ pub trait Tagged {
 }
 
 impl<T> Handle<T> {
-    /// The handle of the value at `index`, which need not be in range of any arena.
+    /// The handle with this index, which need not be in range of any arena.
     pub fn new(index: u32) -> Self
         ensures { result ≡ index }
     {
@@ -38,7 +38,7 @@ impl<T> Handle<T> {
         }
     }
 
-    /// The place in the arena, from 0.
+    /// The index in the arena, counted from 0.
     pub fn index(self) -> usize
         ensures value { result ≡ self }
         ensures bound { result < 2 ^ 32 }

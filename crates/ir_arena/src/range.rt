@@ -6,8 +6,9 @@ ghost use Rattle.ir_arena.specs.Limits.{max_len};
 use crate::handle::Handle;
 use crate::tag;
 
-/// The expressions with the indices from `start` to `end`, `end` excluded. A range need not be in order; in a
-/// module that passed, it is, and ends within the function's expressions.
+/// The expressions with the indices from `start` to `end`, without `end`.
+///
+/// A range need not be in order. In an accepted module it is, and ends within the function's expressions.
 #[derive(Clone, Copy, PartialEq, Eq, Hash, Debug)]
 pub struct Range {
     pub start: u32,
@@ -15,9 +16,10 @@ pub struct Range {
 }
 
 impl Range {
-    /// The expressions from `first` to `last`, both included. The handle of an arena's value is below the limit that is
-    /// asked of `last`. Nothing is asked of `first`: where it is the one behind `last`, no expression is meant; one
-    /// further behind makes a range that is out of order.
+    /// The expressions from `first` to `last`, both included.
+    ///
+    /// Each handle of an arena meets the condition on `last`. There is none on `first`. If it is the one after `last`,
+    /// the range is empty. If it is later still, the range is out of order.
     pub fn new(first: Handle<tag::Expression>, last: Handle<tag::Expression>) -> Self
         requires { last < max_len }
         ensures { result ≡ record { start = first; end = last + 1 } }

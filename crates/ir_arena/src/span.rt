@@ -1,4 +1,4 @@
-//! Where something stood in the source, and faults with such places.
+//! Places in a source text, and faults with such places.
 
 ghost use Rattle.std.specs.Prelude.{◌≡◌, IfOk};
 ghost use Rattle.ir_arena.specs.declared.span.Refusal.TheVariants.{Memory};
@@ -8,7 +8,7 @@ use std::error::Error;
 use std::fmt;
 use std::marker::Model;
 
-/// A stretch of the source: two byte offsets, `end` excluded.
+/// A part of the source: two byte offsets, without `end`. No check reads them.
 #[derive(Clone, Copy, PartialEq, Eq, Hash, Debug)]
 pub struct Span {
     pub start: u32,
@@ -16,11 +16,11 @@ pub struct Span {
 }
 
 impl Span {
-    /// The span of what stood nowhere: 0..0.
+    /// The span of what has no place in the source: 0..0.
     pub const UNDEFINED: Span = Span { start: 0, end: 0 };
 }
 
-/// A fault and the places that it is about. Contracts see the fault alone, and `==` compares it alone.
+/// A fault with its spans. Contracts see the fault alone, and `==` compares it alone.
 #[derive(Debug, Drop)]
 pub struct WithSpan<E> {
     inner: E,
@@ -36,7 +36,7 @@ impl<E> Model for WithSpan<E> {
 }
 
 impl<E> WithSpan<E> {
-    /// A fault without places, which keeps the allocator.
+    /// A fault without spans, which keeps the allocator.
     pub fn new(alloc: Global, inner: E) -> Self
         ensures { result ≡ inner }
     {
@@ -46,7 +46,7 @@ impl<E> WithSpan<E> {
         }
     }
 
-    /// The fault with one more place, which goes last.
+    /// Adds a span at the end. An Err is out of memory.
     pub fn with_span(mut self, span: Span) -> Result<Self, AllocError>
     where
         E: Drop,
@@ -56,21 +56,21 @@ impl<E> WithSpan<E> {
         Ok(self)
     }
 
-    /// The fault without its places.
+    /// The fault, without its spans.
     pub fn as_inner(&self) -> &E
         ensures { result.now ≡ self.now }
     {
         &self.inner
     }
 
-    /// The fault; its places are let go.
+    /// The fault. Its spans are dropped.
     pub fn into_inner(self) -> E
         ensures { result ≡ self }
     {
         self.inner
     }
 
-    /// Another fault at the same places.
+    /// Another fault, with the same spans.
     pub fn with_fault<T>(self, fault: T) -> WithSpan<T>
     where
         E: Drop,
@@ -82,7 +82,7 @@ impl<E> WithSpan<E> {
         }
     }
 
-    /// The fault as one of another kind, at the same places.
+    /// The fault as one of another type, with the same spans.
     pub fn into_other<T: From<E>>(self) -> WithSpan<T>
         ensures { T.from_gives self result }
     {
@@ -92,7 +92,7 @@ impl<E> WithSpan<E> {
         }
     }
 
-    /// The places, in the order in which they were added.
+    /// The spans, in the order in which they were added.
     pub fn spans(&self) -> &[Span] {
         self.spans.as_slice()
     }
@@ -108,7 +108,7 @@ impl<E: PartialEq> PartialEq for WithSpan<E> {
     }
 }
 
-/// Writes what the fault writes, without its places.
+/// Writes what the fault writes, without its spans.
 impl<E: fmt::Display> fmt::Display for WithSpan<E> {
     ghost output = { λ w. E.output w };
 
@@ -119,7 +119,7 @@ impl<E: fmt::Display> fmt::Display for WithSpan<E> {
 
 impl<E: Error> Error for WithSpan<E> {}
 
-/// Why a call didn't do what it was asked for: a fault in its input, or want of memory.
+/// Why a call failed: a fault in its input, or out of memory.
 #[derive(PartialEq, Debug, Drop)]
 pub enum Refusal<E> {
     Fault(WithSpan<E>),

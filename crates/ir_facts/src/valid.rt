@@ -1,4 +1,4 @@
-//! What validation goes by and what it finds: settings, and the infos of types and functions.
+//! What validation depends on and what it finds: settings, and the infos of types and functions.
 
 pub mod expression_error;
 pub mod info;

@@ -1,4 +1,4 @@
-//! Whether what the statements of a body name is there.
+//! Whether all that the statements of a body name exists.
 
 ghost use Rattle.std.specs.Prelude.{◌<◌, ◌≤◌, ◌↔◌, IsTrue, IfSome, All};
 ghost use Rattle.ir_module.specs.View.{no_operands, tree_of, body_of, list_body, list_cases};
@@ -88,8 +88,8 @@ impl Count {
     }
 }
 
-/// Whether whatever the block names, at any depth, is there: of `expressions` expressions, and of the module's
-/// functions the first `earlier`.
+/// Whether all that the block names, at any depth, exists. There are `expressions` expressions, and calls may name the
+/// first `earlier` functions of the module.
 #[cycle(fits)]
 pub(crate) fn fits_block(block: &Block, module: &Module, expressions: usize, earlier: usize) -> bool
     ensures { IsTrue result ↔ BodyFits «module».now expressions earlier (body_of no_operands block.now) }

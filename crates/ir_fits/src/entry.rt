@@ -9,8 +9,7 @@ use ir_arena::tag;
 use ir_module::module::{EntryPoint, GlobalVariable, MeshStageInfo, Module};
 use ir_types::types::AddressSpace;
 
-/// Whether what the entry point names besides its function is there, and no global lies in
-/// `AddressSpace::Function`.
+/// Whether all that the entry point names besides its function exists, and no global is in `AddressSpace::Function`.
 pub fn fits_entry(ep: &EntryPoint, module: &Module) -> bool
     ensures { IsTrue result ↔ FitsEntry ep.now «module».now }
 {

@@ -11,9 +11,11 @@ use ir_arena::tag;
 use ir_module::functions::{Function, FunctionArgument, FunctionResult, LocalVariable};
 use ir_module::module::Module;
 
-/// Whether whatever the function names is there, its expressions name only earlier ones, its ranges lie in order
-/// within its expressions, its calls name one of the first `earlier` functions, and each function that it names has
-/// a signature that fits.
+/// Whether the function fits the module.
+///
+/// All that it names exists. Operands of expressions are earlier ones. Its ranges are in order and within its
+/// expressions. Its calls name one of the first `earlier` functions. Each function that it names has a signature that
+/// fits.
 pub fn fits_function(fun: &Function, module: &Module, earlier: usize) -> bool
     ensures { IsTrue result ↔ FitsFunction fun.now «module».now earlier }
 {

@@ -12,8 +12,10 @@ use ir_types::types::{AddressSpace, ImageClass, Type, TypeInner};
 use ir_types::typifier::TypeResolution;
 use ir_types::unique_arena::UniqueArena;
 
-/// Whether types and initializers of the globals are there, each global expression has a type and names only
-/// earlier ones, and no global in `AddressSpace::Handle` is a binding array of external images or ray queries.
+/// Whether the globals fit the module.
+///
+/// Their types and initializers exist. Each global expression has a type, and its operands are earlier ones. No global
+/// in `AddressSpace::Handle` is a binding array of external images or ray queries.
 pub fn fits_globals(module: &Module, mod_info: &ModuleInfo) -> bool
     ensures { IsTrue result ↔ FitsGlobals «module».now mod_info.now }
 {

@@ -1,4 +1,4 @@
-//! The tests of conditions: whether all that a module, a function or an entry point names is there. They take no memory.
+//! The tests of conditions: whether all that a module, a function or an entry point names exists. None allocates.
 //! Users import these from `naga_below`.
 #![tactic(auto)]
 

@@ -11,8 +11,10 @@ use ir_module::module::{Constant, Module, Override};
 use ir_types::types::{StructMember, Type, TypeInner};
 use ir_types::typifier::TypeResolution;
 
-/// Whether each type names only earlier types, the number of members of each fits 32 bits, and the types of
-/// constants, overrides and ray descriptors are there.
+/// Whether the types fit the module.
+///
+/// Each type names only earlier types. The number of members of each fits 32 bits. The types of constants, overrides
+/// and ray descriptors exist.
 pub fn fits_types(module: &Module) -> bool
     ensures { IsTrue result ↔ FitsTypes «module».now }
 {

@@ -6,7 +6,7 @@ use crate::set_text::write_set;
 use bitflags::{Flag, Flags, bitflag_items};
 use std::fmt;
 
-/// What the target can do beyond the common ground: bit k for the k-th name, from 0, in alphabetical order.
+/// What the target can do beyond what all targets can. Bit k is the k-th name in alphabetical order, counted from 0.
 #[derive(Clone, Copy, PartialEq, Eq, PartialOrd, Ord, Hash)]
 pub struct Capabilities(pub u32);
 
@@ -106,7 +106,7 @@ impl Capabilities {
 
     ghost use Rattle.ir_flags.specs.Bits.{contains};
 
-    /// Whether it has all of these.
+    /// Whether the set has all of `some`.
     pub fn contains(self, some: Capabilities) -> bool
         ensures { result ≡ contains self.0 some.0 }
     {

@@ -6,7 +6,7 @@ use crate::set_text::write_set;
 use bitflags::{Flag, Flags, bitflag_items};
 use std::fmt;
 
-/// What may be done with storage: bit 0 load, bit 1 store, bit 2 atomic operations.
+/// What may be done with a storage buffer or a storage image: bit 0 load, bit 1 store, bit 2 atomic operations.
 #[derive(Clone, Copy, PartialEq, Eq, PartialOrd, Ord, Hash)]
 pub struct StorageAccess(pub u8);
 
@@ -53,7 +53,7 @@ impl Flags for StorageAccess {
 impl StorageAccess {
     ghost use Rattle.ir_flags.specs.Bits.{contains};
 
-    /// Whether it has all of these.
+    /// Whether the set has all of `some`.
     pub fn contains(self, some: StorageAccess) -> bool
         ensures { result ≡ contains self.0 some.0 }
     {
@@ -61,7 +61,7 @@ impl StorageAccess {
     }
 }
 
-/// Which memory a barrier orders: bit 0 storage, bit 1 work group, bit 2 subgroup, bit 3 textures.
+/// Which memory a barrier orders: bit 0 storage, bit 1 workgroup, bit 2 subgroup, bit 3 textures.
 #[derive(Clone, Copy, PartialEq, Eq, PartialOrd, Ord, Hash)]
 pub struct Barrier(pub u8);
 
@@ -110,7 +110,7 @@ impl Flags for Barrier {
 impl Barrier {
     ghost use Rattle.ir_flags.specs.Bits.{contains};
 
-    /// Whether it has all of these.
+    /// Whether the set has all of `some`.
     pub fn contains(self, some: Barrier) -> bool
         ensures { result ≡ contains self.0 some.0 }
     {
@@ -161,12 +161,12 @@ impl Flags for MemoryDecorations {
 }
 
 impl MemoryDecorations {
-    /// Both.
+    /// Both decorations.
     pub const ALL: MemoryDecorations = MemoryDecorations(0x3);
 
     ghost use Rattle.ir_flags.specs.Bits.{contains};
 
-    /// Whether it has all of these.
+    /// Whether the set has all of `some`.
     pub fn contains(self, some: MemoryDecorations) -> bool
         ensures { result ≡ contains self.0 some.0 }
     {

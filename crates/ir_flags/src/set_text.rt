@@ -4,8 +4,9 @@ use bitflags::Flags;
 use bitflags::parser::{WriteHex, to_writer};
 use std::fmt;
 
-/// Writes the type's name and in brackets the names of the set's bits, as `Barrier(STORAGE | TEXTURE)`. Bits without a
-/// name go last as a number, and an empty set is `0x0`.
+/// Writes the type's name, and in brackets the names of the set's bits: `Barrier(STORAGE | TEXTURE)`.
+///
+/// Bits without a name follow as one number. An empty set is `0x0`.
 pub(crate) fn write_set<B: Flags, W: fmt::Write>(
     name: &str,
     set: &B,

@@ -6,7 +6,7 @@ use crate::set_text::write_set;
 use bitflags::{Flag, Flags, bitflag_items};
 use std::fmt;
 
-/// Which checks are made, bit k for the k-th name from 0.
+/// Which checks run. Bit k is the k-th name, counted from 0.
 #[derive(Clone, Copy, PartialEq, Eq, PartialOrd, Ord, Hash)]
 pub struct ValidationFlags(pub u8);
 
@@ -58,7 +58,7 @@ impl ValidationFlags {
 
     ghost use Rattle.ir_flags.specs.Bits.{contains};
 
-    /// Whether it has all of these.
+    /// Whether the set has all of `some`.
     pub fn contains(self, some: ValidationFlags) -> bool
         ensures { result ≡ contains self.0 some.0 }
     {
@@ -66,7 +66,7 @@ impl ValidationFlags {
     }
 }
 
-/// What a type can be used for, bit k for the k-th name from 0.
+/// What a type can be used for. Bit k is the k-th name, counted from 0.
 #[derive(Clone, Copy, PartialEq, Eq, PartialOrd, Ord, Hash)]
 pub struct TypeFlags(pub u8);
 
@@ -126,7 +126,7 @@ impl TypeFlags {
 
     ghost use Rattle.ir_flags.specs.Bits.{contains};
 
-    /// Whether it has all of these.
+    /// Whether the set has all of `some`.
     pub fn contains(self, some: TypeFlags) -> bool
         ensures { result ≡ contains self.0 some.0 }
     {
@@ -134,7 +134,7 @@ impl TypeFlags {
     }
 }
 
-/// How a function uses a global, bit k for the k-th name from 0.
+/// How a function uses a global. Bit k is the k-th name, counted from 0.
 #[derive(Clone, Copy, PartialEq, Eq, PartialOrd, Ord, Hash)]
 pub struct GlobalUse(pub u8);
 
@@ -183,7 +183,7 @@ impl Flags for GlobalUse {
 impl GlobalUse {
     ghost use Rattle.ir_flags.specs.Bits.{contains};
 
-    /// Whether it has all of these.
+    /// Whether the set has all of `some`.
     pub fn contains(self, some: GlobalUse) -> bool
         ensures { result ≡ contains self.0 some.0 }
     {
@@ -191,7 +191,7 @@ impl GlobalUse {
     }
 }
 
-/// The groups of subgroup operations that a target has, bit k for the k-th name from 0.
+/// The groups of subgroup operations that a target has. Bit k is the k-th name, counted from 0.
 #[derive(Clone, Copy, PartialEq, Eq, PartialOrd, Ord, Hash)]
 pub struct SubgroupOperationSet(pub u8);
 
@@ -249,7 +249,7 @@ impl SubgroupOperationSet {
 
     ghost use Rattle.ir_flags.specs.Bits.{contains};
 
-    /// Whether it has all of these.
+    /// Whether the set has all of `some`.
     pub fn contains(self, some: SubgroupOperationSet) -> bool
         ensures { result ≡ contains self.0 some.0 }
     {
@@ -257,7 +257,9 @@ impl SubgroupOperationSet {
     }
 }
 
-/// The stages that a function may run in, bit k for the k-th stage from 0; COMPUTE_LIKE are compute, mesh and task.
+/// The stages in which a function may run. Bit k is the k-th stage, counted from 0.
+///
+/// `COMPUTE_LIKE` is compute, mesh and task.
 #[derive(Clone, Copy, PartialEq, Eq, PartialOrd, Ord, Hash)]
 pub struct ShaderStages(pub u16);
 
@@ -321,7 +323,7 @@ impl ShaderStages {
 
     ghost use Rattle.ir_flags.specs.Bits.{contains};
 
-    /// Whether it has all of these.
+    /// Whether the set has all of `some`.
     pub fn contains(self, some: ShaderStages) -> bool
         ensures { result ≡ contains self.0 some.0 }
     {

@@ -9,20 +9,23 @@ use ir_arena::tag;
 use ir_types::types::Scalar;
 use std::alloc::{AllocError, Global};
 
-/// A number or a bool as the bits of its value, floats included: of a scalar below 64 bits the low ones.
+/// A number or a bool, as the bits of its value, floats included. A scalar of fewer than 64 bits has the low ones.
 #[derive(Clone, Copy, PartialEq, Eq, Hash, Debug)]
 pub struct Literal {
     pub scalar: Scalar,
     pub bits: u64,
 }
 
-/// The expressions that an expression or a call is made from, in order.
+/// The operands of an expression, or the arguments of a call, in order.
 pub type Operands = Sequence<Handle<tag::Expression>>;
 
-/// An expression. Where validation of functions reads no more of a kind than the expressions that it is made from,
-/// the kind has them in the order of naga's fields, and in `detail` a number that stands for the rest. Handles of
-/// expressions and locals are of the same function, all others of the module; a global expression is made from global
-/// expressions. The numbers of `AccessIndex` and `FunctionArgument` count from 0.
+/// An expression. The kinds are naga's.
+///
+/// Of some kinds the validator reads the operands only. Such a kind has `operands`, in the order of naga's fields, and
+/// `detail`, any number, which stands for the rest.
+///
+/// Handles of expressions and locals belong to the same function, all others to the module. A global expression has
+/// global expressions as its operands. The numbers of `AccessIndex` and `FunctionArgument` count from 0.
 #[derive(PartialEq, Debug, Drop)]
 pub enum Expression {
     Literal(Literal),
@@ -135,7 +138,7 @@ impl Tagged for Expression {
 }
 
 impl Expression {
-    /// An equal expression.
+    /// Clones the expression. An Err is out of memory.
     pub fn clone(&self, alloc: Global) -> Result<Self, AllocError>
         ensures { IfOk result (λ made. made ≡ self.now) }
     {

@@ -14,8 +14,9 @@ use ir_types::name::{Name, clone_name};
 use ir_types::types::Binding;
 use std::alloc::{AllocError, Global};
 
-/// A variable of a function, of a type of the module. `init` is an expression of the function; in a module that passed,
-/// one that is known before the function runs, and of the variable's type.
+/// A local variable of a function. `init` is an expression of the function.
+///
+/// In an accepted module it is a constant or override expression, and of the variable's type.
 #[derive(PartialEq, Debug, Drop)]
 pub struct LocalVariable {
     pub name: Option<Name>,
@@ -27,31 +28,31 @@ impl Tagged for LocalVariable {
     type Tag = tag::LocalVariable;
 }
 
-/// An argument of a function, of a type of the module.
+/// An argument of a function.
 #[derive(PartialEq, Debug, Drop)]
 pub struct FunctionArgument {
     pub name: Option<Name>,
     pub ty: Handle<tag::Type>,
-    /// In a module that passed, only an argument of an entry point's function has one.
+    /// In an accepted module only an argument of an entry point has one.
     pub binding: Option<Binding>,
 }
 
-/// What a function returns: a value of a type of the module.
+/// The result of a function.
 #[derive(Clone, Copy, PartialEq, Eq, Hash, Debug)]
 pub struct FunctionResult {
     pub ty: Handle<tag::Type>,
-    /// In a module that passed, only the result of an entry point's function has one.
+    /// In an accepted module only the result of an entry point has one.
     pub binding: Option<Binding>,
 }
 
-/// A function, of a module or of an entry point.
+/// A function of a module, or that of an entry point.
 #[derive(Drop)]
 pub struct Function {
-    /// `Expression::FunctionArgument` has the place in this list, from 0.
+    /// `Expression::FunctionArgument` holds an index in this list, counted from 0.
     pub arguments: Sequence<FunctionArgument>,
     pub result: Option<FunctionResult>,
     pub local_variables: Arena<LocalVariable>,
-    /// In a module that passed, each names only earlier ones.
+    /// In an accepted module the operands of each are earlier ones.
     pub expressions: Arena<Expression>,
     pub body: Block,
 }
@@ -61,7 +62,7 @@ impl Tagged for Function {
 }
 
 impl LocalVariable {
-    /// An equal variable.
+    /// Clones the variable. An Err is out of memory.
     pub fn clone(&self, alloc: Global) -> Result<Self, AllocError>
         ensures { IfOk result (λ made. made ≡ self.now) }
     {
@@ -74,7 +75,7 @@ impl LocalVariable {
 }
 
 impl FunctionArgument {
-    /// An equal argument.
+    /// Clones the argument. An Err is out of memory.
     pub fn clone(&self, alloc: Global) -> Result<Self, AllocError>
         ensures { IfOk result (λ made. made ≡ self.now) }
     {
@@ -99,7 +100,7 @@ impl Duplicate for FunctionArgument {
 }
 
 impl Function {
-    /// A function without arguments, result, variables, expressions and statements, which keeps the allocator.
+    /// An empty function, which keeps the allocator.
     pub fn new(alloc: Global) -> Self
         ensures { result ≡ empty_function }
     {
@@ -112,7 +113,7 @@ impl Function {
         }
     }
 
-    /// An equal function.
+    /// Clones the function. An Err is out of memory.
     pub fn clone(&self, alloc: Global) -> Result<Self, AllocError>
         ensures { IfOk result (λ made. made ≡ self.now) }
     {

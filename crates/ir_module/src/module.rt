@@ -15,21 +15,23 @@ use ir_types::types::{AddressSpace, Type};
 use ir_types::unique_arena::UniqueArena;
 use std::alloc::{AllocError, Global};
 
-/// Where a resource is bound in the pipeline.
+/// The binding of a resource: its group, and its number in the group.
 #[derive(Clone, Copy, PartialEq, Eq, PartialOrd, Ord, Hash, Debug)]
 pub struct ResourceBinding {
     pub group: u32,
     pub binding: u32,
 }
 
-/// A variable of a module, of one of its types. In a module that passed, `binding` is there exactly where the space is
-/// one of resources, if bindings were checked.
+/// A global variable of a module.
+///
+/// In a module that was accepted with the flag BINDINGS, it has a `binding` exactly if it is in Storage, Uniform or
+/// Handle.
 #[derive(Clone, Copy, PartialEq, Eq, Hash, Debug)]
 pub struct GlobalVariable {
     pub space: AddressSpace,
     pub binding: Option<ResourceBinding>,
     pub ty: Handle<tag::Type>,
-    /// One of the module's global expressions; in a module that passed, of the variable's type.
+    /// One of the module's global expressions. In an accepted module it is of the variable's type.
     pub init: Option<Handle<tag::Expression>>,
     pub memory_decorations: MemoryDecorations,
 }
@@ -38,7 +40,7 @@ impl Tagged for GlobalVariable {
     type Tag = tag::GlobalVariable;
 }
 
-/// A constant of a module, of one of its types. Its value is not kept.
+/// A constant of a module: its type alone. Its value is not kept.
 #[derive(Clone, Copy, PartialEq, Eq, Hash, Debug)]
 pub struct Constant {
     pub ty: Handle<tag::Type>,
@@ -48,7 +50,7 @@ impl Tagged for Constant {
     type Tag = tag::Constant;
 }
 
-/// A constant that the pipeline may override, of a type of the module.
+/// A constant that the pipeline may override: its type alone.
 #[derive(Clone, Copy, PartialEq, Eq, Hash, Debug)]
 pub struct Override {
     pub ty: Handle<tag::Type>,
@@ -58,7 +60,7 @@ impl Tagged for Override {
     type Tag = tag::Override;
 }
 
-/// Types of the module that an expression or a statement needs although no other type names them.
+/// Types of the module with a special use.
 #[derive(Clone, Copy, PartialEq, Eq, Hash, Debug)]
 pub struct SpecialTypes {
     /// The type of the descriptor of a ray.
@@ -79,11 +81,11 @@ pub enum ShaderStage {
     Miss,
 }
 
-/// A request to test depth before the fragment stage runs; the number is its kind, which is carried unread.
+/// A request to test depth before the fragment stage runs. The number stands for its kind, which isn't read.
 #[derive(Clone, Copy, PartialEq, Eq, PartialOrd, Ord, Hash, Debug)]
 pub struct EarlyDepthTest(pub u32);
 
-/// What the primitives of a mesh are.
+/// The primitives of a mesh.
 #[derive(Clone, Copy, PartialEq, Eq, PartialOrd, Ord, Hash, Debug)]
 pub enum MeshOutputTopology {
     Points,
@@ -91,9 +93,10 @@ pub enum MeshOutputTopology {
     Triangles,
 }
 
-/// What a mesh entry point puts out: at most so many vertices and primitives in a work group. An override, which stands
-/// in for such a number, is one of the module's global expressions, the types and the output variable are the module's
-/// too. In a module that passed, each is there, and all are what the output variable's type implies.
+/// The outputs of a mesh entry point. The two maxima are per workgroup.
+///
+/// An override takes the place of a maximum. It is one of the module's global expressions. In an accepted module all
+/// of this is what the type of the output variable implies.
 #[derive(Clone, Copy, PartialEq, Eq, Hash, Debug)]
 pub struct MeshStageInfo {
     pub topology: MeshOutputTopology,
@@ -111,28 +114,28 @@ pub struct MeshStageInfo {
 pub struct EntryPoint {
     pub stage: ShaderStage,
     pub early_depth_test: Option<EarlyDepthTest>,
-    /// The invocations of a work group along each of its three dimensions. In a module that passed, none is 0 at the
+    /// The number of invocations of a workgroup in each of its three dimensions. In an accepted module none is 0 at the
     /// compute, mesh and task stages, and each is 0 at the others.
     pub workgroup_size: [u32; 3],
     pub function: Function,
-    /// In a module that passed, present exactly at the mesh stage.
+    /// In an accepted module it is there exactly at the mesh stage.
     pub mesh_info: Option<MeshStageInfo>,
-    /// A global of the module; in a module that passed, one in `AddressSpace::TaskPayload`.
+    /// A global of the module. In an accepted module it is in `AddressSpace::TaskPayload`.
     pub task_payload: Option<Handle<tag::GlobalVariable>>,
 }
 
-/// A whole shader.
+/// A shader module.
 #[derive(Drop)]
 pub struct Module {
-    /// In a module that passed, each names only earlier ones.
+    /// In an accepted module each names only earlier ones.
     pub types: UniqueArena<Type>,
     pub special_types: SpecialTypes,
     pub constants: Arena<Constant>,
     pub overrides: Arena<Override>,
     pub global_variables: Arena<GlobalVariable>,
-    /// In a module that passed, each names only earlier ones.
+    /// In an accepted module each names only earlier ones.
     pub global_expressions: Arena<Expression>,
-    /// In a module that passed, each calls only earlier ones.
+    /// In an accepted module each calls only earlier ones.
     pub functions: Arena<Function>,
     pub entry_points: Sequence<EntryPoint>,
 }
@@ -156,7 +159,7 @@ impl Duplicate for Override {
 }
 
 impl EntryPoint {
-    /// An equal entry point.
+    /// Clones the entry point. An Err is out of memory.
     pub fn clone(&self, alloc: Global) -> Result<Self, AllocError>
         ensures { IfOk result (λ made. made ≡ self.now) }
     {
@@ -178,7 +181,7 @@ impl Duplicate for EntryPoint {
 }
 
 impl Module {
-    /// A module of which every list is empty, and which keeps the allocator.
+    /// An empty module, which keeps the allocator.
     pub fn new(alloc: Global) -> Self
         ensures { result ≡ empty_module }
     {
@@ -194,7 +197,7 @@ impl Module {
         }
     }
 
-    /// An equal module.
+    /// Clones the module. An Err is out of memory.
     pub fn clone(&self, alloc: Global) -> Result<Self, AllocError>
         ensures { IfOk result (λ made. made ≡ self.now) }
     {

@@ -1,4 +1,4 @@
-//! The operands of an expression: the expressions that it is made from, in the order in which they are written.
+//! The operands of an expression: the expressions that it is made from, in order.
 
 ghost use Rattle.std.specs.Prelude.{◌≡◌, [], ◌∷◌, length, slice_get};
 ghost use Rattle.ir_module.specs.Operands.{operands_of, listed_operands};
@@ -7,8 +7,10 @@ use crate::expressions::Expression;
 use ir_arena::handle::Handle;
 use ir_arena::tag;
 
-/// How many operands an expression has: those of `Access` are its base and its index, of `AccessIndex` its base, of `Load`
-/// its pointer, of `Compose` its components, and of the kinds with `operands` these. All other kinds have none.
+/// The number of operands of an expression.
+///
+/// Those of `Access` are its base and its index, of `AccessIndex` its base, of `Load` its pointer, of `Compose` its
+/// components, and of the kinds with `operands` these. All other kinds have none.
 pub fn operand_count(expression: &Expression) -> usize
     ensures { result ≡ length (operands_of expression.now) }
 {
@@ -19,7 +21,7 @@ pub fn operand_count(expression: &Expression) -> usize
     }
 }
 
-/// The operand at a place that counts from 0: none from [`operand_count`] on.
+/// The operand with this index, counted from 0. None from [`operand_count`] on.
 pub fn operand(expression: &Expression, place: usize) -> Option<Handle<tag::Expression>>
     ensures { result ≡ slice_get (operands_of expression.now) place }
 {
@@ -42,7 +44,8 @@ fn only(operand: Handle<tag::Expression>, place: usize) -> Option<Handle<tag::Ex
     if place == 0 { Some(operand) } else { None }
 }
 
-/// The operands that an expression holds as a list, which are all of an expression but `Access`, `AccessIndex` and `Load`.
+/// The operands that an expression holds as a list, which are all of an expression but `Access`, `AccessIndex` and
+/// `Load`.
 pub fn listed_operands(expression: &Expression) -> &[Handle<tag::Expression>]
     ensures { result.now ≡ listed_operands expression.now }
 {

@@ -1,9 +1,9 @@
-//! What atomic operations, operations of subgroups, ray queries and cooperative stores do.
+//! The operations of atomic, subgroup, ray query, ray pipeline and cooperative store statements.
 
 use ir_arena::handle::Handle;
 use ir_arena::tag;
 
-/// What an atomic operation does with the old value. `Exchange` with `compare` stores only where the old value equals it.
+/// An atomic operation. `Exchange` with `compare` stores only if the old value equals it.
 #[derive(Clone, Copy, PartialEq, Eq, Hash, Debug)]
 pub enum AtomicFunction {
     Add,
@@ -18,7 +18,7 @@ pub enum AtomicFunction {
     },
 }
 
-/// What is computed over the values of a subgroup.
+/// An operation over the values of a subgroup.
 #[derive(Clone, Copy, PartialEq, Eq, Hash, Debug)]
 pub enum SubgroupOperation {
     All,
@@ -32,7 +32,7 @@ pub enum SubgroupOperation {
     Xor,
 }
 
-/// Over which invocations: all, those up to this one, those before this one.
+/// The invocations of an operation over a subgroup: all, those up to this one, or those before this one.
 #[derive(Clone, Copy, PartialEq, Eq, Hash, Debug)]
 pub enum CollectiveOperation {
     Reduce,
@@ -40,8 +40,9 @@ pub enum CollectiveOperation {
     ExclusiveScan,
 }
 
-/// From which invocation a value comes: the expressions are its index, or a distance to it. The number of `QuadSwap` is
-/// its direction, which is carried unread.
+/// The invocation that a value comes from. An expression is its index, or the distance to it.
+///
+/// The number of `QuadSwap` stands for its direction, which isn't read.
 #[derive(Clone, Copy, PartialEq, Eq, Hash, Debug)]
 pub enum GatherMode {
     BroadcastFirst,
@@ -54,7 +55,7 @@ pub enum GatherMode {
     QuadBroadcast(Handle<tag::Expression>),
 }
 
-/// What is done with a ray query.
+/// An operation of a ray query.
 #[derive(Clone, Copy, PartialEq, Eq, Hash, Debug)]
 pub enum RayQueryFunction {
     Initialize {
@@ -71,7 +72,7 @@ pub enum RayQueryFunction {
     Terminate,
 }
 
-/// What a ray pipeline does.
+/// An operation of a ray pipeline.
 #[derive(Clone, Copy, PartialEq, Eq, Hash, Debug)]
 pub enum RayPipelineFunction {
     TraceRay {
@@ -81,7 +82,7 @@ pub enum RayPipelineFunction {
     },
 }
 
-/// Where the data of a cooperative matrix lie; `detail` stands for stride and order, which are carried unread.
+/// The memory of a cooperative matrix. `detail` stands for stride and order, which aren't read.
 #[derive(Clone, Copy, PartialEq, Eq, Hash, Debug)]
 pub struct CooperativeData {
     pub pointer: Handle<tag::Expression>,

@@ -6,7 +6,7 @@ ghost use Rattle.ir_module.specs.PreEmitted.{needs_pre_emit};
 use crate::expressions::Expression;
 
 impl Expression {
-    /// Whether the expression is in scope from the start of a function's body on, so that no Emit puts it there.
+    /// Whether the expression is in scope from the start of a body on, so that it needs no Emit.
     pub fn needs_pre_emit(&self) -> bool
         ensures { result ≡ needs_pre_emit self.now }
     {

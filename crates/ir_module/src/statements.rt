@@ -16,7 +16,7 @@ use ir_arena::tag;
 use ir_flags::ir::Barrier;
 use std::alloc::{AllocError, Global};
 
-/// The value of a case. A value of one sign never equals one of the other.
+/// The value of a case. A signed value never equals an unsigned one.
 #[derive(Clone, Copy, PartialEq, Eq, PartialOrd, Ord, Hash, Debug)]
 pub enum SwitchValue {
     I32(i32),
@@ -24,7 +24,7 @@ pub enum SwitchValue {
     Default,
 }
 
-/// A statement and where it stood.
+/// A statement with its span.
 #[cycle(statement)]
 #[derive(PartialEq, Debug, Drop)]
 pub struct Located {
@@ -39,8 +39,9 @@ pub struct Block {
     pub list: Sequence<Located>,
 }
 
-/// A case of a switch; where it falls through, the next case runs after its body. In a module that passed, the last
-/// case doesn't.
+/// A case of a switch. If it falls through, the next case runs after its body.
+///
+/// In an accepted module the last case doesn't.
 #[cycle(statement)]
 #[derive(PartialEq, Debug, Drop)]
 pub struct SwitchCase {
@@ -49,8 +50,9 @@ pub struct SwitchCase {
     pub fall_through: bool,
 }
 
-/// A statement. The kinds and their fields are naga's. Handles of expressions are of the same function; in a module that
-/// passed, they are in scope where they are used.
+/// A statement. The kinds and their fields are naga's. Handles of expressions belong to the same function.
+///
+/// In an accepted module they are in scope where they are used.
 #[cycle(statement)]
 #[derive(PartialEq, Debug, Drop)]
 pub enum Statement {
@@ -137,7 +139,7 @@ pub enum Statement {
 }
 
 impl Block {
-    /// A block without statements, which keeps the allocator.
+    /// An empty block, which keeps the allocator.
     pub fn new(alloc: Global) -> Self
         ensures { result ≡ empty_block }
     {
@@ -146,7 +148,7 @@ impl Block {
         }
     }
 
-    /// Puts a statement last. A refused call leaves the block as it was.
+    /// Adds a statement at the end. An Err is out of memory, and leaves the block as it was.
     pub fn push(&mut self, statement: Statement, span: Span) -> Result<(), AllocError>
         ensures pushed { OnOk result (self.new ≡ with_last self.old statement span) }
         ensures err { OnErr result (self.new ≡ self.old) }
@@ -154,7 +156,7 @@ impl Block {
         self.list.push(Located { statement, span })
     }
 
-    /// An equal block.
+    /// Clones the block. An Err is out of memory.
     #[cycle(clone)]
     pub fn clone(&self, alloc: Global) -> Result<Self, AllocError>
         ensures { IfOk result (λ made. made ≡ self.now) }
@@ -164,7 +166,7 @@ impl Block {
     }
 }
 
-/// The block of these statements, in the memory that they had.
+/// The block of these statements, without a copy.
 impl From<Vec<Located>> for Block {
     ghost from_gives = { λ list block. block ≡ block_of list.items };
 
@@ -175,7 +177,7 @@ impl From<Vec<Located>> for Block {
     }
 }
 
-/// Equal statements in the same order.
+/// Clones the statements, in the same order.
 #[cycle(clone)]
 fn clone_list(alloc: Global, list: &[Located]) -> Result<Sequence<Located>, AllocError>
     ensures { IfOk result (λ made. made ≡ list.now) }
@@ -191,7 +193,7 @@ fn clone_list(alloc: Global, list: &[Located]) -> Result<Sequence<Located>, Allo
     Ok(made)
 }
 
-/// Equal cases in the same order.
+/// Clones the cases, in the same order.
 #[cycle(clone)]
 fn clone_cases(alloc: Global, cases: &[SwitchCase]) -> Result<Sequence<SwitchCase>, AllocError>
     ensures { IfOk result (λ made. made ≡ cases.now) }
@@ -204,7 +206,7 @@ fn clone_cases(alloc: Global, cases: &[SwitchCase]) -> Result<Sequence<SwitchCas
 }
 
 impl SwitchCase {
-    /// An equal case.
+    /// Clones the case. An Err is out of memory.
     #[cycle(clone)]
     pub fn clone(&self, alloc: Global) -> Result<Self, AllocError>
         ensures { IfOk result (λ made. made ≡ self.now) }
@@ -219,7 +221,7 @@ impl SwitchCase {
 }
 
 impl Statement {
-    /// An equal statement.
+    /// Clones the statement. An Err is out of memory.
     #[cycle(clone)]
     pub fn clone(&self, alloc: Global) -> Result<Self, AllocError>
         ensures { IfOk result (λ made. made ≡ self.now) }

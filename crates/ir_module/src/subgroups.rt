@@ -1,4 +1,4 @@
-//! Which subgroup operations a statement requires.
+//! Which subgroup operations a statement needs.
 
 ghost use Rattle.std.specs.Prelude.{◌≡◌};
 ghost use Rattle.ir_module.specs.Subgroups.{operation_group, gather_group};
@@ -7,7 +7,7 @@ use crate::operations::{GatherMode, SubgroupOperation};
 use ir_flags::valid::SubgroupOperationSet;
 
 impl SubgroupOperation {
-    /// The group of operations that this one belongs to.
+    /// The group of subgroup operations that this one belongs to.
     pub fn required_operations(self) -> SubgroupOperationSet
         ensures { result ≡ operation_group self }
     {
@@ -25,7 +25,7 @@ impl SubgroupOperation {
 }
 
 impl GatherMode {
-    /// The group of operations that a gather of this mode belongs to.
+    /// The group of subgroup operations that a gather of this mode belongs to.
     pub fn required_operations(self) -> SubgroupOperationSet
         ensures { result ≡ gather_group self }
     {

@@ -1,7 +1,8 @@
 //! Built-in inputs and outputs of shader stages.
 
-/// A value that the pipeline gives to or takes from a stage. `invariant` and `perspective` don't tell two
-/// built-ins apart where duplicates are looked for.
+/// A value that a stage gets from the pipeline, or gives to it.
+///
+/// Two built-ins that differ in `invariant` or `perspective` alone count as duplicates.
 #[derive(Clone, Copy, PartialEq, Eq, PartialOrd, Ord, Hash, Debug)]
 pub enum BuiltIn {
     BaseInstance,

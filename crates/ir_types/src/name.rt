@@ -7,7 +7,7 @@ use std::fmt;
 use std::hash::{Hash, Hasher};
 use std::marker::Model;
 
-/// A text that contracts see as its bytes in UTF-8.
+/// A name. Contracts see its bytes in UTF-8.
 #[derive(Drop)]
 pub struct Name {
     text: String,
@@ -29,14 +29,14 @@ impl Name {
         self.text.as_str()
     }
 
-    /// The text, in the memory that the name had.
+    /// The text as a `String`, without a copy.
     pub fn into_string(self) -> String
         ensures { string_bytes result ≡ self }
     {
         self.text
     }
 
-    /// An equal name.
+    /// Clones the name. An Err is out of memory.
     pub fn clone(&self, alloc: Global) -> Result<Self, AllocError>
         ensures { IfOk result (λ made. made ≡ self.now) }
     {
@@ -45,7 +45,7 @@ impl Name {
     }
 }
 
-/// An equal name, if there is one.
+/// Clones a name, if there is one. An Err is out of memory.
 pub fn clone_name(alloc: Global, name: &Option<Name>) -> Result<Option<Name>, AllocError>
     ensures { IfOk result (λ made. made ≡ name.now) }
 {

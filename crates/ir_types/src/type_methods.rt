@@ -1,4 +1,4 @@
-//! Questions about types. None takes memory.
+//! Questions about types. None allocates.
 
 ghost use Rattle.std.specs.Prelude.{◌≡◌, ◌<◌, length, unwrap_or};
 ghost use Rattle.ir_types.specs.Types.{scalar_of, scalar_kind_of, pointer_space_of, pointer_base_of, image_coordinates_of, access_of, NamesTypesBelow, NameEachOther, ResolutionFits, value_pointer_of};
@@ -15,7 +15,7 @@ use bitflags::Flags;
 use ir_flags::ir::StorageAccess;
 
 impl TypeInner {
-    /// The scalar that a scalar, a vector or a matrix is made of.
+    /// The scalar of a scalar, a vector or a matrix. None for other types.
     pub fn scalar(&self) -> Option<Scalar>
         ensures { result ≡ scalar_of self.now }
     {
@@ -28,7 +28,7 @@ impl TypeInner {
         }
     }
 
-    /// The kind of that scalar.
+    /// The kind of that scalar. None for other types.
     pub fn scalar_kind(&self) -> Option<ScalarKind>
         ensures { result ≡ scalar_kind_of self.now }
     {
@@ -38,7 +38,7 @@ impl TypeInner {
         }
     }
 
-    /// The address space that a pointer points into.
+    /// The address space of a pointer. None for other types.
     pub fn pointer_space(&self) -> Option<AddressSpace>
         ensures { result ≡ pointer_space_of self.now }
     {
@@ -50,7 +50,7 @@ impl TypeInner {
         }
     }
 
-    /// The type that a pointer points to.
+    /// The type that a pointer points to. None for other types.
     pub fn pointer_base_type(&self) -> Option<TypeResolution>
         ensures { result ≡ pointer_base_of self.now }
     {
@@ -70,7 +70,7 @@ impl TypeInner {
         }
     }
 
-    /// The dimension of the storage images that this type can be the coordinate of.
+    /// The dimension of the storage images that take a coordinate of this type. None if there is none.
     pub fn image_storage_coordinates(&self) -> Option<ImageDimension>
         ensures { result ≡ image_coordinates_of self.now }
     {
@@ -99,8 +99,9 @@ impl TypeInner {
         }
     }
 
-    /// The value pointer that stands for a pointer to a scalar or a vector; `None` where the type is its own
-    /// canonical form.
+    /// The canonical form of a pointer to a scalar or a vector: a value pointer.
+    ///
+    /// None if the type is its own canonical form.
     pub fn canonical_form(&self, types: &UniqueArena<Type>) -> Option<TypeInner>
         requires { NamesTypesBelow (length types.now) self.now }
         ensures { result ≡ value_pointer_of types.now self.now }
@@ -123,7 +124,7 @@ impl TypeInner {
         }
     }
 
-    /// Whether the canonical forms are equal. Only a pointer may have another than itself.
+    /// Whether the canonical forms of two types are equal.
     pub fn equivalent(&self, other: &TypeInner, types: &UniqueArena<Type>) -> bool
         requires first { NamesTypesBelow (length types.now) self.now }
         requires second { NamesTypesBelow (length types.now) other.now }
@@ -160,8 +161,9 @@ impl TypeInner {
         }
     }
 
-    /// Whether this is the struct that an atomic compare exchange of `scalar` gives: `old_value` of that scalar and
-    /// `exchanged`, a bool, in this order and nothing else.
+    /// Whether this is the struct that an atomic compare exchange of `scalar` returns.
+    ///
+    /// Its members are `old_value`, of that scalar, and `exchanged`, a bool, in this order.
     #[tactic(auto, unfolding(crate::specs::TypeTests::is_exchange_struct))]
     pub fn is_compare_exchange_struct(&self, scalar: Scalar, types: &UniqueArena<Type>) -> bool
         requires { NamesTypesBelow (length types.now) self.now }
@@ -197,8 +199,9 @@ fn is_scalar_member(
     }
 }
 
-/// Whether two resolved types are the same: where the first is the handle of a struct the handles are equal, else
-/// the canonical forms.
+/// Whether two resolved types are the same.
+///
+/// If the first is the handle of a struct, the handles must be equal. Otherwise the canonical forms must be.
 #[inline]
 #[tactic(auto, unfolding(crate::specs::TypeTests::is_same_type))]
 pub fn compare_types(
@@ -224,7 +227,7 @@ pub fn compare_types(
     inner.equivalent(second.inner_with(types), types)
 }
 
-/// The tests of types that compute say what the words for them say.
+/// Law: the functions that test types compute what their definitions say.
 pub fn type_tests_law()
     ensures same { SameIsDecided }
     ensures equivalent { EquivalentIsDecided }
@@ -234,7 +237,7 @@ pub fn type_tests_law()
 {}
 
 impl AddressSpace {
-    /// What may be done in the address space.
+    /// What may be done with memory in this address space.
     pub fn access(self) -> StorageAccess
         ensures { result ≡ access_of self }
     {
@@ -253,7 +256,7 @@ impl AddressSpace {
     }
 }
 
-/// The kind of what a texel of a storage image holds.
+/// The scalar kind of the texels of a storage image.
 impl From<StorageFormat> for ScalarKind {
     ghost from_gives = { λ format kind. kind ≡ format_kind format };
 
@@ -285,7 +288,7 @@ impl From<StorageFormat> for ScalarKind {
     }
 }
 
-/// The scalar that a texel of a storage image holds.
+/// The scalar of the texels of a storage image.
 impl From<StorageFormat> for Scalar {
     ghost from_gives = { λ format scalar. scalar ≡ format_scalar format };
 

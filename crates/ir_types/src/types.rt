@@ -1,4 +1,4 @@
-//! Types, and what struct members and results are bound to.
+//! Types, and bindings of arguments, results and struct members.
 
 mod clones;
 
@@ -10,7 +10,7 @@ use ir_arena::tag;
 use ir_flags::ir::StorageAccess;
 use std::num::NonZeroU32;
 
-/// What a scalar is. In a module that passed, no type is of an abstract kind.
+/// The kind of a scalar. Nothing here checks that a type has no abstract kind.
 #[derive(Clone, Copy, PartialEq, Eq, PartialOrd, Ord, Hash, Debug)]
 pub enum ScalarKind {
     Sint,
@@ -25,7 +25,7 @@ pub enum ScalarKind {
 #[derive(Clone, Copy, PartialEq, Eq, PartialOrd, Ord, Hash, Debug)]
 pub struct Scalar {
     pub kind: ScalarKind,
-    /// In bytes. In a module that passed, a bool has 1.
+    /// In bytes. Nothing here checks that a bool has 1.
     pub width: u8,
 }
 
@@ -67,7 +67,7 @@ impl Scalar {
     };
 }
 
-/// How many components a vector has: 2, 3 or 4.
+/// The number of components of a vector: 2, 3 or 4.
 #[derive(Clone, Copy, PartialEq, Eq, PartialOrd, Ord, Hash, Debug)]
 pub enum VectorSize {
     Bi,
@@ -75,7 +75,7 @@ pub enum VectorSize {
     Quad,
 }
 
-/// Where a pointer points to. `Immediate` is also known as push constants; only `Storage` says what may be done.
+/// The memory that a variable lies in. `Immediate` is also known as push constants.
 #[derive(Clone, Copy, PartialEq, Eq, Hash, Debug)]
 pub enum AddressSpace {
     Function,
@@ -99,7 +99,7 @@ pub enum ImageDimension {
     Cube,
 }
 
-/// The format of the texels of a storage image: channels, bits of each, and how they are read.
+/// The format of the texels of a storage image: its channels, the bits of each, and their kind.
 #[derive(Clone, Copy, PartialEq, Eq, Hash, Debug)]
 pub enum StorageFormat {
     R8Unorm,
@@ -145,7 +145,7 @@ pub enum StorageFormat {
     Rgba32Float,
 }
 
-/// How an image is read. `multi` is multisampled.
+/// The class of an image. `multi` says that it is multisampled.
 #[derive(Clone, Copy, PartialEq, Eq, Hash, Debug)]
 pub enum ImageClass {
     Sampled {
@@ -162,7 +162,7 @@ pub enum ImageClass {
     },
 }
 
-/// How many items an array has: a number, the value of an override of the module, or as many as its buffer holds.
+/// The number of items of an array: constant, the value of an override, or as many as the buffer holds.
 #[derive(Clone, Copy, PartialEq, Eq, Hash, Debug)]
 pub enum ArraySize {
     Constant(NonZeroU32),
@@ -170,7 +170,7 @@ pub enum ArraySize {
     Dynamic,
 }
 
-/// How a value is interpolated between the corners of a primitive.
+/// How a value is interpolated over a primitive.
 #[derive(Clone, Copy, PartialEq, Eq, Hash, Debug)]
 pub enum Interpolation {
     Perspective,
@@ -179,7 +179,7 @@ pub enum Interpolation {
     PerVertex,
 }
 
-/// Where within a pixel a value is taken.
+/// Where within a pixel an interpolated value is taken.
 #[derive(Clone, Copy, PartialEq, Eq, Hash, Debug)]
 pub enum Sampling {
     Center,
@@ -189,8 +189,9 @@ pub enum Sampling {
     Either,
 }
 
-/// What an argument, a result or a struct member is bound to, where an entry point takes it in or puts it out.
-/// `location` and `blend_src`, which color of a blend it is, count from 0.
+/// What an input or output of an entry point is bound to: an argument, a result, or a member of a struct.
+///
+/// `location` counts from 0. `blend_src` is the blend source, 0 or 1.
 #[derive(Clone, Copy, PartialEq, Eq, Hash, Debug)]
 pub enum Binding {
     BuiltIn(BuiltIn),
@@ -203,8 +204,9 @@ pub enum Binding {
     },
 }
 
-/// A member of a struct. `ty` is a type of the module, `offset` is in bytes from the start of the struct. In a module
-/// that passed, the type stands before the struct's, and a member begins where the one before it ends, or behind.
+/// A member of a struct. `offset` is in bytes from the start of the struct.
+///
+/// In an accepted module the type comes before the struct's. Offsets are not checked here.
 #[derive(PartialEq, Eq, Hash, Debug, Drop)]
 pub struct StructMember {
     pub name: Option<Name>,
@@ -213,12 +215,14 @@ pub struct StructMember {
     pub offset: u32,
 }
 
-/// The members of a struct, in the order in which they are written.
+/// The members of a struct, in order.
 pub type Members = Sequence<StructMember>;
 
-/// What a type is, without its name. `base` is another type of the module; in a module that passed, one that stands
-/// before this one. `stride` is in bytes from one item to the next, the `span` of a struct is its size in bytes.
-/// `detail` of a cooperative matrix is a number that stands for what only the type checker of another layer reads.
+/// What a type is, without its name.
+///
+/// `base` is another type of the module. In an accepted module it comes before this one. `stride` is the number of
+/// bytes from one item to the next. `span` is the size of a struct in bytes. `detail` is any number: it stands for
+/// what only another layer reads.
 #[derive(PartialEq, Eq, Hash, Debug, Drop)]
 pub enum TypeInner {
     Scalar(Scalar),

@@ -9,7 +9,7 @@ use ir_arena::handle::Handle;
 use ir_arena::tag;
 use std::alloc::{AllocError, Global};
 
-/// The type of an expression: one of the module's, or one that the module may lack.
+/// The type of an expression: a type of the module by its handle, or any type as a value.
 #[derive(PartialEq, Eq, Hash, Debug, Drop)]
 pub enum TypeResolution {
     Handle(Handle<tag::Type>),
@@ -28,7 +28,7 @@ impl TypeResolution {
         }
     }
 
-    /// An equal resolution.
+    /// Clones the resolution. An Err is out of memory.
     pub fn clone(&self, alloc: Global) -> Result<Self, AllocError>
         ensures { IfOk result (λ made. made ≡ self.now) }
     {

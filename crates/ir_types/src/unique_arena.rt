@@ -1,4 +1,4 @@
-//! Arenas that hold no value twice.
+//! Arenas in which no two values are equal.
 
 ghost use Rattle.std.specs.Prelude.{◌≡◌, ◌↔◌, ◌<◌, ◌≤◌, ◌++◌, ◌∷◌, [], true, Contains, IsTrue, IfOk, OnOk, OnErr, Some, length, slice_get};
 ghost use Rattle.ir_arena.specs.Limits.{max_len};
@@ -14,7 +14,7 @@ use std::hash::Hash;
 use std::marker::Model;
 use std::ops::Index;
 
-/// A type of which `==` finds only identical values equal, so that one of two equal values can stand for both.
+/// A type whose `==` is true of identical values only.
 pub trait Identical: Eq {
     ghost identical: { (a b : Self) → Self.PartialEq.eq a b ≡ true → a ≡ b };
 }
@@ -25,8 +25,9 @@ impl Identical for Type {
     ghost identical = { type_same };
 }
 
-/// A list of at most `MAX_LEN` values of which no two are equal, each with the span of its first insertion.
-/// Contracts see the list of the values.
+/// A list of at most [`MAX_LEN`](ir_arena::arena::MAX_LEN) values of which no two are equal.
+///
+/// Each has the span of its first insertion. Contracts see the list of the values.
 #[derive(Drop)]
 pub struct UniqueArena<T: Tagged + Eq + Hash> {
     set: IndexSet<T>,
@@ -71,7 +72,7 @@ impl<T: Tagged + Eq + Hash + Drop> UniqueArena<T> {
         self.set.len() == 0
     }
 
-    /// Whether no further value can be put in.
+    /// Whether no further value can be added.
     pub fn is_full(&self) -> bool
         ensures { IsTrue result ↔ (max_len ≤ length self.now) }
     {
@@ -87,8 +88,9 @@ impl<T: Tagged + Eq + Hash + Drop> UniqueArena<T> {
 }
 
 impl<T: Tagged + Identical + Hash + Drop> UniqueArena<T> {
-    /// The place of the equal value, if there is one; else puts this value last. The span of a value that is there
-    /// stays as it was. The arena must not be full; a refused call leaves it as it was.
+    /// Returns the handle of the equal value. If there is none, adds this one at the end. The arena must not be full.
+    ///
+    /// The span of a value that is already there stays. An Err is out of memory, and leaves the arena as it was.
     pub fn insert(&mut self, value: T, span: Span) -> Result<Handle<T::Tag>, AllocError>
         requires { length self.old < max_len }
         ensures place { IfOk result (λ h. slice_get self.new h ≡ Some value) }
@@ -121,7 +123,7 @@ impl<T: Tagged + Identical + Hash + Drop> UniqueArena<T> {
 }
 
 impl UniqueArena<Type> {
-    /// An arena of equal types, each with the same span.
+    /// Clones the arena: equal types with the same spans. An Err is out of memory.
     pub fn clone(&self, alloc: Global) -> Result<Self, AllocError>
         ensures { IfOk result (λ made. made ≡ self.now) }
     {

@@ -6,14 +6,17 @@ pub use Rattle.ir_facts.specs.Fits.{FitsTypes, FitsGlobals, FitsFunction, FitsEn
 pub use Rattle.ir_facts.specs.Points.{Point, first_fault}
 pub use Rattle.ir_flags.specs.Bits.{READ, ALL_STAGES}
 pub use Rattle.ir_module.specs.declared.expressions.Expression.{Expression}
+pub use Rattle.ir_module.specs.declared.expressions.Expression.TheVariants.{CallResult, AtomicResult}
 pub use Rattle.ir_module.specs.declared.functions.Function.{Function}
 pub use Rattle.ir_module.specs.declared.functions.LocalVariable.{LocalVariable}
 pub use Rattle.ir_module.specs.declared.module.EntryPoint.{EntryPoint}
 pub use Rattle.ir_module.specs.declared.module.GlobalVariable.{GlobalVariable}
 pub use Rattle.ir_module.specs.declared.module.Module.{Module}
+pub use Rattle.ir_module.specs.declared.module.ResourceBinding.{ResourceBinding}
 pub use Rattle.ir_module.specs.declared.module.ShaderStage.{ShaderStage}
 pub use Rattle.ir_module.specs.declared.statements.Block.{Block}
 pub use Rattle.ir_module.specs.declared.statements.Statement.{Statement}
+pub use Rattle.ir_module.specs.Tree.{Return, Switch}
 pub use Rattle.ir_types.specs.declared.types.AddressSpace.{AddressSpace}
 pub use Rattle.ir_types.specs.declared.types.Type.{«Type» as IrType}
 pub use Rattle.ir_types.specs.declared.types.TypeInner.{TypeInner}

@@ -1,9 +1,9 @@
-pub use Rattle.check_errors.specs.Answers.{Answers, AnswersPoints, Refuses}
+pub use Rattle.check_errors.specs.Answers.{Right, FirstOf, Exactly, Finds, Answers, read_by}
 pub use Rattle.check_errors.specs.Lawful.{IsNoStruct}
 pub use Rattle.check_errors.specs.Meaning.{Meaning, HasOneTypeEach, HasOneUseEach, HasTypesInRange, HasNoStructValues, HasOneKindEach}
 pub use Rattle.check_variables.specs.AllowedUses.{allowed_use}
 pub use Rattle.check_variables.specs.Globals.{global_points}
 pub use Rattle.check_variables.specs.Locals.{local_points}
 pub use Rattle.check_varyings.specs.BuiltIns.{built_in_rule}
-pub use Rattle.check_varyings.specs.VaryingFaults.{AnswersVaryings}
+pub use Rattle.check_varyings.specs.VaryingFaults.{VaryingFault, varying_fault_of}
 pub use Rattle.check_varyings.specs.Varyings.{points_from, parts_of, seen_in, seen_with, nothing_seen, without_built_ins, StartsEmpty, PointsAreByPosition, LeavesTheNext, SeesLocationsAlone}

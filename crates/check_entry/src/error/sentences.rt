@@ -1,4 +1,4 @@
-//! Sentences that tell what is wrong with an entry point.
+//! What is wrong with an entry point, in words for a person.
 
 use crate::error::EntryPointError;
 use check_errors::sentences::{Explain, explain_inside};
@@ -9,55 +9,57 @@ impl Explain for EntryPointError {
         match self {
             EntryPointError::Conflict => "two entry points have one name and stage",
             EntryPointError::MissingVertexOutputPosition =>
-                "a vertex entry point, or the vertex output of a mesh, doesn't put out a position",
+                "a vertex entry point, or the vertex output of a mesh, has no position",
             EntryPointError::UnexpectedEarlyDepthTest =>
-                "depth is to be tested early at another stage than the fragment's",
+                "an early depth test is for the fragment stage only",
             EntryPointError::UnexpectedWorkgroupSize =>
-                "a stage without work groups has a size of them",
+                "a stage without workgroups has a workgroup size",
             EntryPointError::OutOfRangeWorkgroupSize =>
-                "a work group has no invocation along a dimension, or more than 16384",
+                "a dimension of the workgroup size is 0, or more than 16384",
             EntryPointError::ForbiddenStageOperations =>
-                "what the function does, or a function that it calls, is not for this stage",
+                "the function, or one that it calls, does what this stage doesn't allow",
             EntryPointError::InvalidGlobalUsage(_, _) =>
-                "a global is used, in all, in more ways than its space allows at this stage",
-            EntryPointError::MoreThanOneImmediateUsed => "two globals in `Immediate` are used",
+                "a global is used in ways that its address space doesn't allow at this stage",
+            EntryPointError::MoreThanOneImmediateUsed =>
+                "the entry point uses two globals in `Immediate`",
             EntryPointError::BindingCollision(_) =>
-                "a global that is used has the binding of an earlier one that is used",
-            EntryPointError::Argument(_, _) => "an argument, counted from 0, has a fault",
+                "the entry point uses an earlier global that has the binding of this one",
+            EntryPointError::Argument(_, _) => "an argument, counted from 0, is invalid",
             EntryPointError::Result(_) =>
-                "the result, an output of a mesh, or the request to test depth early has a fault",
-            EntryPointError::Function(_) => "the function has a fault",
+                "the result, a mesh output or the early depth test is invalid",
+            EntryPointError::Function(_) => "the function is invalid",
             EntryPointError::UnsupportedCapability(_) =>
-                "the target lacks what the entry point needs",
+                "the target lacks a capability that the entry point needs",
             EntryPointError::ExpectedMeshShaderAttributes =>
-                "a mesh entry point says nothing of its mesh",
+                "a mesh entry point has no `mesh_info`",
             EntryPointError::UnexpectedMeshShaderAttributes =>
-                "an entry point at another stage says something of a mesh",
-            EntryPointError::UnexpectedTaskPayload => "a stage that takes no task payload has one",
+                "only a mesh entry point can have a `mesh_info`",
+            EntryPointError::UnexpectedTaskPayload =>
+                "an entry point at this stage can't have a task payload",
             EntryPointError::TaskPayloadWrongAddressSpace =>
-                "the payload doesn't lie in `TaskPayload`",
+                "the task payload is not in `TaskPayload`",
             EntryPointError::WrongTaskPayloadUsed =>
-                "a global in `TaskPayload` is used that isn't the payload",
+                "the entry point uses a global in `TaskPayload` that is not its task payload",
             EntryPointError::WrongTaskShaderEntryResult =>
-                "a task entry point doesn't return three counts",
-            EntryPointError::ExpectedTaskPayload => "a task entry point has no payload",
+                "a task entry point must return a vector of three `u32`",
+            EntryPointError::ExpectedTaskPayload => "a task entry point has no task payload",
             EntryPointError::BadMeshOutputVariableType =>
-                "what a mesh entry point says of its mesh isn't what the type of its output variable implies",
+                "the `mesh_info` is not what the type of the output variable implies",
             EntryPointError::BadMeshOutputVariableField =>
-                "a member of the type of a mesh's output variable can't be put out",
+                "a member of the output variable's type can't be an output of a mesh",
             EntryPointError::UnexpectedMeshShaderEntryResult =>
-                "a mesh entry point returns something",
-            EntryPointError::InvalidMeshOutputType => "an output of a mesh is no struct",
+                "a mesh entry point can't return a value",
+            EntryPointError::InvalidMeshOutputType => "an output of a mesh is not a struct",
             EntryPointError::InvalidMeshPrimitiveOutputType =>
-                "a primitive output of a mesh hasn't exactly one built-in of indices",
+                "the primitive output of a mesh must have exactly one built-in of indices",
             EntryPointError::WrongMeshOutputAddressSpace =>
-                "the output variable of a mesh doesn't lie in `WorkGroup`",
+                "the output variable of a mesh is not in `WorkGroup`",
             EntryPointError::TaskPayloadTooSmall(_) =>
-                "the payload has only so many bytes, and has to have at least 4",
+                "the task payload has only so many bytes, and must have at least 4",
             EntryPointError::RayPayloadInInvalidStage(_) =>
-                "a ray payload is used at a stage that hands none to a ray",
+                "a global in `RayPayload` can't be used at this stage",
             EntryPointError::IncomingRayPayloadInInvalidStage(_) =>
-                "an incoming ray payload is used at a stage that no ray brings one to",
+                "a global in `IncomingRayPayload` can't be used at this stage",
         }
     }
 

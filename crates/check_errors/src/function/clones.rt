@@ -6,7 +6,7 @@ use crate::function::FunctionError;
 use std::alloc::{AllocError, Global};
 
 impl FunctionError {
-    /// An equal error.
+    /// Clones the error. An Err is out of memory.
     pub fn clone(&self, alloc: Global) -> Result<Self, AllocError>
         ensures { IfOk result (λ made. made ≡ self.now) }
     {

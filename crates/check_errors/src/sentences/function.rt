@@ -7,16 +7,16 @@ use std::fmt;
 impl Explain for CallError {
     fn sentence(&self) -> &'static str {
         match self {
-            CallError::Argument { .. } => "an argument has a fault",
+            CallError::Argument { .. } => "an argument is invalid",
             CallError::ResultAlreadyInScope(_) => "the result is in scope before the call",
             CallError::ResultAlreadyPopulated(_) =>
-                "an earlier call or atomic operation names the result too, or expressions are not looked at",
+                "an earlier call or atomic operation has this result, or the flag EXPRESSIONS is off",
             CallError::ArgumentCount { .. } =>
-                "there are more or fewer arguments than the callee declares",
+                "the call passes more or fewer arguments than the function declares",
             CallError::ArgumentType { .. } =>
-                "an argument has another type than the callee declares",
+                "an argument is of another type than the function declares",
             CallError::ExpressionMismatch(_) =>
-                "the result isn't one of this callee, or is there although the callee has none, or is missing although it has one",
+                "the call must have a result, a `CallResult` of its function, exactly if the function returns a value",
         }
     }
 
@@ -34,21 +34,24 @@ impl Explain for AtomicError {
         match self {
             AtomicError::InvalidPointer(_) => "the pointer doesn't point to an atomic",
             AtomicError::InvalidAddressSpace(_) =>
-                "the atomic lies in a space where the operation isn't done on its scalar",
+                "the operation isn't supported on this scalar type in this address space",
             AtomicError::InvalidOperand(_) =>
-                "the value, or the value to compare with, is not of the atomic's scalar",
-            AtomicError::InvalidOperator(_) => "the operation isn't done on the atomic's scalar",
-            AtomicError::InvalidResultExpression(_) => "the result is no `AtomicResult`",
+                "the value, or the value to compare with, is not of the atomic's scalar type",
+            AtomicError::InvalidOperator(_) =>
+                "the operation isn't supported on the atomic's scalar type",
+            AtomicError::InvalidResultExpression(_) => "the result is not an `AtomicResult`",
             AtomicError::ResultExpressionExchange(_) =>
-                "the result is that of a compare exchange, and the operation is none",
+                "the result is marked as that of a compare exchange, and the operation compares nothing",
             AtomicError::ResultExpressionNotExchange(_) =>
-                "the operation is a compare exchange, and the result isn't one's",
+                "the operation is a compare exchange, and the result isn't marked as that of one",
             AtomicError::ResultTypeMismatch(_) =>
-                "the result has another type than the operation gives",
-            AtomicError::MissingReturnValue => "an exchange that compares nothing has no result",
-            AtomicError::MissingCapability(_) => "the target lacks what the operation needs",
+                "the result is of another type than the operation returns",
+            AtomicError::MissingReturnValue =>
+                "an exchange that compares nothing must have a result",
+            AtomicError::MissingCapability(_) =>
+                "the target lacks a capability that the operation needs",
             AtomicError::ResultAlreadyPopulated(_) =>
-                "an earlier call or atomic operation names the result too, or expressions are not looked at",
+                "an earlier call or atomic operation has this result, or the flag EXPRESSIONS is off",
         }
     }
 }
@@ -57,13 +60,14 @@ impl Explain for SubgroupError {
     fn sentence(&self) -> &'static str {
         match self {
             SubgroupError::InvalidOperand(_) =>
-                "the operand is of a type that the operation isn't done on",
+                "the operation isn't supported on the operand's type",
             SubgroupError::ResultTypeMismatch(_) =>
-                "the result is of another kind or type than the operation gives",
-            SubgroupError::UnsupportedOperation(_) => "the target lacks these operations",
-            SubgroupError::UnknownOperation => "there is no scan by this operation",
+                "the result is of another kind or type than the operation returns",
+            SubgroupError::UnsupportedOperation(_) =>
+                "the target doesn't support these subgroup operations",
+            SubgroupError::UnknownOperation => "a scan supports only Add and Mul",
             SubgroupError::InvalidInvocationIdExprType(_) =>
-                "the index of an invocation has to be a constant here",
+                "the index of a broadcast must be a constant",
         }
     }
 }
@@ -72,11 +76,11 @@ impl Explain for LocalVariableError {
     fn sentence(&self) -> &'static str {
         match self {
             LocalVariableError::InvalidType(_) =>
-                "a local can't be of this type, since it isn't constructible",
+                "the type of a local variable must be constructible",
             LocalVariableError::InitializerType =>
                 "the initializer is of another type than the variable",
             LocalVariableError::NonConstOrOverrideInitializer =>
-                "the initializer is known only as the function runs",
+                "the initializer must be a constant or an override expression",
         }
     }
 }
@@ -85,99 +89,100 @@ impl Explain for FunctionError {
     fn sentence(&self) -> &'static str {
         match self {
             FunctionError::Expression { .. } =>
-                "an expression, or an operand of a statement, has a fault",
+                "an expression, or an operand of a statement, is invalid",
             FunctionError::ExpressionAlreadyInScope(_) =>
-                "a statement puts an expression in scope that is there already",
-            FunctionError::LocalVariable { .. } => "a local variable has a fault",
+                "a statement brings an expression into scope that is already in scope",
+            FunctionError::LocalVariable { .. } => "a local variable is invalid",
             FunctionError::InvalidArgumentType { .. } =>
                 "an argument is of a type that can't be passed",
-            FunctionError::NonConstructibleReturnType =>
-                "the result is of a type that can't be returned, since it isn't constructible",
+            FunctionError::NonConstructibleReturnType => "the return type must be constructible",
             FunctionError::InvalidArgumentPointerSpace { .. } =>
-                "an argument points into a space other than `Function` and `Private`",
+                "a pointer argument points into an address space other than `Function` and `Private`",
             FunctionError::BreakOutsideOfLoopOrSwitch =>
-                "a break has no case of a switch and no loop body to leave, or stands in a continuing part between",
+                "a break must be inside a loop body or a switch case, with no continuing block between",
             FunctionError::ContinueOutsideOfLoop =>
-                "a continue has no loop body around it, or stands in a continuing part between",
-            FunctionError::InvalidReturnSpot => "a return stands in a continuing part",
+                "a continue must be inside a loop body, with no continuing block between",
+            FunctionError::InvalidReturnSpot => "a return stands in a continuing block",
             FunctionError::InvalidReturnType { .. } =>
-                "what is returned, if anything, doesn't match the declared type, if any",
+                "the returned value doesn't match the declared return type, or only one of them is there",
             FunctionError::InvalidIfType(_) =>
-                "the condition of an if or of a loop's end is no bool",
+                "the condition of an if, or the `break_if` of a loop, is not a bool",
             FunctionError::InvalidSwitchType(_) =>
                 "the selector of a switch is not made of integers",
             FunctionError::ConflictingSwitchCase(_) => "two cases of a switch have this value",
             FunctionError::ConflictingCaseType =>
-                "a case value has another signedness than the selector",
+                "a case value is signed and the selector isn't, or the other way round",
             FunctionError::MissingDefaultCase => "a switch has no default case",
             FunctionError::MultipleDefaultCases => "a switch has more than one default case",
             FunctionError::LastCaseFallTrough => "the last case of a switch falls through",
             FunctionError::InvalidStorePointer(_) =>
-                "the pointer doesn't lead back to a variable or an argument, or its space takes no stores",
+                "the pointer doesn't lead to a variable or an argument, or its address space is not writable",
             FunctionError::InvalidStoreTexture { .. } =>
-                "the value of a store is an image or a sampler",
+                "the stored value is an image or a sampler",
             FunctionError::InvalidStoreValue { .. } =>
-                "the texel of an image store is of another type than the image's format has",
+                "the value of an image store is of another type than the image's format has",
             FunctionError::InvalidStoreTypes { .. } =>
-                "the value is not of the type that the pointer points to",
+                "the stored value is not of the type that the pointer points to",
             FunctionError::InvalidImageStore(_) =>
-                "the image, the coordinate or the array index of an image store has a fault",
+                "the image, the coordinate or the array index of an image store is invalid",
             FunctionError::InvalidImageAtomic(_) =>
-                "the image, the coordinate or the array index of an atomic operation on an image has a fault",
+                "the image, the coordinate or the array index of an image atomic is invalid",
             FunctionError::InvalidImageAtomicFunction(_) =>
-                "the operation isn't done on texels of the image's format",
+                "the image's format doesn't support this atomic operation",
             FunctionError::InvalidImageAtomicValue(_) =>
-                "the value of an atomic operation on an image isn't of the scalar of the image's format",
-            FunctionError::InvalidCall { .. } => "a call of the function has a fault",
-            FunctionError::InvalidAtomic(_) => "an atomic operation has a fault",
-            FunctionError::InvalidRayQueryExpression(_) => "the query isn't a local variable",
+                "the value of an image atomic is not of the scalar type of the image's format",
+            FunctionError::InvalidCall { .. } => "a call of this function is invalid",
+            FunctionError::InvalidAtomic(_) => "an atomic operation is invalid",
+            FunctionError::InvalidRayQueryExpression(_) => "the ray query is not a local variable",
             FunctionError::InvalidAccelerationStructure(_) =>
-                "the expression is no acceleration structure",
+                "the expression is not an acceleration structure",
             FunctionError::MissingAccelerationStructureVertexReturn(_, _) =>
-                "the query, which is second, returns vertices, and the acceleration structure, which is first, doesn't",
-            FunctionError::MissingRayQueryVertexReturn(_) => "the query doesn't return vertices",
+                "the ray query (second) returns vertices, and the acceleration structure (first) doesn't",
+            FunctionError::MissingRayQueryVertexReturn(_) =>
+                "the ray query doesn't return vertices",
             FunctionError::InvalidRayDescriptor(_) =>
-                "the expression isn't of the module's type of ray descriptors",
-            FunctionError::InvalidRayQueryType(_) =>
-                "the query is a variable of another type than that of ray queries",
-            FunctionError::InvalidHitDistanceType(_) => "the distance of a hit is no float",
-            FunctionError::MissingCapability(_) => "the target lacks what a statement needs",
+                "the expression is not of the module's ray descriptor type",
+            FunctionError::InvalidRayQueryType(_) => "the variable is not of the ray query type",
+            FunctionError::InvalidHitDistanceType(_) => "the hit distance is not a float",
+            FunctionError::MissingCapability(_) =>
+                "the target lacks a capability that a statement needs",
             FunctionError::NonUniformControlFlow(_, _, _) =>
-                "control flow has to be uniform at the expression, and isn't",
+                "the expression needs uniform control flow",
             FunctionError::PipelineInputRegularFunction { .. } =>
-                "an argument is bound, and the function is no entry point's",
+                "an argument has a binding, and the function is not an entry point",
             FunctionError::PipelineOutputRegularFunction =>
-                "the result is bound, and the function is no entry point's",
+                "the result has a binding, and the function is not an entry point",
             FunctionError::NonUniformWorkgroupUniformLoad(_) =>
-                "control flow has to be uniform at a uniform load, and isn't",
+                "a workgroup uniform load needs uniform control flow",
             FunctionError::WorkgroupUniformLoadExpressionMismatch(_) =>
-                "the result of a uniform load isn't one",
+                "the result of a workgroup uniform load is not a `WorkGroupUniformLoadResult`",
             FunctionError::WorkgroupUniformLoadInvalidPointer(_) =>
-                "a uniform load reads outside of `WorkGroup`, or another type than its result has",
+                "a workgroup uniform load reads outside of `WorkGroup`, or another type than its result has",
             FunctionError::InvalidSubgroup(_) =>
-                "a subgroup operation or a subgroup barrier has a fault",
+                "a subgroup operation or a subgroup barrier is invalid",
             FunctionError::InvalidCooperativeStoreTarget(_) =>
-                "the target of a cooperative store is no cooperative matrix",
+                "the target of a cooperative store is not a cooperative matrix",
             FunctionError::InvalidCooperativeDataPointer(_) =>
-                "the data pointer of a cooperative store points to another scalar than the matrix has",
+                "the data pointer of a cooperative store points to another scalar type than the matrix has",
             FunctionError::EmitResult(_) =>
-                "an emit names a result that another kind of statement puts in scope",
+                "an emit covers the result of another statement, which alone brings it into scope",
             FunctionError::UnvisitedExpression(_) =>
-                "no call and no atomic operation of the body names this result",
+                "no call and no atomic operation of the body has this result",
             FunctionError::InvalidMeshFunctionCall(_) =>
-                "a count that a mesh shader sets is no `u32`",
+                "a count that a mesh shader sets is not a `u32`",
             FunctionError::ConflictingMeshOutputTypes(_, _) =>
                 "a mesh shader has outputs of two types",
             FunctionError::ConflictingTaskPayloadVariables(_, _) =>
                 "a function uses two task payloads",
             FunctionError::InvalidMeshShaderOutputType(_) =>
-                "an output of a mesh shader is no struct",
-            FunctionError::InvalidPayloadType => "the payload of a ray is no pointer",
+                "an output of a mesh shader is not a struct",
+            FunctionError::InvalidPayloadType => "the payload of a ray is not a pointer",
             FunctionError::InvalidPayloadAddressSpace(_) =>
-                "the payload of a ray lies in this space and not in one for ray payloads",
+                "the payload of a ray is in this address space, which is not for ray payloads",
             FunctionError::MismatchedPayloadType(_, _) =>
-                "the payload of a ray is of the first type, and that of an earlier ray of the second",
-            FunctionError::PayloadPointerNotGlobal => "the payload of a ray is no global",
+                "the payload of this ray is of the first type, and that of an earlier ray of the second",
+            FunctionError::PayloadPointerNotGlobal =>
+                "the payload of a ray is not a global variable",
         }
     }
 

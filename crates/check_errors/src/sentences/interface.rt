@@ -1,4 +1,4 @@
-//! Errors of globals, of what a stage takes in and puts out, and of meshes.
+//! Errors of globals, of inputs and outputs, and of meshes.
 
 use crate::interface::{GlobalVariableError, VaryingError};
 use crate::mesh::MeshFault;
@@ -7,32 +7,36 @@ use crate::sentences::Explain;
 impl Explain for GlobalVariableError {
     fn sentence(&self) -> &'static str {
         match self {
-            GlobalVariableError::InvalidUsage(_) => "no global of this type lies in this space",
+            GlobalVariableError::InvalidUsage(_) =>
+                "a global of this type can't be in this address space",
             GlobalVariableError::InvalidType(_) =>
-                "the space holds resources alone, and this type is none",
+                "only images, samplers, acceleration structures and ray queries can be in this address space",
             GlobalVariableError::InvalidBindingArray(_) => "the type can't be in a binding array",
             GlobalVariableError::MissingTypeFlags { .. } =>
-                "the type can't be used as the space requires",
+                "the type lacks flags that the address space needs",
             GlobalVariableError::UnsupportedCapability(_) =>
-                "the target lacks what the global needs",
+                "the target lacks a capability that the global needs",
             GlobalVariableError::InvalidBinding =>
-                "a binding is missing where the space is bound, or is there where it isn't",
+                "a global must have a binding exactly if it is in `Storage`, `Uniform` or `Handle`",
             GlobalVariableError::Alignment(_, _, _) =>
-                "the layout of the type, which this inner type spoils, is bad in this space",
+                "the layout of the type isn't valid in this address space, because of this inner type",
             GlobalVariableError::InitializerExprType =>
-                "the initializer is known only as a shader runs",
+                "the initializer must be a constant or an override expression",
             GlobalVariableError::InitializerType =>
                 "the initializer is of another type than the variable",
             GlobalVariableError::InitializerNotAllowed(_) =>
-                "a global in this space has no initializer",
+                "a global in this address space can't have an initializer",
             GlobalVariableError::StorageAddressSpaceWriteOnlyNotSupported =>
-                "storage that can be stored to has to be loaded from too",
-            GlobalVariableError::InvalidImmediateType(_) => "the type can't be an immediate",
-            GlobalVariableError::ZeroSizedTaskPayload => "a task payload takes no bytes",
+                "a global in `Storage` can't be write-only",
+            GlobalVariableError::InvalidImmediateType(_) =>
+                "the type can't be that of an immediate",
+            GlobalVariableError::ZeroSizedTaskPayload => "a task payload has a size of 0 bytes",
             GlobalVariableError::InvalidMemoryDecorationsAddressSpace =>
-                "memory decorations are for storage alone",
-            GlobalVariableError::CoherentNotSupported => "the target has no coherent memory",
-            GlobalVariableError::VolatileNotSupported => "the target has no volatile memory",
+                "only a global in `Storage` can have memory decorations",
+            GlobalVariableError::CoherentNotSupported =>
+                "the target doesn't support coherent memory",
+            GlobalVariableError::VolatileNotSupported =>
+                "the target doesn't support volatile memory",
         }
     }
 }
@@ -40,50 +44,50 @@ impl Explain for GlobalVariableError {
 impl Explain for VaryingError {
     fn sentence(&self) -> &'static str {
         match self {
-            VaryingError::InvalidType(_) => "nothing of this type goes in or out at a location",
-            VaryingError::NotIOShareableType(_) => "the type isn't shared between stages",
+            VaryingError::InvalidType(_) =>
+                "an input or output at a location can't be of this type",
+            VaryingError::NotIOShareableType(_) => "the type can't be shared between stages",
             VaryingError::InvalidInterpolationInStage(_, _) =>
-                "the interpolation is for this stage alone",
+                "the interpolation is for this stage only",
             VaryingError::InvalidInterpolationSamplingCombination { .. } =>
-                "the interpolation doesn't go with the sampling",
+                "the interpolation can't be combined with the sampling",
             VaryingError::InvalidInterpolationForInteger =>
-                "an integer has to be interpolated flat here",
-            VaryingError::MissingInterpolation => "a float has to have an interpolation here",
+                "an integer must have the interpolation `Flat` here",
+            VaryingError::MissingInterpolation => "a float must have an interpolation here",
             VaryingError::InvalidBuiltInStage(_) =>
-                "the built-in isn't visible at this stage in this direction",
-            VaryingError::InvalidBuiltInType(_, _) =>
-                "the built-in is of another type than the one that is given",
+                "the built-in doesn't exist at this stage in this direction",
+            VaryingError::InvalidBuiltInType(_, _) => "the built-in can't be of this type",
             VaryingError::MissingBinding =>
-                "an argument or a result that is no struct has no binding",
+                "an argument or a result that is not a struct must have a binding",
             VaryingError::MemberMissingBinding(_) =>
-                "a member of a struct, counted from 0, has no binding",
-            VaryingError::BindingCollision { .. } => "two parts of a group are at this location",
-            VaryingError::BindingCollisionBlendSrc { .. } =>
-                "two members are this source of a blend",
-            VaryingError::DuplicateBuiltIn(_) => "a group has the built-in twice",
-            VaryingError::UnsupportedCapability(_) => "the target lacks what the part needs",
+                "this member of a struct, counted from 0, has no binding",
+            VaryingError::BindingCollision { .. } => "two inputs or two outputs have this location",
+            VaryingError::BindingCollisionBlendSrc { .. } => "two members have this blend source",
+            VaryingError::DuplicateBuiltIn(_) => "two inputs or two outputs have this built-in",
+            VaryingError::UnsupportedCapability(_) =>
+                "the target lacks a capability that the input or output needs",
             VaryingError::InvalidInputAttributeInStage(_, _) =>
-                "the attribute is for outputs of this stage alone",
+                "the attribute is for outputs of this stage only",
             VaryingError::InvalidAttributeInStage(_, _) => "the attribute is not for this stage",
             VaryingError::InvalidBlendSrcIndex { .. } =>
-                "a source of a blend stands elsewhere than at location 0, or is neither 0 nor 1",
-            VaryingError::IncompleteBlendSrcUsage { .. } => "only one source of a blend is there",
+                "a blend source must be at location 0, and must be 0 or 1",
+            VaryingError::IncompleteBlendSrcUsage { .. } =>
+                "only one of the two blend sources is there",
             VaryingError::InvalidBlendSrcWithOtherBindings { .. } =>
-                "a location stands beside the sources of a blend",
+                "blend sources can't be combined with other locations",
             VaryingError::BlendSrcOutputTypeMismatch { .. } =>
-                "the sources of a blend are of two types",
+                "the two blend sources are of different types",
             VaryingError::BlendSrcNotOnStructMember =>
-                "a source of a blend is no member of a struct",
+                "a blend source is not on a member of a struct",
             VaryingError::InvalidMultiDimensionalSubgroupBuiltIn =>
-                "the built-in is for work groups of one dimension alone",
+                "the built-in needs a workgroup of one dimension",
             VaryingError::InvalidPerPrimitive =>
-                "only primitive outputs of a mesh and fragment inputs go by primitive",
+                "only primitive outputs of a mesh and fragment inputs can be per primitive",
             VaryingError::MissingPerPrimitive =>
-                "a primitive output of a mesh has to go by primitive",
-            VaryingError::PerVertexNotArrayOfThree =>
-                "an input for each vertex has to be an array of 3",
+                "a primitive output of a mesh must be per primitive",
+            VaryingError::PerVertexNotArrayOfThree => "a per-vertex input must be an array of 3",
             VaryingError::InvalidPerVertexSampling =>
-                "an input for each vertex has no sampling, or one at the center",
+                "a per-vertex input must have the sampling `Center`, or none",
         }
     }
 }
@@ -91,9 +95,8 @@ impl Explain for VaryingError {
 impl Explain for MeshFault {
     fn sentence(&self) -> &'static str {
         match self {
-            MeshFault::OutputType => "the type isn't one that a mesh shader can put out",
-            MeshFault::OutputField =>
-                "a member of the type isn't one that a mesh shader can put out",
+            MeshFault::OutputType => "the type can't be that of a mesh shader's output",
+            MeshFault::OutputField => "a member of the type can't be an output of a mesh shader",
         }
     }
 }

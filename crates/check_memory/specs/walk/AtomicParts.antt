@@ -11,12 +11,15 @@ use Rattle.check_scope.specs.Context.{Context}
 use Rattle.check_scope.specs.ScopePoints.{Points, use_point, put_point}
 use Rattle.check_scope.specs.ExpressionTypes.{expression_at}
 
--- of a compare exchange: what is compared with, the type of the result, and its put
-abbrev pub compared_points : Context → Place → Scalar → ℕ → ℕ → ℕ → Points
-compared_points context place s compare value r =
-    use_point place compare
-    ∷ atomic_point (are_equivalent_at context compare value) (wrong.InvalidOperand compare)
-    ∷ atomic_point (is_exchange_result context s r) (wrong.ResultTypeMismatch r)
+-- of a compare exchange: what is compared with
+abbrev pub compared_points : Context → Place → ℕ → ℕ → Points
+compared_points context place compare value =
+    use_point place compare ∷ atomic_point (are_equivalent_at context compare value) (wrong.InvalidOperand compare) ∷ []
+
+-- of a compare exchange: the type of the result, and its put
+abbrev pub exchanged_points : Context → Place → Scalar → ℕ → Points
+exchanged_points context place s r =
+    atomic_point (is_exchange_result context s r) (wrong.ResultTypeMismatch r)
     ∷ atomic_point (is_comparison (expression_at context r)) (wrong.ResultExpressionNotExchange r)
     ∷ put_point place r
     ∷ []

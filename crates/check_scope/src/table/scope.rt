@@ -60,7 +60,7 @@ impl ScopeColumn {
         }
     }
 
-    /// Puts an expression in scope, in the innermost one.
+    /// Brings an expression into the innermost scope.
     pub fn put(&mut self, handle: Handle<tag::Expression>)
         requires there { handle < count self.old }
         requires new { (known self.old).scope handle ≡ false }
@@ -85,8 +85,9 @@ impl ScopeColumn {
         Ok(outer)
     }
 
-    /// Enters a scope for what a Loop's body puts behind a statement, where that is the first that holds a Continue: `home`
-    /// is none until then, and afterwards the number of the body's own scope. A refused call leaves what is shown as it was.
+    /// Enters a scope for what a Loop's body emits after a statement, if that is the first that holds a Continue:
+    /// `home` is none until then, and afterwards the number of the body's own scope. A refused call leaves what is
+    /// shown as it was.
     pub fn divide(&mut self, home: Option<usize>, held: bool) -> Result<Option<usize>, AllocError>
         ensures known { OnOk result (known self.new ≡ known self.old) }
         ensures home { IfOk result (λ next. Divides self.old self.new home held next) }
@@ -106,7 +107,7 @@ impl ScopeColumn {
     }
 
     /// Leaves the innermost scope for the one of this number, which is open outside it, and gives the number of the one
-    /// that is left. What it put stays in scope, and may no longer be used.
+    /// that is left. What it emitted stays in scope, and may no longer be used.
     pub fn skip(&mut self, outer: usize) -> usize
         requires { (left (shown self.old) outer).state outer ≡ Open }
         ensures shown { shown self.new ≡ skipped (shown self.old) outer }
@@ -119,8 +120,8 @@ impl ScopeColumn {
         number
     }
 
-    /// Leaves the innermost scope for the one of this number, and with it the one that was skipped in it, if one was. The
-    /// one of this number is open outside them.
+    /// Leaves the innermost scope for the one of this number, and with it the one that was skipped in it, if one was.
+    /// The one of this number is open outside them.
     pub fn leave(&mut self, outer: usize, skipped: Option<usize>)
         requires { (closing_if skipped (left (shown self.old) outer)).state outer ≡ Open }
         ensures shown { shown self.new ≡ closing_if skipped (left (shown self.old) outer) }

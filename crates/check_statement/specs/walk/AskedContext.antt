@@ -1,11 +1,10 @@
 -- What a validator asks of a function, as the definitions have it: work of lemmas, cited by functions that the validator alone
 -- calls.
-use Rattle.std.specs.Prelude.{Bool, List, Result, length}
+use Rattle.std.specs.Prelude.{Bool, List, Result}
 use Rattle.ir_facts.specs.Points.{and_then}
 use Rattle.ir_module.specs.declared.functions.Function.{Function}
 use Rattle.ir_module.specs.declared.module.Module.{Module}
 use Rattle.ir_facts.specs.declared.proc.expression_kinds.ExpressionKind.{ExpressionKind}
-use Rattle.ir_flags.specs.declared.valid.ShaderStages.{ShaderStages}
 use Rattle.ir_facts.specs.declared.valid.info.FunctionInfo.{FunctionInfo}
 use Rattle.ir_facts.specs.declared.valid.info.ModuleInfo.{ModuleInfo}
 use Rattle.ir_facts.specs.declared.valid.settings.Settings.{Settings}
@@ -14,7 +13,6 @@ use Rattle.check_errors.specs.Meaning.{Meaning}
 use Rattle.check_errors.specs.declared.function.FunctionError.{FunctionError}
 use Rattle.check_scope.specs.Context.{Context}
 use Rattle.check_statement.specs.FunctionJudgement.{FunctionOutcome, declarations_step, expressions_known, function_judgement}
-use Rattle.check_statement.specs.ExpressionStages.{stages_from}
 use Rattle.check_statement.specs.ValidatorParts.{Parts}
 use Rattle.check_scope.specs.declared.trace.TraceState.{TraceState}
 
@@ -36,19 +34,11 @@ abbrev pub known_behind : Meaning → List TypeInfo → Bool → Context → Res
 known_behind below infos entry_point context =
     and_then (declarations_step infos entry_point context) (λ info. expressions_known below (record context { info = info }))
 
--- the stages that all expressions of a function leave of those that its info has
-abbrev pub stages_of_all : Meaning → Context → Result ShaderStages FunctionError
-stages_of_all below context = stages_from below context context.info.available_stages 0 (length context.fun.expressions)
-
 -- of a validator of these parts, over a lower layer that means this
 module _ {B : Type 0} (parts : Parts B) where
   -- the context that it judges a function in
   abbrev pub asked_by : Module → ModuleInfo → Function → List ExpressionKind → FunctionInfo → Context
   asked_by program earlier fun kinds info = asked_context parts.settings parts.trace program earlier fun kinds info
-
-  -- what it knows of a function behind its declarations and its expressions
-  abbrev pub known_by : Meaning → Bool → Context → Result FunctionInfo FunctionError
-  known_by below entry_point context = known_behind below parts.types entry_point context
 
   -- its judgement of a function
   abbrev pub judgement_by : Meaning → Module → ModuleInfo → Function → Bool → Result FunctionOutcome FunctionError

@@ -8,7 +8,7 @@ use ir_arena::tag;
 use std::alloc::{AllocError, Global};
 use std::marker::Model;
 
-/// When a value is known: as the module is made, as the pipeline is made, or as it runs.
+/// When a value is known: when the module is made, when the pipeline is made, or at run time.
 #[derive(Clone, Copy, PartialEq, Eq, PartialOrd, Ord, Hash, Debug)]
 pub enum ExpressionKind {
     Const,
@@ -53,7 +53,7 @@ impl From<Vec<ExpressionKind>> for ExpressionKindTracker {
 }
 
 impl ExpressionKindTracker {
-    /// No kinds, with the allocator for those to come.
+    /// An empty tracker, which keeps the allocator.
     pub fn new(alloc: Global) -> Self
         ensures { result ≡ [] }
     {
@@ -62,7 +62,7 @@ impl ExpressionKindTracker {
         }
     }
 
-    /// How many expressions have a kind so far.
+    /// The number of expressions that have a kind so far.
     pub fn len(&self) -> usize
         ensures { result ≡ length self.now }
     {
@@ -76,7 +76,7 @@ impl ExpressionKindTracker {
         self.kinds.is_empty()
     }
 
-    /// Puts the kind of the next expression last.
+    /// Adds the kind of the next expression. An Err is out of memory.
     pub fn push(&mut self, kind: ExpressionKind) -> Result<(), AllocError>
         ensures pushed { OnOk result (self.new ≡ self.old ++ kind ∷ []) }
         ensures err { OnErr result (self.new ≡ self.old) }
@@ -85,7 +85,7 @@ impl ExpressionKindTracker {
         Ok(())
     }
 
-    /// Whether the value is known as the module is made.
+    /// Whether the value is known when the module is made.
     pub fn is_const(&self, handle: Handle<tag::Expression>) -> bool
         requires { handle < length self.now }
         ensures { IsTrue result ↔ (slice_get self.now handle ≡ Some kind.Const) }

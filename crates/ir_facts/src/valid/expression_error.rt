@@ -9,27 +9,27 @@ use std::fmt;
 /// What is wrong with an expression, or with an operand of a statement.
 #[derive(Clone, Copy, PartialEq, Eq, Hash, Debug)]
 pub enum ExpressionError {
-    /// It is not in scope where it is used.
+    /// It is not in scope where it is used, or not every run has emitted it.
     NotInScope,
-    /// It is no global variable, and no element of one.
+    /// The image is not a global variable, and not an element of one.
     ExpectedGlobalVariable,
-    /// What it is an element of is of this type, which is no binding array.
+    /// The image is an element of a global of this type, which is not a binding array.
     ExpectedBindingArrayType(Handle<tag::Type>),
-    /// The global is of this type, which is no image.
+    /// The global is of this type, which is not an image.
     ExpectedImageType(Handle<tag::Type>),
-    /// This isn't done on images of this class.
+    /// The operation isn't supported on images of this class.
     InvalidImageClass(ImageClass),
     /// The coordinate doesn't fit an image of this dimension.
     InvalidImageCoordinateType(ImageDimension, Handle<tag::Expression>),
-    /// There is an array index, and the image isn't arrayed, or the other way round.
+    /// There is an array index and the image isn't arrayed, or the other way round.
     InvalidImageArrayIndex,
-    /// The array index is no integer scalar.
+    /// The array index is not an integer scalar.
     InvalidImageArrayIndexType(Handle<tag::Expression>),
-    /// The access of the image, which is this, doesn't allow it.
+    /// The image is declared with this access, which doesn't allow the operation.
     InvalidImageStorageAccess(StorageAccess),
-    /// This isn't done on texels of this format.
+    /// The operation isn't supported on texels of this format.
     InvalidImageFormat(StorageFormat),
-    /// The lower layer refuses it, for a reason of its own, which has this number.
+    /// The layer below refuses it, for the reason with this number.
     Lower(u32),
 }
 

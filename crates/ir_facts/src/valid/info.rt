@@ -10,23 +10,24 @@ use ir_flags::valid::{GlobalUse, ShaderStages};
 use ir_types::typifier::TypeResolution;
 use std::alloc::Global;
 
-/// What is known of a function: `expression_types` is indexed by the handles of its expressions, `global_uses` by those
-/// of the module's globals. In the info of a function that passed, each has as many items.
+/// The info of a function.
+///
+/// `expression_types` is indexed by the handles of its expressions, `global_uses` by those of the module's globals. In
+/// the info of an accepted function each has one item for each handle.
 #[derive(PartialEq, Debug, Drop)]
 pub struct FunctionInfo {
     pub expression_types: Sequence<TypeResolution>,
     pub global_uses: Sequence<GlobalUse>,
-    /// The stages that every statement and expression of a function that passed may run in.
+    /// The stages in which the function may run.
     pub available_stages: ShaderStages,
-    /// In the info of a function that passed, true of an entry point alone, and of one that puts out two colors that are
-    /// blended.
+    /// Whether the entry point outputs two blend sources.
     pub dual_source_blending: bool,
 }
 
 impl FunctionInfo {
     ghost use Rattle.ir_facts.specs.Infos.{with_global_use};
 
-    /// Joins a use to those of a global.
+    /// Adds a use to those of a global.
     pub fn insert_global_use(&mut self, global_use: GlobalUse, global: Handle<tag::GlobalVariable>)
         requires { global < length self.old.global_uses }
         ensures { self.new ≡ with_global_use self.old global_use global }
@@ -36,8 +37,10 @@ impl FunctionInfo {
     }
 }
 
-/// What is known of a module: `functions` is indexed by the handles of its functions, `entry_points` as the module's
-/// list is, `global_types` by the handles of its global expressions. In a module that passed, each has as many items.
+/// The infos of a module.
+///
+/// `functions` is indexed by the handles of its functions, `entry_points` as the module's list is, `global_types` by
+/// the handles of its global expressions. For an accepted module each has one item for each of them.
 #[derive(PartialEq, Debug, Drop)]
 pub struct ModuleInfo {
     pub functions: Sequence<FunctionInfo>,
@@ -48,7 +51,7 @@ pub struct ModuleInfo {
 impl ModuleInfo {
     ghost use Rattle.ir_facts.specs.Infos.{empty_info};
 
-    /// The infos where nothing is known of any function, entry point or global expression; they keep the allocator.
+    /// Empty infos, which keep the allocator.
     pub fn new(alloc: Global) -> Self
         ensures { result ≡ empty_info }
     {

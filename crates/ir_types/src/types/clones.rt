@@ -9,7 +9,7 @@ use ir_arena::duplicate::{Duplicate, duplicates};
 use std::alloc::{AllocError, Global};
 
 impl StructMember {
-    /// An equal member.
+    /// Clones the member. An Err is out of memory.
     pub fn clone(&self, alloc: Global) -> Result<Self, AllocError>
         ensures { IfOk result (λ made. made ≡ self.now) }
     {
@@ -28,7 +28,7 @@ impl Duplicate for StructMember {
     }
 }
 
-/// Equal members.
+/// Clones the members.
 fn clone_members(alloc: Global, members: &Members) -> Result<Members, AllocError>
     ensures { IfOk result (λ made. made ≡ members.now) }
 {
@@ -36,7 +36,7 @@ fn clone_members(alloc: Global, members: &Members) -> Result<Members, AllocError
 }
 
 impl TypeInner {
-    /// An equal type. Only members take memory.
+    /// Clones the type. An Err is out of memory. Only members allocate.
     pub fn clone(&self, alloc: Global) -> Result<Self, AllocError>
         ensures made { IfOk result (λ made. made ≡ self.now) }
         ensures without_memory { HasNoMembers self.now → IsOk result }
@@ -112,7 +112,7 @@ impl TypeInner {
 }
 
 impl Type {
-    /// An equal type of the same name.
+    /// Clones the type with its name. An Err is out of memory.
     pub fn clone(&self, alloc: Global) -> Result<Self, AllocError>
         ensures { IfOk result (λ made. made ≡ self.now) }
     {

@@ -1,10 +1,10 @@
 use Rattle.std.proofs.Common.{◌≡◌, Some}
 use Rattle.ir_facts.specs.Points.{first_fault}
-use Rattle.check_varyings.specs.VaryingFaults as varying
+use Rattle.check_varyings.specs.VaryingFaults.{varying_fault_of}
 use Rattle.check_entry.proofs.EntrySteps.{result_fault}
 use Rattle.check_entry.proofs.varyings.result_refused.Goals as goal
 
 pub returns-in-Fault : goal.returns-in-Fault
 returns-in-Fault c = λ points h.
-    let found : first_fault points ≡ Some (varying.fault_of c.in-Fault.fault) = rw c.in-Fault.is at h in
+    let found : first_fault points ≡ Some (varying_fault_of c.in-Fault.fault) = rw c.in-Fault.is at h in
     rw c.into_other.ensures (result_fault points c.in-Fault.fault found)

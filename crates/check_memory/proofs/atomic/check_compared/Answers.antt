@@ -3,7 +3,6 @@ use Rattle.std.specs.Prelude.{IfSome}
 use Rattle.ir_types.specs.Types.{NamesTypesBelow}
 use Rattle.check_scope.specs.walk.SeenContext.{context_of}
 use Rattle.check_scope.proofs.InRange.{type_fits}
-use Rattle.check_memory.proofs.ResultsInRange.{result_type_fits}
 use Rattle.check_memory.proofs.atomic.check_compared.Goals as goal
 
 pub is_equivalent-requires-clause-first : goal.is_equivalent-requires-clause-first
@@ -15,8 +14,3 @@ pub is_equivalent-requires-clause-second : goal.is_equivalent-requires-clause-se
 is_equivalent-requires-clause-second c =
     let context = context_of c.args.context.now in
     subst (λ o. IfSome o (NamesTypesBelow (length context.program.types))) (sym c.type_inner-2.ensures) (type_fits context c.requires c.args.value)
-
-pub is_exchange_struct-requires : goal.is_exchange_struct-requires
-is_exchange_struct-requires c =
-    let context = context_of c.args.context.now in
-    subst (λ o. IfSome o (NamesTypesBelow (length context.program.types))) (sym c.result_type.ensures) (result_type_fits context c.requires c.args.handle)

@@ -10,13 +10,13 @@ use Rattle.check_memory.proofs.atomic.check_operation.Goals as goal
 pub returns-in_err-check_scalar : goal.returns-in_err-check_scalar
 returns-in_err-check_scalar c =
     let context = context_of c.args.context.now in
-    let scalars = scalar_points context.settings.capabilities c.args.scalar c.args.space c.args.operation.now.fun (is_some c.args.operation.now.named) in
-    let results = atomic_result_points context (filled_in c.args.filled.now) (place_at (known c.args.scope.now)) c.args.scalar c.args.operation.now.fun c.args.operation.now.value c.args.operation.now.named in
+    let scalars = scalar_points context.settings.capabilities c.args.atomic.scalar c.args.atomic.space c.args.operation.now.fun (is_some c.args.operation.now.named) in
+    let results = atomic_result_points context (filled_in c.args.filled.now) (place_at (known c.args.scope.now)) c.args.atomic.scalar c.args.operation.now.fun c.args.operation.now.value c.args.operation.now.named in
     fault_first c.from_residual.result scalars results (search rules) (search rules)
 
 pub returns : goal.returns
 returns c =
     let context = context_of c.args.context.now in
-    let scalars = scalar_points context.settings.capabilities c.args.scalar c.args.space c.args.operation.now.fun (is_some c.args.operation.now.named) in
-    let results = atomic_result_points context (filled_in c.args.filled.now) (place_at (known c.args.scope.now)) c.args.scalar c.args.operation.now.fun c.args.operation.now.value c.args.operation.now.named in
+    let scalars = scalar_points context.settings.capabilities c.args.atomic.scalar c.args.atomic.space c.args.operation.now.fun (is_some c.args.operation.now.named) in
+    let results = atomic_result_points context (filled_in c.args.filled.now) (place_at (known c.args.scope.now)) c.args.atomic.scalar c.args.operation.now.fun c.args.operation.now.value c.args.operation.now.named in
     fault_second _ scalars results (search rules) c.check_atomic_result.ensures

@@ -1,7 +1,7 @@
 use Rattle.std.proofs.Common.{arith, ◌≡◌, ◌<◌, ◌-◌, IfSome, Result, Ok, Err, subst, sym, ◌∙◌}
 use Rattle.std.specs.Prelude.{IsErr, IsErrAnd}
 use Rattle.ir_arena.specs.declared.span.Refusal.{Refusal}
-use Rattle.check_errors.specs.Answers.{AnswersPoints, IsFirstFault}
+use Rattle.check_errors.specs.Answers.{IsFirstFault, Answers, FirstOf}
 use Rattle.check_errors.specs.declared.function.FunctionError.{FunctionError}
 use Rattle.ir_module.specs.View.{put_if}
 use Rattle.check_scope.specs.BodyTrees.{emitted_operands}
@@ -41,7 +41,7 @@ fill_named-requires c =
     subst (λ n. IfSome c.in-Call.result (λ r. r < n)) (sym c.requires.table.filled) fits.3
 
 -- a refusal that is passed on
-passed_on : {T : Type 0} (r : Result T (Refusal FunctionError)) (given : Refusal FunctionError) (points : Points) → IsErr r → IsErrAnd r (λ e. e ≡ given) → IsFirstFault points given → AnswersPoints points r
+passed_on : {T : Type 0} (r : Result T (Refusal FunctionError)) (given : Refusal FunctionError) (points : Points) → IsErr r → IsErrAnd r (λ e. e ≡ given) → IsFirstFault points given → Answers (FirstOf points) r
 passed_on (Ok t) given points err is first = cc
 passed_on (Err e) given points err is first = subst (IsFirstFault points) (sym is) first
 
