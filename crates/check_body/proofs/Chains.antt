@@ -29,7 +29,7 @@ use Rattle.naga_runs.specs.Handles.{Handles}
 use Rattle.naga_runs.specs.Positions.{Node, NoNode, StatementNode, BreakIfNode}
 use Rattle.naga_runs.specs.VisitOrder.{positions}
 use Rattle.naga_runs.specs.Visits.{Place, Visit, at_begin}
-use Rattle.check_body.specs.Accepted.{nodes_of, AreAmong, AreOfStatement}
+use Rattle.check_body.specs.Accepted.{nodes_of, AreAmong, AreOfStatement, AreOfCallee, StagesAreOfAll}
 use Rattle.check_scope.specs.BodyTrees.{body_of, emitted_operands}
 use Rattle.check_body.specs.Chains.{Reaches, Calls, Through, CallsBelow, infos_below, IsVettedInfo, AreVetted, masks_of, KeepsTo, ChainsAreKept, NoneIsVetted, OneMoreIsVetted, CallsOfFittingAreBelow}
 use Rattle.check_scope.specs.Context.{Context}
@@ -42,7 +42,7 @@ use Rattle.check_statement.specs.Stages.{meet}
 use Rattle.check_errors.specs.WhatIsChecked.{checks_blocks, checks_expressions}
 use Rattle.check_scope.specs.declared.trace.TraceState.{TraceState}
 use Rattle.check_body.proofs.Accepted.{among_all, nodes_are}
-use Rattle.check_body.proofs.FunctionLaw.{is_of_all_stages, stages_are_met}
+use Rattle.check_body.proofs.FunctionLaw.{is_of_all_stages, has_every_mask, stages_are_met}
 use Rattle.check_flow.proofs.Lists.{in_first, in_second, of_each, taken, present}
 
 -- masks of statements: those with the infos below k are those with all infos, where what is called is below k
@@ -71,6 +71,32 @@ module _ (subgroups : ShaderStages) (infos : ModuleInfo) (k : ℕ) where
   nodes_same stages [] h a = tt
   nodes_same stages (node ∷ nodes) h a =
       (node_same stages node (in_first (λ f. f < k) (callee_of node) (callees_of nodes) h) a.0, nodes_same stages nodes (in_second (λ f. f < k) (callee_of node) (callees_of nodes) h) a.1)
+
+  callee_same : (stages : ShaderStages) (node : Node) → AllByRecursion (λ f. f < k) (callee_of node) →
+      AreOfCallee (infos_below k infos) stages node → AreOfCallee infos stages node
+  callee_same stages (StatementNode (Leaf acts (ir.Call f arguments result) span)) h e = subst (λ (s : ShaderStages). AreAmong stages s) (recorded f h.0) e
+  callee_same stages _ h e = tt
+
+  callees_same : (stages : ShaderStages) (nodes : List Node) → AllByRecursion (λ f. f < k) (callees_of nodes) →
+      AllByRecursion (AreOfCallee (infos_below k infos) stages) nodes → AllByRecursion (AreOfCallee infos stages) nodes
+  callees_same stages [] h a = tt
+  callees_same stages (node ∷ nodes) h a =
+      (callee_same stages node (in_first (λ f. f < k) (callee_of node) (callees_of nodes) h) a.0, callees_same stages nodes (in_second (λ f. f < k) (callee_of node) (callees_of nodes) h) a.1)
+
+  -- stages of all by the infos below k are so by all infos, where what is called is below k
+  pub of_all_infos : (b : Body) (stages : ShaderStages) → CallsBelow k b → StagesAreOfAll subgroups (infos_below k infos) b stages →
+      StagesAreOfAll subgroups infos b stages
+  of_all_infos b stages calls a =
+      let lower = all_listed (λ g. g < k) (called_by b) calls in
+      record {
+        statements = nodes_same stages (nodes_of b) lower a.statements;
+        callees = callees_same stages (nodes_of b) lower a.callees;
+      }
+
+-- stages of all don't depend on the infos of entry points
+pub of_other_entries : (subgroups : ShaderStages) (infos : ModuleInfo) (entries : List FunctionInfo) (b : Body) (stages : ShaderStages) →
+    StagesAreOfAll subgroups (record infos { entry_points = entries }) b stages → StagesAreOfAll subgroups infos b stages
+of_other_entries subgroups infos entries b stages a = record { statements = a.statements; callees = a.callees }
 
 -- stages that are among those of every statement
 module _ (subgroups : ShaderStages) (infos : ModuleInfo) where
@@ -120,6 +146,13 @@ module _ (below : Meaning) (settings : Settings) (types : List TypeInfo) (trace 
       subst (λ (l : List ShaderStages). AllByRecursion (AreAmong stages) (if checks_expressions settings.flags then l else []))
       (masks_same below settings types m earlier fun entry_point info trace no_traces info.available_stages 0 (length fun.expressions)) met.1
 
+  every_keeps : (info : FunctionInfo) → below.function_info fun m earlier settings.flags settings.capabilities ≡ Ok info → checks_expressions settings.flags ≡ true →
+      length (masks_of below settings types m earlier fun info) ≡ length fun.expressions
+  every_keeps info is looked =
+      subst (λ (l : List ShaderStages). length (if checks_expressions settings.flags then l else []) ≡ length fun.expressions)
+      (masks_same below settings types m earlier fun entry_point info trace no_traces info.available_stages 0 (length fun.expressions))
+      (has_every_mask below settings types trace m earlier fun entry_point outcome info e on is looked)
+
 -- along chains
 module _ (below : Meaning) (settings : Settings) (types : List TypeInfo) (m : Module) (infos : ModuleInfo)
     (on : checks_blocks settings.flags ≡ true) (vetted : AreVetted below settings types m infos) (stages : ShaderStages) where
@@ -149,6 +182,7 @@ module _ (below : Meaning) (settings : Settings) (types : List TypeInfo) (m : Mo
         record {
           statements = all;
           expressions = expressions_keep below settings types v.trace m (infos_below f infos) callee false _ v.judged on stages p;
+          every = every_keeps below settings types v.trace m (infos_below f infos) callee false _ v.judged on stages p;
         },
         good (body_of callee) (λ g c. let less = v.calls g c in omega arith) all,
       )
@@ -173,6 +207,7 @@ chains_are_kept below settings types trace m infos fun entry_point outcome stage
           record {
             statements = own;
             expressions = expressions_keep below settings types trace m infos fun entry_point outcome e on stages p;
+            every = every_keeps below settings types trace m infos fun entry_point outcome e on stages p;
           };
       reached = λ f callee r is.
           along below settings types m infos on vetted stages r (good below settings types m infos on vetted stages (body_of fun) known own) callee is;

@@ -7,14 +7,14 @@ use Rattle.ir_facts.specs.Points.{first_fault, points_from}
 use Rattle.ir_arena.specs.declared.span.Refusal.{Refusal}
 use Rattle.ir_arena.specs.declared.span.Refusal.TheVariants as refusal
 use Rattle.check_errors.specs.declared.function.FunctionError.{FunctionError}
-use Rattle.check_errors.specs.Answers.{AnswersPoints}
+use Rattle.check_errors.specs.Answers.{Answers, FirstOf}
 use Rattle.check_scope.specs.ScopePoints.{Points}
 
 module _ {A : Type 0} (points : ℕ → A → Points) (xs : List A) (i : ℕ) where
   -- the fault of this item is that of all, where those before it have none
   pub each_stops : {T : Type 0} (r : Result T (Refusal FunctionError)) (x : A) → i < length xs → x ≡ get_or xs i x →
       first_fault (points_from points i (drop i xs)) ≡ first_fault (points_from points 0 xs) →
-      IsErr r → AnswersPoints (points i x) r → AnswersPoints (points_from points 0 xs) r
+      IsErr r → Answers (FirstOf (points i x)) r → Answers (FirstOf (points_from points 0 xs)) r
   each_stops (Ok t) x lt is left err h = cc
   each_stops (Err (refusal.Fault f)) x lt is left err h =
       sym left ∙ first_turn points xs i x lt is ∙ ap (λ o. option_or o (first_fault (points_from points (i + 1) (drop (i + 1) xs)))) h

@@ -19,7 +19,7 @@ use Rattle.check_scope.specs.Context.{Context}
 use Rattle.check_statement.specs.Declarations.{declaration_points}
 use Rattle.check_statement.specs.ExpressionStages.{with_stages, mask_at, mask_and, stages_from, masks_from, expressions_step, expression_masks}
 use Rattle.check_errors.specs.WhatIsChecked.{checks_blocks, checks_expressions}
-use Rattle.check_body.specs.FunctionLaw.{AcceptedIsSound, AcceptedFillsOnce, AcceptedIsOfAllStages, AcceptedHasNoReturnInContinuing, AcceptedHasWholeSwitches, AcceptedKeepsInfo, AcceptedStagesAreMet}
+use Rattle.check_body.specs.FunctionLaw.{AcceptedIsSound, AcceptedFillsOnce, AcceptedIsOfAllStages, AcceptedHasNoReturnInContinuing, AcceptedHasWholeSwitches, AcceptedKeepsInfo, AcceptedHasEveryMask, AcceptedStagesAreMet}
 use Rattle.check_statement.specs.FunctionJudgement.{FunctionOutcome, context_with, judged_with, declarations_step, expressions_known, lower_step, function_judgement}
 use Rattle.check_body.specs.Shapes.{HasWholeSwitches}
 use Rattle.check_statement.specs.Stages.{meet}
@@ -59,6 +59,27 @@ module _ (below : Meaning) (context : Context) (some : ShaderStages) where
   expressions_are_met : (t : ShaderStages) → expressions_step below context ≡ Ok t →
       AreAmong some t ↔ (AreAmong some context.info.available_stages × AllByRecursion (AreAmong some) (expression_masks below context))
   expressions_are_met t e = by_flag (checks_expressions context.settings.flags) t e
+
+-- where expressions leave stages, each has a mask
+module _ (below : Meaning) (context : Context) where
+  one_more_mask : (s t : ShaderStages) (h n : ℕ) (o : Result ShaderStages FunctionError) →
+      ((mask : ShaderStages) → stages_from below context (meet s mask) (suc h) n ≡ Ok t → length (masks_from below context (meet s mask) (suc h) n) ≡ n) →
+      and_then o (λ mask. stages_from below context (meet s mask) (suc h) n) ≡ Ok t →
+      length (mask_and below context o (λ mask. masks_from below context (meet s mask) (suc h) n)) ≡ suc n
+  one_more_mask s t h n (Ok mask) later e = ap suc (later mask e)
+  one_more_mask s t h n (Err f) later e = cc
+
+  masks_are_all : (s t : ShaderStages) (h n : ℕ) → stages_from below context s h n ≡ Ok t → length (masks_from below context s h n) ≡ n
+  unfolding stages_from masks_from
+  masks_are_all s t h zero e = refl
+  masks_are_all s t h (suc n) e =
+      one_more_mask s t h n (mask_at below context s h) (λ mask. masks_are_all (meet s mask) t (suc h) n) e
+
+  all_by_flag : (b : Bool) (t : ShaderStages) → b ≡ true →
+      (if b then stages_from below context context.info.available_stages 0 (length context.fun.expressions) else Ok context.info.available_stages) ≡ Ok t →
+      length (if b then masks_from below context context.info.available_stages 0 (length context.fun.expressions) else []) ≡ length context.fun.expressions
+  all_by_flag true t on e = masks_are_all context.info.available_stages t 0 (length context.fun.expressions) e
+  all_by_flag false t on e = cc
 
 module _ (below : Meaning) (settings : Settings) (infos : List TypeInfo) (trace : TraceState) (program : Module) (earlier : ModuleInfo) (fun : Function) (entry_point : Bool) (outcome : FunctionOutcome) where
   abbrev context_of : FunctionInfo → Context
@@ -136,6 +157,13 @@ keeps_info below settings infos trace program earlier fun entry_point outcome in
     subst (λ (i : FunctionInfo). outcome.info ≡ with_stages i outcome.info.available_stages) same (
     subst (λ (l : FunctionOutcome). l.info ≡ with_stages k.info l.info.available_stages) k.of.left refl
     )
+
+pub has_every_mask : AcceptedHasEveryMask
+has_every_mask below settings infos trace program earlier fun entry_point outcome info e on is looked =
+    let k = known below settings infos trace program earlier fun entry_point outcome e on in
+    let same : k.info ≡ info = let both = sym k.lower ∙ is in cc in
+    let all = all_by_flag below (context_with below settings infos trace program earlier fun entry_point k.info) (checks_expressions settings.flags) k.stages looked k.expressions in
+    subst (λ (i : FunctionInfo). length (expression_masks below (context_with below settings infos trace program earlier fun entry_point i)) ≡ length fun.expressions) same all
 
 pub stages_are_met : AcceptedStagesAreMet
 stages_are_met below settings infos trace program earlier fun entry_point outcome info e on is some =

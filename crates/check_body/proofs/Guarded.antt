@@ -75,7 +75,7 @@ emit_fits context place start (suc n) h s t le inside same e =
         ap (λ b. if b then true else t k) other ∙ same k (omega arith)
 
 -- in front of the first handle of a range nothing is added
-before_first : (place : Place) (start k : ℕ) → may_use place k ≡ may_use (within_emit place start start) k
+pub before_first : (place : Place) (start k : ℕ) → may_use place k ≡ may_use (within_emit place start start) k
 before_first place start k =
     let none : (nat_le start k && nat_lt k start) ≡ false = grind (arith, nat_tests) in
     sym (ap (λ b. may_use place k || b) none ∙ or_false (may_use place k))

@@ -4,7 +4,7 @@ use Rattle.std.proofs.Common.{◌≡◌, None, Result, Ok, Err, List, sym, ap, �
 use Rattle.std.specs.Prelude.{IsErr}
 use Rattle.ir_arena.specs.declared.span.Refusal.{Refusal}
 use Rattle.ir_arena.specs.declared.span.Refusal.TheVariants as refusal
-use Rattle.check_errors.specs.Answers.{Answers, AnswersPoints, Refuses}
+use Rattle.check_errors.specs.Answers.{Answers, FirstOf, Exactly}
 use Rattle.check_errors.specs.declared.function.FunctionError.{FunctionError}
 use Rattle.naga_runs.proofs.Judgements.{by_tree, earlier_agrees}
 use Rattle.ir_facts.specs.Points.{first_fault, answer}
@@ -54,13 +54,13 @@ outcome_is context (Ok visits) state e =
     ap (λ (z : State). answer (first_fault (filled_points context z.filled)) (outcome_in z)) same
 outcome_is context (Err fault) state e = cc
 
-pub outcome_refuses : (context : Context) (judgement : Result (List Visit) FunctionError) (e : Refusal FunctionError) → Refuses (viewed (state_left context) judgement) e → Refuses (body_left context judgement) e
+pub outcome_refuses : (context : Context) (judgement : Result (List Visit) FunctionError) (e : Refusal FunctionError) → Answers (Exactly (viewed (state_left context) judgement)) (Err e) → Answers (Exactly (body_left context judgement)) (Err e)
 outcome_refuses context (Ok visits) (refusal.Fault f) h = cc
 outcome_refuses context (Err fault) (refusal.Fault f) h = let same : fault ≡ f = cc in ap Err same
 outcome_refuses context judgement refusal.Memory h = tt
 
 -- a result that is not filled
-pub unfilled_refuses : (context : Context) (judgement : Result (List Visit) FunctionError) (state : State) (r : Result BodyOutcome (Refusal FunctionError)) → viewed (state_left context) judgement ≡ Ok state → IsErr r → AnswersPoints (filled_points context state.filled) r → Answers (body_left context judgement) r
+pub unfilled_refuses : (context : Context) (judgement : Result (List Visit) FunctionError) (state : State) (r : Result BodyOutcome (Refusal FunctionError)) → viewed (state_left context) judgement ≡ Ok state → IsErr r → Answers (FirstOf (filled_points context state.filled)) r → Answers (Exactly (body_left context judgement)) r
 unfilled_refuses context judgement state (Err (refusal.Fault f)) is err h =
     outcome_is context judgement state is ∙ ap (λ o. answer o (outcome_in state)) h
 unfilled_refuses context judgement state (Err refusal.Memory) is err h = tt

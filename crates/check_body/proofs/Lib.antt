@@ -8,5 +8,7 @@ pub mod Accepted
 pub mod Shapes
 pub mod Guarded
 pub mod FunctionLaw
+pub mod Refused
+pub mod FunctionRefusals
 pub mod Each
 pub mod Chains

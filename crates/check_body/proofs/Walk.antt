@@ -20,8 +20,7 @@ use Rattle.naga_runs.specs.PutsAndUses.{with_acts, with_body, acts_of, puts_of}
 use Rattle.ir_facts.specs.Points.{first_fault, answer, and_then}
 use Rattle.naga_runs.specs.ByTree.{past, in_continuing, at_break_if, judge_visits, judge_body, judge_stmt, judge_parts, judge_cases, judge_break_if, case_abilities, loop_abilities, continuing_abilities}
 use Rattle.naga_runs.proofs.Judgements.{judge_done, judge_more, judge_own, judge_block, judge_branch, judge_switch, judge_loop, judge_no_case, judge_one_case}
-use Rattle.check_errors.specs.Answers.{IsFirstFault, Refuses}
-use Rattle.check_scope.specs.walk.Findings.{AnswersLeaving}
+use Rattle.check_errors.specs.Answers.{IsFirstFault, Answers, Exactly, leaving}
 use Rattle.check_scope.specs.BodyTrees.{emitted_operands, tree_of, block_of, list_of, cases_of}
 use Rattle.check_scope.specs.Context.{Context}
 use Rattle.check_flow.specs.Control.{break_if_points}
@@ -47,8 +46,8 @@ body_put (Then x b) s =
     ap (λ t. with_body t b) (acts_put (acts_of x) s) ∙ body_put b (with_all s (puts x)) ∙ sym (all-append (puts x) (body_puts b) s)
 
 -- a refusal on its way out
-pub leaving_err : {T : Type 0} (right : Result State FunctionError) (state : State) (r : Result T (Refusal FunctionError)) (e : Refusal FunctionError) → r ≡ Err e → Refuses right e → AnswersLeaving right state r
-leaving_err right state r e is refused = subst (AnswersLeaving right state) (sym is) refused
+pub leaving_err : {T : Type 0} (right : Result State FunctionError) (state : State) (r : Result T (Refusal FunctionError)) (e : Refusal FunctionError) → r ≡ Err e → Answers (Exactly right) (Err e) → Answers (Exactly right) (leaving state r)
+leaving_err right state r e is refused = subst (λ r. Answers (Exactly right) (leaving state r)) (sym is) refused
 
 pub or_assoc : (a b c : Bool) → ((a || b) || c) ≡ (a || (b || c))
 or_assoc true b c = refl
@@ -236,7 +235,7 @@ module _ (context : Context) (k : State) (a : Abilities) (s : Sets) (x : Stmt) w
   unfolding own_answer Rattle.naga_runs.specs.ByTree.judge
   own_passes e = ap (λ o. answer o (with_statement context k x)) e
 
-  pub own_refuses : (e : Refusal FunctionError) → IsFirstFault (statement_points context (seen k) (place a s) x) e → Refuses (own_answer context k a s x) e
+  pub own_refuses : (e : Refusal FunctionError) → IsFirstFault (statement_points context (seen k) (place a s) x) e → Answers (Exactly (own_answer context k a s x)) (Err e)
   unfolding own_answer Rattle.naga_runs.specs.ByTree.judge
   own_refuses (refusal.Fault f) h = ap (λ o. answer o (with_statement context k x)) h
   own_refuses refusal.Memory h = tt
@@ -247,7 +246,7 @@ unfolding break_if_answer judge_break_if judge_visits Rattle.naga_runs.specs.ByT
 break_if_passes context k a s None e = refl
 break_if_passes context k a s (Some h) e = ap (λ o. and_then (answer o k) (λ st. Ok st)) e
 
-pub break_if_refuses : (context : Context) (k : State) (a : Abilities) (s : Sets) (q : Option ℕ) (e : Refusal FunctionError) → IsFirstFault (break_if_points context (place_at s) q) e → Refuses (break_if_answer context k a s q) e
+pub break_if_refuses : (context : Context) (k : State) (a : Abilities) (s : Sets) (q : Option ℕ) (e : Refusal FunctionError) → IsFirstFault (break_if_points context (place_at s) q) e → Answers (Exactly (break_if_answer context k a s q)) (Err e)
 unfolding break_if_answer judge_break_if judge_visits Rattle.naga_runs.specs.ByTree.judge
 break_if_refuses context k a s None (refusal.Fault f) i = ap (λ o. answer o k) i
 break_if_refuses context k a s (Some h) (refusal.Fault f) i = ap (λ o. and_then (answer o k) (λ st. Ok st)) i

@@ -18,7 +18,7 @@ use Rattle.check_statement.specs.ExpressionStages.{expression_masks}
 use Rattle.check_body.specs.InOrder.{called_by, with_info}
 use Rattle.check_statement.specs.FunctionJudgement.{FunctionOutcome, context_with, function_judgement}
 use Rattle.check_statement.specs.ValidatorParts.{no_traces}
-use Rattle.check_errors.specs.WhatIsChecked.{checks_blocks}
+use Rattle.check_errors.specs.WhatIsChecked.{checks_blocks, checks_expressions}
 use Rattle.check_scope.specs.declared.trace.TraceState.{TraceState}
 
 -- The functions of a module that a body reaches: those that its Calls name, at any depth, and those that their bodies reach.
@@ -58,12 +58,15 @@ module _ (below : Meaning) (settings : Settings) (types : List TypeInfo) (m : Mo
   masks_of earlier fun info = expression_masks below (context_with below settings types no_traces m earlier fun false info)
 
   -- a function keeps to stages: they are stages of each statement of its body at any depth, where a Call has those that are
-  -- recorded of its callee; and, where expressions are looked at, of each of its expressions
+  -- recorded of its callee; and, where expressions are looked at, of each of its expressions, of which none is without a mask
   pub record KeepsTo (infos earlier : ModuleInfo) (fun : Function) (stages : ShaderStages) : Type 0 where
     pub statements : AllByRecursion (AreOfStatement settings.subgroup_stages infos stages) (nodes_of (body_of fun))
     pub expressions : (info : FunctionInfo) →
         below.function_info fun m earlier settings.flags settings.capabilities ≡ Ok info →
         AllByRecursion (AreAmong stages) (masks_of earlier fun info)
+    pub every : (info : FunctionInfo) →
+        below.function_info fun m earlier settings.flags settings.capabilities ≡ Ok info →
+        checks_expressions settings.flags ≡ true → length (masks_of earlier fun info) ≡ length fun.expressions
 
   -- so do a function and each that its body reaches
   pub record ChainsKeepTo (infos : ModuleInfo) (fun : Function) (stages : ShaderStages) : Type 0 where
@@ -71,8 +74,8 @@ module _ (below : Meaning) (settings : Settings) (types : List TypeInfo) (m : Mo
     pub reached : (f : ℕ) (callee : Function) → Reaches m (body_of fun) f → slice_get m.functions f ≡ Some callee →
         KeepsTo infos (infos_below f infos) callee stages
 
--- Where bodies are looked at, a function that the judgement accepts with vetted infos keeps to each of its stages through all
--- chains of calls.
+-- Where bodies are looked at, a function that the judgement accepts with vetted infos, and whose calls name only functions that
+-- have infos, keeps to each of its stages through all chains of calls.
 abbrev pub ChainsAreKept : Type 0
 ChainsAreKept =
     (below : Meaning) (settings : Settings) (types : List TypeInfo) (trace : TraceState) (m : Module) (infos : ModuleInfo) →

@@ -1,6 +1,6 @@
 -- What is known of each function that the judgement accepts, where bodies are looked at.
 use Rattle.std.specs.List.{AllByRecursion}
-use Rattle.std.specs.Prelude.{◌≡◌, ◌↔◌, Bool, true, List, Ok}
+use Rattle.std.specs.Prelude.{◌≡◌, ◌↔◌, Bool, true, List, Ok, length}
 use Rattle.ir_module.specs.declared.functions.Function.{Function}
 use Rattle.ir_module.specs.declared.module.Module.{Module}
 use Rattle.ir_flags.specs.declared.valid.ShaderStages.{ShaderStages}
@@ -67,6 +67,18 @@ AcceptedKeepsInfo =
     checks_blocks settings.flags ≡ true →
     lower_step below settings infos trace program earlier fun entry_point ≡ Ok info →
     outcome.info ≡ with_stages info outcome.info.available_stages
+
+-- Where expressions are looked at, there is one mask for each expression: the lower layer refuses none.
+abbrev pub AcceptedHasEveryMask : Type 0
+AcceptedHasEveryMask =
+    (below : Meaning) (settings : Settings) (infos : List TypeInfo) (trace : TraceState) (program : Module)
+    (earlier : ModuleInfo) (fun : Function) (entry_point : Bool) (outcome : FunctionOutcome) (info : FunctionInfo) →
+    function_judgement below settings infos trace program earlier fun entry_point ≡ Ok outcome →
+    checks_blocks settings.flags ≡ true →
+    lower_step below settings infos trace program earlier fun entry_point ≡ Ok info →
+    checks_expressions settings.flags ≡ true →
+    length (expression_masks below (context_with below settings infos trace program earlier fun entry_point info))
+    ≡ length fun.expressions
 
 -- A stage is left exactly where the lower layer leaves it, every expression may run in it, where expressions are looked
 -- at, and so may every statement at any depth.

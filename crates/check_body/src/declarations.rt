@@ -3,7 +3,7 @@
 ghost use Rattle.std.specs.Prelude.{◌≡◌, ◌<◌, IfOk, IfSome, Some, List, ℕ, length};
 ghost use Rattle.std.specs.Result.{result_err};
 ghost use Rattle.ir_facts.specs.Points.{first_fault};
-ghost use Rattle.check_errors.specs.Answers.{AnswersPoints};
+ghost use Rattle.check_errors.specs.Answers.{Answers, FirstOf};
 ghost use Rattle.check_scope.specs.Context.{ContextFits};
 ghost use Rattle.check_statement.specs.Declarations.{name_or_empty, variable_points, variables_points, takes_arguments, pointer_points, argument_points, arguments_points, result_points, declaration_points};
 ghost use Rattle.check_scope.specs.walk.SeenContext.{context_of};
@@ -21,6 +21,16 @@ use ir_types::name::Name;
 use ir_types::types::AddressSpace;
 use std::alloc::{AllocError, Global};
 
+/// What the checks of declarations read: the function and its module, the infos of the module's types, and whether the
+/// function is an entry point's.
+#[derive(Drop)]
+struct DeclarationContext<'a> {
+    alloc: Global,
+    block: &'a BlockContext<'a>,
+    infos: &'a [TypeInfo],
+    entry_point: bool,
+}
+
 /// The local variables, the arguments, and the result of a function.
 pub fn check_declarations(
     alloc: Global,
@@ -30,10 +40,16 @@ pub fn check_declarations(
 ) -> Result<(), Refusal<FunctionError>>
     requires context { ContextFits (context_of context.now) }
     requires one_info_each { length infos.now ≡ length (context_of context.now).program.types }
-    ensures { AnswersPoints (declaration_points (context_of context.now) infos.now entry_point) result }
+    ensures { Answers (FirstOf (declaration_points (context_of context.now) infos.now entry_point)) result }
 {
-    check_locals(alloc, context, infos)?;
-    check_arguments(alloc, context, infos, entry_point)?;
+    let declared = DeclarationContext {
+        alloc,
+        block: context,
+        infos,
+        entry_point,
+    };
+    check_locals(&declared)?;
+    check_arguments(&declared)?;
     match check_result(infos, entry_point, context.fun.result) {
         Ok(()) => Ok(()),
         Err(fault) => Err(Refusal::Fault(WithSpan::new(alloc, fault))),
@@ -51,73 +67,64 @@ fn name_or_empty(alloc: Global, name: &Option<Name>) -> Result<Name, AllocError>
 }
 
 /// The local variables, in order.
-fn check_locals(
-    alloc: Global,
-    context: &BlockContext,
-    infos: &[TypeInfo],
-) -> Result<(), Refusal<FunctionError>>
-    requires context { ContextFits (context_of context.now) }
-    requires one_info_each { length infos.now ≡ length (context_of context.now).program.types }
-    ensures { AnswersPoints (variables_points (context_of context.now) infos.now) result }
+fn check_locals(context: &DeclarationContext) -> Result<(), Refusal<FunctionError>>
+    requires context { ContextFits (context_of context.now.block.now) }
+    requires one_info_each { length context.now.infos.now ≡ length (context_of context.now.block.now).program.types }
+    ensures { Answers (FirstOf (variables_points (context_of context.now.block.now) context.now.infos.now)) result }
 {
-    let count = context.fun.local_variables.len() as u32;
+    let count = context.block.fun.local_variables.len() as u32;
     for index in 0..count {
         let handle = Handle::new(index);
-        let var = &context.fun.local_variables[handle];
-        check_variable(alloc, context, infos, handle, var)?;
+        let var = &context.block.fun.local_variables[handle];
+        check_variable(context, handle, var)?;
     }
     Ok(())
 }
 
 /// A local variable.
 fn check_variable(
-    alloc: Global,
-    context: &BlockContext,
-    infos: &[TypeInfo],
+    context: &DeclarationContext,
     handle: Handle<tag::LocalVariable>,
     var: &LocalVariable,
 ) -> Result<(), Refusal<FunctionError>>
-    requires context { ContextFits (context_of context.now) }
-    requires one_info_each { length infos.now ≡ length (context_of context.now).program.types }
-    requires ty { var.now.ty < length (context_of context.now).program.types }
-    requires init { IfSome var.now.init (λ h. h < length (context_of context.now).fun.expressions) }
-    ensures { AnswersPoints (variable_points (context_of context.now) infos.now handle var.now) result }
+    requires context { ContextFits (context_of context.now.block.now) }
+    requires one_info_each { length context.now.infos.now ≡ length (context_of context.now.block.now).program.types }
+    requires ty { var.now.ty < length (context_of context.now.block.now).program.types }
+    requires init { IfSome var.now.init (λ h. h < length (context_of context.now.block.now).fun.expressions) }
+    ensures { Answers (FirstOf (variable_points (context_of context.now.block.now) context.now.infos.now handle
+        var.now)) result }
 {
     match check_local(
         var,
-        &context.program.types,
-        infos,
-        context.info,
-        context.kinds,
+        &context.block.program.types,
+        context.infos,
+        context.block.info,
+        context.block.kinds,
     ) {
         Ok(()) => Ok(()),
         Err(source) => {
-            let name = name_or_empty(alloc, &var.name)?;
+            let name = name_or_empty(context.alloc, &var.name)?;
             let fault = FunctionError::LocalVariable {
                 handle,
                 name,
                 source,
             };
-            Err(Refusal::Fault(WithSpan::new(alloc, fault)))
+            Err(Refusal::Fault(WithSpan::new(context.alloc, fault)))
         }
     }
 }
 
 /// The arguments, in order.
-fn check_arguments(
-    alloc: Global,
-    context: &BlockContext,
-    infos: &[TypeInfo],
-    entry_point: bool,
-) -> Result<(), Refusal<FunctionError>>
-    requires context { ContextFits (context_of context.now) }
-    requires one_info_each { length infos.now ≡ length (context_of context.now).program.types }
-    ensures { AnswersPoints (arguments_points (context_of context.now) infos.now entry_point) result }
+fn check_arguments(context: &DeclarationContext) -> Result<(), Refusal<FunctionError>>
+    requires context { ContextFits (context_of context.now.block.now) }
+    requires one_info_each { length context.now.infos.now ≡ length (context_of context.now.block.now).program.types }
+    ensures { Answers (FirstOf (arguments_points (context_of context.now.block.now) context.now.infos.now
+        context.now.entry_point)) result }
 {
-    let arguments = context.fun.arguments.as_slice();
+    let arguments = context.block.fun.arguments.as_slice();
     for index in 0..arguments.len() {
         let argument = &arguments[index];
-        check_argument(alloc, context, infos, entry_point, index, argument)?;
+        check_argument(context, index, argument)?;
     }
     Ok(())
 }
@@ -141,37 +148,35 @@ fn takes_arguments(space: AddressSpace) -> bool
 
 /// An argument.
 fn check_argument(
-    alloc: Global,
-    context: &BlockContext,
-    infos: &[TypeInfo],
-    entry_point: bool,
+    context: &DeclarationContext,
     index: usize,
     argument: &FunctionArgument,
 ) -> Result<(), Refusal<FunctionError>>
-    requires one_info_each { length infos.now ≡ length (context_of context.now).program.types }
-    requires ty { argument.now.ty < length (context_of context.now).program.types }
-    ensures { AnswersPoints (argument_points (context_of context.now) infos.now entry_point index argument.now) result }
+    requires one_info_each { length context.now.infos.now ≡ length (context_of context.now.block.now).program.types }
+    requires ty { argument.now.ty < length (context_of context.now.block.now).program.types }
+    ensures { Answers (FirstOf (argument_points (context_of context.now.block.now) context.now.infos.now
+        context.now.entry_point index argument.now)) result }
 {
-    let inner = &context.program.types[argument.ty].inner;
+    let inner = &context.block.program.types[argument.ty].inner;
     if let Some(space) = inner.pointer_space() {
         if !takes_arguments(space) {
-            let name = name_or_empty(alloc, &argument.name)?;
+            let name = name_or_empty(context.alloc, &argument.name)?;
             let fault = FunctionError::InvalidArgumentPointerSpace { index, name, space };
-            return Err(Refusal::Fault(WithSpan::new(alloc, fault)));
+            return Err(Refusal::Fault(WithSpan::new(context.alloc, fault)));
         }
     }
-    if !infos[argument.ty.index()]
+    if !context.infos[argument.ty.index()]
         .flags
         .contains(TypeFlags::ARGUMENT)
     {
-        let name = name_or_empty(alloc, &argument.name)?;
+        let name = name_or_empty(context.alloc, &argument.name)?;
         let fault = FunctionError::InvalidArgumentType { index, name };
-        return Err(Refusal::Fault(WithSpan::new(alloc, fault)));
+        return Err(Refusal::Fault(WithSpan::new(context.alloc, fault)));
     }
-    if !entry_point && argument.binding.is_some() {
-        let name = name_or_empty(alloc, &argument.name)?;
+    if !context.entry_point && argument.binding.is_some() {
+        let name = name_or_empty(context.alloc, &argument.name)?;
         let fault = FunctionError::PipelineInputRegularFunction { name };
-        return Err(Refusal::Fault(WithSpan::new(alloc, fault)));
+        return Err(Refusal::Fault(WithSpan::new(context.alloc, fault)));
     }
     Ok(())
 }

@@ -4,8 +4,7 @@ ghost use Rattle.std.specs.Prelude.{◌≡◌, IfOk, OnOk, length};
 ghost use Rattle.naga_runs.specs.Handles.{no_handles};
 ghost use Rattle.naga_runs.specs.Must.{holds_continue, body_holds_continue, cases_hold_continue};
 ghost use Rattle.check_scope.specs.walk.Place.{no_sets};
-ghost use Rattle.check_errors.specs.Answers.{Answers};
-ghost use Rattle.check_scope.specs.walk.Findings.{AnswersLeaving};
+ghost use Rattle.check_errors.specs.Answers.{Answers, Exactly, leaving};
 ghost use Rattle.check_scope.specs.BodyTrees.{tree_of, body_of, block_of, cases_of};
 ghost use Rattle.check_scope.specs.Context.{ContextFits, pre_emitted};
 ghost use Rattle.check_statement.specs.FunctionJudgement.{body_judgement};
@@ -37,7 +36,7 @@ pub fn validate_body(
 ) -> Result<BodyOutcome, Refused>
     requires context { ContextFits (context_of context.now) }
     requires ready { IsBodyReady (context_of context.now) (body_of (context_of context.now).fun) }
-    ensures { Answers (body_left (context_of context.now) (body_judgement (context_of context.now))) result }
+    ensures { Answers (Exactly (body_left (context_of context.now) (body_judgement (context_of context.now)))) result }
 {
     let count = context.fun.expressions.len();
     table.scope.begin(count)?;
@@ -79,12 +78,12 @@ fn begin_columns(scope: &mut ScopeColumn, filled: &mut FilledColumn, context: &B
     }
 }
 
-/// The parts of a statement, or nothing where it has none. Answers whether it holds a Continue for the Loop in whose body it
-/// stands.
+/// The parts of a statement, or nothing where it has none. Answers whether it holds a Continue for the Loop in whose
+/// body it stands.
 #[tactic(auto, using(crate::proofs::Walk::walking))]
 #[cycle(walk)]
 #[inline(never)]
-fn validate_parts(
+fn validate_nested(
     table: &mut Table,
     state: &mut BodyOutcome,
     context: &BlockContext,
@@ -94,10 +93,9 @@ fn validate_parts(
     requires context { ContextFits (context_of context.now) }
     requires ready { IsStatementReady (context_of context.now) (tree_of (context_of context.now) located.now) }
     requires table { IsTableOf (context_of context.now) table.old }
-    ensures fault { AnswersLeaving
-        (parts_answer (context_of context.now) (kept table.old.filled state.old) abilities.now (known table.old.scope)
-        (tree_of (context_of context.now) located.now))
-        (kept table.new.filled state.new) result }
+    ensures fault { Answers (Exactly (parts_answer (context_of context.now) (kept table.old.filled state.old)
+        abilities.now (known table.old.scope) (tree_of (context_of context.now) located.now)))
+        (leaving (kept table.new.filled state.new) result) }
     ensures table { OnOk result (IsTableOf (context_of context.now) table.new) }
     ensures scope { OnOk result (shown table.new.scope ≡ shown table.old.scope) }
     ensures held { IfOk result (λ held. held ≡ holds_continue (tree_of (context_of context.now) located.now)) }
@@ -149,8 +147,8 @@ fn validate_parts(
     }
 }
 
-/// The body list of a Loop: puts behind the first statement that holds a Continue stay in scope, and may not be used
-/// behind the list. Answers the number of the scope that has them, if one has.
+/// The body list of a Loop. What is emitted after the first statement that holds a Continue stays in scope, and may
+/// not be used after the list. Answers the number of the scope that has it, if one has.
 #[cycle(walk)]
 fn validate_loop_body(
     table: &mut Table,
@@ -162,10 +160,9 @@ fn validate_loop_body(
     requires context { ContextFits (context_of context.now) }
     requires ready { IsBodyReady (context_of context.now) (block_of (context_of context.now) block.now) }
     requires table { IsTableOf (context_of context.now) table.old }
-    ensures fault { AnswersLeaving
-        (body_answer (context_of context.now) (kept table.old.filled state.old) abilities.now (known table.old.scope)
-        (block_of (context_of context.now) block.now))
-        (kept table.new.filled state.new) result }
+    ensures fault { Answers (Exactly (body_answer (context_of context.now) (kept table.old.filled state.old)
+        abilities.now (known table.old.scope) (block_of (context_of context.now) block.now)))
+        (leaving (kept table.new.filled state.new) result) }
     ensures table { OnOk result (IsTableOf (context_of context.now) table.new) }
     ensures scope { IfOk result (λ skipped. HasLooped table.old.scope table.new.scope skipped
         (puts_to_continue (block_of (context_of context.now) block.now))
@@ -182,7 +179,8 @@ fn validate_loop_body(
     }
 }
 
-/// A list of statements, whose puts stay in scope: naga's `validate_block_impl`. Answers whether it holds a Continue.
+/// A list of statements, whose emissions stay in scope: naga's `validate_block_impl`. Answers whether it holds a
+/// Continue.
 #[cycle(walk)]
 fn validate_statements(
     table: &mut Table,
@@ -194,10 +192,9 @@ fn validate_statements(
     requires context { ContextFits (context_of context.now) }
     requires ready { IsBodyReady (context_of context.now) (block_of (context_of context.now) block.now) }
     requires table { IsTableOf (context_of context.now) table.old }
-    ensures fault { AnswersLeaving
-        (body_answer (context_of context.now) (kept table.old.filled state.old) abilities.now (known table.old.scope)
-        (block_of (context_of context.now) block.now))
-        (kept table.new.filled state.new) result }
+    ensures fault { Answers (Exactly (body_answer (context_of context.now) (kept table.old.filled state.old)
+        abilities.now (known table.old.scope) (block_of (context_of context.now) block.now)))
+        (leaving (kept table.new.filled state.new) result) }
     ensures table { OnOk result (IsTableOf (context_of context.now) table.new) }
     ensures scope { OnOk result
         (HasPut table.old.scope table.new.scope (body_puts (block_of (context_of context.now) block.now))) }
@@ -223,10 +220,9 @@ fn validate_statement(
     requires context { ContextFits (context_of context.now) }
     requires ready { IsStatementReady (context_of context.now) (tree_of (context_of context.now) located.now) }
     requires table { IsTableOf (context_of context.now) table.old }
-    ensures fault { AnswersLeaving
-        (stmt_answer (context_of context.now) (kept table.old.filled state.old) abilities.now (known table.old.scope)
-        (tree_of (context_of context.now) located.now))
-        (kept table.new.filled state.new) result }
+    ensures fault { Answers (Exactly (stmt_answer (context_of context.now) (kept table.old.filled state.old)
+        abilities.now (known table.old.scope) (tree_of (context_of context.now) located.now)))
+        (leaving (kept table.new.filled state.new) result) }
     ensures table { OnOk result (IsTableOf (context_of context.now) table.new) }
     ensures scope { OnOk result (HasPut table.old.scope table.new.scope (puts (tree_of (context_of context.now) located.now))) }
     ensures held { IfOk result (λ held. held ≡ holds_continue (tree_of (context_of context.now) located.now)) }
@@ -235,7 +231,7 @@ fn validate_statement(
     if whole {
         return Ok(false);
     }
-    validate_parts(table, state, context, abilities, located)
+    validate_nested(table, state, context, abilities, located)
 }
 
 /// A list of statements in a scope of its own: naga's `validate_block`.
@@ -250,10 +246,9 @@ fn validate_block(
     requires context { ContextFits (context_of context.now) }
     requires ready { IsBodyReady (context_of context.now) (block_of (context_of context.now) block.now) }
     requires table { IsTableOf (context_of context.now) table.old }
-    ensures fault { AnswersLeaving
-        (body_answer (context_of context.now) (kept table.old.filled state.old) abilities.now (known table.old.scope)
-        (block_of (context_of context.now) block.now))
-        (kept table.new.filled state.new) result }
+    ensures fault { Answers (Exactly (body_answer (context_of context.now) (kept table.old.filled state.old)
+        abilities.now (known table.old.scope) (block_of (context_of context.now) block.now)))
+        (leaving (kept table.new.filled state.new) result) }
     ensures table { OnOk result (IsTableOf (context_of context.now) table.new) }
     ensures scope { OnOk result (shown table.new.scope ≡ shown table.old.scope) }
     ensures held { IfOk result (λ held. held ≡ body_holds_continue (block_of (context_of context.now) block.now)) }
@@ -276,10 +271,9 @@ fn validate_cases(
     requires context { ContextFits (context_of context.now) }
     requires ready { AreCasesReady (context_of context.now) (cases_of (context_of context.now) cases.now) }
     requires table { IsTableOf (context_of context.now) table.old }
-    ensures fault { AnswersLeaving
-        (cases_answer (context_of context.now) (kept table.old.filled state.old) abilities.now (known table.old.scope)
-        (cases_of (context_of context.now) cases.now))
-        (kept table.new.filled state.new) result }
+    ensures fault { Answers (Exactly (cases_answer (context_of context.now) (kept table.old.filled state.old)
+        abilities.now (known table.old.scope) (cases_of (context_of context.now) cases.now)))
+        (leaving (kept table.new.filled state.new) result) }
     ensures table { OnOk result (IsTableOf (context_of context.now) table.new) }
     ensures scope { OnOk result (shown table.new.scope ≡ shown table.old.scope) }
     ensures held { IfOk result (λ held. held ≡ cases_hold_continue (cases_of (context_of context.now) cases.now)) }

@@ -1,13 +1,25 @@
-//! Laws of accepted functions: they compute nothing; whoever rests on them calls them to cite them.
+//! Laws of accepted functions: they compute nothing, and a caller calls them to cite them.
 
 ghost use Rattle.check_body.specs.Chains.{ChainsAreKept, NoneIsVetted, OneMoreIsVetted, CallsOfFittingAreBelow};
-ghost use Rattle.check_body.specs.FunctionLaw.{AcceptedIsSound, AcceptedFillsOnce, AcceptedIsOfAllStages, AcceptedHasNoReturnInContinuing, AcceptedHasWholeSwitches, AcceptedKeepsInfo, AcceptedStagesAreMet};
+ghost use Rattle.check_body.specs.FunctionLaw.{AcceptedIsSound, AcceptedFillsOnce, AcceptedIsOfAllStages, AcceptedHasNoReturnInContinuing, AcceptedHasWholeSwitches, AcceptedKeepsInfo, AcceptedHasEveryMask, AcceptedStagesAreMet};
+ghost use Rattle.check_body.specs.FunctionRefusals.{RefusedUseIsWitnessed, RefusedJumpIsStuck};
 
-/// Of each function that the judgement accepts, where bodies are looked at: all runs of its body are sure; with
-/// expressions looked at too, each of its results is filled once; its stages are stages of each statement and of each
-/// function that it calls; no Return stands in a continuing part, and each Switch has one default, distinct values of its
-/// selector's sign and a last case that doesn't fall through; its info is the lower layer's but for the stages; and a stage is
-/// left exactly where the lower layer leaves it and every expression that is looked at and every statement may run in it.
+/// Law of each function that the judgement accepts with BLOCKS, and of some that it refuses.
+///
+/// Of an accepted function:
+/// - `sound`: all runs of its body are sound.
+/// - `filled`: with EXPRESSIONS each of its results is filled once.
+/// - `stages`: its stages are stages of each statement, and of each function that it calls.
+/// - `returns`, `switches`: no Return stands in a continuing part. Each Switch has one default, distinct values of its
+///   selector's sign, and a last case that doesn't fall through.
+/// - `info`: its info is the lower layer's but for the stages.
+/// - `masks`: with EXPRESSIONS the lower layer refuses none of its expressions.
+/// - `met`: a stage is among its stages exactly if it is one of the lower layer's, and each statement may run in it, and,
+///   with EXPRESSIONS, each expression.
+///
+/// Of a function whose body it refuses with BLOCKS, and whose body has no dead code:
+/// - `witnessed`: if the fault is a use that isn't in scope, some run of the body uses what isn't live.
+/// - `stuck`: if the fault is a jump, some run is stuck by it.
 pub fn function_law()
     ensures sound { AcceptedIsSound }
     ensures filled { AcceptedFillsOnce }
@@ -15,13 +27,22 @@ pub fn function_law()
     ensures returns { AcceptedHasNoReturnInContinuing }
     ensures switches { AcceptedHasWholeSwitches }
     ensures info { AcceptedKeepsInfo }
+    ensures masks { AcceptedHasEveryMask }
     ensures met { AcceptedStagesAreMet }
+    ensures witnessed { RefusedUseIsWitnessed }
+    ensures stuck { RefusedJumpIsStuck }
 {}
 
-/// Where bodies are looked at, a function that the judgement accepts with vetted infos keeps to each of its stages through all
-/// chains of calls: each stage is one of every statement of its body and of the bodies that it reaches, and of every
-/// expression that is looked at. Infos are vetted where there are none yet, and behind each function that fits and is judged
-/// with vetted ones; and a function that fits calls functions before it alone.
+/// Law of chains of calls.
+///
+/// - `kept`: with BLOCKS and vetted infos, an accepted function whose calls name only functions that have infos keeps to
+///   each of its stages. So each stage is one of every statement of its body and of the bodies that it reaches, and, with
+///   EXPRESSIONS, of every expression. Without the condition on calls this is false: a Kill in a function without an info
+///   takes no stage away.
+/// - `none`: infos are vetted if no function has one.
+/// - `more`: they stay so with the info of the next function of the module, if it fits and is judged with them, and no entry
+///   point has an info.
+/// - `calls`: a function that fits calls earlier functions only.
 pub fn chains_law()
     ensures kept { ChainsAreKept }
     ensures none { NoneIsVetted }

@@ -12,3 +12,12 @@ pub mod LastSteps
 pub mod Reading
 pub mod Judgements
 pub mod PlainRulesGuard
+pub mod Bools
+pub mod Arrivals
+pub mod Ways
+pub mod Meets
+pub mod Alive
+pub mod Told
+pub mod Exact
+pub mod ExactnessFacts
+pub mod Witnessed

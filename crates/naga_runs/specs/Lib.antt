@@ -12,9 +12,15 @@ pub mod Machine
 pub mod Skipped
 pub mod Soundness
 pub mod Unions
+pub mod Trail
+pub mod ComesTo
+pub mod DeadCode
+pub mod Exactness
+pub mod Witnesses
 pub mod Guards
 pub mod Samples
 pub mod PlainRules
+pub mod ExactnessFacts
 pub mod SkippedEmission
 pub mod StatementActs
 pub mod WorkedPlaces

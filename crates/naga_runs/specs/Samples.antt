@@ -27,7 +27,10 @@ emits start end acts = Leaf acts (s.Emit (record { start = start; end = end })) 
 abbrev pub emit : ℕ → Stmt
 emit h = emits h (suc h) (Put h ∷ [])
 
--- emit 5 and emit 6, where 5 has the operand 4 and 6 the operand 5
+-- emit 3, where 3 has the operand 0, and emit 5 and emit 6, where 5 has the operand 4 and 6 the operand 5
+abbrev pub emit_3 : Stmt
+emit_3 = emits 3 4 (Use 0 ∷ Put 3 ∷ [])
+
 abbrev pub emit_5 : Stmt
 emit_5 = emits 5 6 (Use 4 ∷ Put 5 ∷ [])
 
@@ -74,13 +77,13 @@ switches =
     (OneCase Default false (one (Loop (one (only_default (one Continue))) (one (only_default (one Break))) None))
     NoCase))))
 
--- loop { if 0 { continue } { } emit 3 } { } break_if 3
+-- loop { if 0 { continue } { } emit 3 } { } break_if 3, where 3 has the operand 0
 abbrev pub skipping_loop : Body
-skipping_loop = one (Loop (Then may_continue_here (one (emit 3))) Done (Some 3))
+skipping_loop = one (Loop (Then may_continue_here (one emit_3)) Done (Some 3))
 
--- loop { emit 3 if 0 { continue } { } } { } break_if 3
+-- loop { emit 3 if 0 { continue } { } } { } break_if 3, where 3 has the operand 0
 abbrev pub sure_loop : Body
-sure_loop = one (Loop (Then (emit 3) (one may_continue_here)) Done (Some 3))
+sure_loop = one (Loop (Then emit_3 (one may_continue_here)) Done (Some 3))
 
 -- loop { loop { continue } { } emit 3 } { } break_if 3
 abbrev pub inner_continue : Body

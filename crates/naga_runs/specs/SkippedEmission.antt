@@ -1,4 +1,5 @@
--- What one body does, and that the law's conditions refuse it and not all: loop { if 0 { continue } { } emit 3 } { } break_if 3.
+-- What one body does, and that the law's conditions refuse it and not all: loop { if 0 { continue } { } emit 3 } { } break_if 3,
+-- where 3 has the operand 0.
 use Rattle.std.specs.Prelude.{ℕ, true, false, Option, Some, None, ◌≡◌, ◌≢◌, ◌∷◌, []}
 use Rattle.ir_module.specs.Tree.{Use, Put}
 use Rattle.naga_runs.specs.Handles.{Handles, with_handle}
@@ -12,9 +13,13 @@ use Rattle.naga_runs.specs.Soundness.{IsSurelyFit}
 abbrev pub if_event : Event
 if_event = record { act = Use 0; done = []; live = given; position = In Root 0 ∷ In LoopBody 0 ∷ []; cuts = [] }
 
--- the put of 3
+-- the use of 3's operand, and then the put of 3
+abbrev pub operand_event : Event
+operand_event = record { act = Use 0; done = []; live = given; position = In Root 0 ∷ In LoopBody 1 ∷ []; cuts = [] }
+
 abbrev pub emit_event : Event
-emit_event = record { act = Put 3; done = []; live = given; position = In Root 0 ∷ In LoopBody 1 ∷ []; cuts = [] }
+emit_event =
+    record { act = Put 3; done = Use 0 ∷ []; live = given; position = In Root 0 ∷ In LoopBody 1 ∷ []; cuts = [] }
 
 -- the use of 3 at the break condition, with these handles live and this cut
 abbrev pub break_if_event : Handles → Option ℕ → Event
@@ -30,11 +35,11 @@ SkippedIsUsed =
     × (given 3 ≡ false)
     × (skipped_at skipping_loop (In Root 0 ∷ In Condition 0 ∷ []) (Some 0 ∷ []) 3 ≡ true)
 
--- With choice 1 at the If: a put of 3, and then its use with 3 live.
+-- With choice 1 at the If: a use of 0 and a put of 3 by the Emit, and then the use of 3 with 3 live.
 abbrev pub PutIsUsed : Type 0
 PutIsUsed =
     (events_of (run skipping_loop given 1 (1 ∷ 0 ∷ []))
-    ≡ if_event ∷ emit_event ∷ break_if_event (with_handle given 3) None ∷ [])
+    ≡ if_event ∷ operand_event ∷ emit_event ∷ break_if_event (with_handle given 3) None ∷ [])
     × (with_handle given 3 3 ≡ true)
 
 -- With choice 1 at the break condition: after the same two events the run stops, unstuck, where turn 2 would begin.

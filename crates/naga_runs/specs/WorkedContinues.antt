@@ -157,9 +157,10 @@ pub record EmitsRoundContinue : Type 0 where
 
 -- One run each of bodies that stand among the judgements: what is refused there is not live here, or put while it is.
 pub record RowsRun : Type 0 where
-  -- loop { emit 3 if 0 { continue } { } } { } break_if 3
+  -- loop { emit 3 if 0 { continue } { } } { } break_if 3, where 3 has the operand 0
   pub emitted_first : told sure_loop (0 ∷ 0 ∷ []) ≡
-      (Put 3, In Root 0 ∷ In LoopBody 0 ∷ [], 0 ∷ 1 ∷ 2 ∷ 4 ∷ [], [])
+      (Use 0, In Root 0 ∷ In LoopBody 0 ∷ [], 0 ∷ 1 ∷ 2 ∷ 4 ∷ [], [])
+      ∷ (Put 3, In Root 0 ∷ In LoopBody 0 ∷ [], 0 ∷ 1 ∷ 2 ∷ 4 ∷ [], [])
       ∷ (Use 0, In Root 0 ∷ In LoopBody 1 ∷ [], 0 ∷ 1 ∷ 2 ∷ 3 ∷ 4 ∷ [], [])
       ∷ (Use 3, In Root 0 ∷ In Condition 0 ∷ [], 0 ∷ 1 ∷ 2 ∷ 3 ∷ 4 ∷ [], [])
       ∷ []

@@ -1,4 +1,5 @@
 use Rattle.naga_runs.proofs.Judgements.{by_tree, compositional, accepted_is_sure, accepted_block_is_sure}
+use Rattle.naga_runs.proofs.Witnessed.{fault_is_of_a_visit}
 use Rattle.naga_runs.proofs.judgement_law.Goals as goal
 
 pub returns : goal.returns
@@ -7,4 +8,5 @@ returns g c = record {
   compositional = compositional;
   sure = accepted_is_sure;
   block_sure = accepted_block_is_sure;
+  refused = fault_is_of_a_visit;
 }

@@ -6,8 +6,8 @@ use Rattle.check_body.proofs.declarations.check_arguments.Goals as goal
 
 pub returns-in_err-check_argument : goal.returns-in_err-check_argument
 returns-in_err-check_argument c =
-    rw (← c.as_slice-arguments.ensures) (each_stops (argument_points (context_of c.args.context.now) c.args.infos.now c.args.entry_point) c.as_slice-arguments.result.now c.loop-index.index c.from_residual.result c.index-arguments-index.result c.loop-index-test.true (search rules) c.loop-index.invariant (search rules) (search rules))
+    rw (← c.as_slice-arguments.ensures) (each_stops (argument_points (context_of c.args.context.now.block.now) c.args.context.now.infos.now c.args.context.now.entry_point) c.as_slice-arguments.result.now c.loop-index.index c.from_residual.result c.index-arguments-index.result c.loop-index-test.true (search rules) c.loop-index.invariant (search rules) (search rules))
 
 pub loop-index-preserved : goal.loop-index-preserved
 loop-index-preserved c =
-    each_passes (argument_points (context_of c.args.context.now) c.args.infos.now c.args.entry_point) c.as_slice-arguments.result.now c.loop-index.index c.index-arguments-index.result c.loop-index-test.true (search rules) c.loop-index.invariant c.in_ok-check_argument.ensures
+    each_passes (argument_points (context_of c.args.context.now.block.now) c.args.context.now.infos.now c.args.context.now.entry_point) c.as_slice-arguments.result.now c.loop-index.index c.index-arguments-index.result c.loop-index-test.true (search rules) c.loop-index.invariant c.in_ok-check_argument.ensures

@@ -7,4 +7,4 @@ use Rattle.check_body.proofs.declarations.check_arguments.Given as goal
 -- what is left decides
 abbrev pub invariant-loop-index : goal.invariant-loop-index
 invariant-loop-index l =
-    first_fault (points_from (argument_points (context_of l.context) l.infos l.entry_point) l.index (drop l.index l.arguments)) ≡ first_fault (points_from (argument_points (context_of l.context) l.infos l.entry_point) 0 l.arguments)
+    first_fault (points_from (argument_points (context_of l.context.block.now) l.context.infos.now l.context.entry_point) l.index (drop l.index l.arguments)) ≡ first_fault (points_from (argument_points (context_of l.context.block.now) l.context.infos.now l.context.entry_point) 0 l.arguments)

@@ -7,4 +7,4 @@ use Rattle.check_body.proofs.declarations.check_locals.Given as goal
 -- what is left decides
 abbrev pub invariant-loop-index : goal.invariant-loop-index
 invariant-loop-index l =
-    first_fault (points_from (variable_points (context_of l.context) l.infos) l.index (drop l.index (context_of l.context).fun.local_variables)) ≡ first_fault (points_from (variable_points (context_of l.context) l.infos) 0 (context_of l.context).fun.local_variables)
+    first_fault (points_from (variable_points (context_of l.context.block.now) l.context.infos.now) l.index (drop l.index (context_of l.context.block.now).fun.local_variables)) ≡ first_fault (points_from (variable_points (context_of l.context.block.now) l.context.infos.now) 0 (context_of l.context.block.now).fun.local_variables)

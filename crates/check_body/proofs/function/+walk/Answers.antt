@@ -3,7 +3,7 @@ use Rattle.ir_module.specs.declared.statements.Block.{the_lemmas}
 use Rattle.ir_module.proofs.Rows.{body_of-list, tree_of-switch}
 use Rattle.ir_module.specs.View as view
 use Rattle.check_scope.specs.BodyTrees.{emitted_operands, tree_of, list_of, cases_of, block_of}
-use Rattle.check_errors.specs.Answers.{Refuses}
+use Rattle.check_errors.specs.Answers.{Answers, Exactly}
 use Rattle.check_statement.specs.Ready.{IsStatementReady, IsBodyReady}
 use Rattle.check_scope.specs.walk.SeenContext.{context_of}
 use Rattle.check_statement.specs.walk.State.{kept, with_statement}
@@ -18,24 +18,24 @@ use Rattle.check_scope.proofs.Refusals.{next_is, passes, stops_first, stops_next
 use Rattle.check_body.proofs.Walk.{holds_turn, rest_turn, rest_end, cases_hold_turn, leaving_err, whole_parts, whole_holds, or_assoc, own_passes, own_refuses, parts_later, parts_branch, parts_switch, stmt_more, body_turn, puts_turn, body_end, puts_end, cases_turn, cases_end}
 use Rattle.check_body.proofs.function.+walk.Goals as goal
 
-pub validate_parts-validate_block-requires : goal.validate_parts-validate_block-requires
-validate_parts-validate_block-requires t c =
+pub validate_nested-validate_block-requires : goal.validate_nested-validate_block-requires
+validate_nested-validate_block-requires t c =
     (search (rules, the_lemmas), (c.requires.context, (in_block (context_of c.args.context.now) _ (rw c.in-Block.is at c.requires.ready), c.requires.table)))
 
-pub validate_parts-validate_block-requires-in-If :
-    goal.validate_parts-validate_block-requires-in-If
-validate_parts-validate_block-requires-in-If t c =
+pub validate_nested-validate_block-requires-in-If :
+    goal.validate_nested-validate_block-requires-in-If
+validate_nested-validate_block-requires-in-If t c =
     (search (rules, the_lemmas), (c.requires.context, ((in_branch (context_of c.args.context.now) _ _ _ (rw c.in-If.is at c.requires.ready)).0, c.requires.table)))
 
-pub validate_parts-validate_cases-requires : goal.validate_parts-validate_cases-requires
-validate_parts-validate_cases-requires t c =
+pub validate_nested-validate_cases-requires : goal.validate_nested-validate_cases-requires
+validate_nested-validate_cases-requires t c =
     let span = c.args.located.now.span in
     let tree = ap (λ st. view.tree_of (emitted_operands (context_of c.args.context.now).fun) st span) c.in-Switch.is ∙ tree_of-switch (emitted_operands (context_of c.args.context.now).fun) c.in-Switch.selector c.in-Switch.cases span in
     (search (rules, the_lemmas), (c.requires.context, (rw c.as_slice.ensures (in_switch (context_of c.args.context.now) c.in-Switch.selector (cases_of (context_of c.args.context.now) c.in-Switch.cases) (subst (IsStatementReady (context_of c.args.context.now)) tree c.requires.ready)), c.requires.table)))
 
-pub validate_parts-returns-in-Switch-clause-fault :
-    goal.validate_parts-returns-in-Switch-clause-fault
-validate_parts-returns-in-Switch-clause-fault t c =
+pub validate_nested-returns-in-Switch-clause-fault :
+    goal.validate_nested-returns-in-Switch-clause-fault
+validate_nested-returns-in-Switch-clause-fault t c =
     let span = c.args.located.now.span in
     let tree = ap (λ st. view.tree_of (emitted_operands (context_of c.args.context.now).fun) st span) c.in-Switch.is ∙ tree_of-switch (emitted_operands (context_of c.args.context.now).fun) c.in-Switch.selector c.in-Switch.cases span in
     rw (tree, parts_switch (context_of c.args.context.now) (kept c.args.table.now.filled c.args.state.now) c.args.abilities.now (known c.args.table.now.scope) c.in-Switch.selector (cases_of (context_of c.args.context.now) c.in-Switch.cases), ← c.in_case-abilities.ensures, ← c.as_slice.ensures) c.validate_cases.ensures.fault
@@ -55,7 +55,7 @@ validate_statement-returns-clause-fault t c =
     let put = c.in_ok-whole.ensures.scope.inside in
     let later = kept c.validate_own.new.table.filled c.validate_own.new.state in
     rw (stmt_more context k c.args.abilities.now s x) (
-    answers_next _ _ _ _ _ (own_passes context k c.args.abilities.now s x c.in_ok-whole.ensures.fault) (rw (next, ← parts_later context later c.args.abilities.now s x, ← put) c.validate_parts.ensures.fault)
+    answers_next _ _ _ _ _ (own_passes context k c.args.abilities.now s x c.in_ok-whole.ensures.fault) (rw (next, ← parts_later context later c.args.abilities.now s x, ← put) c.validate_nested.ensures.fault)
     )
 
 pub validate_statement-returns-then-whole-clause-fault :
@@ -107,30 +107,30 @@ pub validate_cases-returns-clause-fault : goal.validate_cases-returns-clause-fau
 validate_cases-returns-clause-fault t c =
     sym c.loop-case.invariant.faults ∙ cases_end (context_of c.args.context.now) c.args.cases.now c.loop-case.case-index (kept c.loop-case.table.filled c.loop-case.state) c.args.abilities.now (known c.loop-case.table.scope) c.loop-case-test.false
 
-pub validate_parts-validate_block-requires-in-If-2 :
-    goal.validate_parts-validate_block-requires-in-If-2
-validate_parts-validate_block-requires-in-If-2 t c =
+pub validate_nested-validate_block-requires-in-If-2 :
+    goal.validate_nested-validate_block-requires-in-If-2
+validate_nested-validate_block-requires-in-If-2 t c =
     (search (rules, the_lemmas), (c.requires.context, ((in_branch (context_of c.args.context.now) _ _ _ (rw c.in-If.is at c.requires.ready)).1, c.in_ok-accepts-in-If.ensures.table)))
 
-pub validate_parts-validate_loop_body-requires : goal.validate_parts-validate_loop_body-requires
-validate_parts-validate_loop_body-requires t c =
+pub validate_nested-validate_loop_body-requires : goal.validate_nested-validate_loop_body-requires
+validate_nested-validate_loop_body-requires t c =
     (search (rules, the_lemmas), (c.requires.context, ((in_lists (context_of c.args.context.now) _ _ _ (rw c.in-Loop.is at c.requires.ready)).0, record { scope = c.in_ok-outer-in-Loop.ensures.count ∙ c.requires.table.scope; filled = c.requires.table.filled; results = c.requires.table.results })))
 
-pub validate_parts-validate_statements-requires : goal.validate_parts-validate_statements-requires
-validate_parts-validate_statements-requires t c =
+pub validate_nested-validate_statements-requires : goal.validate_nested-validate_statements-requires
+validate_nested-validate_statements-requires t c =
     (search (rules, the_lemmas), (c.requires.context, ((in_lists (context_of c.args.context.now) _ _ _ (rw c.in-Loop.is at c.requires.ready)).1, c.in_ok-skipped-in-Loop.ensures.table)))
 
-pub validate_parts-leave-requires : goal.validate_parts-leave-requires
-validate_parts-leave-requires t c =
+pub validate_nested-leave-requires : goal.validate_nested-leave-requires
+validate_nested-leave-requires t c =
     may_leave_loop _ _ _ _ c.in_ok-outer-in-Loop.outer c.in_ok-skipped-in-Loop.skipped c.in_ok-outer-in-Loop.ensures.outside c.in_ok-skipped-in-Loop.ensures.scope c.in_ok-validate_statements-in-Loop.ensures.scope c.in_ok-outer-in-Loop.ensures.open
 
-pub validate_parts-returns-in_ok-check_break_if-in-Loop-clause-scope : goal.validate_parts-returns-in_ok-check_break_if-in-Loop-clause-scope
-validate_parts-returns-in_ok-check_break_if-in-Loop-clause-scope t c =
+pub validate_nested-returns-in_ok-check_break_if-in-Loop-clause-scope : goal.validate_nested-returns-in_ok-check_break_if-in-Loop-clause-scope
+validate_nested-returns-in_ok-check_break_if-in-Loop-clause-scope t c =
     c.leave.ensures.shown ∙ loop_left _ _ _ _ c.in_ok-outer-in-Loop.outer c.in_ok-skipped-in-Loop.skipped c.in_ok-outer-in-Loop.ensures.outside c.in_ok-skipped-in-Loop.ensures.scope c.in_ok-validate_statements-in-Loop.ensures.scope
 
 pub validate_statement-returns-clause-scope : goal.validate_statement-returns-clause-scope
 validate_statement-returns-clause-scope t c =
-    stays_put (context_of c.args.context.now) _ _ _ _ c.validate_parts.result c.in_ok-whole.ensures.scope c.requires.table.scope c.validate_parts.ensures.table c.validate_parts.ensures.scope
+    stays_put (context_of c.args.context.now) _ _ _ _ c.validate_nested.result c.in_ok-whole.ensures.scope c.requires.table.scope c.validate_nested.ensures.table c.validate_nested.ensures.scope
 
 pub validate_statements-loop-located-init : goal.validate_statements-loop-located-init
 validate_statements-loop-located-init t c =
@@ -220,18 +220,18 @@ validate_loop_body-returns-in-None-clause-scope t c =
     let at = subst (λ o. PutsOfLoop c.args.table.now.scope c.loop-located.table.scope o (list_of context (drop i xs)) whole) c.in-None.is c.loop-located.invariant.puts in
     undivided c.args.table.now.scope c.loop-located.table.scope whole (subst (λ b. PutsOfLoop c.args.table.now.scope c.loop-located.table.scope None b whole) (rest_end context xs i c.loop-located-test.false) at)
 
-pub validate_parts-returns-in_err-rejects-in-If-clause-fault : goal.validate_parts-returns-in_err-rejects-in-If-clause-fault
-validate_parts-returns-in_err-rejects-in-If-clause-fault t c =
+pub validate_nested-returns-in_err-rejects-in-If-clause-fault : goal.validate_nested-returns-in_err-rejects-in-If-clause-fault
+validate_nested-returns-in_err-rejects-in-If-clause-fault t c =
     let context = context_of c.args.context.now in
     let tree = ap (λ st. view.tree_of (emitted_operands context.fun) st c.args.located.now.span) c.in-If.is in
     let turn = parts_branch context (kept c.args.table.now.filled c.args.state.now) c.args.abilities.now (known c.args.table.now.scope) c.in-If.condition (block_of context c.in-If.accept) (block_of context c.in-If.reject) in
-    let refused = subst (λ s. Refuses (body_answer context (kept c.validate_block-in-If.new.table.filled c.validate_block-in-If.new.state) c.args.abilities.now s (block_of context c.in-If.reject)) c.in_err-rejects-in-If.field-0.0) (same_known _ _ c.in_ok-accepts-in-If.ensures.scope) c.in_err-rejects-in-If.ensures.fault in
+    let refused = subst (λ s. Answers (Exactly (body_answer context (kept c.validate_block-in-If.new.table.filled c.validate_block-in-If.new.state) c.args.abilities.now s (block_of context c.in-If.reject))) (Err c.in_err-rejects-in-If.field-0.0)) (same_known _ _ c.in_ok-accepts-in-If.ensures.scope) c.in_err-rejects-in-If.ensures.fault in
     let all = stops_next _ _ (λ l. body_answer context l c.args.abilities.now (known c.args.table.now.scope) (block_of context c.in-If.reject)) _ c.in_ok-accepts-in-If.ensures.fault refused in
     let is : c.from_residual-in_err-rejects-in-If.result ≡ Err c.in_err-rejects-in-If.field-0.0 = search rules in
     rw (tree, turn) (leaving_err _ _ _ _ is all)
 
-pub validate_parts-returns-in_ok-rejects-in-If-clause-fault : goal.validate_parts-returns-in_ok-rejects-in-If-clause-fault
-validate_parts-returns-in_ok-rejects-in-If-clause-fault t c =
+pub validate_nested-returns-in_ok-rejects-in-If-clause-fault : goal.validate_nested-returns-in_ok-rejects-in-If-clause-fault
+validate_nested-returns-in_ok-rejects-in-If-clause-fault t c =
     let context = context_of c.args.context.now in
     let tree = ap (λ st. view.tree_of (emitted_operands context.fun) st c.args.located.now.span) c.in-If.is in
     let turn = parts_branch context (kept c.args.table.now.filled c.args.state.now) c.args.abilities.now (known c.args.table.now.scope) c.in-If.condition (block_of context c.in-If.accept) (block_of context c.in-If.reject) in
@@ -239,8 +239,8 @@ validate_parts-returns-in_ok-rejects-in-If-clause-fault t c =
     passes _ _ _ _ c.in_ok-accepts-in-If.ensures.fault (rw (← same_known _ _ c.in_ok-accepts-in-If.ensures.scope) c.in_ok-rejects-in-If.ensures.fault)
     )
 
-pub validate_parts-returns-in-Switch-clause-held : goal.validate_parts-returns-in-Switch-clause-held
-validate_parts-returns-in-Switch-clause-held t c =
+pub validate_nested-returns-in-Switch-clause-held : goal.validate_nested-returns-in-Switch-clause-held
+validate_nested-returns-in-Switch-clause-held t c =
     let span = c.args.located.now.span in
     let tree = ap (λ st. view.tree_of (emitted_operands (context_of c.args.context.now).fun) st span) c.in-Switch.is ∙ tree_of-switch (emitted_operands (context_of c.args.context.now).fun) c.in-Switch.selector c.in-Switch.cases span in
     rw (tree, ← c.as_slice.ensures) c.validate_cases.ensures.held

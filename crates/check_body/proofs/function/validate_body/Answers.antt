@@ -1,5 +1,5 @@
-use Rattle.std.proofs.Common.{rules, ◌≡◌, Ok}
-use Rattle.check_errors.specs.Answers.{Refuses}
+use Rattle.std.proofs.Common.{rules, ◌≡◌, Ok, sym, subst}
+use Rattle.check_errors.specs.Answers.{Answers, Exactly}
 use Rattle.check_statement.specs.FunctionJudgement.{body_judgement}
 use Rattle.check_scope.specs.Results.{filled_points}
 use Rattle.check_scope.specs.walk.Table.{filled_in}
@@ -8,12 +8,13 @@ use Rattle.check_statement.specs.walk.State.{kept, state_left}
 use Rattle.naga_runs.specs.Judgement.{viewed}
 use Rattle.check_body.proofs.Judged.{judged, outcome_refuses, unfilled_refuses, all_filled}
 use Rattle.check_body.proofs.function.validate_body.Goals as goal
+use Rattle.std.specs.Prelude.{Err}
 
 pub returns-in_err-validate_statements : goal.returns-in_err-validate_statements
 returns-in_err-validate_statements c =
     let context = context_of c.args.context.now in
     let e = c.in_err-validate_statements.field-0.0 in
-    let refused : Refuses (viewed (state_left context) (body_judgement context)) e = rw (judged context) (search rules) in
+    let refused = subst (λ j. Answers (Exactly j) (Err e)) (sym (judged context)) (search rules) in
     let left = outcome_refuses context (body_judgement context) e refused in
     search (rules, left)
 

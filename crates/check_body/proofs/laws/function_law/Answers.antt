@@ -1,4 +1,5 @@
-use Rattle.check_body.proofs.FunctionLaw.{is_sound, fills_once, is_of_all_stages, has_no_return_in_continuing, has_whole_switches, keeps_info, stages_are_met}
+use Rattle.check_body.proofs.FunctionLaw.{is_sound, fills_once, is_of_all_stages, has_no_return_in_continuing, has_whole_switches, keeps_info, has_every_mask, stages_are_met}
+use Rattle.check_body.proofs.FunctionRefusals.{refused_use_is_witnessed, refused_jump_is_stuck}
 use Rattle.check_body.proofs.laws.function_law.Goals as goal
 
 pub returns-clause-sound : goal.returns-clause-sound
@@ -19,5 +20,14 @@ returns-clause-switches c = has_whole_switches
 pub returns-clause-info : goal.returns-clause-info
 returns-clause-info c = keeps_info
 
+pub returns-clause-masks : goal.returns-clause-masks
+returns-clause-masks c = has_every_mask
+
 pub returns-clause-met : goal.returns-clause-met
 returns-clause-met c = stages_are_met
+
+pub returns-clause-witnessed : goal.returns-clause-witnessed
+returns-clause-witnessed c = refused_use_is_witnessed
+
+pub returns-clause-stuck : goal.returns-clause-stuck
+returns-clause-stuck c = refused_jump_is_stuck
