@@ -1,4 +1,4 @@
-//! Statements and blocks of the IR, as the reader makes them. Each statement has the same span, which tells nothing.
+//! Statements and blocks of the IR, as the reader makes them. Each statement has the same span.
 
 ghost use Rattle.std.specs.Prelude.{◌≡◌, ◌++◌, ◌∷◌, [], OnOk};
 ghost use Rattle.ir_module.specs.declared.statements.Statement as ir;
@@ -24,7 +24,7 @@ pub fn expression(index: u8) -> Handle<tag::Expression>
     Handle::new(index as u32)
 }
 
-/// Puts a statement behind the others.
+/// Adds a statement after the others.
 pub fn push(list: &mut Sequence<Located>, statement: Statement) -> Result<(), AllocError>
     ensures { OnOk result (list.new ≡ list.old ++ placed statement ∷ []) }
 {

@@ -13,7 +13,7 @@ pub struct OptionFlags {
     pub blocks: bool,
 }
 
-/// The flags behind one option more, which none of those before it was.
+/// The flags after one option more, which none of those before it was.
 #[tactic(auto, unfolding(crate::specs::Lookup::take_option))]
 fn take_option(flags: OptionFlags, option: &[u8]) -> Option<OptionFlags>
     ensures { MatchOption result (take_option flags.expressions flags.blocks option.now ≡ None)
@@ -44,7 +44,7 @@ fn take_option(flags: OptionFlags, option: &[u8]) -> Option<OptionFlags>
     }
 }
 
-/// The flags that the options at the front of a text leave on, and what stands behind the `:` that ends them.
+/// The flags that the options at the front of a text leave on, and what follows the `:` that ends them.
 pub fn options_of(text: &[u8]) -> Option<(OptionFlags, &[u8])>
     ensures { MatchOption result (options_of true true (words_of text.now) ≡ None)
         (λ o. (options_of true true (words_of text.now) ≡ Some (o.0.expressions, o.0.blocks, words_of o.1.now))

@@ -11,7 +11,7 @@ use crate::bench::Bench;
 use crate::value::value_of;
 use ir_module::statements::SwitchValue;
 
-/// What a word behind the options means.
+/// What a word after the options means.
 #[derive(Clone, Copy, PartialEq, Eq, Debug)]
 pub enum Token {
     Emit,
@@ -81,7 +81,7 @@ fn shared_meaning_of(word: &[u8]) -> Option<Token>
     }
 }
 
-/// What a word means that is this behind an `i`.
+/// What a word means that is this after an `i`.
 #[inline(always)]
 fn behind_i(rest: &[u8]) -> Option<Token>
     ensures { result ≡ lookup shared_words (105 ∷ rest.now) }
@@ -93,7 +93,7 @@ fn behind_i(rest: &[u8]) -> Option<Token>
     }
 }
 
-/// What a word means that is this behind an `e`.
+/// What a word means that is this after an `e`.
 #[inline(always)]
 fn behind_e(rest: &[u8]) -> Option<Token>
     ensures { result ≡ lookup shared_words (101 ∷ rest.now) }
@@ -105,7 +105,7 @@ fn behind_e(rest: &[u8]) -> Option<Token>
     }
 }
 
-/// What a word means that is this behind an `s`.
+/// What a word means that is this after an `s`.
 #[inline(always)]
 fn behind_s(rest: &[u8]) -> Option<Token>
     ensures { result ≡ lookup shared_words (115 ∷ rest.now) }
@@ -120,7 +120,7 @@ fn behind_s(rest: &[u8]) -> Option<Token>
     }
 }
 
-/// What a word means that is this behind a `b`.
+/// What a word means that is this after a `b`.
 #[inline(always)]
 fn behind_b(rest: &[u8]) -> Option<Token>
     ensures { result ≡ lookup shared_words (98 ∷ rest.now) }
@@ -136,7 +136,7 @@ fn behind_b(rest: &[u8]) -> Option<Token>
     }
 }
 
-/// What a word means that is this behind `br`.
+/// What a word means that is this after `br`.
 #[inline(always)]
 fn behind_br(rest: &[u8]) -> Option<Token>
     ensures { result ≡ lookup shared_words (98 ∷ 114 ∷ rest.now) }

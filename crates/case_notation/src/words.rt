@@ -25,7 +25,7 @@ fn space_in_front(text: &[u8]) -> usize
     text.len()
 }
 
-/// What stands before the first white space, and what stands behind it.
+/// What comes before the first white space, and what comes after it.
 #[inline(always)]
 fn cut_at_space(text: &[u8]) -> (&[u8], &[u8])
     ensures { CutAtSpace text.now result.0.now result.1.now }
@@ -40,7 +40,7 @@ fn cut_at_space(text: &[u8]) -> (&[u8], &[u8])
     text.split_at(text.len())
 }
 
-/// The first word, and what stands behind it and the white space that ends it.
+/// The first word, and what comes after it and the white space that ends it.
 #[inline(always)]
 pub fn first_word(text: &[u8]) -> Option<(&[u8], &[u8])>
     ensures { MatchOption result (NoWord text.now) (λ p. FirstWord text.now p.0.now p.1.now) }

@@ -1,2 +1,3 @@
 pub mod Benches
 pub mod Cases
+pub mod WorkedLoop

@@ -11,7 +11,7 @@ use Rattle.ir_facts.specs.declared.valid.types.TypeInfo.{TypeInfo}
 use Rattle.case_run.specs.BenchModule.{bench_module}
 use Rattle.case_notation.specs.CaseBlocks.{block_of}
 use Rattle.case_notation.specs.Case.{Case}
-use Rattle.naga_module.specs.ModuleJudgement.{Answer, IsJudgement, IsAnswered}
+use Rattle.naga_module.specs.ModuleJudgement.{Answer, IsJudgement, IsJudgementOrMemory}
 use Rattle.naga_layers.specs.Plain.Meaning.{plain_meaning, plain_layer}
 
 -- the bits of these flags, where they are on
@@ -50,7 +50,7 @@ IsJudgementOf c r = IsJudgement (plain_meaning plain_layer) (settings_of c) benc
 
 -- it is such a judgement, or there was no memory
 abbrev pub IsPlainAnswer : Settings → Module → Answer → Type 0
-IsPlainAnswer settings m r = IsAnswered (plain_meaning plain_layer) settings bench_infos m [] r
+IsPlainAnswer settings m r = IsJudgementOrMemory (plain_meaning plain_layer) settings bench_infos m [] r
 
 -- the stages that the last function may run in
 abbrev pub stages_of_last : List FunctionInfo → ShaderStages

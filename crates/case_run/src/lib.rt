@@ -7,6 +7,7 @@ pub mod faults;
 pub mod judge;
 pub mod line;
 pub mod run;
+pub mod worked;
 
 pub use crate::run::run_case;
 pub use naga_module::check_module;

@@ -1,4 +1,4 @@
-//! The line that the program writes. Nothing here takes memory.
+//! The line that `naga_check` writes. Nothing here allocates.
 
 ghost use Rattle.std.specs.Prelude.{◌≡◌, OnOk};
 ghost use Rattle.std.specs.Io.KnownBytes.{Appends};
@@ -21,9 +21,9 @@ pub enum Reply {
     Accepted(ShaderStages),
     /// The first fault of the body.
     Fault(FunctionError),
-    /// The input is no case.
+    /// The input is not a case.
     Unreadable,
-    /// A request for memory was refused.
+    /// Out of memory.
     Memory,
 }
 

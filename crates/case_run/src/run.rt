@@ -1,4 +1,4 @@
-//! One case, from a reader to a writer.
+//! Reads one case from a reader, and writes its line to a writer.
 
 ghost use Rattle.std.specs.Prelude.{◌≡◌, ◌≤◌, ◌+◌, length, take, IfOk, IfSome};
 ghost use Rattle.case_run.specs.Line.{Replies, Writes};
@@ -54,9 +54,11 @@ fn reply<R: Read>(alloc: Global, reader: &mut R) -> io::Result<Reply>
     }
 }
 
-/// Reads one case, writes one line, and answers the exit status. It reads at most one byte more than a case may have
-/// ([`MOST_BYTES`]). An Err is that of the read or the write that failed: before a failed read nothing is written, and
-/// of a failed write nothing is said of how much went out.
+/// Reads one case, writes one line, and answers the exit status.
+///
+/// An Err is that of the read or the write that failed. After a failed read nothing is written. After a failed write a
+/// part of the line may have been. The contract is about an Ok, of a reader and a writer whose bytes are known. At
+/// most one byte more is read than a case may have ([`MOST_BYTES`]).
 #[tactic(auto, using(crate::proofs::Cases::reply_writes))]
 pub fn run_case<R: Read, W: Write>(alloc: Global, reader: &mut R, writer: &mut W) -> io::Result<u8>
     ensures { IfOk result (λ status. IfSome (R.remaining reader.old) (λ input.

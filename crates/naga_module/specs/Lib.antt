@@ -1,14 +1,29 @@
 pub mod ModuleJudgement
 pub mod CodeModule
+pub mod ModuleInfos
 pub mod ModuleLaw
+pub mod OneJudgement
 pub mod WorkedChain
 pub use Rattle.check_scope.specs.BodyTrees.{body_of}
 pub use Rattle.check_scope.specs.Context.{pre_emitted_of}
-pub use Rattle.check_errors.specs.WhatIsChecked.{checks_blocks}
+pub use Rattle.check_scope.specs.declared.trace.TraceState.{TraceState}
+pub use Rattle.check_errors.specs.Meaning.{Meaning}
+pub use Rattle.check_errors.specs.WhatIsChecked.{checks_blocks, checks_expressions, checks_bindings}
+pub use Rattle.check_statement.specs.FunctionJudgement.{FunctionOutcome}
+unfoldable pub use Rattle.check_statement.specs.FunctionJudgement.{function_judgement}
+pub use Rattle.check_statement.specs.ValidatorParts.{AreInfosOf}
+pub use Rattle.check_body.specs.Accepted.{nodes_of, callees_filling, atomics_filling, AreFilledOnce, ResultsAreFilledOnce, StagesAreOfAll}
+pub use Rattle.check_body.specs.Shapes.{StandsAt, is_in_continuing, HasNoReturnInContinuing, HasWholeSwitches}
+pub use Rattle.check_body.specs.Chains.{Reaches, IsVettedInfo, AreVetted, ChainsKeepTo, infos_below}
+unfoldable pub use Rattle.check_entry.specs.EntryJudgement.{entry_judgement}
+pub use Rattle.check_entry.specs.EntryUses.{only}
+pub use Rattle.naga_valid.specs.EntryFacts.{IsUsedAt, BindingsAreDistinct, GroupsAreDistinct, BuiltInsAreDistinct, ReturnsPosition, argument_parts}
 pub use Rattle.naga_layers.specs.Plain.Meaning.{plain_meaning, plain_layer}
 pub use Rattle.naga_layers.specs.Recorded.Meaning.{recorded_meaning}
-pub use Rattle.naga_module.specs.ModuleJudgement.{Fits, IsJudgement, IsAnswered}
-pub use Rattle.naga_module.specs.ModuleLaw.{IsSoundFunction, ModuleHolds, AcceptedModuleHolds, IsToldOfFunctions, FunctionsAloneAreTold}
+pub use Rattle.naga_module.specs.ModuleInfos.{infos_before, OfFunctions, OfEntryPoints, IsJudgedEntry, ModuleIsJudged}
+pub use Rattle.naga_module.specs.ModuleJudgement.{Fits, IsJudgement, IsJudgementOrMemory}
+pub use Rattle.naga_module.specs.ModuleLaw.{IsSoundFunction, ModuleHolds, ModuleFillsOnce, ModuleBindsApart, AcceptedModuleIsJudged, AcceptedModuleHolds, AcceptedModuleFillsOnce, AcceptedModuleBindsApart, IsToldOfFunctions, FunctionsAloneAreTold}
+pub use Rattle.naga_module.specs.OneJudgement.{IsSameFault, IsSameAnswer, ModuleHasOneJudgement}
 pub use Rattle.naga_module.specs.declared.check.ModuleFault.{ModuleFault}
 pub use Rattle.naga_module.specs.declared.check.ModuleFault.TheVariants as module_fault
 pub use Rattle.naga_runs.specs.Soundness.{RunsAreSure}

@@ -105,5 +105,5 @@ module _ (below : Meaning) (settings : Settings) (types : List TypeInfo) (m : Mo
   IsJudgement global_types r = Tested (Fits global_types) (BehindTests no_traces (first_infos global_types)) r
 
   -- the answer is the judgement, or there was no memory
-  abbrev pub IsAnswered : List TypeResolution → Answer → Type 0
-  IsAnswered global_types r = (r ≡ Err fault.Memory) ⊎ IsJudgement global_types r
+  abbrev pub IsJudgementOrMemory : List TypeResolution → Answer → Type 0
+  IsJudgementOrMemory global_types r = (r ≡ Err fault.Memory) ⊎ IsJudgement global_types r

@@ -1,12 +1,13 @@
 //! The judgement of a whole module.
 
 ghost use Rattle.std.specs.Prelude.{◌≡◌, ◌↔◌, ◌⊎◌, [], Ok, Err, true, IsTrue, IfOk, OnOk, IfErr};
-ghost use Rattle.naga_module.specs.ModuleJudgement.{Fits, BehindTests, first_infos, IsAnswered};
-ghost use Rattle.naga_module.specs.ModuleLaw.{ModuleHolds};
+ghost use Rattle.naga_module.specs.ModuleJudgement.{Fits, BehindTests, first_infos, IsJudgementOrMemory};
+ghost use Rattle.naga_module.specs.ModuleInfos.{ModuleIsJudged};
+ghost use Rattle.naga_module.specs.ModuleLaw.{ModuleHolds, ModuleFillsOnce, ModuleBindsApart};
 ghost use Rattle.naga_module.specs.declared.check.ModuleFault.TheVariants as fault;
 ghost use Rattle.check_statement.specs.ValidatorParts.{AreInfosOf, no_traces};
 ghost use Rattle.ir_facts.specs.Fits.{FitsTypes, FitsGlobals};
-ghost use Rattle.check_errors.specs.WhatIsChecked.{checks_blocks};
+ghost use Rattle.check_errors.specs.WhatIsChecked.{checks_blocks, checks_expressions, checks_bindings};
 
 mod entries;
 mod functions;
@@ -33,7 +34,7 @@ use ir_types::typifier::TypeResolution;
 use naga_valid::validator::Validator;
 use std::alloc::{AllocError, Global};
 
-/// What the layers below know of a module's types and of its global expressions.
+/// What lower layers know of a module's types and of its global expressions.
 #[derive(Drop)]
 pub struct Given {
     /// One info for each type of the module, indexed by its handle.
@@ -45,7 +46,8 @@ pub struct Given {
 /// What is wrong with a module: the first fault in the order of its judgement.
 #[derive(PartialEq, Debug, Drop)]
 pub enum ModuleFault {
-    /// Something that the module or what is given with it names isn't there, or the size of a task payload isn't known.
+    /// What is named doesn't exist or comes too late, lists that belong together differ in length, or the size of a
+    /// task payload isn't known.
     NotFit,
     /// A global variable has this fault.
     Global(Handle<tag::GlobalVariable>, GlobalVariableError),
@@ -53,7 +55,7 @@ pub enum ModuleFault {
     Function(Handle<tag::Function>, WithSpan<FunctionError>),
     /// An entry point, counted from 0, has this fault.
     EntryPoint(usize, WithSpan<EntryPointError>),
-    /// There was no memory.
+    /// Out of memory.
     Memory,
 }
 
@@ -95,7 +97,8 @@ fn first_infos(alloc: Global, global_types: Vec<TypeResolution>) -> ModuleInfo
     }
 }
 
-/// Whether what a module's types and globals name is there, and the infos are those of its types and global expressions.
+/// Whether what a module's types and globals name is there, and the infos are those of its types and global
+/// expressions.
 fn fits<B: Below>(validator: &Validator<B>, module: &Module, infos: &ModuleInfo) -> bool
     ensures { IsTrue result ↔
         (AreInfosOf «module».now validator.now.types × FitsTypes «module».now × FitsGlobals «module».now infos.now) }
@@ -103,8 +106,8 @@ fn fits<B: Below>(validator: &Validator<B>, module: &Module, infos: &ModuleInfo)
     validator.has_types_of(module) && fits_types(module) && fits_globals(module, infos)
 }
 
-/// Validates the parts of a module that fits: its globals, its functions, and, once the sizes of its task payloads are known, its
-/// entry points.
+/// Validates the parts of a module that fits: its globals, its functions, and, once the sizes of its task payloads are
+/// known, its entry points.
 fn validate_parts<B: Below>(
     alloc: Global,
     validator: &mut Validator<B>,
@@ -131,13 +134,22 @@ fn validate_parts<B: Below>(
     validate_entry_points(alloc, validator, module, infos)
 }
 
-/// Judges a whole module, for a target with these settings, over a lower layer; `given` has what is known of the module's
-/// types and global expressions. The fault is the first in this order: something that the types, the globals or `given` name
-/// isn't there, or `given` is of another length (`NotFit`); each global variable (`Global`); each function, whether what it
-/// names is there (`NotFit`) and then itself (`Function`), with the infos of the functions before it; whether the size of each
-/// task payload is known (`NotFit`); each entry point, whether what it names is there (`NotFit`) and then itself (`EntryPoint`),
-/// with the infos of all functions. What ray traces leave goes from each function and entry point to the next. The infos are
-/// those of all functions and entry points. In naga this is the order of the module's validator, `Validator::validate`.
+/// Judges a whole module over a lower layer, with these settings. Answers the infos of all functions and entry points.
+///
+/// An Err is the first fault in this order, or out of memory:
+/// 1. The type infos, the types and the globals fit: `NotFit`. These are the three first tests.
+/// 2. Each global variable: `Global`.
+/// 3. Each function: it fits (`NotFit`), and then its own faults (`Function`), with the infos of earlier functions.
+/// 4. The size of each task payload is known: `NotFit`.
+/// 5. Each entry point: it fits (`NotFit`), and then its own faults (`EntryPoint`), with the infos of all functions.
+///
+/// `given` has the infos of the module's types and the types of its global expressions. What ray traces leave goes
+/// from each function and entry point to the next. In naga this is the order of the module's validator,
+/// `Validator::validate`.
+///
+/// With BLOCKS, `NotInScope` of a body without dead code, for a use or an argument of a call, says that
+/// some run uses what isn't live; a refused jump, that some run is stuck by it: `witnessed` and `stuck` of
+/// `function_law` in `naga_valid`.
 pub fn check_module<B: Below + Drop>(
     alloc: Global,
     below: B,
@@ -145,17 +157,34 @@ pub fn check_module<B: Below + Drop>(
     given: Given,
     module: &Module,
 ) -> Result<ModuleInfo, ModuleFault>
-    // The answer is the judgement of the module; or there was no memory.
-    ensures judged { IsAnswered (B.meaning below) settings given.types.items «module».now given.global_types.items result }
+    // The answer is the judgement of the module, or out of memory.
+    ensures judged { IsJudgementOrMemory (B.meaning below) settings given.types.items «module».now
+        given.global_types.items result }
 
-    // What doesn't fit is always answered, for which no memory is taken.
+    // What fails one of the three first tests is answered as NotFit, and never as out of memory.
     ensures fits { (Fits (B.meaning below) settings given.types.items «module».now given.global_types.items → ⊥) →
         result ≡ Err fault.NotFit }
 
-    // Where bodies are looked at: all runs of the bodies of an accepted module are sound, and each entry point keeps to its
-    // stage through all chains of calls.
+    // Of an accepted module there is one info for each function and each entry point: the answer of its own judgement with
+    // the infos before it. So the infos are vetted, at the end and before each entry point. The built-ins of an entry
+    // point's arguments are distinct, and at the vertex stage it returns a position.
+    ensures infos { IfOk result (λ infos. ModuleIsJudged (B.meaning below) settings given.types.items «module».now infos) }
+
+    // With BLOCKS all runs of the bodies of an accepted module are sound, and each entry point keeps to its stage
+    // through all chains of calls. No Return stands in a continuing part, each Switch has whole cases, and the stages of
+    // an info are stages of each statement and of each function that is called.
     ensures holds { IfOk result (λ infos. checks_blocks settings.flags ≡ true →
         ModuleHolds (B.meaning below) settings given.types.items «module».now infos) }
+
+    // With BLOCKS and EXPRESSIONS each CallResult of an accepted module is filled once, by a Call of its function, and each
+    // AtomicResult once, by an Atomic.
+    ensures filled { OnOk result (checks_blocks settings.flags ≡ true → checks_expressions settings.flags ≡ true →
+        ModuleFillsOnce «module».now) }
+
+    // With BINDINGS no two globals that an entry point of an accepted module uses have one binding, and no two parts of a
+    // group of its inputs or outputs take one location.
+    ensures bindings { IfOk result (λ infos. checks_bindings settings.flags ≡ true →
+        ModuleBindsApart settings given.types.items «module».now infos) }
 {
     let Given {
         types,

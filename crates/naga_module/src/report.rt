@@ -1,4 +1,4 @@
-//! Refusals, told to a person.
+//! Refusals as text for a person.
 
 use crate::check::ModuleFault;
 use check_errors::Explain;
@@ -6,7 +6,7 @@ use ir_arena::{Handle, Refusal, Span, tag};
 use std::error::Error;
 use std::fmt;
 
-/// What was judged: a function or a global of the module by its handle, or an entry point by its index, from 0.
+/// What was judged: a function or a global by its handle, or an entry point by its index, counted from 0.
 #[derive(Clone, Copy, PartialEq, Eq, Debug)]
 pub enum Subject {
     Function(Handle<tag::Function>),
@@ -24,9 +24,12 @@ impl fmt::Display for Subject {
     }
 }
 
-/// Writes why something was refused, on one line without an end: what was judged, the places of the fault, if it has
-/// any, the fault with its fields, and what is wrong, as in `function [2]: 50..55: InvalidIfType([3]): the condition of an
-/// if or of a loop's end is no bool`. It takes no memory.
+/// Writes why something was refused, on one line without a newline. It allocates nothing.
+///
+/// The line has what was judged, the spans of the fault, if there are any, the fault with its fields, and a sentence:
+/// `function [2]: 50..55: InvalidReturnSpot: a return stands in a continuing block`.
+///
+/// An Err is that of the writer.
 pub fn write_refusal<E: Explain, W: fmt::Write>(
     writer: &mut W,
     subject: Subject,
@@ -34,29 +37,28 @@ pub fn write_refusal<E: Explain, W: fmt::Write>(
 ) -> fmt::Result {
     match refusal {
         Refusal::Fault(fault) => write_fault(writer, subject, fault.spans(), fault.as_inner()),
-        Refusal::Memory => write!(writer, "{subject}: Memory: there was not enough memory"),
+        Refusal::Memory => write!(writer, "{subject}: Memory: out of memory"),
     }
 }
 
-/// Writes a fault as `write_refusal` does, with these places.
+/// Writes a fault as [`write_refusal`] does, with these spans.
 pub fn write_fault<E: Explain, W: fmt::Write>(
     writer: &mut W,
     subject: Subject,
-    places: &[Span],
+    spans: &[Span],
     fault: &E,
 ) -> fmt::Result {
     write!(writer, "{subject}: ")?;
-    write_places(writer, places)?;
+    write_spans(writer, spans)?;
     write!(writer, "{fault:?}: ")?;
     fault.explain(writer)
 }
 
-/// Writes why a module was refused, as `write_refusal` does: of what is not there, or where there was no memory, it names
-/// no function and no place.
+/// Writes why a module was refused, as [`write_refusal`] does. `NotFit` and `Memory` have no subject and no span.
 pub fn write_module_fault<W: fmt::Write>(writer: &mut W, fault: &ModuleFault) -> fmt::Result {
     match fault {
         ModuleFault::NotFit => writer.write_str(
-            "NotFit: something that is named isn't there, or the size of a task payload isn't known",
+            "NotFit: a handle or a range is out of bounds or out of order, or a fact is missing",
         ),
         ModuleFault::Global(global, error) => {
             write_fault(writer, Subject::GlobalVariable(*global), &[], error)
@@ -73,7 +75,7 @@ pub fn write_module_fault<W: fmt::Write>(writer: &mut W, fault: &ModuleFault) ->
             error.spans(),
             error.as_inner(),
         ),
-        ModuleFault::Memory => writer.write_str("Memory: there was not enough memory"),
+        ModuleFault::Memory => writer.write_str("Memory: out of memory"),
     }
 }
 
@@ -92,15 +94,15 @@ impl fmt::Display for ModuleFault {
 
 impl Error for ModuleFault {}
 
-/// Writes places with a comma between them and a colon behind the last.
-fn write_places<W: fmt::Write>(writer: &mut W, places: &[Span]) -> fmt::Result {
+/// Writes spans with a comma between them and a colon after the last.
+fn write_spans<W: fmt::Write>(writer: &mut W, spans: &[Span]) -> fmt::Result {
     let mut between = "";
-    for place in places {
-        let (start, end) = (place.start, place.end);
+    for span in spans {
+        let (start, end) = (span.start, span.end);
         write!(writer, "{between}{start}..{end}")?;
         between = ", ";
     }
-    if places.is_empty() {
+    if spans.is_empty() {
         return Ok(());
     }
     writer.write_str(": ")

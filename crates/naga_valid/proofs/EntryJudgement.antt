@@ -13,16 +13,17 @@ use Rattle.ir_facts.specs.declared.valid.settings.Settings.{Settings}
 use Rattle.ir_facts.specs.declared.valid.types.TypeInfo.{TypeInfo}
 use Rattle.check_errors.specs.Meaning.{Meaning}
 use Rattle.check_errors.specs.declared.function.FunctionError.{FunctionError}
-use Rattle.check_entry.specs.EntryFaults.{EntryFault, fault_of, Judges, RefusesFault, AnswersFault}
-use Rattle.check_entry.specs.EntryJudgement.{entry_judgement, of_function, interface_step, AnswersOutcome, RefusesEntry}
+use Rattle.check_entry.specs.EntryFaults.{EntryFault, fault_of}
+use Rattle.check_entry.specs.EntryJudgement.{entry_judgement, of_function, interface_step, AnswersAfter}
 use Rattle.check_entry.specs.Start.{start_points}
 use Rattle.check_statement.specs.FunctionJudgement.{FunctionOutcome, function_judgement}
 use Rattle.check_entry.specs.declared.error.EntryPointError.{EntryPointError}
 use Rattle.check_scope.specs.declared.trace.TraceState.{TraceState}
+use Rattle.check_errors.specs.Answers.{Answers, FirstOf, Exactly, read_by, refusal_read_by}
 
 module _ {A : Type 0} (points : List (Point EntryFault)) (x : A) where
   -- a refusal for one of the points
-  pub points_refuse : (r : Result A (Refusal EntryPointError)) → IsErr r → Judges points r → AnswersFault (answer (first_fault points) x) r
+  pub points_refuse : (r : Result A (Refusal EntryPointError)) → IsErr r → Answers (FirstOf points) (read_by fault_of r) → Answers (Exactly (answer (first_fault points) x)) (read_by fault_of r)
   points_refuse (Err (refusal.Fault f)) err h = ap (λ o. answer o x) h
   points_refuse (Err refusal.Memory) err h = tt
   points_refuse (Ok y) err h = cc
@@ -58,14 +59,14 @@ module _ (below : Meaning) (settings : Settings) (infos : List TypeInfo) (trace 
     started = by_start ∙ ap (λ o. and_then (answer (option_map fault_of o) ep) behind) none
 
     -- a refusal of the function
-    pub function_refuses : (x : Refusal EntryPointError) → RefusesFault (of_function function) x → RefusesEntry (start_points settings.capabilities ep) judgement x
+    pub function_refuses : (x : Refusal EntryPointError) → Answers (Exactly (of_function function)) (Err (refusal_read_by fault_of x)) → AnswersAfter (start_points settings.capabilities ep) judgement (Err (refusal_read_by fault_of x))
     function_refuses (refusal.Fault f) h =
         started ∙ ap (λ o. and_then o (λ outcome. interface_step below settings infos program ep outcome)) h
     function_refuses refusal.Memory h = none
 
     -- what the steps behind the function answer
     pub interface_decides : (outcome : FunctionOutcome) (r : Result FunctionOutcome (Refusal EntryPointError)) → of_function function ≡ Ok outcome →
-        AnswersFault (interface_step below settings infos program ep outcome) r → AnswersOutcome (start_points settings.capabilities ep) judgement r
+        Answers (Exactly (interface_step below settings infos program ep outcome)) (read_by fault_of r) → AnswersAfter (start_points settings.capabilities ep) judgement (read_by fault_of r)
     interface_decides outcome (Ok y) is h =
         started ∙ ap (λ o. and_then o (λ outcome. interface_step below settings infos program ep outcome)) is ∙ h
     interface_decides outcome (Err (refusal.Fault f)) is h =

@@ -1,12 +1,12 @@
 -- The fold over a function's expressions, one by one.
 use Rattle.std.proofs.Common.{◌≡◌, ℕ, suc, true, length, ◌+◌, ◌-◌, ◌<◌, ◌≤◌, Result, Ok, sym, ap, ◌∙◌, subst, arith}
-use Rattle.std.specs.Prelude.{if◌then◌else◌}
+use Rattle.std.specs.Prelude.{if◌then◌else◌, Err}
 use Rattle.ir_facts.specs.Points.{and_then}
 use Rattle.ir_arena.specs.declared.span.Refusal.{Refusal}
 use Rattle.ir_arena.specs.declared.span.Refusal.TheVariants as refusal
 use Rattle.ir_flags.specs.declared.valid.ShaderStages.{ShaderStages}
 use Rattle.ir_facts.specs.declared.valid.info.FunctionInfo.{FunctionInfo}
-use Rattle.check_errors.specs.Answers.{Answers, Refuses}
+use Rattle.check_errors.specs.Answers.{Answers, Exactly}
 use Rattle.check_errors.specs.Meaning.{Meaning}
 use Rattle.check_errors.specs.declared.function.FunctionError.{FunctionError}
 use Rattle.check_scope.specs.Context.{Context}
@@ -28,7 +28,7 @@ module _ (below : Meaning) (context : Context) (n h : ℕ) (stages : ShaderStage
   mask_met lt is mask e =
       sym (one_more lt ∙ ap (λ o. and_then o (λ m. stages_from below context (meet stages m) (h + 1) (n - (h + 1)))) e) ∙ is
 
-  pub mask_refused : h < n → stages_from below context stages h (n - h) ≡ whole → (x : Refusal FunctionError) → Refuses (mask_at below context stages h) x → Refuses whole x
+  pub mask_refused : h < n → stages_from below context stages h (n - h) ≡ whole → (x : Refusal FunctionError) → Answers (Exactly (mask_at below context stages h)) (Err x) → Answers (Exactly whole) (Err x)
   mask_refused lt is (refusal.Fault f) e =
       sym is ∙ one_more lt ∙ ap (λ o. and_then o (λ m. stages_from below context (meet stages m) (h + 1) (n - (h + 1)))) e
   mask_refused lt is refusal.Memory e = tt
@@ -49,7 +49,7 @@ step_begins below context on =
 -- what was asked of an expression is its mask
 pub asked_is : (below : Meaning) (context : Context) (info : FunctionInfo) (handle h : ℕ) (r : Result ShaderStages (Refusal FunctionError)) →
     info ≡ with_stages context.info info.available_stages → handle ≡ h →
-    Answers (of_expression handle (below.expression_stages context.settings handle context.fun context.program info context.earlier context.kinds)) r →
-    Answers (mask_at below context info.available_stages h) r
+    Answers (Exactly (of_expression handle (below.expression_stages context.settings handle context.fun context.program info context.earlier context.kinds))) r →
+    Answers (Exactly (mask_at below context info.available_stages h)) r
 asked_is below context info handle h r kept same a =
-    subst (λ i. Answers (of_expression h (below.expression_stages context.settings h context.fun context.program i context.earlier context.kinds)) r) kept (subst (λ k. Answers (of_expression k (below.expression_stages context.settings k context.fun context.program info context.earlier context.kinds)) r) same a)
+    subst (λ i. Answers (Exactly (of_expression h (below.expression_stages context.settings h context.fun context.program i context.earlier context.kinds))) r) kept (subst (λ k. Answers (Exactly (of_expression k (below.expression_stages context.settings k context.fun context.program info context.earlier context.kinds))) r) same a)

@@ -13,7 +13,7 @@ use Rattle.ir_facts.specs.declared.valid.info.ModuleInfo.{ModuleInfo}
 use Rattle.ir_facts.specs.declared.valid.settings.Settings.{Settings}
 use Rattle.ir_flags.specs.declared.valid.ShaderStages.{ShaderStages}
 use Rattle.ir_facts.specs.declared.valid.types.TypeInfo.{TypeInfo}
-use Rattle.check_errors.specs.Answers.{Answers, IsFirstFault, Refuses}
+use Rattle.check_errors.specs.Answers.{IsFirstFault, Answers, Exactly}
 use Rattle.check_errors.specs.Meaning.{Meaning, HasOneTypeEach, HasTypesInRange, HasNoStructValues, HasOneKindEach}
 use Rattle.check_errors.specs.declared.function.FunctionError.{FunctionError}
 use Rattle.naga_runs.specs.Judgement.{viewed}
@@ -35,7 +35,7 @@ use Rattle.check_body.proofs.Traces.{no_trace}
 abbrev pub outcome_with : FunctionInfo → BodyOutcome → FunctionOutcome
 outcome_with info left = record { info = with_stages info left.stages; trace = left.trace }
 
-pub viewed_refuses : {A B Fault : Type 0} (view : A → B) (r : Result A Fault) (x : Refusal Fault) → Refuses r x → Refuses (viewed view r) x
+pub viewed_refuses : {A B Fault : Type 0} (view : A → B) (r : Result A Fault) (x : Refusal Fault) → Answers (Exactly r) (Err x) → Answers (Exactly (viewed view r)) (Err x)
 viewed_refuses view (Ok a) (refusal.Fault f) h = cc
 viewed_refuses view (Err e) (refusal.Fault f) h = let same : e ≡ f = cc in ap Err same
 viewed_refuses view r refusal.Memory h = tt
@@ -62,9 +62,9 @@ module _ (context : Context) where
       ∙ ap (λ t. Ok (record { info = context.info; trace = t })) (no_trace context.trace)
 
   -- what the body answers of a function of which this is known
-  pub body_refuses : checks_blocks context.settings.flags ≡ true → (x : Refusal FunctionError) → Refuses (body_left context (body_judgement context)) x → Refuses (judged_with context) x
+  pub body_refuses : checks_blocks context.settings.flags ≡ true → (x : Refusal FunctionError) → Answers (Exactly (body_left context (body_judgement context))) (Err x) → Answers (Exactly (judged_with context)) (Err x)
   body_refuses on x h =
-      subst (λ j. Refuses j x) (sym (body_looked_at on)) (viewed_refuses (outcome_with context.info) (body_left context (body_judgement context)) x h)
+      subst (λ j. Answers (Exactly j) (Err x)) (sym (body_looked_at on)) (viewed_refuses (outcome_with context.info) (body_left context (body_judgement context)) x h)
 
   pub body_passes : checks_blocks context.settings.flags ≡ true → (left : BodyOutcome) → body_left context (body_judgement context) ≡ Ok left → judged_with context ≡ Ok (outcome_with context.info left)
   body_passes on left h = body_looked_at on ∙ ap (viewed (outcome_with context.info)) h
@@ -74,7 +74,7 @@ module _ (context : Context) where
 
 -- the declarations and the expressions
 module _ (below : Meaning) (infos : List TypeInfo) (entry_point : Bool) (context : Context) where
-  pub declarations_refuse : (x : Refusal FunctionError) → IsFirstFault (declaration_points context infos entry_point) x → Refuses (known_behind below infos entry_point context) x
+  pub declarations_refuse : (x : Refusal FunctionError) → IsFirstFault (declaration_points context infos entry_point) x → Answers (Exactly (known_behind below infos entry_point context)) (Err x)
   declarations_refuse (refusal.Fault f) h =
       ap (λ o. and_then (answer o context.info) (λ info. expressions_known below (record context { info = info }))) h
   declarations_refuse refusal.Memory h = tt
@@ -83,7 +83,7 @@ module _ (below : Meaning) (infos : List TypeInfo) (entry_point : Bool) (context
   declarations_pass h =
       ap (λ o. and_then (answer o context.info) (λ info. expressions_known below (record context { info = info }))) h
 
-  pub expressions_refuse : first_fault (declaration_points context infos entry_point) ≡ None → (x : Refusal FunctionError) → Refuses (expressions_step below context) x → Refuses (known_behind below infos entry_point context) x
+  pub expressions_refuse : first_fault (declaration_points context infos entry_point) ≡ None → (x : Refusal FunctionError) → Answers (Exactly (expressions_step below context)) (Err x) → Answers (Exactly (known_behind below infos entry_point context)) (Err x)
   expressions_refuse h (refusal.Fault f) e =
       declarations_pass h ∙ ap (λ o. and_then o (λ stages. Ok (with_stages context.info stages))) e
   expressions_refuse h refusal.Memory e = tt
@@ -105,7 +105,7 @@ module _ (below : Meaning) (settings : Settings) (infos : List TypeInfo) (trace 
       and_then (declarations_step infos entry_point (context_with below settings infos trace program earlier fun entry_point info)) (λ known.
       and_then (expressions_known below (context_with below settings infos trace program earlier fun entry_point known)) (λ known. judged_with (context_with below settings infos trace program earlier fun entry_point known)))
 
-  pub lower_refuses : (x : Refusal FunctionError) → Refuses (lower_step below settings infos trace program earlier fun entry_point) x → Refuses (function_judgement below settings infos trace program earlier fun entry_point) x
+  pub lower_refuses : (x : Refusal FunctionError) → Answers (Exactly (lower_step below settings infos trace program earlier fun entry_point)) (Err x) → Answers (Exactly (function_judgement below settings infos trace program earlier fun entry_point)) (Err x)
   unfolding function_judgement
   lower_refuses (refusal.Fault f) h = ap (λ l. and_then l behind) h
   lower_refuses refusal.Memory h = tt
@@ -132,14 +132,14 @@ module _ (below : Meaning) (settings : Settings) (infos : List TypeInfo) (trace 
     by_known : function_judgement below settings infos trace program earlier fun entry_point ≡ and_then (known_behind below infos entry_point (asked_of kinds info)) (λ known. judged_with (asked_of kinds known))
     by_known = behind_lower ∙ grouped (declarations_step infos entry_point (asked_of kinds info))
 
-    pub known_refuses : (x : Refusal FunctionError) → Refuses (known_behind below infos entry_point (asked_of kinds info)) x → Refuses (function_judgement below settings infos trace program earlier fun entry_point) x
+    pub known_refuses : (x : Refusal FunctionError) → Answers (Exactly (known_behind below infos entry_point (asked_of kinds info))) (Err x) → Answers (Exactly (function_judgement below settings infos trace program earlier fun entry_point)) (Err x)
     known_refuses (refusal.Fault f) h = by_known ∙ ap (λ o. and_then o (λ known. judged_with (asked_of kinds known))) h
     known_refuses refusal.Memory h = tt
 
     pub body_decides : (known : FunctionInfo) (r : Result FunctionOutcome (Refusal FunctionError)) → known_behind below infos entry_point (asked_of kinds info) ≡ Ok known →
-        Answers (judged_with (asked_of kinds known)) r → Answers (function_judgement below settings infos trace program earlier fun entry_point) r
+        Answers (Exactly (judged_with (asked_of kinds known))) r → Answers (Exactly (function_judgement below settings infos trace program earlier fun entry_point)) r
     body_decides known r h a =
-        subst (λ j. Answers j r) (sym (by_known ∙ ap (λ o. and_then o (λ known. judged_with (asked_of kinds known))) h)) a
+        subst (λ j. Answers (Exactly j) r) (sym (by_known ∙ ap (λ o. and_then o (λ known. judged_with (asked_of kinds known))) h)) a
 
     -- that context fits, by the laws of the lower layer
     pub fits_first : HasOneTypeEach below → HasTypesInRange below → HasNoStructValues below → HasOneKindEach below →
@@ -156,7 +156,7 @@ module _ (below : Meaning) (settings : Settings) (infos : List TypeInfo) (trace 
 
     -- the declarations, in the context of what the lower layer knows
     module _ (context : Context) (same : context ≡ asked_of kinds info) where
-      pub declarations_refused : (x : Refusal FunctionError) → IsFirstFault (declaration_points context infos entry_point) x → Refuses (function_judgement below settings infos trace program earlier fun entry_point) x
+      pub declarations_refused : (x : Refusal FunctionError) → IsFirstFault (declaration_points context infos entry_point) x → Answers (Exactly (function_judgement below settings infos trace program earlier fun entry_point)) (Err x)
       declarations_refused x h =
           known_refuses x (declarations_refuse below infos entry_point (asked_of kinds info) x (subst (λ (k : Context). IsFirstFault (declaration_points k infos entry_point) x) same h))
 
@@ -164,7 +164,7 @@ module _ (below : Meaning) (settings : Settings) (infos : List TypeInfo) (trace 
         none_here : first_fault (declaration_points (asked_of kinds info) infos entry_point) ≡ None
         none_here = subst (λ (k : Context). first_fault (declaration_points k infos entry_point) ≡ None) same none
 
-        pub expressions_refused : (x : Refusal FunctionError) → Refuses (expressions_step below (asked_of kinds info)) x → Refuses (function_judgement below settings infos trace program earlier fun entry_point) x
+        pub expressions_refused : (x : Refusal FunctionError) → Answers (Exactly (expressions_step below (asked_of kinds info))) (Err x) → Answers (Exactly (function_judgement below settings infos trace program earlier fun entry_point)) (Err x)
         expressions_refused x h =
             known_refuses x (expressions_refuse below infos entry_point (asked_of kinds info) none_here x h)
 
@@ -175,9 +175,9 @@ module _ (below : Meaning) (settings : Settings) (infos : List TypeInfo) (trace 
               expressions_pass below infos entry_point (asked_of kinds info) none_here known.available_stages left ∙ ap Ok (sym kept)
 
           pub body_refused : (later : Context) → later ≡ asked_of kinds known → checks_blocks settings.flags ≡ true → (x : Refusal FunctionError) →
-              Refuses (body_left later (body_judgement later)) x → Refuses (function_judgement below settings infos trace program earlier fun entry_point) x
+              Answers (Exactly (body_left later (body_judgement later))) (Err x) → Answers (Exactly (function_judgement below settings infos trace program earlier fun entry_point)) (Err x)
           body_refused later is on x h =
-              body_decides known (Err x) known_here (body_refuses (asked_of kinds known) on x (subst (λ (k : Context). Refuses (body_left k (body_judgement k)) x) is h))
+              body_decides known (Err x) known_here (body_refuses (asked_of kinds known) on x (subst (λ (k : Context). Answers (Exactly (body_left k (body_judgement k))) (Err x)) is h))
 
           pub body_passed : (later : Context) → later ≡ asked_of kinds known → checks_blocks settings.flags ≡ true → (outcome : BodyOutcome) →
               body_left later (body_judgement later) ≡ Ok outcome → function_judgement below settings infos trace program earlier fun entry_point ≡ Ok (outcome_with known outcome)

@@ -22,10 +22,11 @@ use Rattle.check_varyings.specs.Varyings.{Item, Placed, placed_parts, item_point
 use Rattle.check_varyings.specs.declared.varying.MeshOutputType.{MeshOutputType}
 use Rattle.check_varyings.specs.declared.varying.MeshOutputType.TheVariants.{Neither}
 use Rattle.check_varyings.specs.declared.varying.VaryingPlace.{VaryingPlace}
-use Rattle.check_entry.specs.EntryFaults.{EntryFault, OfResult, Other, Judges}
+use Rattle.check_entry.specs.EntryFaults.{EntryFault, OfResult, Other, fault_of}
 use Rattle.check_entry.specs.EntryVaryings.{declared_points, is_struct, output_points, place_of, result_item}
 use Rattle.check_entry.specs.declared.error.EntryPointError.{EntryPointError}
 use Rattle.check_entry.specs.declared.error.EntryPointError.TheVariants as fault
+use Rattle.check_errors.specs.Answers.{Answers, FirstOf, read_by}
 
 module _ (types : List IrType) (infos : List TypeInfo) where
   parts_more : (items : List Item) (x : Item) → group_parts types infos (items ++ x ∷ []) ≡ group_parts types infos items ++ placed_parts types infos x
@@ -63,8 +64,8 @@ module _ (types : List IrType) (infos : List TypeInfo) where
 
     -- the fault of this item is that of the group, where those before it have none
     pub group_stops : {T : Type 0} (r : Result T (Refusal EntryPointError)) (x : Item) → i < length items → x ≡ get_or items i x →
-        rest (before i) i (drop i items) ≡ rest [] 0 items → IsErr r → Judges (within (fault i) (item_points types infos (before i) x)) r →
-        Judges (group_points types infos fault items) r
+        rest (before i) i (drop i items) ≡ rest [] 0 items → IsErr r → Answers (FirstOf (within (fault i) (item_points types infos (before i) x))) (read_by fault_of r) →
+        Answers (FirstOf (group_points types infos fault items)) (read_by fault_of r)
     group_stops (Ok t) x lt is left err h = cc
     group_stops (Err (refusal.Fault f)) x lt is left err h =
         sym left ∙ group_turn x lt is ∙ ap (λ o. option_or o (rest (before (i + 1)) (i + 1) (drop (i + 1) items))) h
@@ -99,9 +100,9 @@ module _ (types : List IrType) (infos : List TypeInfo) where
 
   -- the result, where nothing was seen before
   pub result_decides : {T : Type 0} (settings : Settings) (ep : EntryPoint) (seen : Seen) (declared : FunctionResult) (r : Result T (Refusal EntryPointError)) → seen ≡ nothing_seen →
-      Judges (within OfResult (points_from (place_of settings ep true Neither) types infos seen declared.ty declared.binding)) r → Judges (declared_points settings types infos ep (Some declared)) r
+      Answers (FirstOf (within OfResult (points_from (place_of settings ep true Neither) types infos seen declared.ty declared.binding))) (read_by fault_of r) → Answers (FirstOf (declared_points settings types infos ep (Some declared))) (read_by fault_of r)
   result_decides settings ep seen declared r e h =
-      subst (λ points. Judges points r) (one_item (λ _ f. OfResult f) (result_item settings ep declared)) (subst (λ points. Judges (within OfResult points) r) (seen_by_position (place_of settings ep true Neither) [] seen declared.ty declared.binding e) h)
+      subst (λ points. Answers (FirstOf points) (read_by fault_of r)) (one_item (λ _ f. OfResult f) (result_item settings ep declared)) (subst (λ points. Answers (FirstOf (within OfResult points)) (read_by fault_of r)) (seen_by_position (place_of settings ep true Neither) [] seen declared.ty declared.binding e) h)
 
 -- a point behind others that hold
 module _ (first : List (Point EntryFault)) (b : Bool) (f : EntryFault) (none : first_fault first ≡ None) where

@@ -11,3 +11,4 @@ pub mod EntryChains
 pub mod EntryFacts
 pub mod EntryGroups
 pub mod EntryBuiltIns
+pub mod EntryBodies

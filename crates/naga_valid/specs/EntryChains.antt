@@ -30,7 +30,8 @@ abbrev pub AcceptedEntryIsSound : Type 0
 AcceptedEntryIsSound =
     OfAcceptedLooked (λ below settings types m infos ep. RunsAreSure (pre_emitted_of ep.function) (body_of ep.function))
 
--- with vetted infos, its stage is kept to through all chains of calls
+-- with vetted infos, and where its calls name only functions that have infos, its stage is kept to through all chains of
+-- calls
 abbrev pub AcceptedEntryKeepsItsStage : Type 0
 AcceptedEntryKeepsItsStage =
     OfAcceptedLooked (λ below settings types m infos ep.

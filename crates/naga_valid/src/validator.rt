@@ -44,8 +44,8 @@ impl<B> Model for Validator<B> {
 }
 
 impl<B: Below> Validator<B> {
-    /// A validator over a lower layer that makes these checks for a target with these capabilities. It has no type infos
-    /// yet, and takes no memory.
+    /// A validator over a lower layer, with these checks, for a target with these capabilities. It has no type infos
+    /// yet. It allocates nothing.
     pub fn new(below: B, flags: ValidationFlags, capabilities: Capabilities) -> Self
         ensures { result ≡ record { below = below; settings = first_settings flags capabilities; types = []; trace = no_traces } }
     {
@@ -88,29 +88,29 @@ impl<B: Below> Validator<B> {
         }
     }
 
-    /// Lets subgroup operations be used at these stages, where it was other ones before, and at first none.
+    /// Sets the stages in which subgroup operations may be used. At first there are none.
     pub fn subgroup_stages(&mut self, set: ShaderStages)
         ensures { self.new ≡ record self.old { settings = record self.old.settings { subgroup_stages = set } } }
     {
         self.settings.subgroup_stages = set;
     }
 
-    /// Lets these groups of subgroup operations be used, where it was other ones before, and at first none.
+    /// Sets the groups of subgroup operations that the target has. At first there are none.
     pub fn subgroup_operations(&mut self, set: SubgroupOperationSet)
         ensures { self.new ≡ record self.old { settings = record self.old.settings { subgroup_operations = set } } }
     {
         self.settings.subgroup_operations = set;
     }
 
-    /// The lower layer that the validator stands on.
+    /// The lower layer that the validator depends on.
     pub fn below(&self) -> &B
         ensures { result.now ≡ self.now.below }
     {
         &self.below
     }
 
-    /// What the ray traces of the functions validated so far leave: the type that a payload must have, and how vertices
-    /// are returned. No payload and `NoTraceRays` at first.
+    /// What the ray traces of the functions so far leave: the type that a payload must have, and how vertices are
+    /// returned. At first there is no payload type, and vertices are `NoTraceRays`.
     pub fn trace_state(&self) -> TraceState
         ensures { result ≡ self.now.trace }
     {

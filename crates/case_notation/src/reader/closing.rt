@@ -133,7 +133,7 @@ impl Reader {
         }
     }
 
-    /// Puts a case behind the others of the Switch at hand, whose list of statements is empty.
+    /// Adds a case after the others of the current Switch, whose list of statements is empty.
     #[tactic(auto, using(crate::proofs::Reading::Stack::stacks), unfolding(crate::specs::Reading::add_case))]
     fn add_case(&mut self, case: SwitchCase) -> Result<(), ReadError>
         ensures { Moves (λ opened list. add_case opened list case) self.old result self.new }

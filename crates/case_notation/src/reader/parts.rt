@@ -22,7 +22,7 @@ pub enum Tail {
 pub enum Naming {
     /// The first emitted expression.
     First,
-    /// The last emitted expression, behind this first one.
+    /// The last emitted expression, after this first one.
     Last(u8),
     Condition,
     Selector,
@@ -31,7 +31,7 @@ pub enum Naming {
     Result,
     /// Where a store points.
     Pointer,
-    /// What is stored, behind this pointer.
+    /// What is stored, after this pointer.
     Stored(u8),
 }
 

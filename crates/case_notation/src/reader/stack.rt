@@ -36,7 +36,7 @@ fn kind_of(alloc: Global, brace: Brace) -> Kind
     }
 }
 
-/// What is wanted behind a brace.
+/// What is expected after a brace.
 #[inline(always)]
 fn behind_brace(brace: Brace) -> Wants
     ensures { result ≡ behind_brace brace }
@@ -100,7 +100,7 @@ impl Reader {
         self.want(behind_brace(brace))
     }
 
-    /// Puts a whole statement behind the others.
+    /// Adds a whole statement after the others.
     #[inline(always)]
     pub fn put(&mut self, statement: Statement) -> Result<(), ReadError>
         ensures { Moves (λ opened list. ready opened (list ++ placed statement ∷ [])) self.old result self.new }

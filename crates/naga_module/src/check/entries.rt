@@ -24,7 +24,7 @@ fn fits(ep: &EntryPoint, module: &Module, earlier: usize) -> bool
     fits_function(&ep.function, module, earlier) && fits_entry(ep, module)
 }
 
-/// Validates the entry points of a module in order, each with all infos so far, and puts the info of each last.
+/// Validates the entry points of a module in order, each with all infos so far, and adds the info of each at the end.
 pub(crate) fn validate_entry_points<B: Below>(
     alloc: Global,
     validator: &mut Validator<B>,

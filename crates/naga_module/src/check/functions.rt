@@ -16,7 +16,8 @@ use ir_module::module::Module;
 use naga_valid::validator::Validator;
 use std::alloc::Global;
 
-/// Validates the functions of a module in order, each with the infos of those before it, and puts the info of each last.
+/// Validates the functions of a module in order, each with the infos of those before it, and adds the info of each at
+/// the end.
 pub(crate) fn validate_functions<B: Below>(
     alloc: Global,
     validator: &mut Validator<B>,

@@ -3,10 +3,11 @@
 ghost use Rattle.std.specs.Prelude.{◌≡◌, length};
 ghost use Rattle.ir_facts.specs.Fits.{FitsTypes, FitsFunction, FitsEntry};
 ghost use Rattle.ir_facts.specs.FitsBody.{SignatureFits};
-ghost use Rattle.check_entry.specs.EntryFaults.{AnswersFault, Judges};
-ghost use Rattle.check_entry.specs.EntryJudgement.{HasPayloadSizes, entry_judgement, interface_step, used_points, AnswersOutcome};
+ghost use Rattle.check_entry.specs.EntryJudgement.{HasPayloadSizes, entry_judgement, interface_step, used_points, AnswersAfter};
 ghost use Rattle.check_entry.specs.Start.{start_points};
 ghost use Rattle.check_statement.specs.ValidatorParts.{AreInfosOf};
+ghost use Rattle.check_errors.specs.Answers.{Answers, FirstOf, Exactly, read_by};
+ghost use Rattle.check_entry.specs.EntryFaults.{fault_of};
 
 use crate::validator::Validator;
 use crate::validator::judge::FunctionContext;
@@ -44,9 +45,9 @@ impl<B: Below> Validator<B> {
             (length entry.now.earlier.now.functions) }
         requires entry { FitsEntry entry.now.entry_point.now entry.now.program.now }
         requires sizes { HasPayloadSizes (B.meaning self.old.below) entry.now.program.now }
-        ensures judged { AnswersOutcome (start_points self.old.settings.capabilities entry.now.entry_point.now)
+        ensures judged { AnswersAfter (start_points self.old.settings.capabilities entry.now.entry_point.now)
             (entry_judgement (B.meaning self.old.below) self.old.settings self.old.types self.old.trace
-            entry.now.program.now entry.now.earlier.now entry.now.entry_point.now) result }
+            entry.now.program.now entry.now.earlier.now entry.now.entry_point.now) (read_by fault_of result) }
         ensures kept { self.new ≡ self.old }
     {
         if let Err(fault) = check_start(self.settings.capabilities, entry.entry_point) {
@@ -76,8 +77,8 @@ impl<B: Below> Validator<B> {
         requires entry { FitsEntry entry.now.entry_point.now entry.now.program.now }
         requires sizes { HasPayloadSizes (B.meaning self.now.below) entry.now.program.now }
         requires uses { length outcome.info.global_uses ≡ length entry.now.program.now.global_variables }
-        ensures { AnswersFault (interface_step (B.meaning self.now.below) self.now.settings self.now.types
-            entry.now.program.now entry.now.entry_point.now outcome) result }
+        ensures { Answers (Exactly (interface_step (B.meaning self.now.below) self.now.settings self.now.types
+            entry.now.program.now entry.now.entry_point.now outcome)) (read_by fault_of result) }
     {
         answer(alloc, check_payload(entry.program, entry.entry_point))?;
         let FunctionOutcome { mut info, trace } = outcome;
@@ -100,8 +101,8 @@ impl<B: Below> Validator<B> {
         requires signature { SignatureFits entry.now.program.now entry.now.entry_point.now.function }
         requires entry { FitsEntry entry.now.entry_point.now entry.now.program.now }
         requires sizes { HasPayloadSizes (B.meaning self.now.below) entry.now.program.now }
-        ensures { Judges (used_points (B.meaning self.now.below) self.now.settings self.now.types entry.now.program.now
-            entry.now.entry_point.now info.now) result }
+        ensures { Answers (FirstOf (used_points (B.meaning self.now.below) self.now.settings self.now.types
+            entry.now.program.now entry.now.entry_point.now info.now)) (read_by fault_of result) }
     {
         answer(
             alloc,

@@ -8,13 +8,17 @@ ghost use Rattle.check_errors.specs.WhatIsChecked.{checks_bindings};
 ghost use Rattle.check_body.specs.Accepted.{ResultsAreFilledOnce, StagesAreOfAll};
 ghost use Rattle.check_scope.specs.BodyTrees.{body_of};
 ghost use Rattle.check_body.specs.Chains.{AreVetted, ChainsKeepTo};
+ghost use Rattle.check_body.specs.Shapes.{HasNoReturnInContinuing, HasWholeSwitches};
 ghost use Rattle.check_scope.specs.Context.{pre_emitted_of};
-ghost use Rattle.check_entry.specs.EntryJudgement.{HasPayloadSizes, entry_judgement, AnswersEntry};
+ghost use Rattle.check_entry.specs.EntryJudgement.{HasPayloadSizes, entry_judgement, AnswersAfter};
 ghost use Rattle.naga_valid.specs.EntryFacts.{argument_parts, BindingsAreDistinct, BuiltInsAreDistinct, GroupsAreDistinct, ReturnsPosition};
 ghost use Rattle.check_entry.specs.Start.{start_points};
 ghost use Rattle.check_entry.specs.EntryUses.{only};
 ghost use Rattle.check_statement.specs.ValidatorParts.{AreInfosOf};
 ghost use Rattle.check_errors.specs.WhatIsChecked.{checks_blocks, checks_expressions};
+ghost use Rattle.check_errors.specs.Answers.{read_by};
+ghost use Rattle.check_statement.specs.FunctionJudgement.{outcome_of};
+ghost use Rattle.check_entry.specs.EntryFaults.{fault_of};
 
 use crate::validator::Validator;
 use crate::validator::entry::EntryContext;
@@ -26,14 +30,19 @@ use ir_module::module::{EntryPoint, Module};
 use std::alloc::Global;
 
 impl<B: Below> Validator<B> {
-    /// Judges an entry point of a module: naga 30.0.1's `validate_entry_point`. `mod_info` has the infos of the module's
-    /// functions. The fault is the first in this order: what its stage needs; the early depth test; the size of a work
-    /// group; whether something is said of a mesh; the function, as `validate_function` with `entry_point` (`Function`); the
-    /// task payload; the stage; the arguments (`Argument`); the result (`Result`) and what the stage has to return; the
-    /// globals that are used, of which at most one is an immediate; the mesh. Of those before the function no memory is
-    /// taken: they are always answered. The info is that of the function, with what the entry point itself does with its
-    /// payload and its mesh's output variable joined to the uses, and with `dual_source_blending` set where the result is the
-    /// two sources of a blend. What ray traces leave is kept for later functions; after a refusal the validator is as before.
+    /// Judges an entry point of a module: naga 30.0.1's `validate_entry_point`. Answers the info of an accepted one.
+    ///
+    /// An Err is the first fault, or out of memory. It leaves the validator as it was. Faults come in this order: what
+    /// its stage needs; the early depth test; the workgroup size; `mesh_info` and its absence; the function
+    /// (`Function`), as `validate_function` judges it; the task payload; the stage; the arguments (`Argument`); the
+    /// result (`Result`) and what the stage must return; the globals that are used, of which at most one is an
+    /// immediate; the mesh. A fault before the function is never hidden by out of memory.
+    ///
+    /// `mod_info` has the infos of the module's functions. The info is that of the function. The uses of the payload
+    /// and of the mesh's output variable by the entry point itself are added to it, and `dual_source_blending` is set
+    /// if the result is the two sources of a blend. The validator keeps what ray traces leave for later functions.
+    ///
+    /// A refused jump of its function's body, and a use out of scope, break in some run, as `validate_function` says.
     pub fn validate_entry_point(
         &mut self,
         alloc: Global,
@@ -47,32 +56,41 @@ impl<B: Below> Validator<B> {
         requires entry { FitsEntry ep.now «module».now }
         requires sizes { HasPayloadSizes (B.meaning self.old.below) «module».now }
 
-        // The answer is the judgement's; or there was no memory, and nothing up to the function is wrong.
-        ensures judged { AnswersEntry (start_points self.old.settings.capabilities ep.now)
+        // The answer is the judgement's; or out of memory, and nothing before the function is wrong.
+        ensures judged { AnswersAfter (start_points self.old.settings.capabilities ep.now)
             (entry_judgement (B.meaning self.old.below) self.old.settings self.old.types self.old.trace «module».now
-            mod_info.now ep.now) self.new.trace result }
+            mod_info.now ep.now) (read_by fault_of (outcome_of self.new.trace result)) }
 
-        // In every run of an accepted body that was looked at, what every run has put is live, and so is what is used, no
-        // live handle is put, and jumps have targets.
+        // With BLOCKS all runs of an accepted body are sound: what every run has emitted is live, what is used is
+        // live, no live handle is emitted, and jumps have targets.
         ensures sound { OnOk result (checks_blocks self.old.settings.flags ≡ true →
             RunsAreSure (pre_emitted_of ep.now.function) (body_of ep.now.function)) }
 
-        // Where bodies and expressions were looked at, each CallResult of an accepted body is filled by one Call, which
+        // With BLOCKS and EXPRESSIONS each CallResult of an accepted body is filled by one Call, which
         // is of its function, and by no Atomic; each AtomicResult by one Atomic and by no Call.
         ensures filled { OnOk result (checks_blocks self.old.settings.flags ≡ true →
             checks_expressions self.old.settings.flags ≡ true → ResultsAreFilledOnce ep.now.function) }
 
-        // Where bodies were looked at, the stages of an accepted one are stages of each of its statements and of each
+        // With BLOCKS the stages of an accepted function are stages of each of its statements and of each
         // function that it calls.
         ensures stages { IfOk result (λ info. checks_blocks self.old.settings.flags ≡ true →
             StagesAreOfAll self.old.settings.subgroup_stages mod_info.now (body_of ep.now.function)
             info.available_stages) }
 
-        // Where bindings were looked at, no two globals that are used have one binding.
+        // With BLOCKS no Return of an accepted body stands in a continuing part, at any depth.
+        ensures returns { OnOk result (checks_blocks self.old.settings.flags ≡ true →
+            HasNoReturnInContinuing (body_of ep.now.function)) }
+
+        // With BLOCKS each Switch of an accepted body has exactly one default, no value twice, values of the sign that its
+        // selector's type in the info has, and a last case that doesn't fall through.
+        ensures switches { IfOk result (λ info. checks_blocks self.old.settings.flags ≡ true →
+            HasWholeSwitches «module».now info (body_of ep.now.function)) }
+
+        // With BINDINGS no two globals that are used have one binding.
         ensures bindings { IfOk result (λ info. checks_bindings self.old.settings.flags ≡ true →
             BindingsAreDistinct «module».now.global_variables info.global_uses) }
 
-        // Where bindings were looked at, no two parts of a group take one location: of the arguments, of the result, of the
+        // With BINDINGS no two parts of a group take one location: of the arguments, of the result, of the
         // outputs of a mesh together.
         ensures locations { OnOk result (checks_bindings self.old.settings.flags ≡ true →
             GroupsAreDistinct self.old.settings «module».now.types self.old.types ep.now) }
@@ -84,8 +102,8 @@ impl<B: Below> Validator<B> {
         // At the vertex stage a position is returned.
         ensures position { OnOk result (ep.now.stage ≡ Vertex → ReturnsPosition «module».now.types ep.now.function.result) }
 
-        // Where bodies were looked at and the infos of the functions are vetted, the entry point keeps to its stage through
-        // all chains of calls.
+        // With BLOCKS and vetted infos of the functions, the entry point keeps to its stage through all chains of
+        // calls.
         ensures chains { OnOk result (checks_blocks self.old.settings.flags ≡ true →
             AreVetted (B.meaning self.old.below) self.old.settings self.old.types «module».now mod_info.now →
             ChainsKeepTo (B.meaning self.old.below) self.old.settings self.old.types «module».now mod_info.now

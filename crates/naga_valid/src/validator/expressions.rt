@@ -1,10 +1,9 @@
 //! The checks of a function's expressions, each by the lower layer.
 
-ghost use Rattle.std.specs.Prelude.{◌≡◌, OnOk, Result};
+ghost use Rattle.std.specs.Prelude.{◌≡◌, OnOk, Result, Err};
 ghost use Rattle.ir_facts.specs.declared.valid.expression_error.ExpressionError.{ExpressionError as Source};
 ghost use Rattle.ir_flags.specs.declared.valid.ShaderStages.{ShaderStages as Mask};
-ghost use Rattle.check_errors.specs.Answers.{Refuses};
-ghost use Rattle.check_scope.specs.walk.Findings.{AnswersLeaving};
+ghost use Rattle.check_errors.specs.Answers.{Answers, Exactly, leaving};
 ghost use Rattle.check_statement.specs.ExpressionStages.{with_stages, of_expression, expressions_step};
 ghost use Rattle.check_statement.specs.walk.AskedContext.{asked_by};
 
@@ -29,7 +28,8 @@ fn refused_expression(
     handle: Handle<tag::Expression>,
     refusal: Refusal<ExpressionError>,
 ) -> Refusal<FunctionError>
-    ensures { (right : Result Mask Source) → Refuses right refusal → Refuses (of_expression handle right) result }
+    ensures { (right : Result Mask Source) → Answers (Exactly right) (Err refusal) → Answers
+        (Exactly (of_expression handle right)) (Err result) }
 {
     match refusal {
         Refusal::Fault(fault) => {
@@ -50,10 +50,9 @@ impl<B: Below> Validator<B> {
         kinds: &ExpressionKindTracker,
         info: &mut FunctionInfo,
     ) -> Result<(), Refusal<FunctionError>>
-        ensures fault { AnswersLeaving
-            (expressions_step (B.meaning self.now.below) (asked_by self.now function.now.program.now function.now.earlier.now
-            function.now.fun.now kinds.now info.old))
-            info.new.available_stages result }
+        ensures fault { Answers (Exactly (expressions_step (B.meaning self.now.below)
+            (asked_by self.now function.now.program.now function.now.earlier.now function.now.fun.now kinds.now
+            info.old))) (leaving info.new.available_stages result) }
         ensures kept { info.new ≡ with_stages info.old info.new.available_stages }
     {
         if !self.settings.flags.contains(ValidationFlags::EXPRESSIONS) {

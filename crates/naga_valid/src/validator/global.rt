@@ -17,9 +17,10 @@ use ir_facts::valid::settings::Settings;
 use ir_module::module::{GlobalVariable, Module};
 
 impl<B: Below> Validator<B> {
-    /// Judges a global variable of a module: naga 30.0.1's `validate_global_var`. `kinds` are those of the module's global
-    /// expressions, whose types are in `mod_info`. The fault is the first of `check_global`, asked with the size of the
-    /// variable's type that the lower layer knows. It takes no memory, and leaves the validator as it is.
+    /// Judges a global variable of a module: naga 30.0.1's `validate_global_var`. It allocates nothing.
+    ///
+    /// An Err is the first fault of `check_global`, which is given the size of the variable's type as the lower layer
+    /// knows it. `kinds` are those of the module's global expressions. `mod_info` has the types of these.
     #[tactic(auto, using(ir_facts::proofs::Callers::types_name_each_other, crate::proofs::GlobalFits::global_fits))]
     pub fn validate_global_var(
         &self,

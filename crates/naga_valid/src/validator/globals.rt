@@ -3,12 +3,11 @@
 ghost use Rattle.std.specs.Prelude.{◌≡◌, ◌↔◌, ◌<◌, IsTrue, IsSome, Some, [], slice_get, length};
 ghost use Rattle.ir_facts.specs.Points.{points_of_each, within};
 ghost use Rattle.ir_types.specs.declared.types.AddressSpace.TheVariants as space;
-ghost use Rattle.check_scope.specs.walk.Findings.{Finds};
 ghost use Rattle.check_entry.specs.TakenBindings.{AreTaken};
 ghost use Rattle.check_entry.specs.UsedGlobals.{used_payload_points, use_points, points_if_used, global_points, globals_points};
 ghost use Rattle.check_entry.specs.EntryJudgement.{HasPayloadSizes};
-ghost use Rattle.check_entry.specs.EntryAnswers.{Meets};
-ghost use Rattle.check_entry.specs.EntryFaults.{fault_of, Judges};
+ghost use Rattle.check_entry.specs.EntryFaults.{fault_of};
+ghost use Rattle.check_errors.specs.Answers.{Answers, Finds, FirstOf, read_by};
 
 use crate::validator::Validator;
 use crate::validator::entry::EntryContext;
@@ -56,8 +55,8 @@ impl<B: Below> Validator<B> {
     ) -> Result<(), EntryPointError>
         requires { var.now.space ≡ space.TaskPayload →
             IsSome ((B.meaning self.now.below).size_of entry.now.program.now var.now.ty) }
-        ensures { Finds (used_payload_points entry.now.entry_point.now.task_payload
-            ((B.meaning self.now.below).size_of entry.now.program.now var.now.ty) handle var.now.space) result }
+        ensures { Finds (FirstOf (used_payload_points entry.now.entry_point.now.task_payload
+            ((B.meaning self.now.below).size_of entry.now.program.now var.now.ty) handle var.now.space)) result }
     {
         if !is_task_payload(var.space) {
             return Ok(());
@@ -83,8 +82,8 @@ impl<B: Below> Validator<B> {
     ) -> Result<(), EntryPointError>
         requires { var.now.space ≡ space.TaskPayload →
             IsSome ((B.meaning self.now.below).size_of entry.now.program.now var.now.ty) }
-        ensures { Finds (use_points (B.meaning self.now.below) self.now.settings.flags entry.now.program.now
-            entry.now.entry_point.now [] handle var.now uses) result }
+        ensures { Finds (FirstOf (use_points (B.meaning self.now.below) self.now.settings.flags entry.now.program.now
+            entry.now.entry_point.now [] handle var.now uses)) result }
     {
         self.check_used_payload(entry, handle, var)?;
         check_allowed(entry.program, entry.entry_point.stage, handle, var, uses)
@@ -103,8 +102,8 @@ impl<B: Below> Validator<B> {
         requires size { var.now.space ≡ space.TaskPayload →
             IsSome ((B.meaning self.now.below).size_of entry.now.program.now var.now.ty) }
         requires taken { AreTaken taken.now info.now.global_uses entry.now.program.now.global_variables handle }
-        ensures { Finds (global_points (B.meaning self.now.below) self.now.settings.flags entry.now.program.now
-            entry.now.entry_point.now info.now.global_uses handle var.now) result }
+        ensures { Finds (FirstOf (global_points (B.meaning self.now.below) self.now.settings.flags entry.now.program.now
+            entry.now.entry_point.now info.now.global_uses handle var.now)) result }
     {
         let Some(uses) = uses_of(info, handle.index()) else {
             return Ok(());
@@ -124,9 +123,9 @@ impl<B: Below> Validator<B> {
         info: &FunctionInfo,
     ) -> Result<(), Refusal<EntryPointError>>
         requires { HasPayloadSizes (B.meaning self.now.below) entry.now.program.now }
-        ensures { Meets (points_of_each (global_points (B.meaning self.now.below) self.now.settings.flags
-            entry.now.program.now entry.now.entry_point.now info.now.global_uses) entry.now.program.now.global_variables)
-            result }
+        ensures { Answers (FirstOf (points_of_each (global_points (B.meaning self.now.below) self.now.settings.flags
+            entry.now.program.now entry.now.entry_point.now info.now.global_uses)
+            entry.now.program.now.global_variables)) result }
     {
         let mut taken = BTreeSet::new(alloc);
         let globals = entry.program.global_variables.as_slice();
@@ -148,8 +147,8 @@ impl<B: Below> Validator<B> {
         info: &FunctionInfo,
     ) -> Result<(), Refusal<EntryPointError>>
         requires { HasPayloadSizes (B.meaning self.now.below) entry.now.program.now }
-        ensures { Judges (within fault_of (globals_points (B.meaning self.now.below) self.now.settings.flags
-            entry.now.program.now entry.now.entry_point.now info.now.global_uses)) result }
+        ensures { Answers (FirstOf (within fault_of (globals_points (B.meaning self.now.below) self.now.settings.flags
+            entry.now.program.now entry.now.entry_point.now info.now.global_uses))) (read_by fault_of result) }
     {
         answer(alloc, check_immediates(entry.program, info))?;
         self.check_each_used_global(alloc, entry, info)

@@ -2,7 +2,7 @@
 
 ghost use Rattle.std.specs.Prelude.{◌≡◌, length};
 ghost use Rattle.ir_facts.specs.Fits.{FitsTypes, FitsFunction};
-ghost use Rattle.check_errors.specs.Answers.{Answers};
+ghost use Rattle.check_errors.specs.Answers.{Answers, Exactly};
 ghost use Rattle.check_scope.specs.walk.SeenContext.{context_of};
 ghost use Rattle.check_statement.specs.ValidatorParts.{AreInfosOf};
 ghost use Rattle.check_statement.specs.walk.AskedContext.{asked_by, judgement_by};
@@ -44,8 +44,8 @@ impl<B: Below> Validator<B> {
         requires types { FitsTypes function.now.program.now }
         requires function { FitsFunction function.now.fun.now function.now.program.now (length function.now.earlier.now.functions) }
         ensures judged { Answers
-            (judgement_by self.old (B.meaning self.old.below) function.now.program.now function.now.earlier.now
-            function.now.fun.now function.now.entry_point)
+            (Exactly (judgement_by self.old (B.meaning self.old.below) function.now.program.now function.now.earlier.now
+            function.now.fun.now function.now.entry_point))
             result }
         ensures kept { self.new ≡ self.old }
     {

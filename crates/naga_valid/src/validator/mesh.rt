@@ -2,8 +2,9 @@
 
 ghost use Rattle.std.specs.Prelude.{◌≡◌};
 ghost use Rattle.ir_facts.specs.Points.{within};
-ghost use Rattle.check_entry.specs.EntryFaults.{fault_of, Judges};
+ghost use Rattle.check_entry.specs.EntryFaults.{fault_of};
 ghost use Rattle.check_entry.specs.Mesh.{said_points};
+ghost use Rattle.check_errors.specs.Answers.{Answers, FirstOf, read_by};
 
 use crate::validator::Validator;
 use crate::validator::entry::EntryContext;
@@ -26,8 +27,9 @@ impl<B: Below> Validator<B> {
         entry: &EntryContext,
         mesh: &MeshStageInfo,
     ) -> Result<(), Refusal<EntryPointError>>
-        ensures { Judges (within fault_of (said_points self.now.settings.capabilities entry.now.program.now
-            ((B.meaning self.now.below).mesh_analysis entry.now.program.now mesh.now.output_variable) mesh.now)) result }
+        ensures { Answers (FirstOf (within fault_of (said_points self.now.settings.capabilities entry.now.program.now
+            ((B.meaning self.now.below).mesh_analysis entry.now.program.now mesh.now.output_variable) mesh.now)))
+            (read_by fault_of result) }
     {
         let below = &self.below;
         let analysis = below.analyze_mesh_shader_info(alloc, entry.program, mesh.output_variable)?;

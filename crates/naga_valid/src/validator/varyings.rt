@@ -9,11 +9,12 @@ ghost use Rattle.ir_types.specs.Types.{inner_at};
 ghost use Rattle.ir_types.specs.declared.built_in.BuiltIn.TheVariants.{Position};
 ghost use Rattle.check_varyings.specs.Varyings.{nothing_seen, parts_of, placed_parts, points_from, seen_at, seen_in, seen_with};
 ghost use Rattle.check_varyings.specs.declared.varying.MeshOutputType.TheVariants as which;
-ghost use Rattle.check_entry.specs.EntryFaults.{Judges, OfArgument, OfResult, Other};
+ghost use Rattle.check_entry.specs.EntryFaults.{OfArgument, OfResult, Other, fault_of};
 ghost use Rattle.check_entry.specs.Mesh.{mesh_points};
 ghost use Rattle.check_entry.specs.EntryVaryings.{argument_points, declared_points, has_built_in, is_struct, output_item, output_points, outputs_points, place_of, primitive_points, result_parts, result_points, vertex_points};
 ghost use Rattle.check_statement.specs.ValidatorParts.{AreInfosOf};
 ghost use Rattle.check_entry.specs.declared.error.EntryPointError.TheVariants as fault;
+ghost use Rattle.check_errors.specs.Answers.{Answers, FirstOf, read_by};
 
 use crate::validator::Validator;
 use crate::validator::entry::EntryContext;
@@ -59,8 +60,8 @@ impl<B: Below> Validator<B> {
         requires infos { AreInfosOf entry.now.program.now self.now.types }
         requires types { FitsTypes entry.now.program.now }
         requires signature { SignatureFits entry.now.program.now entry.now.entry_point.now.function }
-        ensures { Judges (argument_points self.now.settings entry.now.program.now.types self.now.types
-            entry.now.entry_point.now) result }
+        ensures { Answers (FirstOf (argument_points self.now.settings entry.now.program.now.types self.now.types
+            entry.now.entry_point.now)) (read_by fault_of result) }
     {
         let place = self.place_of(entry.entry_point, false, MeshOutputType::Neither);
         let types = &entry.program.types;
@@ -96,8 +97,8 @@ impl<B: Below> Validator<B> {
         requires types { FitsTypes entry.now.program.now }
         requires signature { SignatureFits entry.now.program.now entry.now.entry_point.now.function }
         requires seen { seen_in state.old ≡ nothing_seen }
-        ensures fault { Judges (declared_points self.now.settings entry.now.program.now.types self.now.types
-            entry.now.entry_point.now entry.now.entry_point.now.function.result) result }
+        ensures fault { Answers (FirstOf (declared_points self.now.settings entry.now.program.now.types self.now.types
+            entry.now.entry_point.now entry.now.entry_point.now.function.result)) (read_by fault_of result) }
         ensures seen { OnOk result ((seen_in state.new).built_ins (Position false) ≡ has_built_in (Position false)
             (result_parts entry.now.program.now.types self.now.types entry.now.entry_point.now.function.result)) }
     {
@@ -130,8 +131,8 @@ impl<B: Below> Validator<B> {
         requires infos { AreInfosOf entry.now.program.now self.now.types }
         requires types { FitsTypes entry.now.program.now }
         requires signature { SignatureFits entry.now.program.now entry.now.entry_point.now.function }
-        ensures { Judges (result_points self.now.settings entry.now.program.now.types self.now.types
-            entry.now.entry_point.now) result }
+        ensures { Answers (FirstOf (result_points self.now.settings entry.now.program.now.types self.now.types
+            entry.now.entry_point.now)) (read_by fault_of result) }
     {
         let mut state = VaryingState::new(alloc);
         self.check_declared(alloc, entry, &mut state)?;
@@ -156,10 +157,10 @@ impl<B: Below> Validator<B> {
         requires infos { AreInfosOf entry.now.program.now self.now.types }
         requires types { FitsTypes entry.now.program.now }
         requires ty { ty < length entry.now.program.now.types }
-        ensures fault { Judges
-            ((it_is is_struct (inner_at entry.now.program.now.types ty), Other fault.InvalidMeshOutputType)
+        ensures fault { Answers
+            (FirstOf ((it_is is_struct (inner_at entry.now.program.now.types ty), Other fault.InvalidMeshOutputType)
             ∷ within OfResult (points_from (place_of self.now.settings entry.now.entry_point.now true mesh_output)
-            entry.now.program.now.types self.now.types (seen_in state.old) ty None)) result }
+            entry.now.program.now.types self.now.types (seen_in state.old) ty None))) (read_by fault_of result) }
         ensures seen { OnOk result (seen_in state.new ≡ seen_with (seen_in state.old)
             (parts_of entry.now.program.now.types self.now.types ty None)) }
     {
@@ -187,8 +188,8 @@ impl<B: Below> Validator<B> {
         requires types { FitsTypes entry.now.program.now }
         requires ty { ty < length entry.now.program.now.types }
         requires seen { seen_in state.old ≡ nothing_seen }
-        ensures fault { Judges (vertex_points self.now.settings entry.now.program.now.types self.now.types
-            entry.now.entry_point.now ty) result }
+        ensures fault { Answers (FirstOf (vertex_points self.now.settings entry.now.program.now.types self.now.types
+            entry.now.entry_point.now ty)) (read_by fault_of result) }
         ensures seen { OnOk result (seen_in state.new ≡ seen_at (place_of self.now.settings entry.now.entry_point.now true
             which.VertexOutput) (placed_parts entry.now.program.now.types self.now.types
             (output_item self.now.settings entry.now.entry_point.now which.VertexOutput ty))) }
@@ -216,10 +217,10 @@ impl<B: Below> Validator<B> {
         requires seen { seen_in state.old ≡ seen_at (place_of self.now.settings entry.now.entry_point.now true
             which.PrimitiveOutput) (placed_parts entry.now.program.now.types self.now.types
             (output_item self.now.settings entry.now.entry_point.now which.VertexOutput mesh.now.vertex_output_type)) }
-        ensures { Judges (primitive_points self.now.settings entry.now.program.now.types self.now.types
+        ensures { Answers (FirstOf (primitive_points self.now.settings entry.now.program.now.types self.now.types
             entry.now.entry_point.now (placed_parts entry.now.program.now.types self.now.types
             (output_item self.now.settings entry.now.entry_point.now which.VertexOutput mesh.now.vertex_output_type))
-            mesh.now.primitive_output_type) result }
+            mesh.now.primitive_output_type)) (read_by fault_of result) }
     {
         let ty = mesh.primitive_output_type;
         self.check_output(alloc, entry, state, MeshOutputType::PrimitiveOutput, ty)?;
@@ -241,8 +242,9 @@ impl<B: Below> Validator<B> {
         requires types { FitsTypes entry.now.program.now }
         requires vertex { mesh.now.vertex_output_type < length entry.now.program.now.types }
         requires primitive { mesh.now.primitive_output_type < length entry.now.program.now.types }
-        ensures { Judges (outputs_points self.now.settings entry.now.program.now.types self.now.types
-            entry.now.entry_point.now mesh.now.vertex_output_type mesh.now.primitive_output_type) result }
+        ensures { Answers (FirstOf (outputs_points self.now.settings entry.now.program.now.types self.now.types
+            entry.now.entry_point.now mesh.now.vertex_output_type mesh.now.primitive_output_type))
+            (read_by fault_of result) }
     {
         let mut state = VaryingState::new(alloc);
         self.check_vertex_output(alloc, entry, &mut state, mesh.vertex_output_type)?;
@@ -259,8 +261,9 @@ impl<B: Below> Validator<B> {
         requires infos { AreInfosOf entry.now.program.now self.now.types }
         requires types { FitsTypes entry.now.program.now }
         requires entry { FitsEntry entry.now.entry_point.now entry.now.program.now }
-        ensures { Judges (mesh_points (B.meaning self.now.below) self.now.settings self.now.types entry.now.program.now
-            entry.now.entry_point.now entry.now.entry_point.now.mesh_info) result }
+        ensures { Answers (FirstOf (mesh_points (B.meaning self.now.below) self.now.settings self.now.types
+            entry.now.program.now entry.now.entry_point.now entry.now.entry_point.now.mesh_info))
+            (read_by fault_of result) }
     {
         let Some(mesh) = &entry.entry_point.mesh_info else {
             return Ok(());

@@ -7,9 +7,10 @@ ghost use Rattle.check_body.specs.Accepted.{ResultsAreFilledOnce, StagesAreOfAll
 ghost use Rattle.check_scope.specs.BodyTrees.{body_of};
 ghost use Rattle.check_scope.specs.Context.{pre_emitted_of};
 ghost use Rattle.check_errors.specs.WhatIsChecked.{checks_blocks, checks_expressions};
-ghost use Rattle.check_statement.specs.FunctionJudgement.{function_judgement, AnswersTracing};
+ghost use Rattle.check_statement.specs.FunctionJudgement.{function_judgement, outcome_of};
 ghost use Rattle.check_statement.specs.ValidatorParts.{AreInfosOf};
 ghost use Rattle.check_body.specs.Shapes.{HasNoReturnInContinuing, HasWholeSwitches};
+ghost use Rattle.check_errors.specs.Answers.{Answers, Exactly};
 
 use crate::validator::Validator;
 use crate::validator::judge::FunctionContext;
@@ -22,12 +23,19 @@ use ir_module::module::Module;
 use std::alloc::Global;
 
 impl<B: Below> Validator<B> {
-    /// Judges a function of a module: naga 30.0.1's `validate_function`. `mod_info` has the infos of the functions before
-    /// it; `entry_point` says that it is an entry point's, whose arguments and result may be bound. The fault is the first
-    /// in this order: what the lower layer answers; the local variables; the arguments; the result; with EXPRESSIONS each
-    /// expression; with BLOCKS the body; with both the lowest result that nothing fills. The info has the stages that the
-    /// lower layer, the expressions and all statements leave. What ray traces leave is kept for later functions; after a
-    /// refusal the validator is as before.
+    /// Judges a function of a module: naga 30.0.1's `validate_function`. Answers the info of an accepted function.
+    ///
+    /// An Err is the first fault, or out of memory. It leaves the validator as it was. Faults come in this order: what
+    /// the lower layer answers; the local variables; the arguments; the result; with EXPRESSIONS each expression; with
+    /// BLOCKS the body; with both, the lowest result that nothing fills.
+    ///
+    /// `mod_info` has the infos of earlier functions. `entry_point` says that it is the function of an entry point,
+    /// whose arguments and result may have bindings. The info has the stages that the lower layer, the expressions and
+    /// all statements leave. The validator keeps what ray traces leave for later functions.
+    ///
+    /// With BLOCKS, `NotInScope` of a body without dead code, for a use or an argument of a call, says
+    /// that some run uses what isn't live; a refused jump, that some run is stuck by it: `witnessed` and `stuck` of
+    /// `function_law`.
     pub fn validate_function(
         &mut self,
         alloc: Global,
@@ -40,31 +48,31 @@ impl<B: Below> Validator<B> {
         requires types { FitsTypes «module».now }
         requires function { FitsFunction fun.now «module».now (length mod_info.now.functions) }
 
-        // The answer is the judgement's, or there was no memory.
-        ensures judged { AnswersTracing
-            (function_judgement (B.meaning self.old.below) self.old.settings self.old.types self.old.trace
-            «module».now mod_info.now fun.now entry_point)
-            self.new.trace result }
+        // The answer is the judgement's, or out of memory.
+        ensures judged { Answers
+            (Exactly (function_judgement (B.meaning self.old.below) self.old.settings self.old.types self.old.trace
+            «module».now mod_info.now fun.now entry_point))
+            (outcome_of self.new.trace result) }
 
-        // In every run of an accepted body that was looked at, what every run has put is live, and so is what is used, no
-        // live handle is put, and jumps have targets.
+        // With BLOCKS all runs of an accepted body are sound: what every run has emitted is live, what is used is
+        // live, no live handle is emitted, and jumps have targets.
         ensures sound { OnOk result (checks_blocks self.old.settings.flags ≡ true
             → RunsAreSure (pre_emitted_of fun.now) (body_of fun.now)) }
 
-        // Where bodies and expressions were looked at, each CallResult of an accepted body is filled by one Call, which
+        // With BLOCKS and EXPRESSIONS each CallResult of an accepted body is filled by one Call, which
         // is of its function, and by no Atomic; each AtomicResult by one Atomic and by no Call.
         ensures filled { OnOk result (checks_blocks self.old.settings.flags ≡ true
             → checks_expressions self.old.settings.flags ≡ true → ResultsAreFilledOnce fun.now) }
 
-        // Where bodies were looked at, the stages of an accepted one are stages of each of its statements and of each
+        // With BLOCKS the stages of an accepted function are stages of each of its statements and of each
         // function that it calls.
         ensures stages { IfOk result (λ info. checks_blocks self.old.settings.flags ≡ true
             → StagesAreOfAll self.old.settings.subgroup_stages mod_info.now (body_of fun.now) info.available_stages) }
 
-        // Where bodies were looked at, no Return of an accepted one stands in a continuing part, at any depth.
+        // With BLOCKS no Return of an accepted body stands in a continuing part, at any depth.
         ensures returns { OnOk result (checks_blocks self.old.settings.flags ≡ true → HasNoReturnInContinuing (body_of fun.now)) }
 
-        // Where bodies were looked at, each Switch of an accepted one has exactly one default, no value twice, values of the
+        // With BLOCKS each Switch of an accepted body has exactly one default, no value twice, values of the
         // sign that its selector's type in the info has, and a last case that doesn't fall through.
         ensures switches { IfOk result (λ info. checks_blocks self.old.settings.flags ≡ true
             → HasWholeSwitches «module».now info (body_of fun.now)) }

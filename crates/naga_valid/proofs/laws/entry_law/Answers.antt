@@ -1,3 +1,4 @@
+use Rattle.naga_valid.proofs.EntryBodies.{entry_fills_once, entry_is_of_all_stages, entry_has_no_return_in_continuing, entry_has_whole_switches}
 use Rattle.naga_valid.proofs.EntryBuiltIns.{accepted_built_ins}
 use Rattle.naga_valid.proofs.EntryChains.{entry_is_sound, entry_keeps_its_stage}
 use Rattle.naga_valid.proofs.EntryGroups.{accepted_locations}
@@ -21,6 +22,18 @@ returns-clause-built_ins c = accepted_built_ins
 
 pub returns-clause-sound : goal.returns-clause-sound
 returns-clause-sound c = entry_is_sound
+
+pub returns-clause-filled : goal.returns-clause-filled
+returns-clause-filled c = entry_fills_once
+
+pub returns-clause-stages : goal.returns-clause-stages
+returns-clause-stages c = entry_is_of_all_stages
+
+pub returns-clause-returns : goal.returns-clause-returns
+returns-clause-returns c = entry_has_no_return_in_continuing
+
+pub returns-clause-switches : goal.returns-clause-switches
+returns-clause-switches c = entry_has_whole_switches
 
 pub returns-clause-chains : goal.returns-clause-chains
 returns-clause-chains c = entry_keeps_its_stage

@@ -8,16 +8,17 @@ use Rattle.check_varyings.proofs.Seeing.{leaves_the_next}
 use Rattle.ir_facts.specs.declared.valid.types.TypeInfo.{TypeInfo}
 use Rattle.ir_arena.specs.declared.span.Refusal.{Refusal}
 use Rattle.check_varyings.specs.Seen.{Seen}
-use Rattle.check_varyings.specs.VaryingFaults.{IsFirstVaryingFault}
 use Rattle.check_entry.specs.declared.error.EntryPointError.{EntryPointError}
 use Rattle.check_varyings.specs.Varyings.{group_points, parts_of, points_from, seen_at, seen_in, seen_with, group_parts}
 use Rattle.check_varyings.specs.declared.varying.MeshOutputType.TheVariants.{Neither}
 use Rattle.check_varyings.specs.declared.varying.VaryingPlace.{VaryingPlace}
-use Rattle.check_entry.specs.EntryFaults.{OfArgument, Judges}
+use Rattle.check_entry.specs.EntryFaults.{OfArgument, fault_of}
 use Rattle.check_entry.proofs.EntrySteps.{passes_within}
 use Rattle.check_entry.specs.EntryVaryings.{argument_item, place_of}
 use Rattle.naga_valid.proofs.Groups.{group_stops, group_goes_on, group_ends, parts_taken, seen_by_position}
 use Rattle.naga_valid.proofs.validator.Validator.check_arguments.Goals as goal
+use Rattle.check_errors.specs.Answers.{Answers, FirstOf, IsFirstFault, read_by, refusal_read_by}
+use Rattle.check_varyings.specs.VaryingFaults.{varying_fault_of}
 
 pub check_varying_item-requires-clause-types : goal.check_varying_item-requires-clause-types
 check_varying_item-requires-clause-types g c = types_name_each_other c.args.entry.now.program.now c.requires.types
@@ -40,11 +41,11 @@ returns-in-Err g c =
     let is : item ≡ get_or items i item = ap (argument_item settings ep) c.index-arguments-index.is ∙ sym (get_or-map (argument_item settings ep) xs i x) in
     let seen : seen_in c.loop-index.state ≡ seen_at place before = subst (λ (p : VaryingPlace). seen_in c.loop-index.state ≡ seen_at p before) c.place_of-place.ensures c.loop-index.invariant.seen in
     let points = λ (infos : List TypeInfo). points_from c.place_of-place.result types infos (seen_in c.loop-index.state) x.ty x.binding in
-    let first = subst (λ k. IsFirstVaryingFault (points k) c.in-Err.refused) c.infos-infos.ensures c.in-Err.ensures.fault in
-    let asked : Judges (within (OfArgument i) (points infos)) r = c.argument_refused.ensures (points infos) first in
-    let here = subst (λ (p : VaryingPlace). Judges (within (OfArgument i) (points_from p types infos (seen_in c.loop-index.state) x.ty x.binding)) r) c.place_of-place.ensures asked in
-    let found = subst (λ points. Judges (within (OfArgument i) points) r) (seen_by_position types infos place before (seen_in c.loop-index.state) x.ty x.binding seen) here in
-    subst (λ (arguments : List FunctionArgument). Judges (group_points types infos OfArgument (map (argument_item settings ep) arguments)) r) c.as_slice-arguments.ensures (group_stops types infos OfArgument items i r item lt is c.loop-index.invariant.faults (search rules) found)
+    let first = subst (λ k. IsFirstFault (points k) (refusal_read_by varying_fault_of c.in-Err.refused)) c.infos-infos.ensures c.in-Err.ensures.fault in
+    let asked : Answers (FirstOf (within (OfArgument i) (points infos))) (read_by fault_of r) = c.argument_refused.ensures (points infos) first in
+    let here = subst (λ (p : VaryingPlace). Answers (FirstOf (within (OfArgument i) (points_from p types infos (seen_in c.loop-index.state) x.ty x.binding))) (read_by fault_of r)) c.place_of-place.ensures asked in
+    let found = subst (λ points. Answers (FirstOf (within (OfArgument i) points)) (read_by fault_of r)) (seen_by_position types infos place before (seen_in c.loop-index.state) x.ty x.binding seen) here in
+    subst (λ (arguments : List FunctionArgument). Answers (FirstOf (group_points types infos OfArgument (map (argument_item settings ep) arguments))) (read_by fault_of r)) c.as_slice-arguments.ensures (group_stops types infos OfArgument items i r item lt is c.loop-index.invariant.faults (search rules) found)
 
 pub loop-index-preserved : goal.loop-index-preserved
 loop-index-preserved g c =

@@ -4,15 +4,16 @@ use Rattle.ir_facts.specs.declared.valid.types.TypeInfo.{TypeInfo}
 use Rattle.ir_arena.specs.declared.span.Refusal.{Refusal}
 use Rattle.ir_types.specs.declared.built_in.BuiltIn.TheVariants.{Position}
 use Rattle.check_varyings.specs.Seen.{Seen}
-use Rattle.check_varyings.specs.VaryingFaults.{IsFirstVaryingFault}
 use Rattle.check_varyings.specs.Varyings.{points_from, parts_of, seen_in, seen_with}
 use Rattle.check_varyings.specs.declared.varying.VaryingPlace.{VaryingPlace}
-use Rattle.check_entry.specs.EntryFaults.{OfResult, Judges}
+use Rattle.check_entry.specs.EntryFaults.{OfResult, fault_of}
 use Rattle.check_entry.specs.EntryVaryings.{declared_points, has_built_in, result_parts}
 use Rattle.check_entry.specs.declared.error.EntryPointError.{EntryPointError}
 use Rattle.check_entry.proofs.EntrySteps.{passes_within}
 use Rattle.naga_valid.proofs.Groups.{result_decides}
 use Rattle.naga_valid.proofs.validator.Validator.check_declared.Goals as goal
+use Rattle.check_errors.specs.Answers.{Answers, FirstOf, IsFirstFault, read_by, refusal_read_by}
+use Rattle.check_varyings.specs.VaryingFaults.{varying_fault_of}
 
 pub returns-in_default-clause-seen : goal.returns-in_default-clause-seen
 returns-in_default-clause-seen g c =
@@ -29,9 +30,9 @@ returns-in-Ok-clause-fault g c =
     let points = λ (place : VaryingPlace) (infos : List TypeInfo). points_from place types infos (seen_in c.args.state.now) declared.ty declared.binding in
     let passed : Result (Unit {0}) (Refusal EntryPointError) = Ok tt in
     let none = passes_within OfResult (points c.place_of-place.result infos) (subst (λ i. first_fault (points c.place_of-place.result i) ≡ None) c.infos-infos.ensures c.in-Ok.ensures.fault) in
-    let here : Judges (within OfResult (points c.place_of-place.result infos)) passed = none in
-    let at_place = subst (λ p. Judges (within OfResult (points p infos)) passed) c.place_of-place.ensures here in
-    subst (λ d. Judges (declared_points settings types infos ep d) passed) (sym c.in-Some.is) (result_decides types infos settings ep (seen_in c.args.state.now) declared passed c.requires.seen at_place)
+    let here : Answers (FirstOf (within OfResult (points c.place_of-place.result infos))) (read_by fault_of passed) = none in
+    let at_place = subst (λ p. Answers (FirstOf (within OfResult (points p infos))) (read_by fault_of passed)) c.place_of-place.ensures here in
+    subst (λ d. Answers (FirstOf (declared_points settings types infos ep d)) (read_by fault_of passed)) (sym c.in-Some.is) (result_decides types infos settings ep (seen_in c.args.state.now) declared passed c.requires.seen at_place)
 
 pub returns-in-Ok-clause-seen : goal.returns-in-Ok-clause-seen
 returns-in-Ok-clause-seen g c =
@@ -52,6 +53,6 @@ returns-in-Err-clause-fault g c =
     let declared = c.in-Some.declared in
     let points = λ (place : VaryingPlace) (infos : List TypeInfo). points_from place types infos (seen_in c.args.state.now) declared.ty declared.binding in
     let refused : Result (Unit {0}) (Refusal EntryPointError) = Err c.result_refused.result in
-    let here : Judges (within OfResult (points c.place_of-place.result infos)) refused = c.result_refused.ensures (points c.place_of-place.result infos) (subst (λ i. IsFirstVaryingFault (points c.place_of-place.result i) c.in-Err.refused) c.infos-infos.ensures c.in-Err.ensures.fault) in
-    let at_place = subst (λ p. Judges (within OfResult (points p infos)) refused) c.place_of-place.ensures here in
-    subst (λ d. Judges (declared_points settings types infos ep d) refused) (sym c.in-Some.is) (result_decides types infos settings ep (seen_in c.args.state.now) declared refused c.requires.seen at_place)
+    let here : Answers (FirstOf (within OfResult (points c.place_of-place.result infos))) (read_by fault_of refused) = c.result_refused.ensures (points c.place_of-place.result infos) (subst (λ i. IsFirstFault (points c.place_of-place.result i) (refusal_read_by varying_fault_of c.in-Err.refused)) c.infos-infos.ensures c.in-Err.ensures.fault) in
+    let at_place = subst (λ p. Answers (FirstOf (within OfResult (points p infos))) (read_by fault_of refused)) c.place_of-place.ensures here in
+    subst (λ d. Answers (FirstOf (declared_points settings types infos ep d)) (read_by fault_of refused)) (sym c.in-Some.is) (result_decides types infos settings ep (seen_in c.args.state.now) declared refused c.requires.seen at_place)

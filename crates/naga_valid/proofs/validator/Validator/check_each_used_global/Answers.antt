@@ -1,9 +1,9 @@
 use Rattle.std.proofs.Common.{rules, ◌≡◌, subst, None}
 use Rattle.ir_facts.specs.Points.{first_fault, points_of_each}
 use Rattle.check_entry.specs.UsedGlobals.{global_points}
-use Rattle.check_entry.specs.EntryAnswers.{Meets}
 use Rattle.check_entry.proofs.EntrySteps.{each_meets, each_goes_on}
 use Rattle.naga_valid.proofs.validator.Validator.check_each_used_global.Goals as goal
+use Rattle.check_errors.specs.Answers.{Answers, FirstOf}
 
 pub returns-in_err-answer : goal.returns-in_err-answer
 returns-in_err-answer g c =
@@ -11,8 +11,8 @@ returns-in_err-answer g c =
     let x = c.index-globals-index.result in
     let r = c.from_residual.result in
     let met = c.in_err-answer.ensures.meets (points c.new-handle.result x) c.check_used_global-checked.ensures in
-    let here : Meets (points c.new-handle.result x) r = search (rules, met) in
-    subst (λ xs. Meets (points_of_each points xs) r) c.as_slice-globals.ensures (each_meets points c.as_slice-globals.result.now c.loop-index.index r x (search rules) (search rules) c.loop-index.invariant.faults (search rules) (subst (λ h. Meets (points h x) r) c.new-handle.ensures here))
+    let here : Answers (FirstOf (points c.new-handle.result x)) r = search (rules, met) in
+    subst (λ xs. Answers (FirstOf (points_of_each points xs)) r) c.as_slice-globals.ensures (each_meets points c.as_slice-globals.result.now c.loop-index.index r x (search rules) (search rules) c.loop-index.invariant.faults (search rules) (subst (λ h. Answers (FirstOf (points h x)) r) c.new-handle.ensures here))
 
 pub loop-index-preserved : goal.loop-index-preserved
 loop-index-preserved g c =

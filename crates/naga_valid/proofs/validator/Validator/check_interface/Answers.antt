@@ -1,12 +1,13 @@
 use Rattle.std.proofs.Common.{rules, ◌++◌}
 use Rattle.ir_facts.specs.Points.{within}
-use Rattle.check_entry.specs.EntryFaults.{fault_of, Judges}
+use Rattle.check_entry.specs.EntryFaults.{fault_of}
 use Rattle.check_entry.specs.UsedGlobals.{globals_points}
 use Rattle.check_entry.specs.Mesh.{mesh_points}
 use Rattle.check_entry.specs.EntryUses.{stage_points}
 use Rattle.check_entry.specs.EntryVaryings.{argument_points, result_points}
 use Rattle.check_entry.proofs.EntrySteps.{judges_first, judges_second}
 use Rattle.naga_valid.proofs.validator.Validator.check_interface.Goals as goal
+use Rattle.check_errors.specs.Answers.{Answers, FirstOf, read_by}
 
 pub returns-in_err-answer : goal.returns-in_err-answer
 returns-in_err-answer g c =
@@ -24,7 +25,7 @@ returns-in_err-answer g c =
     let f = within fault_of globals in
     let h = mesh_points below settings infos program ep ep.mesh_info in
     let r = c.from_residual.result in
-    let here : Judges a r = search (rules, c.answer.ensures.judges stages c.check_stage.ensures) in
+    let here : Answers (FirstOf a) (read_by fault_of r) = search (rules, c.answer.ensures.judges stages c.check_stage.ensures) in
     judges_first r a (b ++ (d ++ (f ++ h))) (search rules) here
 
 pub returns-in_err-check_arguments : goal.returns-in_err-check_arguments
@@ -44,7 +45,7 @@ returns-in_err-check_arguments g c =
     let h = mesh_points below settings infos program ep ep.mesh_info in
     let no_a = c.in_ok-answer.ensures.judges stages c.check_stage.ensures in
     let r = c.from_residual-in_err-check_arguments.result in
-    let here : Judges b r = search (rules, c.check_arguments.ensures) in
+    let here : Answers (FirstOf b) (read_by fault_of r) = search (rules, c.check_arguments.ensures) in
     judges_second r a (b ++ (d ++ (f ++ h))) no_a (judges_first r b (d ++ (f ++ h)) (search rules) here)
 
 pub returns-in_err-check_result : goal.returns-in_err-check_result
@@ -65,7 +66,7 @@ returns-in_err-check_result g c =
     let no_a = c.in_ok-answer.ensures.judges stages c.check_stage.ensures in
     let no_b = c.in_ok-check_arguments.ensures in
     let r = c.from_residual-in_err-check_result.result in
-    let here : Judges d r = search (rules, c.check_result.ensures) in
+    let here : Answers (FirstOf d) (read_by fault_of r) = search (rules, c.check_result.ensures) in
     judges_second r a (b ++ (d ++ (f ++ h))) no_a (judges_second r b (d ++ (f ++ h)) no_b (judges_first r d (f ++ h) (search rules) here))
 
 pub returns-in_err-check_used_globals : goal.returns-in_err-check_used_globals
@@ -87,7 +88,7 @@ returns-in_err-check_used_globals g c =
     let no_b = c.in_ok-check_arguments.ensures in
     let no_d = c.in_ok-check_result.ensures in
     let r = c.from_residual-in_err-check_used_globals.result in
-    let here : Judges f r = search (rules, c.check_used_globals.ensures) in
+    let here : Answers (FirstOf f) (read_by fault_of r) = search (rules, c.check_used_globals.ensures) in
     judges_second r a (b ++ (d ++ (f ++ h))) no_a (judges_second r b (d ++ (f ++ h)) no_b (judges_second r d (f ++ h) no_d (judges_first r f h (search rules) here)))
 
 pub returns : goal.returns

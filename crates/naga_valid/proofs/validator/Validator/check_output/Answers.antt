@@ -4,15 +4,16 @@ use Rattle.ir_facts.specs.declared.valid.types.TypeInfo.{TypeInfo}
 use Rattle.ir_arena.specs.declared.span.Refusal.{Refusal}
 use Rattle.ir_types.specs.TypeTests.{it_is}
 use Rattle.ir_types.specs.Types.{inner_at}
-use Rattle.check_varyings.specs.VaryingFaults.{IsFirstVaryingFault}
 use Rattle.check_varyings.specs.Varyings.{points_from, parts_of, seen_in, seen_with}
 use Rattle.check_varyings.specs.declared.varying.VaryingPlace.{VaryingPlace}
-use Rattle.check_entry.specs.EntryFaults.{OfResult, Other, Judges}
+use Rattle.check_entry.specs.EntryFaults.{OfResult, Other, fault_of}
 use Rattle.check_entry.specs.EntryVaryings.{is_struct, place_of}
 use Rattle.check_entry.specs.declared.error.EntryPointError.{EntryPointError}
 use Rattle.check_entry.specs.declared.error.EntryPointError.TheVariants as fault
 use Rattle.check_entry.proofs.EntrySteps.{passes_within}
 use Rattle.naga_valid.proofs.validator.Validator.check_output.Goals as goal
+use Rattle.check_errors.specs.Answers.{Answers, FirstOf, IsFirstFault, read_by, refusal_read_by}
+use Rattle.check_varyings.specs.VaryingFaults.{varying_fault_of}
 
 pub returns-in-Ok-clause-fault : goal.returns-in-Ok-clause-fault
 returns-in-Ok-clause-fault g c =
@@ -21,11 +22,11 @@ returns-in-Ok-clause-fault g c =
     let points = λ (place : VaryingPlace) (infos : List TypeInfo). points_from place types infos (seen_in c.args.state.now) c.args.ty None in
     let passed : Result (Unit {0}) (Refusal EntryPointError) = Ok tt in
     let none = passes_within OfResult (points c.place_of-place.result infos) (subst (λ i. first_fault (points c.place_of-place.result i) ≡ None) c.infos-infos.ensures c.in-Ok.ensures.fault) in
-    let here : Judges (within OfResult (points c.place_of-place.result infos)) passed = none in
-    let at_place = subst (λ p. Judges (within OfResult (points p infos)) passed) c.place_of-place.ensures here in
+    let here : Answers (FirstOf (within OfResult (points c.place_of-place.result infos))) (read_by fault_of passed) = none in
+    let at_place = subst (λ p. Answers (FirstOf (within OfResult (points p infos))) (read_by fault_of passed)) c.place_of-place.ensures here in
     let place = place_of c.args.self.now.settings c.args.entry.now.entry_point.now true c.args.mesh_output in
     let yes : it_is is_struct (inner_at types c.args.ty) ≡ true = search rules in
-    subst (λ b. Judges ((b, Other fault.InvalidMeshOutputType) ∷ within OfResult (points place infos)) passed) (sym yes) at_place
+    subst (λ b. Answers (FirstOf ((b, Other fault.InvalidMeshOutputType) ∷ within OfResult (points place infos))) (read_by fault_of passed)) (sym yes) at_place
 
 pub returns-in-Ok-clause-seen : goal.returns-in-Ok-clause-seen
 returns-in-Ok-clause-seen g c =
@@ -38,8 +39,8 @@ returns-in-Err-clause-fault g c =
     let infos = c.args.self.now.types in
     let points = λ (place : VaryingPlace) (infos : List TypeInfo). points_from place types infos (seen_in c.args.state.now) c.args.ty None in
     let refused : Result (Unit {0}) (Refusal EntryPointError) = Err c.result_refused.result in
-    let here : Judges (within OfResult (points c.place_of-place.result infos)) refused = c.result_refused.ensures (points c.place_of-place.result infos) (subst (λ i. IsFirstVaryingFault (points c.place_of-place.result i) c.in-Err.refused) c.infos-infos.ensures c.in-Err.ensures.fault) in
-    let at_place = subst (λ p. Judges (within OfResult (points p infos)) refused) c.place_of-place.ensures here in
+    let here : Answers (FirstOf (within OfResult (points c.place_of-place.result infos))) (read_by fault_of refused) = c.result_refused.ensures (points c.place_of-place.result infos) (subst (λ i. IsFirstFault (points c.place_of-place.result i) (refusal_read_by varying_fault_of c.in-Err.refused)) c.infos-infos.ensures c.in-Err.ensures.fault) in
+    let at_place = subst (λ p. Answers (FirstOf (within OfResult (points p infos))) (read_by fault_of refused)) c.place_of-place.ensures here in
     let place = place_of c.args.self.now.settings c.args.entry.now.entry_point.now true c.args.mesh_output in
     let yes : it_is is_struct (inner_at types c.args.ty) ≡ true = search rules in
-    subst (λ b. Judges ((b, Other fault.InvalidMeshOutputType) ∷ within OfResult (points place infos)) refused) (sym yes) at_place
+    subst (λ b. Answers (FirstOf ((b, Other fault.InvalidMeshOutputType) ∷ within OfResult (points place infos))) (read_by fault_of refused)) (sym yes) at_place

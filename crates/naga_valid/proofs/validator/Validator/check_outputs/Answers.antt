@@ -2,10 +2,11 @@ use Rattle.std.proofs.Common.{rules, true, None, refl, sym, ap, ◌∙◌}
 use Rattle.check_varyings.proofs.Seeing.{sees_locations_alone}
 use Rattle.check_varyings.specs.Varyings.{parts_of, placed_parts, without_built_ins}
 use Rattle.check_varyings.specs.declared.varying.MeshOutputType.TheVariants.{VertexOutput, PrimitiveOutput}
-use Rattle.check_entry.specs.EntryFaults.{Judges}
 use Rattle.check_entry.specs.EntryVaryings.{output_item, place_of, primitive_points, vertex_points}
 use Rattle.check_entry.proofs.EntrySteps.{judges_first, judges_second}
 use Rattle.naga_valid.proofs.validator.Validator.check_outputs.Goals as goal
+use Rattle.check_errors.specs.Answers.{Answers, FirstOf, read_by}
+use Rattle.check_entry.specs.EntryFaults.{fault_of}
 
 pub returns-in_err-check_vertex_output : goal.returns-in_err-check_vertex_output
 returns-in_err-check_vertex_output g c =
@@ -17,7 +18,7 @@ returns-in_err-check_vertex_output g c =
     let r = c.from_residual.result in
     let first = vertex_points settings types infos ep mesh.vertex_output_type in
     let second = primitive_points settings types infos ep (placed_parts types infos (output_item settings ep VertexOutput mesh.vertex_output_type)) mesh.primitive_output_type in
-    let here : Judges first r = search (rules, c.check_vertex_output.ensures.fault) in
+    let here : Answers (FirstOf first) (read_by fault_of r) = search (rules, c.check_vertex_output.ensures.fault) in
     judges_first r first second (search rules) here
 
 pub check_primitive_output-requires-clause-seen : goal.check_primitive_output-requires-clause-seen

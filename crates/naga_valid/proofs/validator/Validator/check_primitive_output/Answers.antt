@@ -7,12 +7,13 @@ use Rattle.check_varyings.proofs.Seeing.{sees_locations_alone}
 use Rattle.check_varyings.specs.Seen.{Seen}
 use Rattle.check_varyings.specs.Varyings.{parts_of, placed_parts, points_from, seen_in, seen_with}
 use Rattle.check_varyings.specs.declared.varying.MeshOutputType.TheVariants.{VertexOutput, PrimitiveOutput}
-use Rattle.check_entry.specs.EntryFaults.{OfResult, Other, Judges}
+use Rattle.check_entry.specs.EntryFaults.{OfResult, Other, fault_of}
 use Rattle.check_entry.specs.EntryVaryings.{has_one_of_indices, is_one_of_three, is_struct, output_item, output_points, place_of}
 use Rattle.check_entry.specs.declared.error.EntryPointError.TheVariants as fault
 use Rattle.check_entry.proofs.EntrySteps.{judges_first}
 use Rattle.naga_valid.proofs.Groups.{last_fails, last_holds, output_by_position}
 use Rattle.naga_valid.proofs.validator.Validator.check_primitive_output.Goals as goal
+use Rattle.check_errors.specs.Answers.{Answers, FirstOf, read_by}
 
 pub returns-in_err-check_output : goal.returns-in_err-check_output
 returns-in_err-check_output g c =
@@ -25,8 +26,8 @@ returns-in_err-check_output g c =
     let earlier = placed_parts types infos (output_item settings ep VertexOutput c.args.mesh.now.vertex_output_type) in
     let out = output_points settings types infos ep PrimitiveOutput earlier ty in
     let by = output_by_position types infos settings ep PrimitiveOutput earlier (seen_in c.args.state.now) ty c.requires.seen in
-    let asked : Judges ((it_is is_struct (inner_at types ty), Other fault.InvalidMeshOutputType) ∷ within OfResult (points_from (place_of settings ep true PrimitiveOutput) types infos (seen_in c.args.state.now) ty None)) r = search (rules, c.check_output.ensures.fault) in
-    judges_first r out ((has_one_of_indices (parts_of types infos ty None), Other fault.InvalidMeshPrimitiveOutputType) ∷ []) (search rules) (subst (λ points. Judges points r) by asked)
+    let asked : Answers (FirstOf ((it_is is_struct (inner_at types ty), Other fault.InvalidMeshOutputType) ∷ within OfResult (points_from (place_of settings ep true PrimitiveOutput) types infos (seen_in c.args.state.now) ty None))) (read_by fault_of r) = search (rules, c.check_output.ensures.fault) in
+    judges_first r out ((has_one_of_indices (parts_of types infos ty None), Other fault.InvalidMeshPrimitiveOutputType) ∷ []) (search rules) (subst (λ points. Answers (FirstOf points) (read_by fault_of r)) by asked)
 
 pub returns-then-not-has_one_of_indices : goal.returns-then-not-has_one_of_indices
 returns-then-not-has_one_of_indices g c =

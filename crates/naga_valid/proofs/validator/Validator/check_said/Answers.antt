@@ -2,9 +2,10 @@ use Rattle.std.proofs.Common.{rules, ◌≡◌, ◌++◌, None, Option, sym, sub
 use Rattle.check_errors.specs.declared.mesh.MeshAnalysis.{MeshAnalysis}
 use Rattle.check_errors.specs.declared.mesh.MeshFault.{MeshFault}
 use Rattle.check_entry.specs.Mesh.{analysis_points, stated_points, said_points}
-use Rattle.check_entry.specs.EntryAnswers.{EntryPoints, Meets}
+use Rattle.check_entry.specs.EntryAnswers.{EntryPoints}
 use Rattle.check_entry.proofs.EntrySteps.{judges_within}
 use Rattle.naga_valid.proofs.validator.Validator.check_said.Goals as goal
+use Rattle.check_errors.specs.Answers.{Answers, FirstOf}
 
 pub returns : goal.returns
 returns g c =
@@ -15,6 +16,6 @@ returns g c =
     let r = c.answer.result in
     let points : EntryPoints = stated_points capabilities program analysis.overrides analysis.implied mesh in
     let none : analysis.fault ≡ None = search rules in
-    let met : Meets points r = search (rules, c.answer.ensures.meets points) in
+    let met : Answers (FirstOf points) r = search (rules, c.answer.ensures.meets points) in
     let is : analysis ≡ (g.B.Below.meaning c.args.self.now.below).mesh_analysis program mesh.output_variable = search rules in
-    judges_within r (said_points capabilities program ((g.B.Below.meaning c.args.self.now.below).mesh_analysis program mesh.output_variable) mesh) (subst (λ (a : MeshAnalysis). Meets (said_points capabilities program a mesh) r) is (subst (λ (f : Option MeshFault). Meets (analysis_points f ++ points) r) (sym none) met))
+    judges_within r (said_points capabilities program ((g.B.Below.meaning c.args.self.now.below).mesh_analysis program mesh.output_variable) mesh) (subst (λ (a : MeshAnalysis). Answers (FirstOf (said_points capabilities program a mesh)) r) is (subst (λ (f : Option MeshFault). Answers (FirstOf (analysis_points f ++ points)) r) (sym none) met))

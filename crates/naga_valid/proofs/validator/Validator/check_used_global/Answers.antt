@@ -1,9 +1,9 @@
 use Rattle.std.proofs.Common.{rules, ◌≡◌, ◌==◌, false, [], Some, None, slice_get, sym}
 use Rattle.ir_facts.specs.Points.{first_fault}
-use Rattle.check_scope.specs.walk.Findings.{Finds}
 use Rattle.check_entry.specs.UsedGlobals.{binding_points, use_points}
 use Rattle.naga_valid.proofs.EntryGlobals.{use_refused, binding_decides}
 use Rattle.naga_valid.proofs.validator.Validator.check_used_global.Goals as goal
+use Rattle.check_errors.specs.Answers.{Finds, FirstOf}
 
 pub returns-in_err-check_use : goal.returns-in_err-check_use
 returns-in_err-check_use g c =
@@ -17,5 +17,5 @@ returns g c =
     let some : (c.in-Some.uses.0 == 0) ≡ false = search rules in
     let none : first_fault (use_points (g.B.Below.meaning c.args.self.now.below) c.args.self.now.settings.flags c.args.entry.now.program.now c.args.entry.now.entry_point.now [] c.args.handle c.args.var.now c.in-Some.uses) ≡ None = sym c.in_ok-check_use.ensures in
     let found = c.check_binding.ensures c.args.info.now.global_uses c.args.entry.now.program.now.global_variables c.requires.taken in
-    let bound : Finds (binding_points c.args.self.now.settings.flags c.args.info.now.global_uses c.args.entry.now.program.now.global_variables c.args.handle c.args.var.now.binding) c.check_binding.result = search (rules, found) in
+    let bound : Finds (FirstOf (binding_points c.args.self.now.settings.flags c.args.info.now.global_uses c.args.entry.now.program.now.global_variables c.args.handle c.args.var.now.binding)) c.check_binding.result = search (rules, found) in
     binding_decides (g.B.Below.meaning c.args.self.now.below) c.args.self.now.settings.flags c.args.entry.now.program.now c.args.entry.now.entry_point.now c.args.info.now.global_uses c.args.handle c.args.var.now c.in-Some.uses is some c.check_binding.result none bound

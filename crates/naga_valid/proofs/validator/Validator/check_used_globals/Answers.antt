@@ -1,9 +1,9 @@
 use Rattle.std.proofs.Common.{rules, ◌++◌}
 use Rattle.check_entry.specs.UsedGlobals.{immediate_points, global_points}
 use Rattle.ir_facts.specs.Points.{points_of_each}
-use Rattle.check_entry.specs.EntryAnswers.{Meets}
 use Rattle.check_entry.proofs.EntrySteps.{meets_first, meets_second, judges_within}
 use Rattle.naga_valid.proofs.validator.Validator.check_used_globals.Goals as goal
+use Rattle.check_errors.specs.Answers.{Answers, FirstOf}
 
 pub returns-in_err-answer : goal.returns-in_err-answer
 returns-in_err-answer g c =
@@ -12,7 +12,7 @@ returns-in_err-answer g c =
     let each = points_of_each (global_points (g.B.Below.meaning c.args.self.now.below) c.args.self.now.settings.flags c.args.entry.now.program.now c.args.entry.now.entry_point.now uses) globals in
     let met = c.in_err-answer.ensures.meets (immediate_points uses globals) c.check_immediates.ensures in
     let r = c.from_residual.result in
-    let here : Meets (immediate_points uses globals) r = search (rules, met) in
+    let here : Answers (FirstOf (immediate_points uses globals)) r = search (rules, met) in
     judges_within r (immediate_points uses globals ++ each) (meets_first r (immediate_points uses globals) each (search rules) here)
 
 pub returns : goal.returns

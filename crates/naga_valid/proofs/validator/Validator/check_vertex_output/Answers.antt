@@ -7,12 +7,13 @@ use Rattle.check_varyings.proofs.Seeing.{leaves_the_next}
 use Rattle.check_varyings.specs.Seen.{Seen}
 use Rattle.check_varyings.specs.Varyings.{parts_of, points_from, seen_in, seen_with}
 use Rattle.check_varyings.specs.declared.varying.MeshOutputType.TheVariants.{VertexOutput}
-use Rattle.check_entry.specs.EntryFaults.{OfResult, Other, Judges}
+use Rattle.check_entry.specs.EntryFaults.{OfResult, Other, fault_of}
 use Rattle.check_entry.specs.EntryVaryings.{has_built_in, is_struct, output_points, place_of}
 use Rattle.check_entry.specs.declared.error.EntryPointError.TheVariants as fault
 use Rattle.check_entry.proofs.EntrySteps.{judges_first}
 use Rattle.naga_valid.proofs.Groups.{last_fails, last_holds, output_by_position}
 use Rattle.naga_valid.proofs.validator.Validator.check_vertex_output.Goals as goal
+use Rattle.check_errors.specs.Answers.{Answers, FirstOf, read_by}
 
 pub returns-in_err-check_output-clause-fault : goal.returns-in_err-check_output-clause-fault
 returns-in_err-check_output-clause-fault g c =
@@ -24,8 +25,8 @@ returns-in_err-check_output-clause-fault g c =
     let r = c.from_residual.result in
     let out = output_points settings types infos ep VertexOutput [] ty in
     let by = output_by_position types infos settings ep VertexOutput [] (seen_in c.args.state.now) ty c.requires.seen in
-    let asked : Judges ((it_is is_struct (inner_at types ty), Other fault.InvalidMeshOutputType) ∷ within OfResult (points_from (place_of settings ep true VertexOutput) types infos (seen_in c.args.state.now) ty None)) r = search (rules, c.check_output.ensures.fault) in
-    judges_first r out ((has_built_in (Position false) (parts_of types infos ty None), Other fault.MissingVertexOutputPosition) ∷ []) (search rules) (subst (λ points. Judges points r) by asked)
+    let asked : Answers (FirstOf ((it_is is_struct (inner_at types ty), Other fault.InvalidMeshOutputType) ∷ within OfResult (points_from (place_of settings ep true VertexOutput) types infos (seen_in c.args.state.now) ty None))) (read_by fault_of r) = search (rules, c.check_output.ensures.fault) in
+    judges_first r out ((has_built_in (Position false) (parts_of types infos ty None), Other fault.MissingVertexOutputPosition) ∷ []) (search rules) (subst (λ points. Answers (FirstOf points) (read_by fault_of r)) by asked)
 
 pub returns-then-not-has_built_in-clause-fault : goal.returns-then-not-has_built_in-clause-fault
 returns-then-not-has_built_in-clause-fault g c =

@@ -1,8 +1,9 @@
-use Rattle.std.proofs.Common.{rules, ◌≡◌, true, false, Ok, sym, subst}
+use Rattle.std.proofs.Common.{rules, ◌≡◌, true, false, Ok, Err, sym, subst}
+use Rattle.check_errors.specs.Answers.{Answers, Exactly}
 use Rattle.check_errors.specs.WhatIsChecked.{checks_blocks}
 use Rattle.check_scope.specs.Context.{ContextFits}
 use Rattle.check_statement.proofs.Parts.{ready}
-use Rattle.check_statement.specs.FunctionJudgement.{lower_step}
+use Rattle.check_statement.specs.FunctionJudgement.{function_judgement, lower_step}
 use Rattle.naga_valid.proofs.FunctionSteps.{lower_refuses, declarations_refused, expressions_refused, fits_first, fits_with, body_refused, body_passed, body_unchecked}
 use Rattle.naga_valid.proofs.validator.Validator.judge_function.Goals as goal
 use Rattle.naga_valid.proofs.validator.Validator.judge_function.Goals.{then-contains+in_ok-table+in-Ok, else-contains}
@@ -70,7 +71,8 @@ returns-in-Err-clause-judged g c =
     let none = rw c.infos.ensures at c.in_ok-check_declarations.ensures in
     let on : checks_blocks v.settings.flags ≡ true = rw (← c.self.view_is) (search rules) in
     let refused = body_refused below v.settings v.types v.trace f.program.now f.earlier.now f.fun.now f.entry_point c.in_ok-info.info c.in_ok-kinds.kinds lower of _ c.block_context-context.ensures none c.meet_expressions.new.info c.in_ok-meet_expressions.ensures.fault c.in_ok-meet_expressions.ensures.kept _ c.block_context-context-then-contains.ensures on c.in-Err.refused c.in-Err.ensures in
-    rw c.into_refusal.ensures refused
+    let right = function_judgement below v.settings v.types v.trace f.program.now f.earlier.now f.fun.now f.entry_point in
+    subst (λ x. Answers (Exactly right) (Err x)) (sym c.into_refusal.ensures) refused
 
 pub returns-clause-judged : goal.returns-clause-judged
 returns-clause-judged g c =

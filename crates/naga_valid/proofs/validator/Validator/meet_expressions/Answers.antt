@@ -1,6 +1,6 @@
-use Rattle.std.proofs.Common.{rules, refl, ◌≡◌, Ok, Err, length, ap}
+use Rattle.std.proofs.Common.{rules, refl, ◌≡◌, Ok, Err, length, ap, subst}
 use Rattle.ir_facts.specs.declared.valid.info.FunctionInfo.{FunctionInfo}
-use Rattle.check_errors.specs.Answers.{Answers}
+use Rattle.check_errors.specs.Answers.{Answers, Exactly}
 use Rattle.check_statement.specs.ExpressionStages.{of_expression}
 use Rattle.check_statement.specs.walk.AskedContext.{asked_context}
 use Rattle.check_statement.specs.Stages.{meet}
@@ -18,8 +18,8 @@ returns-in-Err-clause-fault g c =
     let context = asked_context c.args.self.now.settings c.args.self.now.trace c.args.function.now.program.now c.args.function.now.earlier.now c.args.function.now.fun.now c.args.kinds.now c.args.info.now in
     let lt = rw c.len-count.ensures.len at c.loop-index-test.true in
     let right = below.expression_stages context.settings c.new-handle.result context.fun context.program c.loop-index.info context.earlier context.kinds in
-    let asked : Answers right c.validate_expression-asked.result = search rules in
-    let refused = asked_is below context c.loop-index.info c.new-handle.result c.loop-index.index (Err c.refused_expression.result) c.loop-index.invariant.kept c.new-handle.ensures (c.refused_expression.ensures right (rw c.in-Err.is at asked)) in
+    let asked : Answers (Exactly right) c.validate_expression-asked.result = search rules in
+    let refused = asked_is below context c.loop-index.info c.new-handle.result c.loop-index.index (Err c.refused_expression.result) c.loop-index.invariant.kept c.new-handle.ensures (c.refused_expression.ensures right (subst (λ r. Answers (Exactly right) r) c.in-Err.is asked)) in
     mask_refused below context (length c.args.function.now.fun.now.expressions) c.loop-index.index c.loop-index.info.available_stages _ lt c.loop-index.invariant.faults c.refused_expression.result refused
 
 pub loop-index-preserved : goal.loop-index-preserved
@@ -28,8 +28,8 @@ loop-index-preserved g c =
     let context = asked_context c.args.self.now.settings c.args.self.now.trace c.args.function.now.program.now c.args.function.now.earlier.now c.args.function.now.fun.now c.args.kinds.now c.args.info.now in
     let lt = rw c.len-count.ensures.len at c.loop-index-test.true in
     let right = below.expression_stages context.settings c.new-handle.result context.fun context.program c.loop-index.info context.earlier context.kinds in
-    let asked : Answers right c.validate_expression-asked.result = search rules in
-    let mask = asked_is below context c.loop-index.info c.new-handle.result c.loop-index.index (Ok c.in-Ok.mask) c.loop-index.invariant.kept c.new-handle.ensures (ap (of_expression c.new-handle.result) (rw c.in-Ok.is at asked)) in
+    let asked : Answers (Exactly right) c.validate_expression-asked.result = search rules in
+    let mask = asked_is below context c.loop-index.info c.new-handle.result c.loop-index.index (Ok c.in-Ok.mask) c.loop-index.invariant.kept c.new-handle.ensures (ap (of_expression c.new-handle.result) (subst (λ r. Answers (Exactly right) r) c.in-Ok.is asked)) in
     let met : c.intersection-info.result ≡ meet c.loop-index.info.available_stages c.in-Ok.mask = search rules in
     record {
       faults = rw met (mask_met below context (length c.args.function.now.fun.now.expressions) c.loop-index.index c.loop-index.info.available_stages _ lt c.loop-index.invariant.faults c.in-Ok.mask mask);
