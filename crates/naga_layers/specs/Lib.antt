@@ -1,3 +1,2 @@
-pub mod Kinds
 pub mod Plain
 pub mod Recorded

@@ -1,5 +1,4 @@
-//! Facts: what a lower layer says of one module, recorded in plain lists. Whoever has typed a module already writes them
-//! down, and [`Recorded`](crate::recorded::Recorded) answers them.
+//! Facts: what a lower layer knows of one module, in plain lists. [`Recorded`](crate::recorded::Recorded) answers them.
 
 ghost use Rattle.std.specs.Prelude.{◌≡◌};
 ghost use Rattle.naga_layers.specs.Recorded.Facts.{no_facts, fault_of, info_of, analysis_of};
@@ -17,11 +16,13 @@ use ir_module::module::MeshStageInfo;
 use ir_types::typifier::TypeResolution;
 use std::alloc::Global;
 
-/// What a lower layer says of a module. No list must have a certain length: what a missing fact means is said at
-/// [`Recorded`](crate::recorded::Recorded), and facts beyond what is asked for are not looked at.
+/// What a lower layer knows of a module. They are believed.
+///
+/// A list may have any length. [`Recorded`](crate::recorded::Recorded) says what a missing fact means. Surplus facts
+/// aren't read.
 #[derive(PartialEq, Debug, Drop)]
 pub struct Facts {
-    /// The size of each type in bytes, by its handle; `None` where it isn't known.
+    /// The size of each type in bytes, by its handle. None if it isn't known.
     pub sizes: Sequence<Option<u32>>,
     /// What each global variable implies as the output variable of a mesh shader, by its handle.
     pub mesh_analyses: Sequence<Option<MeshAnalysisFact>>,
@@ -32,7 +33,7 @@ pub struct Facts {
 }
 
 impl Facts {
-    /// No facts, with the allocator for those to come.
+    /// No facts. It keeps the allocator.
     pub fn new(alloc: Global) -> Facts
         ensures { result ≡ no_facts }
     {
@@ -59,11 +60,11 @@ pub struct InfoFact {
     pub types: Sequence<TypeResolution>,
     /// How the function uses each global, by its handle.
     pub uses: Sequence<GlobalUse>,
-    /// The stages that the function may run in, its statements and expressions apart.
+    /// The stages in which the function may run, before its statements and expressions are counted.
     pub stages: ShaderStages,
-    /// Whether the function puts out two colors that are blended.
+    /// Whether the function outputs two blend sources.
     pub dual_source_blending: bool,
-    /// What the check of each expression says, by its handle. It is asked for where expressions are looked at.
+    /// The answer of the check of each expression, by its handle. It is read with EXPRESSIONS.
     pub expressions: Sequence<ExpressionFact>,
 }
 
@@ -74,8 +75,7 @@ pub enum ExpressionFact {
     Error(ExpressionError),
 }
 
-/// The errors of functions that a lower layer makes: `Expression`, and those that it alone makes. Variants and fields are
-/// those of [`FunctionError`].
+/// The errors of functions that a lower layer can report. Variants and fields are those of [`FunctionError`].
 #[derive(Clone, Copy, PartialEq, Debug)]
 pub enum LowerFunctionError {
     Expression {
@@ -124,8 +124,9 @@ impl From<LowerFunctionError> for FunctionError {
     }
 }
 
-/// What a global variable implies as the output variable of a mesh shader, and what is wrong with it. `overrides` are
-/// those of the greatest number of vertices and of primitives.
+/// What a global variable implies as the output variable of a mesh shader, and what is wrong with it.
+///
+/// `overrides` are those of the maximum number of vertices and of primitives.
 #[derive(Clone, Copy, PartialEq, Debug)]
 pub struct MeshAnalysisFact {
     pub implied: MeshStageInfo,

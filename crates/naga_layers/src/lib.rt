@@ -1,8 +1,7 @@
-//! For users: two lower layers, `Recorded`, which answers recorded facts, and `Plain`, which types the plainest expressions.
+//! For users: three lower layers: `Recorded` answers recorded facts, `Typed` computes, and `Plain` types the plainest expressions.
 #![tactic(auto)]
 
 pub mod facts;
-mod kinds;
 pub mod plain;
 pub mod recorded;
 
@@ -11,3 +10,4 @@ pub use crate::facts::{
 };
 pub use crate::plain::Plain;
 pub use crate::recorded::Recorded;
+pub use layer_typed::{Rule, Typed, Untyped, global_types, type_infos};

@@ -1,7 +1,7 @@
-//! The plain lower layer: a small one, over which the program and the tests judge.
+//! The plain lower layer: a small one, for `naga_check` and for tests.
 
 ghost use Rattle.std.specs.Prelude.{◌≡◌, IfOk};
-ghost use Rattle.check_errors.specs.Answers.{Answers};
+ghost use Rattle.check_errors.specs.Answers.{Answers, Exactly};
 ghost use Rattle.naga_layers.specs.Plain.Infos.{plain_info};
 ghost use Rattle.naga_layers.specs.Plain.Meaning.{plain_layer};
 
@@ -9,7 +9,6 @@ mod sizes;
 mod types;
 mod uses;
 
-use crate::kinds::kinds_of;
 use crate::plain::sizes::size_of;
 use crate::plain::types::types_of;
 use crate::plain::uses::uses_of;
@@ -29,10 +28,12 @@ use ir_flags::valid::{ShaderStages, ValidationFlags};
 use ir_module::expressions::Expression;
 use ir_module::functions::Function;
 use ir_module::module::{MeshOutputTopology, MeshStageInfo, Module};
+use layer_uses::kinds_of;
 use std::alloc::{AllocError, Global};
 
-/// A lower layer that types the plainest expressions, and refuses any other as `Lower(1)`. Every expression may run in
-/// all stages, and the answer about the output of a mesh shader is always the same one.
+/// A lower layer that types the simplest expressions, and refuses any other as `Lower(1)`.
+///
+/// It checks no expression: each may run in all stages. It gives the same mesh analysis for every global.
 #[derive(Drop)]
 pub struct Plain {
     /// What a mesh shader's output variable implies.
@@ -40,14 +41,14 @@ pub struct Plain {
 }
 
 impl Plain {
-    /// The plain layer that answers this about the output of every mesh shader.
+    /// The plain layer with this mesh analysis.
     pub fn new(analysis: MeshAnalysis) -> Plain
         ensures { result ≡ record { analysis = analysis } }
     {
         Plain { analysis }
     }
 
-    /// The plain layer for modules without mesh shaders: its analysis is one of nothing.
+    /// The plain layer for modules without mesh shaders: its analysis is empty.
     pub fn without_mesh_shaders() -> Plain
         ensures { result ≡ plain_layer }
     {
@@ -75,7 +76,7 @@ fn info_of(
     fun: &Function,
     module: &Module,
 ) -> Result<FunctionInfo, Refusal<FunctionError>>
-    ensures { Answers (plain_info fun.now «module».now) result }
+    ensures { Answers (Exactly (plain_info fun.now «module».now)) result }
 {
     let expression_types = types_of(alloc, module, fun)?;
     let global_uses = uses_of(alloc, module, fun)?;
@@ -89,7 +90,8 @@ fn info_of(
 
 impl Below for Plain {
     ghost use Rattle.naga_layers.specs.Plain.Meaning.{plain_meaning};
-    ghost use Rattle.naga_layers.specs.Plain.Laws.{info_one_type_each, info_one_use_each, info_types_in_range, info_no_struct_values, kinds_one_each};
+    ghost use Rattle.naga_layers.specs.Plain.Laws.{info_one_type_each, info_one_use_each, info_types_in_range, info_no_struct_values};
+    ghost use Rattle.layer_uses.specs.Kinds.{kinds_one_each};
 
     ghost meaning = { plain_meaning };
 

@@ -3,13 +3,12 @@
 ghost use Rattle.std.specs.Prelude.{◌≡◌, IfOk};
 ghost use Rattle.std.specs.List.{list_all};
 ghost use Rattle.std.specs.Option.{option_copied};
-ghost use Rattle.check_errors.specs.Answers.{Answers};
+ghost use Rattle.check_errors.specs.Answers.{Answers, Exactly};
 ghost use Rattle.naga_layers.specs.Recorded.Facts.{info_of, fault_of, unknown_analysis, analysis_at};
 ghost use Rattle.naga_layers.specs.Recorded.Asked.{fact_asked};
 ghost use Rattle.naga_layers.specs.Recorded.Infos.{is_lawful_type, is_lawful_info, expression_said, USELESS, recorded_info, recorded_stages};
 
 use crate::facts::{ExpressionFact, Facts, FunctionFact, InfoFact, MeshAnalysisFact};
-use crate::kinds::kinds_of;
 use check_errors::below::Below;
 use check_errors::function::FunctionError;
 use check_errors::mesh::{MeshAnalysis, MeshFault};
@@ -29,24 +28,26 @@ use ir_module::functions::Function;
 use ir_module::module::{MeshOutputTopology, MeshStageInfo, Module};
 use ir_types::types::TypeInner;
 use ir_types::typifier::TypeResolution;
+use layer_uses::kinds_of;
 use std::alloc::{AllocError, Global};
 
-/// A lower layer that answers the facts that it is given, whatever they are and whatever module it is asked about. Where a
-/// fact is missing or breaks a law of lower layers, its answer is a refusal.
+/// A lower layer that answers recorded facts. It keeps the laws of lower layers, whatever the facts and the module are.
 ///
-/// - `process_function`: of an error, it. Of an info, it, where it has one type for each expression and one use for each
-///   global, where each type that its types name is one of the module's, also inside a value, and where no value is a
-///   struct. Else the fault `Expression { handle: 0, source: Lower(0) }`.
-/// - `validate_expression`: what the info has for the expression; else `Lower(0)`.
-/// - `analyze_mesh_shader_info`: what is recorded of the global; else an analysis with the fault `OutputType`.
-/// - `kinds`: computed from the expressions alone. Literals, constants and zero values are const, overrides are override,
-///   unary expressions and compositions the latest of their operands' (runtime where one is no earlier expression), all
-///   others runtime.
-/// - `type_size`: what is recorded of the type; else `None`.
+/// - `process_function`: a recorded error, without spans; or a recorded info, if it keeps the laws. It does with one type for
+///   each expression, one use for each global, only types of the module, also inside a value, and no struct as a value.
+///   Otherwise the fault is `Expression { handle: 0, source: Lower(0) }`.
+/// - `validate_expression`: what the info has for the expression; otherwise `Lower(0)`.
+/// - `analyze_mesh_shader_info`: what is recorded of the global; otherwise an analysis with the fault `OutputType`.
+/// - `kinds`: computed from the expressions alone, and not recorded. Literals, constants and zero values are const. Overrides
+///   are override. A `Unary` or `Compose` is the latest of its operands, and runtime if one is no earlier expression. All
+///   others are runtime.
+/// - `type_size`: what is recorded of the type; otherwise None.
 ///
-/// The first two are given no name of the function, but the infos so far. Where fewer functions have infos than the module
-/// has functions, the fact is that of the next function; else it is that of the next entry point. So functions and entry
-/// points are to be judged in their order.
+/// The first two calls are given the infos so far, and no handle of the function. If fewer functions have infos than
+/// the module has functions, the fact is that of the next function. Otherwise it is that of the next entry point. So
+/// judge functions and entry points in their order, as `check_module` does.
+///
+/// A call that allocates may be out of memory.
 #[derive(Drop)]
 pub struct Recorded {
     pub facts: Facts,
@@ -150,7 +151,7 @@ fn answer_of(
     fun: &Function,
     module: &Module,
 ) -> Result<FunctionInfo, Refusal<FunctionError>>
-    ensures { Answers (recorded_info (option_copied fact.entry) fun.now «module».now) result }
+    ensures { Answers (Exactly (recorded_info (option_copied fact.entry) fun.now «module».now)) result }
 {
     let fault = match fact {
         Some(FunctionFact::Info(info)) => {
@@ -215,7 +216,7 @@ fn analysis_at(facts: &Facts, output: Handle<tag::GlobalVariable>) -> MeshAnalys
 impl Below for Recorded {
     ghost use Rattle.naga_layers.specs.Recorded.Meaning.{recorded_meaning};
     ghost use Rattle.naga_layers.specs.Recorded.Laws.{one_type_each, one_use_each, types_in_range, no_struct_values};
-    ghost use Rattle.naga_layers.specs.Plain.Laws.{kinds_one_each};
+    ghost use Rattle.layer_uses.specs.Kinds.{kinds_one_each};
 
     ghost meaning = { recorded_meaning };
 

@@ -22,7 +22,6 @@ use Rattle.ir_types.specs.declared.types.AddressSpace.{AddressSpace}
 use Rattle.ir_types.specs.declared.types.AddressSpace.TheVariants as space
 use Rattle.ir_types.specs.declared.types.TypeInner.{TypeInner}
 use Rattle.ir_types.specs.declared.types.TypeInner.TheVariants as inner
-use Rattle.ir_facts.specs.declared.proc.expression_kinds.ExpressionKind.{ExpressionKind}
 use Rattle.ir_types.specs.declared.typifier.TypeResolution.{TypeResolution}
 use Rattle.ir_types.specs.declared.typifier.TypeResolution.TheVariants.{Handle, Value}
 use Rattle.ir_flags.specs.declared.valid.GlobalUse.{GlobalUse}
@@ -32,7 +31,6 @@ use Rattle.check_errors.specs.declared.function.FunctionError.{FunctionError}
 use Rattle.check_errors.specs.declared.function.FunctionError.TheVariants.{Expression as InExpression}
 use Rattle.ir_facts.specs.declared.valid.expression_error.ExpressionError.TheVariants.{Lower}
 use Rattle.naga_layers.specs.Plain.Infos.{plain_info, info_of_types, with_types}
-use Rattle.naga_layers.specs.Kinds.{kinds_from, kind_of}
 use Rattle.naga_layers.specs.Plain.Types.{type_at, pointer_to, global_type, known_type, loaded_type, own_type, type_of, or_refuse, types_from}
 use Rattle.naga_layers.specs.Plain.Uses.{with_all_named}
 
@@ -170,14 +168,3 @@ pub info_no_struct_values : (f : Function) (m : Module) (info : FunctionInfo) �
 info_no_struct_values f m info h =
     by_types f m info (λ i. All IsNoStruct i.expression_types)
     (λ types all count k d lt. (all k d lt).1) (types_from m f [] f.expressions) refl h
-
-kinds_from-length : (earlier : List ExpressionKind) (xs : List Expression)
-    → length (kinds_from earlier xs) ≡ length earlier + length xs
-unfolding kinds_from
-kinds_from-length earlier [] = omega arith
-kinds_from-length earlier (x ∷ rest) =
-    let more = kinds_from-length (earlier ++ kind_of earlier x ∷ []) rest in
-    omega (arith, more, length-append earlier (kind_of earlier x ∷ []))
-
-pub kinds_one_each : (es : List Expression) → length (kinds_from [] es) ≡ length es
-kinds_one_each es = omega (arith, kinds_from-length [] es)

@@ -4,7 +4,7 @@ use Rattle.ir_flags.specs.Bits.{ALL_STAGES}
 use Rattle.ir_module.specs.declared.module.MeshOutputTopology.TheVariants.{Points}
 use Rattle.check_errors.specs.Meaning.{Meaning}
 use Rattle.naga_layers.specs.Plain.Infos.{plain_info}
-use Rattle.naga_layers.specs.Kinds.{kinds_from}
+use Rattle.layer_uses.specs.Kinds.{kinds_from}
 use Rattle.naga_layers.specs.Plain.Sizes.{size_at}
 use Rattle.naga_layers.specs.declared.plain.Plain.{Plain}
 

@@ -3,7 +3,7 @@
 ghost use Rattle.std.specs.Prelude.{◌≡◌, [], IfOk, option_and_then, slice_get};
 ghost use Rattle.ir_arena.specs.declared.span.Refusal.TheVariants.{Fault};
 ghost use Rattle.ir_facts.specs.declared.valid.expression_error.ExpressionError.TheVariants.{Lower};
-ghost use Rattle.check_errors.specs.Answers.{Answers};
+ghost use Rattle.check_errors.specs.Answers.{Answers, Exactly};
 ghost use Rattle.check_errors.specs.declared.function.FunctionError.TheVariants.{Expression as InExpression};
 ghost use Rattle.naga_layers.specs.Plain.Types.{type_at, pointer_to, global_type, loaded_type, first_of, own_type, type_of, types_from};
 
@@ -27,7 +27,7 @@ pub fn types_of(
     module: &Module,
     fun: &Function,
 ) -> Result<Sequence<TypeResolution>, Refusal<FunctionError>>
-    ensures { Answers (types_from «module».now fun.now [] fun.now.expressions) result }
+    ensures { Answers (Exactly (types_from «module».now fun.now [] fun.now.expressions)) result }
 {
     let mut types = Sequence::new(alloc);
     let count = fun.expressions.len() as u32;

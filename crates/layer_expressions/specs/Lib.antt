@@ -1,0 +1,12 @@
+pub mod Rules
+pub mod Shapes
+pub mod Operands
+pub mod Named
+pub mod Access
+pub mod Operators
+pub mod Math
+pub mod Images
+pub mod Sampling
+pub mod Loading
+pub mod Others
+pub mod Types

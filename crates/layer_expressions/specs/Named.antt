@@ -1,0 +1,62 @@
+-- The types of expressions that name something which has one. The module has so many types.
+use Rattle.std.specs.Prelude.{ℕ, List, Option, None, Some, Result, Err, length, slice_get, nat_lt, if◌then◌else◌, option_and_then}
+use Rattle.ir_module.specs.declared.expressions.Expression.{Expression}
+use Rattle.ir_module.specs.declared.expressions.Expression.TheVariants as e
+use Rattle.ir_module.specs.declared.functions.Function.{Function}
+use Rattle.ir_module.specs.declared.functions.FunctionArgument.{FunctionArgument}
+use Rattle.ir_module.specs.declared.functions.FunctionResult.{FunctionResult}
+use Rattle.ir_module.specs.declared.functions.LocalVariable.{LocalVariable}
+use Rattle.ir_module.specs.declared.module.Module.{Module}
+use Rattle.ir_types.specs.Types.{bool_scalar}
+use Rattle.ir_types.specs.declared.types.AddressSpace.{AddressSpace}
+use Rattle.ir_types.specs.declared.types.AddressSpace.TheVariants as space
+use Rattle.ir_types.specs.declared.types.ScalarKind.TheVariants.{Uint}
+use Rattle.ir_types.specs.declared.types.TypeInner.TheVariants as inner
+use Rattle.ir_types.specs.declared.types.VectorSize.TheVariants.{Quad}
+use Rattle.ir_types.specs.declared.typifier.TypeResolution.{TypeResolution}
+use Rattle.ir_types.specs.declared.typifier.TypeResolution.TheVariants.{Handle, Value}
+use Rattle.layer_expressions.specs.declared.rules.Rule.{Rule}
+use Rattle.layer_expressions.specs.declared.rules.Rule.TheVariants as rule
+use Rattle.layer_expressions.specs.Rules.{or_broken}
+
+-- the type with this handle, where it is there
+abbrev pub type_at : ℕ → ℕ → Option TypeResolution
+type_at count t = if nat_lt t count then Some (Handle t) else None
+
+-- a pointer to it
+abbrev pub pointer_to : ℕ → ℕ → AddressSpace → Option TypeResolution
+pointer_to count t p = if nat_lt t count then Some (Value (inner.Pointer t p)) else None
+
+-- a global in Handle stands for itself, any other for a pointer to it
+abbrev pub global_type : ℕ → ℕ → AddressSpace → Option TypeResolution
+global_type count t space.Handle = type_at count t
+global_type count t p = pointer_to count t p
+
+-- the result of a function that is called, which is there and has one
+abbrev pub result_type : ℕ → Option FunctionResult → Result TypeResolution Rule
+result_type count None = Err rule.Result
+result_type count (Some r) = or_broken rule.Named (type_at count r.ty)
+
+abbrev pub callee_type : ℕ → Option Function → Result TypeResolution Rule
+callee_type count None = Err rule.Named
+callee_type count (Some f) = result_type count f.result
+
+-- what an expression names has a type; None where it isn't there, and for the kinds that name nothing
+abbrev pub named_type : Module → List FunctionArgument → List LocalVariable → Expression → Option TypeResolution
+named_type m arguments locals (e.Literal l) = Some (Value (inner.Scalar l.scalar))
+named_type m arguments locals (e.Constant h) = option_and_then (λ c. type_at (length m.types) c.ty) (slice_get m.constants h)
+named_type m arguments locals (e.Override h) = option_and_then (λ o. type_at (length m.types) o.ty) (slice_get m.overrides h)
+named_type m arguments locals (e.ZeroValue t) = type_at (length m.types) t
+named_type m arguments locals (e.Compose t hs) = type_at (length m.types) t
+named_type m arguments locals (e.FunctionArgument n) =
+    option_and_then (λ a. type_at (length m.types) a.ty) (slice_get arguments n)
+named_type m arguments locals (e.GlobalVariable h) =
+    option_and_then (λ g. global_type (length m.types) g.ty g.space) (slice_get m.global_variables h)
+named_type m arguments locals (e.LocalVariable h) =
+    option_and_then (λ v. pointer_to (length m.types) v.ty space.Function) (slice_get locals h)
+named_type m arguments locals (e.AtomicResult t c) = type_at (length m.types) t
+named_type m arguments locals (e.WorkGroupUniformLoadResult t) = type_at (length m.types) t
+named_type m arguments locals e.RayQueryProceedResult = Some (Value (inner.Scalar bool_scalar))
+named_type m arguments locals e.SubgroupBallotResult = Some (Value (inner.Vector Quad (record { kind = Uint; width = 4 })))
+named_type m arguments locals (e.SubgroupOperationResult t) = type_at (length m.types) t
+named_type m arguments locals _ = None

@@ -1,0 +1,140 @@
+-- The type of each expression of a function, or of a module's global expressions.
+use Rattle.std.specs.Prelude.{ℕ, Bool, true, false, ◌++◌, List, [], ◌∷◌, Option, None, Some, Result, Ok, Err, length, slice_get, if◌then◌else◌}
+use Rattle.std.specs.Option.{option_map}
+use Rattle.ir_module.specs.Operands.{listed_operands}
+use Rattle.ir_module.specs.declared.expressions.Expression.{Expression}
+use Rattle.ir_module.specs.declared.expressions.Expression.TheVariants as e
+use Rattle.ir_module.specs.declared.functions.FunctionArgument.{FunctionArgument}
+use Rattle.ir_module.specs.declared.functions.LocalVariable.{LocalVariable}
+use Rattle.ir_module.specs.declared.module.Module.{Module}
+use Rattle.ir_types.specs.declared.types.Type.{«Type» as IrType}
+use Rattle.ir_types.specs.declared.types.TypeInner.{TypeInner}
+use Rattle.ir_types.specs.declared.typifier.TypeResolution.{TypeResolution}
+use Rattle.layer_forms.specs.Casts as casts
+use Rattle.layer_forms.specs.Math.{functions, class_of}
+use Rattle.layer_forms.specs.Operators.{unary_operators, binary_operators, relational_functions, derivative_of}
+use Rattle.layer_forms.specs.Vectors.{sizes, swizzle_of}
+use Rattle.layer_expressions.specs.declared.operands.Arguments.{Arguments}
+use Rattle.layer_expressions.specs.declared.rules.Rule.{Rule}
+use Rattle.layer_expressions.specs.declared.rules.Rule.TheVariants as rule
+use Rattle.layer_expressions.specs.declared.shapes.Shape.{Shape}
+use Rattle.layer_expressions.specs.declared.types.Untyped.{Untyped}
+use Rattle.layer_expressions.specs.Access.{access_type, access_index_type, loaded}
+use Rattle.layer_expressions.specs.Loading.{load_type, query_type}
+use Rattle.layer_expressions.specs.Math.{math_of}
+use Rattle.layer_expressions.specs.Named.{callee_type, named_type}
+use Rattle.layer_expressions.specs.Operands.{arguments_of, type_of_operand}
+use Rattle.layer_expressions.specs.Operators.{binary_of, cast_of, derived, related, selected, splat_of, swizzled, unary_of}
+use Rattle.layer_expressions.specs.Others.{cooperative_load, length_type, multiply_add}
+use Rattle.layer_expressions.specs.Rules.{or_broken}
+use Rattle.layer_expressions.specs.Sampling.{sample_type}
+use Rattle.layer_expressions.specs.Shapes.{value_of}
+
+-- what a kind gives whose operands have these shapes: by what `detail` stands for
+abbrev pub computed : Expression → Arguments → Result (Option Shape) Rule
+computed (e.Splat hs d) given = or_broken rule.Detail (option_map (λ n. splat_of n given) (slice_get sizes d))
+computed (e.Swizzle hs d) given = or_broken rule.Detail (option_map (λ w. swizzled w given) (swizzle_of d))
+computed (e.Unary hs d) given = or_broken rule.Detail (option_map (λ o. unary_of o given) (slice_get unary_operators d))
+computed (e.Binary hs d) given = or_broken rule.Detail (option_map (λ o. binary_of o given) (slice_get binary_operators d))
+computed (e.Select hs d) given = Ok (selected given)
+computed (e.Derivative hs d) given = or_broken rule.Detail (option_map (λ o. derived given) (derivative_of d))
+computed (e.Relational hs d) given = or_broken rule.Detail (option_map (λ f. related f given) (slice_get relational_functions d))
+computed (e.Math hs d) given = or_broken rule.Detail (option_map (λ f. math_of (class_of f) given) (slice_get functions d))
+computed (e.As hs d) given = or_broken rule.Detail (option_map (λ c. cast_of c given) (casts.cast_of d))
+computed _ given = Ok None
+
+-- the rule of each kind
+abbrev pub rule_of : Expression → Rule
+rule_of (e.Splat hs d) = rule.Splat
+rule_of (e.Swizzle hs d) = rule.Swizzle
+rule_of (e.Unary hs d) = rule.Unary
+rule_of (e.Binary hs d) = rule.Binary
+rule_of (e.Select hs d) = rule.Select
+rule_of (e.Derivative hs d) = rule.Derivative
+rule_of (e.Relational hs d) = rule.Relational
+rule_of (e.Math hs d) = rule.Math
+rule_of (e.As hs d) = rule.As
+rule_of _ = rule.Named
+
+-- the value of a shape
+abbrev pub shape_value : Result Shape Rule → Result TypeResolution Rule
+shape_value (Ok x) = Ok (value_of x)
+shape_value (Err broken) = Err broken
+
+abbrev pub some_shape : Rule → Result (Option Shape) Rule → Result TypeResolution Rule
+some_shape rule (Ok (Some x)) = Ok (value_of x)
+some_shape rule (Ok None) = Err rule
+some_shape rule (Err broken) = Err broken
+
+-- the value that a kind computes
+abbrev pub computed_type : Expression → Option Arguments → Result TypeResolution Rule
+computed_type x None = Err (rule_of x)
+computed_type x (Some given) = some_shape (rule_of x) (computed x given)
+
+-- Load
+abbrev pub load_value : List IrType → Option TypeInner → Result TypeResolution Rule
+load_value types None = Err rule.Load
+load_value types (Some pointer) = or_broken rule.Load (loaded types pointer)
+
+-- what an expression names
+abbrev pub named : Module → List FunctionArgument → List LocalVariable → Expression → Result TypeResolution Rule
+named m arguments locals x = or_broken rule.Named (named_type m arguments locals x)
+
+-- the kinds that compute with shapes
+abbrev pub is_computed : Expression → Bool
+is_computed (e.Splat hs d) = true
+is_computed (e.Swizzle hs d) = true
+is_computed (e.Unary hs d) = true
+is_computed (e.Binary hs d) = true
+is_computed (e.Select hs d) = true
+is_computed (e.Derivative hs d) = true
+is_computed (e.Relational hs d) = true
+is_computed (e.Math hs d) = true
+is_computed (e.As hs d) = true
+is_computed _ = false
+
+-- these, and those that name something
+abbrev pub plain_type : Module → List FunctionArgument → List LocalVariable → List TypeResolution → Expression →
+    Result TypeResolution Rule
+plain_type m arguments locals earlier x =
+    if is_computed x then computed_type x (arguments_of m.types earlier (listed_operands x)) else named m arguments locals x
+
+-- the type of an expression of these expressions, of those of the expressions before it; or the rule that it breaks
+abbrev pub type_of : Module → List FunctionArgument → List LocalVariable → List Expression → List TypeResolution → Expression →
+    Result TypeResolution Rule
+type_of m arguments locals xs earlier (e.Access base index) =
+    access_type m.types (type_of_operand m.types earlier base) (type_of_operand m.types earlier index)
+type_of m arguments locals xs earlier (e.AccessIndex base k) =
+    access_index_type m.types (type_of_operand m.types earlier base) k
+type_of m arguments locals xs earlier (e.Load pointer) = load_value m.types (type_of_operand m.types earlier pointer)
+type_of m arguments locals xs earlier (e.CallResult f) = callee_type (length m.types) (slice_get m.functions f)
+type_of m arguments locals xs earlier (e.ImageSample hs d) = shape_value (sample_type m.types xs earlier hs d)
+type_of m arguments locals xs earlier (e.ImageLoad hs d) = shape_value (load_type m.types xs earlier hs d)
+type_of m arguments locals xs earlier (e.ImageQuery hs d) = shape_value (query_type m.types xs earlier hs d)
+type_of m arguments locals xs earlier (e.ArrayLength hs d) = length_type m.types earlier hs
+type_of m arguments locals xs earlier (e.RayQueryGetIntersection hs d) = Err rule.RayQuery
+type_of m arguments locals xs earlier (e.RayQueryVertexPositions hs d) = Err rule.RayQuery
+type_of m arguments locals xs earlier (e.CooperativeLoad hs d) = cooperative_load m.types earlier hs d
+type_of m arguments locals xs earlier (e.CooperativeMultiplyAdd hs d) = multiply_add m.types earlier hs
+type_of m arguments locals xs earlier x = plain_type m arguments locals earlier x
+
+-- go on with the type, or end with the expression that has none
+abbrev pub or_untyped : {A : Type 0} → ℕ → (TypeResolution → Result A Untyped) → Result TypeResolution Rule → Result A Untyped
+or_untyped h next (Ok t) = next t
+or_untyped h next (Err broken) = Err (record { handle = h; rule = broken })
+
+-- the types of these expressions behind those of the ones before them, or the first that has none
+unfoldable pub types_from : Module → List FunctionArgument → List LocalVariable → List Expression → List TypeResolution →
+    List Expression → Result (List TypeResolution) Untyped
+types_from m arguments locals xs earlier [] = Ok earlier
+types_from m arguments locals xs earlier (x ∷ rest) =
+    or_untyped (length earlier) (λ t. types_from m arguments locals xs (earlier ++ t ∷ []) rest)
+    (type_of m arguments locals xs earlier x)
+
+-- of a function of these arguments, locals and expressions
+abbrev pub types_of : Module → List FunctionArgument → List LocalVariable → List Expression → Result (List TypeResolution) Untyped
+types_of m arguments locals xs = types_from m arguments locals xs [] xs
+
+-- of the global expressions, which have neither arguments nor locals
+abbrev pub global_types : Module → Result (List TypeResolution) Untyped
+global_types m = types_of m [] [] m.global_expressions

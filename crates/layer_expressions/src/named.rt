@@ -1,0 +1,116 @@
+//! The types of expressions that name something which has one.
+
+ghost use Rattle.std.specs.Prelude.{◌≡◌};
+ghost use Rattle.std.specs.Option.{option_copied};
+ghost use Rattle.layer_expressions.specs.Named.{type_at, pointer_to, global_type, callee_type, named_type};
+
+use crate::rules::Rule;
+use ir_arena::handle::Handle;
+use ir_arena::tag;
+use ir_module::expressions::Expression;
+use ir_module::functions::{Function, FunctionArgument, LocalVariable};
+use ir_module::module::{GlobalVariable, Module};
+use ir_types::types::{AddressSpace, Scalar, TypeInner, VectorSize};
+use ir_types::typifier::TypeResolution;
+
+/// The type with a handle, where the module has so many types.
+pub fn type_at(count: usize, ty: Handle<tag::Type>) -> Option<TypeResolution>
+    ensures { result ≡ type_at count ty }
+{
+    if ty.index() < count {
+        Some(TypeResolution::Handle(ty))
+    } else {
+        None
+    }
+}
+
+/// A pointer to the type with a handle, where the module has so many types.
+pub fn pointer_to(
+    count: usize,
+    base: Handle<tag::Type>,
+    space: AddressSpace,
+) -> Option<TypeResolution>
+    ensures { result ≡ pointer_to count base space }
+{
+    if base.index() < count {
+        Some(TypeResolution::Value(TypeInner::Pointer { base, space }))
+    } else {
+        None
+    }
+}
+
+/// What a global stands for: itself in Handle, elsewhere a pointer to it.
+fn global_type(count: usize, global: GlobalVariable) -> Option<TypeResolution>
+    ensures { result ≡ global_type count global.ty global.space }
+{
+    match global.space {
+        AddressSpace::Handle => type_at(count, global.ty),
+        space => pointer_to(count, global.ty, space),
+    }
+}
+
+/// The type of a function's result, or the rule that is broken.
+pub fn callee_type(count: usize, callee: Option<&Function>) -> Result<TypeResolution, Rule>
+    ensures { result ≡ callee_type count (option_copied callee.entry) }
+{
+    let Some(callee) = callee else {
+        return Err(Rule::Named);
+    };
+    let Some(declared) = callee.result else {
+        return Err(Rule::Result);
+    };
+    match type_at(count, declared.ty) {
+        Some(ty) => Ok(ty),
+        None => Err(Rule::Named),
+    }
+}
+
+/// The type of an expression that names something; `None` where it isn't there, and of all other expressions.
+pub fn named_type(
+    module: &Module,
+    arguments: &[FunctionArgument],
+    locals: &[LocalVariable],
+    expression: &Expression,
+) -> Option<TypeResolution>
+    ensures { result ≡ named_type «module».now arguments.now locals.now expression.now }
+{
+    let count = module.types.len();
+    match expression {
+        Expression::Literal(literal) => Some(TypeResolution::Value(TypeInner::Scalar(
+            literal.scalar,
+        ))),
+        Expression::Constant(handle) => {
+            let constant = module.constants.as_slice().get(handle.index())?;
+            type_at(count, constant.ty)
+        }
+        Expression::Override(handle) => {
+            let constant = module.overrides.as_slice().get(handle.index())?;
+            type_at(count, constant.ty)
+        }
+        Expression::ZeroValue(ty)
+        | Expression::Compose { ty, .. }
+        | Expression::AtomicResult { ty, .. }
+        | Expression::WorkGroupUniformLoadResult { ty }
+        | Expression::SubgroupOperationResult { ty } => type_at(count, *ty),
+        Expression::FunctionArgument(index) => {
+            let argument = arguments.get(*index as usize)?;
+            type_at(count, argument.ty)
+        }
+        Expression::GlobalVariable(handle) => {
+            let global = module.global_variables.as_slice().get(handle.index())?;
+            global_type(count, *global)
+        }
+        Expression::LocalVariable(handle) => {
+            let local = locals.get(handle.index())?;
+            pointer_to(count, local.ty, AddressSpace::Function)
+        }
+        Expression::RayQueryProceedResult => Some(TypeResolution::Value(TypeInner::Scalar(
+            Scalar::BOOL,
+        ))),
+        Expression::SubgroupBallotResult => Some(TypeResolution::Value(TypeInner::Vector {
+            size: VectorSize::Quad,
+            scalar: Scalar::U32,
+        })),
+        _ => None,
+    }
+}

@@ -1,0 +1,83 @@
+//! The types of operands.
+
+ghost use Rattle.std.specs.Prelude.{◌≡◌};
+ghost use Rattle.std.specs.Option.{option_copied};
+ghost use Rattle.layer_expressions.specs.Operands.{type_of_operand, shape_of_operand, arguments_of};
+
+use crate::shapes::{Shape, shape_of};
+use ir_arena::handle::Handle;
+use ir_arena::tag;
+use ir_types::types::{Type, TypeInner};
+use ir_types::typifier::TypeResolution;
+
+/// The shapes of one to four operands, in order.
+#[derive(Clone, Copy)]
+pub enum Arguments {
+    One(Shape),
+    Two(Shape, Shape),
+    Three(Shape, Shape, Shape),
+    Four(Shape, Shape, Shape, Shape),
+}
+
+/// The type of an operand, which is an earlier expression.
+pub fn type_of_operand<'a>(
+    types: &'a [Type],
+    earlier: &'a [TypeResolution],
+    operand: Handle<tag::Expression>,
+) -> Option<&'a TypeInner>
+    ensures { option_copied result ≡ type_of_operand types.now earlier.now operand }
+{
+    match earlier.get(operand.index())? {
+        TypeResolution::Handle(ty) => match types.get(ty.index()) {
+            Some(ty) => Some(&ty.inner),
+            None => None,
+        },
+        TypeResolution::Value(inner) => Some(inner),
+    }
+}
+
+/// The shape of an operand.
+pub fn shape_of_operand(
+    types: &[Type],
+    earlier: &[TypeResolution],
+    operand: Handle<tag::Expression>,
+) -> Option<Shape>
+    ensures { result ≡ shape_of_operand types.now earlier.now operand }
+{
+    match type_of_operand(types, earlier, operand) {
+        Some(inner) => shape_of(inner),
+        None => None,
+    }
+}
+
+/// The shapes of all operands, where each has one.
+pub fn arguments_of(
+    types: &[Type],
+    earlier: &[TypeResolution],
+    operands: &[Handle<tag::Expression>],
+) -> Option<Arguments>
+    ensures { result ≡ arguments_of types.now earlier.now operands.now }
+{
+    match operands {
+        [a] => Some(Arguments::One(shape_of_operand(types, earlier, *a)?)),
+        [a, b] => {
+            let a = shape_of_operand(types, earlier, *a)?;
+            let b = shape_of_operand(types, earlier, *b)?;
+            Some(Arguments::Two(a, b))
+        }
+        [a, b, c] => {
+            let a = shape_of_operand(types, earlier, *a)?;
+            let b = shape_of_operand(types, earlier, *b)?;
+            let c = shape_of_operand(types, earlier, *c)?;
+            Some(Arguments::Three(a, b, c))
+        }
+        [a, b, c, d] => {
+            let a = shape_of_operand(types, earlier, *a)?;
+            let b = shape_of_operand(types, earlier, *b)?;
+            let c = shape_of_operand(types, earlier, *c)?;
+            let d = shape_of_operand(types, earlier, *d)?;
+            Some(Arguments::Four(a, b, c, d))
+        }
+        _ => None,
+    }
+}

@@ -1,0 +1,17 @@
+//! What `detail` says of the expressions that are lists of operands: operators, functions, forms, and which operands there are.
+#![tactic(auto)]
+
+pub mod casts;
+pub mod images;
+pub mod math;
+pub mod operators;
+pub mod vectors;
+
+pub use crate::casts::Cast;
+pub use crate::images::{ImageQuery, LevelKind, Loading, Sampling};
+pub use crate::math::{MathClass, MathFunction};
+pub use crate::operators::{
+    BinaryOperator, Derivative, DerivativeAxis, DerivativeControl, RelationalFunction,
+    UnaryOperator,
+};
+pub use crate::vectors::{Swizzle, SwizzleComponent, component_from, size_from};

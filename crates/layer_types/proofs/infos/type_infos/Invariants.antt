@@ -1,0 +1,10 @@
+use Rattle.std.proofs.Common.{◌≡◌, drop, [], length}
+use Rattle.layer_types.specs.Infos.{infos_from}
+use Rattle.layer_types.proofs.infos.type_infos.Given as goal
+
+abbrev pub invariant-loop-index : goal.invariant-loop-index
+invariant-loop-index l =
+    record {
+      place : length l.infos ≡ l.index;
+      rest : infos_from l.module.types l.infos (drop l.index l.module.types) ≡ infos_from l.module.types [] l.module.types;
+    }

@@ -1,0 +1,96 @@
+-- Infos of structs.
+use Rattle.std.specs.Int.RustNames.{bit_and}
+use Rattle.std.specs.Prelude.{ℕ, Bool, false, not, ◌+◌, ◌*◌, ◌/◌, ◌==◌, ◌&&◌, ◌||◌, List, [], ◌∷◌, Option, None, Some, Result, Ok, Err, nat_le, max, slice_get, is_some, unwrap_or, if◌then◌else◌, option_and_then}
+use Rattle.ir_flags.specs.Bits.{contains, ALL_TYPE_FLAGS, SIZED}
+use Rattle.ir_types.specs.Types.{inner_at}
+use Rattle.ir_types.specs.declared.types.StructMember.{StructMember}
+use Rattle.ir_types.specs.declared.types.Type.{«Type» as IrType}
+use Rattle.ir_facts.specs.declared.valid.types.Disalignment.{Disalignment}
+use Rattle.ir_facts.specs.declared.valid.types.ImmediateError.{ImmediateError}
+use Rattle.ir_facts.specs.declared.valid.types.TypeInfo.{TypeInfo}
+use Rattle.layer_types.specs.declared.parts.Part.{Part}
+use Rattle.layer_types.specs.declared.structs.Laid.{Laid}
+use Rattle.layer_types.specs.Parts.{bad_offset, too_close, part_of}
+use Rattle.layer_types.specs.Sizes.{is_aligned}
+
+-- before the first member. In a uniform buffer a struct is aligned to 16 bytes at least
+abbrev pub begun : Laid
+begun =
+    record {
+      end = 0;
+      uniform_end = 0;
+      is_open = false;
+      flags = ALL_TYPE_FLAGS;
+      alignment = 1;
+      uniform_layout = Ok 16;
+      immediates = Ok tt;
+    }
+
+-- a member has a size, or takes what its buffer holds
+abbrev pub has_extent : Part → Bool
+has_extent part = is_some part.size || not (contains part.info.flags.0 SIZED.0)
+
+-- a member lies behind those before it, of which none is without a size, and is aligned
+abbrev pub fits_behind : Laid → Part → ℕ → Bool
+fits_behind laid part offset =
+    not laid.is_open && (nat_le laid.end offset && (is_aligned part.alignment offset && has_extent part))
+
+-- in a uniform buffer a member is aligned as its type is there, and lies apart from a struct before it
+abbrev pub uniform_member : ℕ → Result ℕ (ℕ × Disalignment) → Result ℕ (ℕ × Disalignment) → ℕ → ℕ → Result ℕ (ℕ × Disalignment)
+uniform_member own (Err bad) needed from offset = Err bad
+uniform_member own (Ok alignment) (Err bad) from offset = Err bad
+uniform_member own (Ok alignment) (Ok needed) from offset =
+    if is_aligned needed offset
+    then (if nat_le from offset then Ok (max alignment needed) else Err (own, too_close))
+    else Err (own, bad_offset)
+
+abbrev pub first_error : Result Unit ImmediateError → Result Unit ImmediateError → Result Unit ImmediateError
+first_error (Ok fine) second = second
+first_error (Err bad) second = Err bad
+
+-- where the next member may begin in a uniform buffer: there a struct takes a multiple of 16 bytes
+abbrev pub uniform_end : Part → ℕ → ℕ
+uniform_end part offset =
+    let size = unwrap_or part.size 0 in
+    if part.is_struct then offset + (size + 15) / 16 * 16 else offset + size
+
+-- after one more member, which fits: the struct can be used for what all members can
+abbrev pub with_member : ℕ → Laid → Part → ℕ → Laid
+with_member own laid part offset =
+    record {
+      end = offset + unwrap_or part.size 0;
+      uniform_end = uniform_end part offset;
+      is_open = not (contains part.info.flags.0 SIZED.0);
+      flags = record { 0 = bit_and laid.flags.0 part.info.flags.0 };
+      alignment = max laid.alignment part.alignment;
+      uniform_layout = uniform_member own laid.uniform_layout part.info.uniform_layout laid.uniform_end offset;
+      immediates = first_error laid.immediates part.info.immediates_compatibility;
+    }
+
+-- after one more member, where it fits
+abbrev pub laid_with : ℕ → Laid → Option Part → ℕ → Option Laid
+laid_with own laid None offset = None
+laid_with own laid (Some part) offset = if fits_behind laid part offset then Some (with_member own laid part offset) else None
+
+-- after these members too
+unfoldable pub laid_from : List IrType → List TypeInfo → ℕ → Laid → List StructMember → Option Laid
+laid_from types infos own laid [] = Some laid
+laid_from types infos own laid (m ∷ rest) =
+    option_and_then (λ next. laid_from types infos own next rest)
+    (laid_with own laid (part_of (slice_get infos m.ty) (inner_at types m.ty)) m.offset)
+
+-- a struct that holds something, within its span, which is aligned
+abbrev pub laid_info : ℕ → Laid → Option TypeInfo
+laid_info span laid =
+    if nat_le laid.end span && (not (laid.end == 0 && not laid.is_open) && is_aligned laid.alignment span)
+    then Some (record {
+      flags = laid.flags;
+      storage_layout = Ok laid.alignment;
+      uniform_layout = laid.uniform_layout;
+      immediates_compatibility = laid.immediates;
+    })
+    else None
+
+-- a struct with these members and this span
+abbrev pub struct_info : List IrType → List TypeInfo → ℕ → List StructMember → ℕ → Option TypeInfo
+struct_info types infos own members span = option_and_then (laid_info span) (laid_from types infos own begun members)

@@ -1,0 +1,72 @@
+//! What arrays and structs hold, and the reasons for which a layout is bad.
+
+ghost use Rattle.std.specs.Prelude.{◌≡◌, slice_get};
+ghost use Rattle.ir_types.specs.Types.{inner_at};
+ghost use Rattle.layer_types.specs.Parts.{is_struct, data_part, part_of};
+
+use crate::sizes::inner_size;
+use ir_arena::handle::Handle;
+use ir_arena::tag;
+use ir_facts::valid::types::{Disalignment, TypeInfo};
+use ir_flags::valid::TypeFlags;
+use ir_types::types::{Type, TypeInner};
+
+/// The type isn't well formed.
+pub const NOT_WELL_FORMED: Disalignment = Disalignment(0);
+/// In a uniform buffer: the stride of an array is no multiple of 16.
+pub const BAD_STRIDE: Disalignment = Disalignment(1);
+/// In a uniform buffer: a member of the struct isn't aligned.
+pub const BAD_OFFSET: Disalignment = Disalignment(2);
+/// In a uniform buffer: a member of the struct follows another struct too closely.
+pub const TOO_CLOSE: Disalignment = Disalignment(3);
+
+/// A type of data that an array or a struct holds.
+#[derive(Clone, Copy)]
+pub struct Part {
+    pub info: TypeInfo,
+    /// In bytes.
+    pub alignment: u32,
+    /// In bytes, where it is known before the pipeline is made.
+    pub size: Option<u32>,
+    pub is_struct: bool,
+}
+
+/// The type with a handle, where it is one of data that stands before and is well formed.
+pub fn part_at(types: &[Type], earlier: &[TypeInfo], ty: Handle<tag::Type>) -> Option<Part>
+    ensures { result ≡ part_of (slice_get earlier.now ty) (inner_at types.now ty) }
+{
+    let inner = &types.get(ty.index())?.inner;
+    match earlier.get(ty.index()) {
+        Some(info) => data_part(info, inner),
+        None => None,
+    }
+}
+
+/// A type, where it is one of data and well formed.
+fn data_part(info: &TypeInfo, inner: &TypeInner) -> Option<Part>
+    ensures { result ≡ data_part info.now.storage_layout info.now inner.now }
+{
+    let Ok(alignment) = info.storage_layout else {
+        return None;
+    };
+    if info.flags.contains(TypeFlags::DATA) {
+        Some(Part {
+            info: *info,
+            alignment,
+            size: inner_size(inner),
+            is_struct: is_struct(inner),
+        })
+    } else {
+        None
+    }
+}
+
+/// Whether it is a struct.
+fn is_struct(inner: &TypeInner) -> bool
+    ensures { result ≡ is_struct inner.now }
+{
+    match inner {
+        TypeInner::Struct { .. } => true,
+        _ => false,
+    }
+}
