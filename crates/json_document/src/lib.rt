@@ -5,6 +5,6 @@
 pub mod document;
 pub mod text;
 
-pub use crate::document::{Document, KnownFacts};
+pub use crate::document::{Document, Known};
 pub use crate::text::{MOST_BYTES, read_document};
 pub use json_values::{FromJson, ReadError, Step, Unreadable};

@@ -1,4 +1,4 @@
-//! From a text to the document that it is.
+//! Reads a text as a document.
 
 ghost use Rattle.json_document.specs.ReadsDocument.{ReadsDocument};
 
@@ -8,10 +8,13 @@ use json_values::read::from_json::FromJson;
 use serde_json::Value;
 use std::alloc::Global;
 
-/// How many bytes a document may have.
+/// The most bytes that a document may have.
 pub const MOST_BYTES: usize = 16777216;
 
-/// The document that a text is.
+/// Reads a text as a document.
+///
+/// An Err says where reading stopped and what was expected there, or is out of memory. The text is JSON in UTF-8, of at
+/// most [`MOST_BYTES`] bytes. docs/MODULES.md has its form.
 pub fn read_document(alloc: Global, text: &[u8]) -> Result<Document, ReadError>
     ensures { ReadsDocument text.now result }
 {

@@ -42,6 +42,78 @@ fielded names f d = given (fields_of names d) f
 abbrev pub field_of : {T : Type 0} → (Data → Option T) → List ℕ → Data → Option T
 field_of f name d = option_and_then f (get name d)
 
+-- what the field of an object with exactly this one stands for
+unfoldable pub one_field : {A : Type 0} → List ℕ → (Data → Option A) → Data → Option A
+one_field n f = fielded (n ∷ []) (field_of f n)
+
+-- what the fields of an object with exactly these stand for, if each stands for something
+unfoldable pub two_fields : {A B : Type 0} → List ℕ → (Data → Option A) → List ℕ → (Data → Option B)
+    → Data → Option (A × B)
+two_fields n0 f n1 g d =
+    given (fields_of (n0 ∷ n1 ∷ []) d) (λ d.
+    given (field_of f n0 d) (λ x. given (field_of g n1 d) (λ y. Some (x, y))))
+
+unfoldable pub three_fields : {A B C : Type 0} → List ℕ → (Data → Option A) → List ℕ → (Data → Option B)
+    → List ℕ → (Data → Option C) → Data → Option (A × B × C)
+three_fields n0 f n1 g n2 h d =
+    given (fields_of (n0 ∷ n1 ∷ n2 ∷ []) d) (λ d.
+    given (field_of f n0 d) (λ x. given (field_of g n1 d) (λ y. given (field_of h n2 d) (λ z. Some (x, y, z)))))
+
+unfoldable pub four_fields : {A B C D : Type 0} → List ℕ → (Data → Option A) → List ℕ → (Data → Option B)
+    → List ℕ → (Data → Option C) → List ℕ → (Data → Option D) → Data → Option (A × B × C × D)
+four_fields n0 f n1 g n2 h n3 i d =
+    given (fields_of (n0 ∷ n1 ∷ n2 ∷ n3 ∷ []) d) (λ d.
+    given (field_of f n0 d) (λ x. given (field_of g n1 d) (λ y. given (field_of h n2 d) (λ z.
+    given (field_of i n3 d) (λ w. Some (x, y, z, w))))))
+
+unfoldable pub five_fields : {A B C D E : Type 0} → List ℕ → (Data → Option A) → List ℕ → (Data → Option B)
+    → List ℕ → (Data → Option C) → List ℕ → (Data → Option D) → List ℕ → (Data → Option E)
+    → Data → Option (A × B × C × D × E)
+five_fields n0 f n1 g n2 h n3 i n4 j d =
+    given (fields_of (n0 ∷ n1 ∷ n2 ∷ n3 ∷ n4 ∷ []) d) (λ d.
+    given (field_of f n0 d) (λ x. given (field_of g n1 d) (λ y. given (field_of h n2 d) (λ z.
+    given (field_of i n3 d) (λ w. given (field_of j n4 d) (λ u. Some (x, y, z, w, u)))))))
+
+unfoldable pub six_fields : {A B C D E F : Type 0} → List ℕ → (Data → Option A) → List ℕ → (Data → Option B)
+    → List ℕ → (Data → Option C) → List ℕ → (Data → Option D) → List ℕ → (Data → Option E)
+    → List ℕ → (Data → Option F) → Data → Option (A × B × C × D × E × F)
+six_fields n0 f n1 g n2 h n3 i n4 j n5 k d =
+    given (fields_of (n0 ∷ n1 ∷ n2 ∷ n3 ∷ n4 ∷ n5 ∷ []) d) (λ d.
+    given (field_of f n0 d) (λ x. given (field_of g n1 d) (λ y. given (field_of h n2 d) (λ z.
+    given (field_of i n3 d) (λ w. given (field_of j n4 d) (λ u. given (field_of k n5 d) (λ v. Some (x, y, z, w, u, v))))))))
+
+unfoldable pub eight_fields : {A B C D E F G H : Type 0} → List ℕ → (Data → Option A) → List ℕ → (Data → Option B)
+    → List ℕ → (Data → Option C) → List ℕ → (Data → Option D) → List ℕ → (Data → Option E)
+    → List ℕ → (Data → Option F) → List ℕ → (Data → Option G) → List ℕ → (Data → Option H)
+    → Data → Option (A × B × C × D × E × F × G × H)
+eight_fields n0 f n1 g n2 h n3 i n4 j n5 k n6 l n7 m d =
+    given (fields_of (n0 ∷ n1 ∷ n2 ∷ n3 ∷ n4 ∷ n5 ∷ n6 ∷ n7 ∷ []) d) (λ d.
+    given (field_of f n0 d) (λ x. given (field_of g n1 d) (λ y. given (field_of h n2 d) (λ z.
+    given (field_of i n3 d) (λ w. given (field_of j n4 d) (λ u. given (field_of k n5 d) (λ v.
+    given (field_of l n6 d) (λ s. given (field_of m n7 d) (λ t. Some (x, y, z, w, u, v, s, t))))))))))
+
+-- what is made from all that some fields stand for
+abbrev pub made_of_two : {A B Made : Type 0} → (A → B → Made) → Option (A × B) → Option Made
+made_of_two make o = option_map (λ z. make z.0 z.1) o
+
+abbrev pub made_of_three : {A B C Made : Type 0} → (A → B → C → Made) → Option (A × B × C) → Option Made
+made_of_three make o = option_map (λ z. make z.0 z.1 z.2) o
+
+abbrev pub made_of_four : {A B C D Made : Type 0} → (A → B → C → D → Made) → Option (A × B × C × D) → Option Made
+made_of_four make o = option_map (λ z. make z.0 z.1 z.2 z.3) o
+
+abbrev pub made_of_five : {A B C D E Made : Type 0} → (A → B → C → D → E → Made) → Option (A × B × C × D × E)
+    → Option Made
+made_of_five make o = option_map (λ z. make z.0 z.1 z.2 z.3 z.4) o
+
+abbrev pub made_of_six : {A B C D E F Made : Type 0} → (A → B → C → D → E → F → Made)
+    → Option (A × B × C × D × E × F) → Option Made
+made_of_six make o = option_map (λ z. make z.0 z.1 z.2 z.3 z.4 z.5) o
+
+abbrev pub made_of_eight : {A B C D E F G H Made : Type 0} → (A → B → C → D → E → F → G → H → Made)
+    → Option (A × B × C × D × E × F × G × H) → Option Made
+made_of_eight make o = option_map (λ z. make z.0 z.1 z.2 z.3 z.4 z.5 z.6 z.7) o
+
 -- what stands beside a text in a table, the first time
 abbrev pub lookup : {T : Type 0} → List (List ℕ × T) → List ℕ → Option T
 lookup [] name = None

@@ -8,9 +8,9 @@ use Rattle.json_values.specs.declared.read.error.ReadError.{ReadError}
 use Rattle.json_values.specs.Failures.{IsUnreadable}
 
 -- It is what the value stands for, and the value is unreadable only where it stands for nothing; or there was no memory.
-abbrev pub Reads : {T : Type 0} → Option T → Result T ReadError → Type 0
-Reads o (Ok x) = o ≡ Some x
-Reads o (Err e) = IsUnreadable e → o ≡ None
+abbrev pub ReadsMeaning : {T : Type 0} → Option T → Result T ReadError → Type 0
+ReadsMeaning o (Ok x) = o ≡ Some x
+ReadsMeaning o (Err e) = IsUnreadable e → o ≡ None
 
 -- the same of the values of a list
 abbrev pub ReadsElements : Option Items → Result (Bor (List Value)) ReadError → Type 0

@@ -1,6 +1,6 @@
 -- What the reading of objects answers.
 use Rattle.std.specs.Borrow.{Bor}
-use Rattle.std.specs.Prelude.{◌≡◌, Bool, true, false, Option, Some, None, Result, Ok, Err, ⊤, if◌then◌else◌}
+use Rattle.std.specs.Prelude.{◌≡◌, Bool, true, false, Option, Some, None, Result, Ok, Err, ⊤}
 use Rattle.serde_json.specs.Data.{Data}
 use Rattle.serde_json.specs.View.{view}
 use Rattle.serde_json.specs.declared.value.Value.{Value}
@@ -27,10 +27,6 @@ three o p q = given o (λ x. given p (λ y. given q (λ z. Some (x, y, z))))
 abbrev pub four : {A B C D : Type 0} → Option A → Option B → Option C → Option D → Option (A × B × C × D)
 four o p q r = given o (λ x. given p (λ y. given q (λ z. given r (λ w. Some (x, y, z, w)))))
 
--- the same of an object that has the fields of its form
-abbrev pub when : {A : Type 0} → Bool → Option A → Option A
-when has o = if has then o else None
-
 -- Each field stands for its part of what is read; unreadable are they only where one stands for nothing.
 abbrev pub ReadsTwo : {A B : Type 0} → Option A → Option B → Result (A × B) ReadError → Type 0
 ReadsTwo o p (Ok z) = (o ≡ Some z.0) × (p ≡ Some z.1)
@@ -43,20 +39,3 @@ ReadsThree o p q (Err e) = IsUnreadable e → three o p q ≡ None
 abbrev pub ReadsFour : {A B C D : Type 0} → Option A → Option B → Option C → Option D → Result (A × B × C × D) ReadError → Type 0
 ReadsFour o p q r (Ok z) = (o ≡ Some z.0) × (p ≡ Some z.1) × (q ≡ Some z.2) × (r ≡ Some z.3)
 ReadsFour o p q r (Err e) = IsUnreadable e → four o p q r ≡ None
-
--- the same of the only fields of an object
-abbrev pub ReadsOnlyOne : {A : Type 0} → Bool → Option A → Result A ReadError → Type 0
-ReadsOnlyOne has o (Ok x) = (has ≡ true) × (o ≡ Some x)
-ReadsOnlyOne has o (Err e) = IsUnreadable e → when has o ≡ None
-
-abbrev pub ReadsOnlyTwo : {A B : Type 0} → Bool → Option A → Option B → Result (A × B) ReadError → Type 0
-ReadsOnlyTwo has o p (Ok z) = (has ≡ true) × (o ≡ Some z.0) × (p ≡ Some z.1)
-ReadsOnlyTwo has o p (Err e) = IsUnreadable e → when has (two o p) ≡ None
-
-abbrev pub ReadsOnlyThree : {A B C : Type 0} → Bool → Option A → Option B → Option C → Result (A × B × C) ReadError → Type 0
-ReadsOnlyThree has o p q (Ok z) = (has ≡ true) × (o ≡ Some z.0) × (p ≡ Some z.1) × (q ≡ Some z.2)
-ReadsOnlyThree has o p q (Err e) = IsUnreadable e → when has (three o p q) ≡ None
-
-abbrev pub ReadsOnlyFour : {A B C D : Type 0} → Bool → Option A → Option B → Option C → Option D → Result (A × B × C × D) ReadError → Type 0
-ReadsOnlyFour has o p q r (Ok z) = (has ≡ true) × (o ≡ Some z.0) × (p ≡ Some z.1) × (q ≡ Some z.2) × (r ≡ Some z.3)
-ReadsOnlyFour has o p q r (Err e) = IsUnreadable e → when has (four o p q r) ≡ None

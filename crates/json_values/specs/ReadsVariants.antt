@@ -1,8 +1,7 @@
 -- What the reading of variants answers.
-use Rattle.std.specs.Prelude.{◌≡◌, Option, Some, None, Result, Ok, Err, ⊤}
+use Rattle.std.specs.Prelude.{◌≡◌, Option, Some, None, Result, Ok, Err}
 use Rattle.serde_json.specs.View.{view}
 use Rattle.json_values.specs.declared.read.error.ReadError.{ReadError}
-use Rattle.json_values.specs.declared.read.from_json.Held.{Held}
 use Rattle.json_values.specs.declared.read.variant.Tagged as tagged
 use Rattle.json_values.specs.declared.read.variant.Tagged.TheVariants as tag
 use Rattle.json_values.specs.declared.read.variant.Variant as variant
@@ -22,8 +21,3 @@ variant_seen (v.Holding h held) = holding h (view held.value.now)
 abbrev pub ReadsVariant : {P H : Type 0} → Option (Variant P H) → Result (variant.Variant P H) ReadError → Type 0
 ReadsVariant o (Ok found) = o ≡ Some (variant_seen found)
 ReadsVariant o (Err e) = IsUnreadable e → o ≡ None
-
--- the same of a variant that holds something, where there are no others
-abbrev pub ReadsHolding : {H : Type 0} → Option (Variant ⊤ H) → Result (H × Held) ReadError → Type 0
-ReadsHolding o (Ok (h, held)) = o ≡ Some (holding h (view held.value.now))
-ReadsHolding o (Err e) = IsUnreadable e → o ≡ None

@@ -1,7 +1,7 @@
 -- The verdict of a text.
 use Rattle.std.specs.Prelude.{◌≡◌, ◌⊎◌, ℕ, List, Result, Ok, Err}
 use Rattle.ir_facts.specs.declared.valid.info.ModuleInfo.{ModuleInfo}
-use Rattle.naga_module.specs.ModuleJudgement.{IsAnswered}
+use Rattle.naga_module.specs.ModuleJudgement.{IsJudgementOrMemory}
 use Rattle.naga_layers.specs.Recorded.Meaning.{recorded_meaning}
 use Rattle.naga_module.specs.declared.check.ModuleFault.{ModuleFault}
 use Rattle.naga_module.specs.declared.check.ModuleFault.TheVariants as fault
@@ -13,19 +13,12 @@ use Rattle.json_document.specs.ReadsDocument.{IsDocument}
 
 -- the layer that answers the facts of a document
 abbrev pub recorded_of : Document → Recorded
-recorded_of d =
-    record {
-      facts = record {
-        sizes = d.facts.sizes;
-        mesh_analyses = d.facts.mesh_analyses;
-        functions = d.facts.functions;
-        entry_points = d.facts.entry_points;
-      };
-    }
+recorded_of d = record { facts = d.known.facts }
 
 -- It is the judgement of the document's module with its settings over its facts, or there was no memory.
 abbrev pub IsJudged : Document → Result ModuleInfo ModuleFault → Type 0
-IsJudged d r = IsAnswered (recorded_meaning (recorded_of d)) d.settings d.facts.type_infos d.module d.facts.global_types r
+IsJudged d r =
+    IsJudgementOrMemory (recorded_meaning (recorded_of d)) d.settings d.known.type_infos d.module d.known.global_types r
 
 -- there was no memory, or the text is a document and its module has this fault
 abbrev pub Refuses : List ℕ → ModuleFault → Type 0

@@ -1,26 +1,27 @@
-//! From a text to its verdict.
+//! Judges a text: the verdict of a document.
 
 ghost use Rattle.std.specs.Prelude.{◌≡◌};
 ghost use Rattle.json_verdict.specs.Judges.{Judges, IsJudged, status_of};
 
-use json_document::{Document, KnownFacts, ReadError, Unreadable, read_document};
+use json_document::{Document, Known, ReadError, Unreadable, read_document};
 use naga_below::{Module, ModuleInfo, Settings};
-use naga_module::{Facts, Given, ModuleFault, Recorded, check_module};
+use naga_module::{Given, ModuleFault, Recorded, check_module};
 use std::alloc::Global;
 
-/// What is said of a document.
+/// The verdict of a text.
 #[derive(Drop)]
 pub enum Verdict {
-    /// This module is accepted, with these infos.
+    /// The module is accepted, with these infos.
     Accepted { module: Module, infos: ModuleInfo },
-    /// The module has this fault; or there was no memory (`ModuleFault::Memory`), to read the text or to judge the module.
+    /// The module has this fault. `ModuleFault::Memory` is out of memory, while the text was read or the module was
+    /// judged.
     Refused(ModuleFault),
-    /// The text is no document.
+    /// The text is not a document.
     Unreadable(Unreadable),
 }
 
 impl Verdict {
-    /// The exit status: 0 accepted, 1 refused, 2 unreadable, 3 no memory.
+    /// The exit status: 0 accepted, 1 refused, 2 unreadable, 3 out of memory.
     pub fn status(&self) -> u8
         ensures { result ≡ status_of self.now }
     {
@@ -33,29 +34,20 @@ impl Verdict {
     }
 }
 
-/// The judgement of a document's module, over its facts, with its settings.
+/// Judges the module of a document, over its facts, with its settings.
 fn judge_module(
     alloc: Global,
     settings: Settings,
     module: &Module,
-    facts: KnownFacts,
+    known: Known,
 ) -> Result<ModuleInfo, ModuleFault>
-    ensures { IsJudged (record { settings = settings; «module» = «module».now; facts = facts }) result }
+    ensures { IsJudged (record { settings = settings; «module» = «module».now; known = known }) result }
 {
-    let KnownFacts {
+    let Known {
         type_infos,
         global_types,
-        sizes,
-        mesh_analyses,
-        functions,
-        entry_points,
-    } = facts;
-    let facts = Facts {
-        sizes,
-        mesh_analyses,
-        functions,
-        entry_points,
-    };
+        facts,
+    } = known;
     let given = Given {
         types: type_infos.into_vec(),
         global_types: global_types.into_vec(),
@@ -63,7 +55,9 @@ fn judge_module(
     check_module(alloc, Recorded { facts }, settings, given, module)
 }
 
-/// The verdict of a text.
+/// Judges a text: reads a document, and judges its module with `check_module` over its facts.
+///
+/// The text is JSON in UTF-8, of at most 16777216 bytes. docs/MODULES.md has its form.
 pub fn judge(alloc: Global, text: &[u8]) -> Verdict
     ensures { Judges text.now result }
 {
@@ -75,9 +69,9 @@ pub fn judge(alloc: Global, text: &[u8]) -> Verdict
     let Document {
         settings,
         module,
-        facts,
+        known,
     } = document;
-    match judge_module(alloc, settings, &module, facts) {
+    match judge_module(alloc, settings, &module, known) {
         Ok(infos) => Verdict::Accepted { module, infos },
         Err(fault) => Verdict::Refused(fault),
     }

@@ -1,4 +1,4 @@
-//! From a reader to a writer.
+//! Reads documents from a reader, and writes their verdicts to a writer.
 
 use crate::judge::{Verdict, judge};
 use crate::verdict::{write_json, write_lines};
@@ -25,7 +25,7 @@ fn write_text(text: &mut String, verdict: &Verdict, form: Form) -> fmt::Result {
     Ok(())
 }
 
-/// What says that there is no memory.
+/// The text of out of memory.
 fn memory_text(form: Form) -> &'static [u8] {
     match form {
         Form::Lines => b"memory\n",
@@ -33,7 +33,7 @@ fn memory_text(form: Form) -> &'static [u8] {
     }
 }
 
-/// Writes a verdict and answers its exit status; where there is no memory for its text, those of no memory.
+/// Writes a verdict, and answers its exit status. If there is no memory for its text, both are those of out of memory.
 fn reply<W: Write>(alloc: Global, writer: &mut W, verdict: &Verdict, form: Form) -> io::Result<u8> {
     let mut text = String::new(alloc);
     let is_whole = write_text(&mut text, verdict, form).is_ok();
@@ -51,7 +51,7 @@ fn reply<W: Write>(alloc: Global, writer: &mut W, verdict: &Verdict, form: Form)
     })
 }
 
-/// A document as its bytes come in. Of one that is too long only so much is kept that this can be told.
+/// A document as its bytes come in. Of one that is too long one byte more is kept than a document may have.
 #[derive(Drop)]
 struct Bytes {
     kept: Vec<u8>,
@@ -116,7 +116,7 @@ impl Bytes {
         Ok(())
     }
 
-    /// Reads one document a line, writes the verdict of each, and answers the greatest exit status.
+    /// Reads one document a line, writes the verdict of each, and answers the largest exit status.
     fn read_lines<R: Read, W: Write>(
         &mut self,
         alloc: Global,
@@ -149,8 +149,10 @@ impl Bytes {
     }
 }
 
-/// Reads one document until the input ends, or until so much was read that its verdict is known, writes the verdict, and answers
-/// the exit status.
+/// Reads one document, writes its verdict, and answers the exit status.
+///
+/// An Err is that of the reader or the writer. Reading ends where the input ends, or as soon as the verdict is known:
+/// after one byte more than a document may have, or out of memory.
 pub fn run_document<R: Read, W: Write>(
     alloc: Global,
     reader: &mut R,
@@ -168,9 +170,11 @@ pub fn run_document<R: Read, W: Write>(
     Ok(status)
 }
 
-/// Reads one document a line until the input ends, writes each verdict on a line as JSON, and answers the greatest of their
-/// exit statuses, 0 where there is no document. A last line needs no end; an empty line is a document that can't be read. One
-/// that is too long is read to its end, since another may come behind it.
+/// Reads one document a line until the input ends, and writes each verdict as a line of JSON.
+///
+/// It answers the largest of their exit statuses, and 0 if there is no document. An Err is that of the reader or the
+/// writer. The last line needs no newline. An empty line is an unreadable document. A line that is too long is read to
+/// its end, since another may follow.
 pub fn run_lines<R: Read, W: Write>(
     alloc: Global,
     reader: &mut R,

@@ -1,4 +1,4 @@
-//! Verdicts as JSON, and told to a person.
+//! Verdicts as JSON, and as text for a person.
 
 use crate::judge::Verdict;
 use json_document::Unreadable;
@@ -9,7 +9,8 @@ use naga_rules::Explain;
 use naga_valid::EntryPointError;
 use std::fmt;
 
-/// Writes the verdict on one line without an end: as JSON of its form, without white space.
+/// Writes the verdict as JSON, on one line, without white space and without a newline at the end. An Err is that of
+/// the writer.
 pub fn write_json<W: fmt::Write>(out: &mut W, verdict: &Verdict) -> fmt::Result {
     match verdict {
         Verdict::Accepted { infos, .. } => write_infos(out, infos),
@@ -50,7 +51,7 @@ fn write_entry<W: fmt::Write>(out: &mut W, entry: &FunctionInfo) -> fmt::Result 
     out.write_char('}')
 }
 
-/// What has the fault, the fault and its places; or that there was no memory.
+/// What has the fault, the fault and its spans; or out of memory.
 fn write_refused<W: fmt::Write>(out: &mut W, fault: &ModuleFault) -> fmt::Result {
     match fault {
         ModuleFault::NotFit => {
@@ -75,7 +76,7 @@ fn write_refused<W: fmt::Write>(out: &mut W, fault: &ModuleFault) -> fmt::Result
     }
 }
 
-/// A fault of the part of the module that has this kind and index, and the places of the fault.
+/// A fault of the part of the module with this kind and index, and its spans.
 fn write_fault<E: ToJson, W: fmt::Write>(
     out: &mut W,
     part: (&str, usize),
@@ -104,7 +105,7 @@ fn write_unreadable<W: fmt::Write>(out: &mut W, unreadable: &Unreadable) -> fmt:
     out.write_str("}}")
 }
 
-/// Writes the verdict for a person, on several lines of which the last has no end.
+/// Writes the verdict for a person, on one or more lines, without a newline at the end. An Err is that of the writer.
 pub fn write_lines<W: fmt::Write>(out: &mut W, verdict: &Verdict) -> fmt::Result {
     match verdict {
         Verdict::Accepted { module, infos } => tell_infos(out, module, infos),
@@ -162,11 +163,11 @@ fn tell_unreadable<W: fmt::Write>(out: &mut W, unreadable: &Unreadable) -> fmt::
     }
 }
 
-/// What has the fault, the fault, its places, and what it means; or that there was no memory.
+/// What has the fault, the fault, its spans, and what it means; or out of memory.
 fn tell_refused<W: fmt::Write>(out: &mut W, fault: &ModuleFault) -> fmt::Result {
     match fault {
         ModuleFault::NotFit => out.write_str(
-            "refused\nNotFit\n  something that is named isn't there, or the size of a task payload isn't known",
+            "refused\nNotFit\n  a handle or a range is out of bounds or out of order, or a fact is missing",
         ),
         ModuleFault::Global(global, error) => {
             let index = global.index();
@@ -198,7 +199,7 @@ fn tell_entry_fault<W: fmt::Write>(out: &mut W, fault: &EntryPointError) -> fmt:
     }
 }
 
-/// The places of a fault, and what it means, on lines of their own.
+/// The spans of a fault, and what it means, on lines of their own.
 fn tell_meaning<E: Explain, W: fmt::Write>(out: &mut W, spans: &[Span], fault: &E) -> fmt::Result {
     let mut before = "\n  at ";
     for span in spans {

@@ -76,7 +76,7 @@ fn run<R: Read + Drop>(alloc: Global, mut reader: R) -> Outcome {
     Outcome::new(status, room, left)
 }
 
-/// What a call comes to. Where that is want of memory, the same call is made again, once, and counts.
+/// What a call comes to. If that is out of memory, the same call is made again, once, and counts.
 fn again<F: Fn() -> Outcome>(call: F) -> Outcome
     requires { F.IsAlwaysCallable call }
 {
@@ -88,7 +88,8 @@ fn again<F: Fn() -> Outcome>(call: F) -> Outcome
     }
 }
 
-/// Whether the program says this line of an input, with its status. A request for memory may have been refused the first time.
+/// Whether the program says this line of an input, with its status. A request for memory may have been refused the
+/// first time.
 fn gets<R: Read + Copy + Drop>(alloc: Global, input: R, line: &str) -> bool {
     again(|| run(alloc, input)).is(line)
 }

@@ -1,4 +1,4 @@
-//! The words of the command line.
+//! The command line.
 
 use clap::{Arg, ArgAction, Command, Error};
 use std::alloc::Global;
@@ -14,21 +14,31 @@ pub enum Task {
     JsonLines,
 }
 
-/// What these words ask for, the program's name first; or what is wrong with them, or the help or the version that they ask
-/// for.
+/// What `--help` writes after the options.
+const AFTER_HELP: &str =
+    "Exit status: 0 accepted, 1 refused, 2 not a document or not a command line, 3 out of memory,
+4 reading or writing failed. With --json-lines it is the largest of all verdicts.
+docs/MODULES.md has the form of documents, docs/VERDICTS.md the meaning of verdicts.";
+
+/// What these words ask for. The first word is the program's name.
+///
+/// An Err is what is wrong with the words, or the help or the version that they ask for.
 pub fn task_of(alloc: Global, words: &[String]) -> Result<Task, Error> {
     let json = Arg::new(alloc, "json")
         .long("json")
         .action(ArgAction::SetTrue)
-        .help("Write the verdict as JSON, on one line");
+        .help("Write the verdict as one line of JSON");
     let lines = Arg::new(alloc, "json-lines")
         .long("json-lines")
         .action(ArgAction::SetTrue)
         .conflicts_with("json")?
-        .help("Read one document a line, and write the verdict of each as JSON on a line");
+        .help("Read one document per line, and write one line of JSON for each");
     let command = Command::new(alloc, "naga_judge")
         .version("0.1.0")
-        .about("Judges a shader module, which it reads as a JSON document from standard input")
+        .about(
+            "Validates a shader module: reads a JSON document from standard input, writes the verdict",
+        )
+        .after_help(AFTER_HELP)
         .arg(json)?
         .arg(lines)?;
     let matches = command.try_get_matches_from(words)?;

@@ -1,7 +1,7 @@
 //! Program for users: judges whole modules from JSON documents (docs/MODULES.md).
 //!
-//! It reads documents from standard input and writes verdicts to standard output. Its status is 0 where the module is accepted, 1
-//! where it is refused, 2 where the document is unreadable, 3 where there was no memory, 4 where reading or writing failed.
+//! It reads documents from standard input, and writes verdicts to standard output. Its exit status: 0 accepted, 1
+//! refused, 2 not a document or a wrong command line, 3 out of memory, 4 reading or writing failed.
 #![tactic(auto)]
 
 mod arguments;
@@ -14,13 +14,14 @@ use json_verdict::run::{Form, run_document, run_lines};
 use std::io;
 use std::process::ExitCode;
 
-/// The exit status where there was no memory.
+/// The exit status if it is out of memory.
 const MEMORY: u8 = 3;
 
-/// The exit status where a read or a write fails.
+/// The exit status if a read or a write fails.
 const FAILED: u8 = 4;
 
-/// Does what the arguments ask for, and answers the exit status.
+/// Does what the command line asks for, and answers the exit status. An Err is that of the arguments, the reader or
+/// the writer.
 fn answer(rt: &HostRuntime) -> io::Result<u8> {
     let alloc = rt.alloc();
     let words: Vec<String> = std::env::args(rt)?.collect(alloc)?;

@@ -1,5 +1,5 @@
 -- What inputs and outputs of stages are bound to.
-use Rattle.std.specs.Prelude.{ℕ, List, [], ◌∷◌, codes, Option, Some, None, option_map, ⊤}
+use Rattle.std.specs.Prelude.{ℕ, List, [], ◌∷◌, codes, Option, option_map}
 use Rattle.serde_json.specs.Data.{Data}
 use Rattle.serde_json.specs.Find.{as_bool}
 use Rattle.ir_types.specs.declared.built_in.BuiltIn.{BuiltIn}
@@ -14,9 +14,9 @@ use Rattle.ir_types.specs.declared.types.Binding.{Binding}
 use Rattle.ir_types.specs.declared.types.Binding.TheVariants as binding
 use Rattle.json_values.specs.declared.read.bindings.BindingName.{BindingName}
 use Rattle.json_values.specs.declared.read.bindings.BindingName.TheVariants as binding_name
-use Rattle.json_values.specs.Form.{field_of, fielded, given, named, optional}
+use Rattle.json_values.specs.Form.{five_fields, given, made_of_five, named, one_field, optional}
 use Rattle.json_values.specs.Numbers.{u32_of}
-use Rattle.json_values.specs.Variants.{Variant, plain, holding, variant_of}
+use Rattle.json_values.specs.Variants.{variant_of, either}
 
 -- the built-ins of which no more is said
 abbrev pub built_ins : List (List ℕ × BuiltIn)
@@ -54,18 +54,15 @@ abbrev pub holding_built_ins : List (List ℕ × BuiltInName)
 holding_built_ins =
     (codes "Position", built_in_name.Position) ∷ (codes "Barycentric", built_in_name.Barycentric) ∷ []
 
--- what a variant stands for
-abbrev pub built_in_from : Variant BuiltIn BuiltInName → Option BuiltIn
-built_in_from (plain x) = Some x
-built_in_from (holding built_in_name.Position d) = (fielded (codes "invariant" ∷ []) (λ d.
-    given (field_of as_bool (codes "invariant") d) (λ invariant.
-    Some (built_in.Position invariant)))) d
-built_in_from (holding built_in_name.Barycentric d) = (fielded (codes "perspective" ∷ []) (λ d.
-    given (field_of as_bool (codes "perspective") d) (λ perspective.
-    Some (built_in.Barycentric perspective)))) d
+-- what a variant that holds something stands for
+abbrev pub built_in_from : BuiltInName → Data → Option BuiltIn
+built_in_from built_in_name.Position d = option_map built_in.Position
+    (one_field (codes "invariant") as_bool d)
+built_in_from built_in_name.Barycentric d = option_map built_in.Barycentric
+    (one_field (codes "perspective") as_bool d)
 
 abbrev pub built_in_of : Data → Option BuiltIn
-built_in_of d = given (variant_of built_ins holding_built_ins d) built_in_from
+built_in_of d = given (variant_of built_ins holding_built_ins d) (either built_in_from)
 
 -- the interpolations
 abbrev pub interpolations : List (List ℕ × Interpolation)
@@ -91,20 +88,15 @@ bindings =
     (codes "BuiltIn", binding_name.BuiltIn) ∷ (codes "Location", binding_name.Location) ∷ []
 
 abbrev pub location_of : Data → Option Binding
-location_of = fielded
-    (codes "location" ∷ codes "interpolation" ∷ codes "sampling" ∷ codes "blend_src" ∷ codes "per_primitive" ∷ []) (λ d.
-    given (field_of u32_of (codes "location") d) (λ location.
-    given (field_of (optional interpolation_of) (codes "interpolation") d) (λ interpolation.
-    given (field_of (optional sampling_of) (codes "sampling") d) (λ sampling.
-    given (field_of (optional u32_of) (codes "blend_src") d) (λ blend_src.
-    given (field_of as_bool (codes "per_primitive") d) (λ per_primitive.
-    Some (binding.Location location interpolation sampling blend_src per_primitive)))))))
+location_of d = made_of_five binding.Location
+    (five_fields (codes "location") u32_of (codes "interpolation") (optional interpolation_of)
+    (codes "sampling") (optional sampling_of) (codes "blend_src") (optional u32_of)
+    (codes "per_primitive") as_bool d)
 
--- what a variant stands for
-abbrev pub binding_from : Variant ⊤ BindingName → Option Binding
-binding_from (plain x) = None
-binding_from (holding binding_name.BuiltIn d) = option_map binding.BuiltIn (built_in_of d)
-binding_from (holding binding_name.Location d) = location_of d
+-- what a variant that holds something stands for
+abbrev pub binding_from : BindingName → Data → Option Binding
+binding_from binding_name.BuiltIn d = option_map binding.BuiltIn (built_in_of d)
+binding_from binding_name.Location d = location_of d
 
 abbrev pub binding_of : Data → Option Binding
-binding_of d = given (variant_of [] bindings d) binding_from
+binding_of d = given (variant_of [] bindings d) (either binding_from)

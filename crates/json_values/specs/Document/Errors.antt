@@ -1,5 +1,5 @@
 -- Faults of expressions and functions that a lower layer finds.
-use Rattle.std.specs.Prelude.{ℕ, List, [], ◌∷◌, codes, Option, Some, None, option_map, ⊤}
+use Rattle.std.specs.Prelude.{ℕ, List, [], ◌∷◌, codes, Option, option_map}
 use Rattle.serde_json.specs.Data.{Data}
 use Rattle.ir_facts.specs.declared.valid.expression_error.ExpressionError.{ExpressionError}
 use Rattle.ir_facts.specs.declared.valid.expression_error.ExpressionError.TheVariants as expression_error
@@ -9,10 +9,10 @@ use Rattle.naga_layers.specs.declared.facts.LowerFunctionError.{LowerFunctionErr
 use Rattle.naga_layers.specs.declared.facts.LowerFunctionError.TheVariants as lower_function_error
 use Rattle.json_values.specs.declared.read.errors.LowerErrorName.{LowerErrorName}
 use Rattle.json_values.specs.declared.read.errors.LowerErrorName.TheVariants as lower_error_name
-use Rattle.json_values.specs.Form.{field_of, fielded, given, three_of, two_of}
+use Rattle.json_values.specs.Form.{given, made_of_two, three_of, two_fields, two_of}
 use Rattle.json_values.specs.Numbers.{u32_of}
 use Rattle.json_values.specs.Sets.{storage_access_of}
-use Rattle.json_values.specs.Variants.{Variant, plain, holding, variant_of}
+use Rattle.json_values.specs.Variants.{variant_of, either}
 use Rattle.json_values.specs.Document.Images.{image_class_of, image_dimension_of, storage_format_of}
 
 -- the faults of expressions of which no more is said
@@ -37,26 +37,25 @@ expression_errors =
 abbrev pub coordinate_of : Data → Option ExpressionError
 coordinate_of d = option_map (λ p. expression_error.InvalidImageCoordinateType p.0 p.1) (two_of image_dimension_of u32_of d)
 
--- what a variant stands for
-abbrev pub expression_error_from : Variant ExpressionError ExpressionErrorName → Option ExpressionError
-expression_error_from (plain x) = Some x
-expression_error_from (holding expression_error_name.ExpectedBindingArrayType d) =
+-- what a variant that holds something stands for
+abbrev pub expression_error_from : ExpressionErrorName → Data → Option ExpressionError
+expression_error_from expression_error_name.ExpectedBindingArrayType d =
     option_map expression_error.ExpectedBindingArrayType (u32_of d)
-expression_error_from (holding expression_error_name.ExpectedImageType d) =
+expression_error_from expression_error_name.ExpectedImageType d =
     option_map expression_error.ExpectedImageType (u32_of d)
-expression_error_from (holding expression_error_name.InvalidImageClass d) =
+expression_error_from expression_error_name.InvalidImageClass d =
     option_map expression_error.InvalidImageClass (image_class_of d)
-expression_error_from (holding expression_error_name.InvalidImageCoordinateType d) = coordinate_of d
-expression_error_from (holding expression_error_name.InvalidImageArrayIndexType d) =
+expression_error_from expression_error_name.InvalidImageCoordinateType d = coordinate_of d
+expression_error_from expression_error_name.InvalidImageArrayIndexType d =
     option_map expression_error.InvalidImageArrayIndexType (u32_of d)
-expression_error_from (holding expression_error_name.InvalidImageStorageAccess d) =
+expression_error_from expression_error_name.InvalidImageStorageAccess d =
     option_map expression_error.InvalidImageStorageAccess (storage_access_of d)
-expression_error_from (holding expression_error_name.InvalidImageFormat d) =
+expression_error_from expression_error_name.InvalidImageFormat d =
     option_map expression_error.InvalidImageFormat (storage_format_of d)
-expression_error_from (holding expression_error_name.Lower d) = option_map expression_error.Lower (u32_of d)
+expression_error_from expression_error_name.Lower d = option_map expression_error.Lower (u32_of d)
 
 abbrev pub expression_error_of : Data → Option ExpressionError
-expression_error_of d = given (variant_of bare_errors expression_errors d) expression_error_from
+expression_error_of d = given (variant_of bare_errors expression_errors d) (either expression_error_from)
 
 -- the faults of functions that a lower layer finds
 abbrev pub lower_errors : List (List ℕ × LowerErrorName)
@@ -71,10 +70,8 @@ lower_errors =
     (codes "InvalidMeshShaderOutputType", lower_error_name.InvalidMeshShaderOutputType) ∷ []
 
 abbrev pub error_in_expression_of : Data → Option LowerFunctionError
-error_in_expression_of = fielded (codes "handle" ∷ codes "source" ∷ []) (λ d.
-    given (field_of u32_of (codes "handle") d) (λ handle.
-    given (field_of expression_error_of (codes "source") d) (λ source.
-    Some (lower_function_error.Expression handle source))))
+error_in_expression_of d = made_of_two lower_function_error.Expression
+    (two_fields (codes "handle") u32_of (codes "source") expression_error_of d)
 
 abbrev pub control_flow_of : Data → Option LowerFunctionError
 control_flow_of d = option_map (λ p. lower_function_error.NonUniformControlFlow (record { 0 = p.0 }) p.1
@@ -89,20 +86,19 @@ output_types_of d = option_map (λ p. lower_function_error.ConflictingMeshOutput
 abbrev pub payloads_of : Data → Option LowerFunctionError
 payloads_of d = option_map (λ p. lower_function_error.ConflictingTaskPayloadVariables p.0 p.1) (two_of u32_of u32_of d)
 
--- what a variant stands for
-abbrev pub lower_function_error_from : Variant ⊤ LowerErrorName → Option LowerFunctionError
-lower_function_error_from (plain x) = None
-lower_function_error_from (holding lower_error_name.Expression d) = error_in_expression_of d
-lower_function_error_from (holding lower_error_name.MissingRayQueryVertexReturn d) =
+-- what a variant that holds something stands for
+abbrev pub lower_function_error_from : LowerErrorName → Data → Option LowerFunctionError
+lower_function_error_from lower_error_name.Expression d = error_in_expression_of d
+lower_function_error_from lower_error_name.MissingRayQueryVertexReturn d =
     option_map lower_function_error.MissingRayQueryVertexReturn (u32_of d)
-lower_function_error_from (holding lower_error_name.NonUniformControlFlow d) = control_flow_of d
-lower_function_error_from (holding lower_error_name.NonUniformWorkgroupUniformLoad d) = uniform_load_of d
-lower_function_error_from (holding lower_error_name.InvalidMeshFunctionCall d) =
+lower_function_error_from lower_error_name.NonUniformControlFlow d = control_flow_of d
+lower_function_error_from lower_error_name.NonUniformWorkgroupUniformLoad d = uniform_load_of d
+lower_function_error_from lower_error_name.InvalidMeshFunctionCall d =
     option_map lower_function_error.InvalidMeshFunctionCall (u32_of d)
-lower_function_error_from (holding lower_error_name.ConflictingMeshOutputTypes d) = output_types_of d
-lower_function_error_from (holding lower_error_name.ConflictingTaskPayloadVariables d) = payloads_of d
-lower_function_error_from (holding lower_error_name.InvalidMeshShaderOutputType d) =
+lower_function_error_from lower_error_name.ConflictingMeshOutputTypes d = output_types_of d
+lower_function_error_from lower_error_name.ConflictingTaskPayloadVariables d = payloads_of d
+lower_function_error_from lower_error_name.InvalidMeshShaderOutputType d =
     option_map lower_function_error.InvalidMeshShaderOutputType (u32_of d)
 
 abbrev pub lower_function_error_of : Data → Option LowerFunctionError
-lower_function_error_of d = given (variant_of [] lower_errors d) lower_function_error_from
+lower_function_error_of d = given (variant_of [] lower_errors d) (either lower_function_error_from)

@@ -1,5 +1,5 @@
 -- Images.
-use Rattle.std.specs.Prelude.{ℕ, List, [], ◌∷◌, codes, Option, Some}
+use Rattle.std.specs.Prelude.{ℕ, List, [], ◌∷◌, codes, Option, option_map}
 use Rattle.serde_json.specs.Data.{Data}
 use Rattle.serde_json.specs.Find.{as_bool}
 use Rattle.ir_types.specs.declared.types.ImageDimension.{ImageDimension}
@@ -10,9 +10,9 @@ use Rattle.ir_types.specs.declared.types.ImageClass.{ImageClass}
 use Rattle.ir_types.specs.declared.types.ImageClass.TheVariants as image_class
 use Rattle.json_values.specs.declared.read.images.ClassName.{ClassName}
 use Rattle.json_values.specs.declared.read.images.ClassName.TheVariants as class_name
-use Rattle.json_values.specs.Form.{field_of, fielded, given, named}
+use Rattle.json_values.specs.Form.{given, made_of_two, named, one_field, two_fields}
 use Rattle.json_values.specs.Sets.{storage_access_of}
-use Rattle.json_values.specs.Variants.{Variant, plain, holding, variant_of}
+use Rattle.json_values.specs.Variants.{variant_of, either}
 use Rattle.json_values.specs.Document.Scalars.{scalar_kind_of}
 
 -- the dimensions of images
@@ -63,20 +63,13 @@ holding_classes =
     (codes "Sampled", class_name.Sampled) ∷ (codes "Depth", class_name.Depth) ∷
     (codes "Storage", class_name.Storage) ∷ []
 
--- what a variant stands for
-abbrev pub image_class_from : Variant ImageClass ClassName → Option ImageClass
-image_class_from (plain x) = Some x
-image_class_from (holding class_name.Sampled d) = (fielded (codes "kind" ∷ codes "multi" ∷ []) (λ d.
-    given (field_of scalar_kind_of (codes "kind") d) (λ kind.
-    given (field_of as_bool (codes "multi") d) (λ multi.
-    Some (image_class.Sampled kind multi))))) d
-image_class_from (holding class_name.Depth d) = (fielded (codes "multi" ∷ []) (λ d.
-    given (field_of as_bool (codes "multi") d) (λ multi.
-    Some (image_class.Depth multi)))) d
-image_class_from (holding class_name.Storage d) = (fielded (codes "format" ∷ codes "access" ∷ []) (λ d.
-    given (field_of storage_format_of (codes "format") d) (λ format.
-    given (field_of storage_access_of (codes "access") d) (λ access.
-    Some (image_class.Storage format access))))) d
+-- what a variant that holds something stands for
+abbrev pub image_class_from : ClassName → Data → Option ImageClass
+image_class_from class_name.Sampled d = made_of_two image_class.Sampled
+    (two_fields (codes "kind") scalar_kind_of (codes "multi") as_bool d)
+image_class_from class_name.Depth d = option_map image_class.Depth (one_field (codes "multi") as_bool d)
+image_class_from class_name.Storage d = made_of_two image_class.Storage
+    (two_fields (codes "format") storage_format_of (codes "access") storage_access_of d)
 
 abbrev pub image_class_of : Data → Option ImageClass
-image_class_of d = given (variant_of image_classes holding_classes d) image_class_from
+image_class_of d = given (variant_of image_classes holding_classes d) (either image_class_from)

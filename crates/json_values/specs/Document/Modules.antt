@@ -4,7 +4,7 @@ use Rattle.serde_json.specs.Data.{Data}
 use Rattle.ir_module.specs.declared.module.Module.{Module}
 use Rattle.ir_types.specs.declared.types.Type.{«Type» as IrType}
 use Rattle.ir_types.specs.contracts.types.TypePartialEq.TheImpl as ir_type
-use Rattle.json_values.specs.Form.{field_of, fielded, given, list_of}
+use Rattle.json_values.specs.Form.{eight_fields, given, list_of, made_of_eight}
 use Rattle.json_values.specs.Document.EntryPoints.{constant_of, entry_point_of, global_variable_of, override_of, special_types_of}
 use Rattle.json_values.specs.Document.Expressions.{expression_of}
 use Rattle.json_values.specs.Document.Functions.{function_of}
@@ -26,17 +26,8 @@ types_of d = given (list_of type_of d) (types_behind [])
 
 -- a module
 abbrev pub module_of : Data → Option Module
-module_of = fielded (codes "types" ∷ codes "special_types" ∷ codes "constants" ∷ codes "overrides"
-    ∷ codes "global_variables" ∷ codes "global_expressions" ∷ codes "functions" ∷ codes "entry_points" ∷ []) (λ d.
-    given (field_of types_of (codes "types") d) (λ types.
-    given (field_of special_types_of (codes "special_types") d) (λ special_types.
-    given (field_of (list_of constant_of) (codes "constants") d) (λ constants.
-    given (field_of (list_of override_of) (codes "overrides") d) (λ overrides.
-    given (field_of (list_of global_variable_of) (codes "global_variables") d) (λ global_variables.
-    given (field_of (list_of expression_of) (codes "global_expressions") d) (λ global_expressions.
-    given (field_of (list_of function_of) (codes "functions") d) (λ functions.
-    given (field_of (list_of entry_point_of) (codes "entry_points") d) (λ entry_points.
-    Some (record {
+module_of d = made_of_eight
+    (λ types special_types constants overrides global_variables global_expressions functions entry_points. record {
       types = types;
       special_types = special_types;
       constants = constants;
@@ -45,4 +36,8 @@ module_of = fielded (codes "types" ∷ codes "special_types" ∷ codes "constant
       global_expressions = global_expressions;
       functions = functions;
       entry_points = entry_points;
-    }))))))))))
+    })
+    (eight_fields (codes "types") types_of (codes "special_types") special_types_of
+    (codes "constants") (list_of constant_of) (codes "overrides") (list_of override_of)
+    (codes "global_variables") (list_of global_variable_of) (codes "global_expressions") (list_of expression_of)
+    (codes "functions") (list_of function_of) (codes "entry_points") (list_of entry_point_of) d)

@@ -1,5 +1,5 @@
 -- Operations of atomics, subgroups and rays, and what else statements name.
-use Rattle.std.specs.Prelude.{ℕ, List, [], ◌∷◌, codes, Option, Some, None, option_map, ⊤}
+use Rattle.std.specs.Prelude.{ℕ, List, [], ◌∷◌, codes, Option, option_map, ⊤}
 use Rattle.serde_json.specs.Data.{Data}
 use Rattle.ir_module.specs.declared.operations.AtomicFunction.{AtomicFunction}
 use Rattle.ir_module.specs.declared.operations.AtomicFunction.TheVariants as atomic_function
@@ -13,6 +13,8 @@ use Rattle.json_values.specs.declared.read.operations.GatherName.{GatherName}
 use Rattle.json_values.specs.declared.read.operations.GatherName.TheVariants as gather_name
 use Rattle.ir_module.specs.declared.operations.RayQueryFunction.{RayQueryFunction}
 use Rattle.ir_module.specs.declared.operations.RayQueryFunction.TheVariants as ray_query_function
+use Rattle.json_values.specs.declared.read.operations.GatherPlace.{GatherPlace}
+use Rattle.json_values.specs.declared.read.operations.GatherPlace.TheVariants as gather_place
 use Rattle.json_values.specs.declared.read.operations.RayQueryName.{RayQueryName}
 use Rattle.json_values.specs.declared.read.operations.RayQueryName.TheVariants as ray_query_name
 use Rattle.ir_module.specs.declared.operations.RayPipelineFunction.{RayPipelineFunction}
@@ -23,9 +25,9 @@ use Rattle.ir_module.specs.declared.statements.SwitchValue.TheVariants as switch
 use Rattle.json_values.specs.declared.read.operations.ValueName.{ValueName}
 use Rattle.json_values.specs.declared.read.operations.ValueName.TheVariants as value_name
 use Rattle.ir_arena.specs.declared.range.Range.{Range}
-use Rattle.json_values.specs.Form.{field_of, fielded, given, named, optional}
+use Rattle.json_values.specs.Form.{given, made_of_three, made_of_two, named, one_field, optional, three_fields, two_fields}
 use Rattle.json_values.specs.Numbers.{i32_of, u32_of}
-use Rattle.json_values.specs.Variants.{Variant, plain, holding, variant_of}
+use Rattle.json_values.specs.Variants.{variant_of, either}
 
 -- the atomic operations of which no more is said
 abbrev pub atomic_functions : List (List ℕ × AtomicFunction)
@@ -39,15 +41,13 @@ atomic_functions =
 abbrev pub exchange : List (List ℕ × ⊤)
 exchange = (codes "Exchange", tt) ∷ []
 
--- what a variant stands for
-abbrev pub atomic_function_from : Variant AtomicFunction ⊤ → Option AtomicFunction
-atomic_function_from (plain x) = Some x
-atomic_function_from (holding x d) = (fielded (codes "compare" ∷ []) (λ d.
-    given (field_of (optional u32_of) (codes "compare") d) (λ compare.
-    Some (atomic_function.Exchange compare)))) d
+-- what a variant that holds something stands for
+abbrev pub atomic_function_from : ⊤ → Data → Option AtomicFunction
+atomic_function_from x d = option_map atomic_function.Exchange
+    (one_field (codes "compare") (optional u32_of) d)
 
 abbrev pub atomic_function_of : Data → Option AtomicFunction
-atomic_function_of d = given (variant_of atomic_functions exchange d) atomic_function_from
+atomic_function_of d = given (variant_of atomic_functions exchange d) (either atomic_function_from)
 
 -- the operations of subgroups
 abbrev pub subgroup_operations : List (List ℕ × SubgroupOperation)
@@ -78,24 +78,29 @@ bare_gathers =
 -- the gathers of which more is said
 abbrev pub gather_modes : List (List ℕ × GatherName)
 gather_modes =
-    (codes "QuadSwap", gather_name.QuadSwap) ∷ (codes "Broadcast", gather_name.Broadcast) ∷
-    (codes "Shuffle", gather_name.Shuffle) ∷ (codes "ShuffleDown", gather_name.ShuffleDown) ∷
-    (codes "ShuffleUp", gather_name.ShuffleUp) ∷ (codes "ShuffleXor", gather_name.ShuffleXor) ∷
-    (codes "QuadBroadcast", gather_name.QuadBroadcast) ∷ []
+    (codes "QuadSwap", gather_name.QuadSwap) ∷ (codes "Broadcast", gather_name.From gather_place.Broadcast) ∷
+    (codes "Shuffle", gather_name.From gather_place.Shuffle) ∷
+    (codes "ShuffleDown", gather_name.From gather_place.ShuffleDown) ∷
+    (codes "ShuffleUp", gather_name.From gather_place.ShuffleUp) ∷
+    (codes "ShuffleXor", gather_name.From gather_place.ShuffleXor) ∷
+    (codes "QuadBroadcast", gather_name.From gather_place.QuadBroadcast) ∷ []
 
--- what a variant stands for
-abbrev pub gather_mode_from : Variant GatherMode GatherName → Option GatherMode
-gather_mode_from (plain x) = Some x
-gather_mode_from (holding gather_name.QuadSwap d) = option_map gather_mode.QuadSwap (u32_of d)
-gather_mode_from (holding gather_name.Broadcast d) = option_map gather_mode.Broadcast (u32_of d)
-gather_mode_from (holding gather_name.Shuffle d) = option_map gather_mode.Shuffle (u32_of d)
-gather_mode_from (holding gather_name.ShuffleDown d) = option_map gather_mode.ShuffleDown (u32_of d)
-gather_mode_from (holding gather_name.ShuffleUp d) = option_map gather_mode.ShuffleUp (u32_of d)
-gather_mode_from (holding gather_name.ShuffleXor d) = option_map gather_mode.ShuffleXor (u32_of d)
-gather_mode_from (holding gather_name.QuadBroadcast d) = option_map gather_mode.QuadBroadcast (u32_of d)
+-- the gather of a place, which an expression says
+abbrev pub gather_from : GatherPlace → ℕ → GatherMode
+gather_from gather_place.Broadcast n = gather_mode.Broadcast n
+gather_from gather_place.Shuffle n = gather_mode.Shuffle n
+gather_from gather_place.ShuffleDown n = gather_mode.ShuffleDown n
+gather_from gather_place.ShuffleUp n = gather_mode.ShuffleUp n
+gather_from gather_place.ShuffleXor n = gather_mode.ShuffleXor n
+gather_from gather_place.QuadBroadcast n = gather_mode.QuadBroadcast n
+
+-- what a variant that holds something stands for
+abbrev pub gather_mode_from : GatherName → Data → Option GatherMode
+gather_mode_from gather_name.QuadSwap d = option_map gather_mode.QuadSwap (u32_of d)
+gather_mode_from (gather_name.From place) d = option_map (gather_from place) (u32_of d)
 
 abbrev pub gather_mode_of : Data → Option GatherMode
-gather_mode_of d = given (variant_of bare_gathers gather_modes d) gather_mode_from
+gather_mode_of d = given (variant_of bare_gathers gather_modes d) (either gather_mode_from)
 
 -- what is done with a ray query, and needs nothing
 abbrev pub bare_queries : List (List ℕ × RayQueryFunction)
@@ -109,47 +114,35 @@ ray_queries =
     (codes "Initialize", ray_query_name.Initialize) ∷ (codes "Proceed", ray_query_name.Proceed) ∷
     (codes "GenerateIntersection", ray_query_name.GenerateIntersection) ∷ []
 
--- what a variant stands for
-abbrev pub ray_query_function_from : Variant RayQueryFunction RayQueryName → Option RayQueryFunction
-ray_query_function_from (plain x) = Some x
-ray_query_function_from (holding ray_query_name.Initialize d) =
-    (fielded (codes "acceleration_structure" ∷ codes "descriptor" ∷ []) (λ d.
-    given (field_of u32_of (codes "acceleration_structure") d) (λ acceleration_structure.
-    given (field_of u32_of (codes "descriptor") d) (λ descriptor.
-    Some (ray_query_function.Initialize acceleration_structure descriptor))))) d
-ray_query_function_from (holding ray_query_name.Proceed d) = (fielded (codes "result" ∷ []) (λ d.
-    given (field_of u32_of (codes "result") d) (λ result.
-    Some (ray_query_function.Proceed result)))) d
-ray_query_function_from (holding ray_query_name.GenerateIntersection d) = (fielded (codes "hit_t" ∷ []) (λ d.
-    given (field_of u32_of (codes "hit_t") d) (λ hit_t.
-    Some (ray_query_function.GenerateIntersection hit_t)))) d
+-- what a variant that holds something stands for
+abbrev pub ray_query_function_from : RayQueryName → Data → Option RayQueryFunction
+ray_query_function_from ray_query_name.Initialize d = made_of_two ray_query_function.Initialize
+    (two_fields (codes "acceleration_structure") u32_of (codes "descriptor") u32_of d)
+ray_query_function_from ray_query_name.Proceed d = option_map ray_query_function.Proceed
+    (one_field (codes "result") u32_of d)
+ray_query_function_from ray_query_name.GenerateIntersection d = option_map
+    ray_query_function.GenerateIntersection
+    (one_field (codes "hit_t") u32_of d)
 
 abbrev pub ray_query_function_of : Data → Option RayQueryFunction
-ray_query_function_of d = given (variant_of bare_queries ray_queries d) ray_query_function_from
+ray_query_function_of d = given (variant_of bare_queries ray_queries d) (either ray_query_function_from)
 
 -- what a ray pipeline does
 abbrev pub ray_pipelines : List (List ℕ × ⊤)
 ray_pipelines = (codes "TraceRay", tt) ∷ []
 
--- what a variant stands for
-abbrev pub ray_pipeline_function_from : Variant ⊤ ⊤ → Option RayPipelineFunction
-ray_pipeline_function_from (plain x) = None
-ray_pipeline_function_from (holding x d) =
-    (fielded (codes "acceleration_structure" ∷ codes "descriptor" ∷ codes "payload" ∷ []) (λ d.
-    given (field_of u32_of (codes "acceleration_structure") d) (λ acceleration_structure.
-    given (field_of u32_of (codes "descriptor") d) (λ descriptor.
-    given (field_of u32_of (codes "payload") d) (λ payload.
-    Some (ray_pipeline_function.TraceRay acceleration_structure descriptor payload)))))) d
+-- what a variant that holds something stands for
+abbrev pub ray_pipeline_function_from : ⊤ → Data → Option RayPipelineFunction
+ray_pipeline_function_from x d = made_of_three ray_pipeline_function.TraceRay
+    (three_fields (codes "acceleration_structure") u32_of (codes "descriptor") u32_of (codes "payload") u32_of d)
 
 abbrev pub ray_pipeline_function_of : Data → Option RayPipelineFunction
-ray_pipeline_function_of d = given (variant_of [] ray_pipelines d) ray_pipeline_function_from
+ray_pipeline_function_of d = given (variant_of [] ray_pipelines d) (either ray_pipeline_function_from)
 
 -- where the data of a cooperative matrix lie
 abbrev pub cooperative_data_of : Data → Option CooperativeData
-cooperative_data_of = fielded (codes "pointer" ∷ codes "detail" ∷ []) (λ d.
-    given (field_of u32_of (codes "pointer") d) (λ pointer.
-    given (field_of u32_of (codes "detail") d) (λ detail.
-    Some (record { pointer = pointer; detail = detail }))))
+cooperative_data_of d = made_of_two (λ pointer detail. record { pointer = pointer; detail = detail })
+    (two_fields (codes "pointer") u32_of (codes "detail") u32_of d)
 
 -- the value of a default case
 abbrev pub bare_values : List (List ℕ × SwitchValue)
@@ -161,18 +154,15 @@ abbrev pub switch_values : List (List ℕ × ValueName)
 switch_values =
     (codes "I32", value_name.I32) ∷ (codes "U32", value_name.U32) ∷ []
 
--- what a variant stands for
-abbrev pub switch_value_from : Variant SwitchValue ValueName → Option SwitchValue
-switch_value_from (plain x) = Some x
-switch_value_from (holding value_name.I32 d) = option_map switch_value.I32 (i32_of d)
-switch_value_from (holding value_name.U32 d) = option_map switch_value.U32 (u32_of d)
+-- what a variant that holds something stands for
+abbrev pub switch_value_from : ValueName → Data → Option SwitchValue
+switch_value_from value_name.I32 d = option_map switch_value.I32 (i32_of d)
+switch_value_from value_name.U32 d = option_map switch_value.U32 (u32_of d)
 
 abbrev pub switch_value_of : Data → Option SwitchValue
-switch_value_of d = given (variant_of bare_values switch_values d) switch_value_from
+switch_value_of d = given (variant_of bare_values switch_values d) (either switch_value_from)
 
 -- the expressions from `start` on, without `end`
 abbrev pub range_of : Data → Option Range
-range_of = fielded (codes "start" ∷ codes "end" ∷ []) (λ d.
-    given (field_of u32_of (codes "start") d) (λ start.
-    given (field_of u32_of (codes "end") d) (λ end.
-    Some (record { start = start; end = end }))))
+range_of d = made_of_two (λ start end. record { start = start; end = end })
+    (two_fields (codes "start") u32_of (codes "end") u32_of d)

@@ -1,12 +1,12 @@
 -- Scalars, and sizes of vectors.
-use Rattle.std.specs.Prelude.{ℕ, List, [], ◌∷◌, codes, Option, Some}
+use Rattle.std.specs.Prelude.{ℕ, List, [], ◌∷◌, codes, Option}
 use Rattle.serde_json.specs.Data.{Data}
 use Rattle.ir_types.specs.declared.types.ScalarKind.{ScalarKind}
 use Rattle.ir_types.specs.declared.types.ScalarKind.TheVariants as scalar_kind
 use Rattle.ir_types.specs.declared.types.Scalar.{Scalar}
 use Rattle.ir_types.specs.declared.types.VectorSize.{VectorSize}
 use Rattle.ir_types.specs.declared.types.VectorSize.TheVariants as vector_size
-use Rattle.json_values.specs.Form.{field_of, fielded, given, named}
+use Rattle.json_values.specs.Form.{made_of_two, named, two_fields}
 use Rattle.json_values.specs.Numbers.{u8_of}
 
 -- the kinds of scalars
@@ -21,10 +21,8 @@ scalar_kind_of = named scalar_kinds
 
 -- a scalar
 abbrev pub scalar_of : Data → Option Scalar
-scalar_of = fielded (codes "kind" ∷ codes "width" ∷ []) (λ d.
-    given (field_of scalar_kind_of (codes "kind") d) (λ kind.
-    given (field_of u8_of (codes "width") d) (λ width.
-    Some (record { kind = kind; width = width }))))
+scalar_of d = made_of_two (λ kind width. record { kind = kind; width = width })
+    (two_fields (codes "kind") scalar_kind_of (codes "width") u8_of d)
 
 -- the sizes of vectors
 abbrev pub vector_sizes : List (List ℕ × VectorSize)

@@ -1,13 +1,13 @@
 -- Address spaces, and where resources are bound.
-use Rattle.std.specs.Prelude.{ℕ, List, [], ◌∷◌, codes, Option, Some, ⊤}
+use Rattle.std.specs.Prelude.{ℕ, List, [], ◌∷◌, codes, Option, ⊤, option_map}
 use Rattle.serde_json.specs.Data.{Data}
 use Rattle.ir_types.specs.declared.types.AddressSpace.{AddressSpace}
 use Rattle.ir_types.specs.declared.types.AddressSpace.TheVariants as address_space
 use Rattle.ir_module.specs.declared.module.ResourceBinding.{ResourceBinding}
-use Rattle.json_values.specs.Form.{field_of, fielded, given}
+use Rattle.json_values.specs.Form.{given, made_of_two, one_field, two_fields}
 use Rattle.json_values.specs.Numbers.{u32_of}
 use Rattle.json_values.specs.Sets.{storage_access_of}
-use Rattle.json_values.specs.Variants.{Variant, plain, holding, variant_of}
+use Rattle.json_values.specs.Variants.{variant_of, either}
 
 -- the spaces of which no more is said
 abbrev pub address_spaces : List (List ℕ × AddressSpace)
@@ -22,19 +22,14 @@ address_spaces =
 abbrev pub storage_space : List (List ℕ × ⊤)
 storage_space = (codes "Storage", tt) ∷ []
 
--- what a variant stands for
-abbrev pub address_space_from : Variant AddressSpace ⊤ → Option AddressSpace
-address_space_from (plain x) = Some x
-address_space_from (holding x d) = (fielded (codes "access" ∷ []) (λ d.
-    given (field_of storage_access_of (codes "access") d) (λ access.
-    Some (address_space.Storage access)))) d
+-- what a variant that holds something stands for
+abbrev pub address_space_from : ⊤ → Data → Option AddressSpace
+address_space_from x d = option_map address_space.Storage (one_field (codes "access") storage_access_of d)
 
 abbrev pub address_space_of : Data → Option AddressSpace
-address_space_of d = given (variant_of address_spaces storage_space d) address_space_from
+address_space_of d = given (variant_of address_spaces storage_space d) (either address_space_from)
 
 -- where a resource is bound
 abbrev pub resource_binding_of : Data → Option ResourceBinding
-resource_binding_of = fielded (codes "group" ∷ codes "binding" ∷ []) (λ d.
-    given (field_of u32_of (codes "group") d) (λ group.
-    given (field_of u32_of (codes "binding") d) (λ binding.
-    Some (record { group = group; binding = binding }))))
+resource_binding_of d = made_of_two (λ group binding. record { group = group; binding = binding })
+    (two_fields (codes "group") u32_of (codes "binding") u32_of d)

@@ -1,13 +1,12 @@
 //! What inputs and outputs of stages are bound to.
 
 ghost use Rattle.serde_json.specs.View.{view};
-ghost use Rattle.json_values.specs.Reads.{Reads};
-ghost use Rattle.json_values.specs.Variants.{holding};
-ghost use Rattle.json_values.specs.Document.Bindings.{binding_of, built_in_from, built_in_of, interpolation_of, location_of, sampling_of};
+ghost use Rattle.json_values.specs.Reads.{ReadsMeaning};
+ghost use Rattle.json_values.specs.Document.Bindings.{binding_from, binding_of, built_in_from, built_in_of, interpolation_of, location_of, sampling_of};
 
 use crate::read::error::ReadError;
 use crate::read::from_json::{FromJson, Held};
-use crate::read::variant::{Variant, read_holding, read_name, read_variant};
+use crate::read::variant::{Holding, read_either, read_holding, read_name};
 use ir_types::{Binding, BuiltIn, Interpolation, Sampling};
 use serde_json::Value;
 use std::alloc::Global;
@@ -76,18 +75,20 @@ const HOLDING_BUILT_INS: [(&str, BuiltInName); 2] = [
     ("Barycentric", BuiltInName::Barycentric),
 ];
 
-fn read_held_built_in(name: BuiltInName, held: Held) -> Result<BuiltIn, ReadError>
-    ensures { Reads (built_in_from (holding name (view held.entry.value.now))) result }
-{
-    match name {
-        BuiltInName::Position => match held.one("invariant") {
-            Ok(invariant) => Ok(BuiltIn::Position { invariant }),
-            Err(error) => Err(error),
-        },
-        BuiltInName::Barycentric => match held.one("perspective") {
-            Ok(perspective) => Ok(BuiltIn::Barycentric { perspective }),
-            Err(error) => Err(error),
-        },
+impl Holding<BuiltInName> for BuiltIn {
+    ghost held_of = { built_in_from };
+
+    fn read_held(name: BuiltInName, held: Held) -> Result<Self, ReadError> {
+        match name {
+            BuiltInName::Position => match held.one("invariant") {
+                Ok(invariant) => Ok(BuiltIn::Position { invariant }),
+                Err(error) => Err(error),
+            },
+            BuiltInName::Barycentric => match held.one("perspective") {
+                Ok(perspective) => Ok(BuiltIn::Barycentric { perspective }),
+                Err(error) => Err(error),
+            },
+        }
     }
 }
 
@@ -95,11 +96,7 @@ impl FromJson for BuiltIn {
     ghost stands_for = { built_in_of };
 
     fn from_json(alloc: Global, value: &Value) -> Result<Self, ReadError> {
-        match read_variant(alloc, value, &BUILT_INS, &HOLDING_BUILT_INS) {
-            Ok(Variant::Plain(found)) => Ok(found),
-            Ok(Variant::Holding(name, held)) => read_held_built_in(name, held),
-            Err(error) => Err(error),
-        }
+        read_either(alloc, value, &BUILT_INS, &HOLDING_BUILT_INS)
     }
 }
 
@@ -150,29 +147,39 @@ const BINDINGS: [(&str, BindingName); 2] = [
 ];
 
 fn read_location(held: Held) -> Result<Binding, ReadError>
-    ensures { Reads (location_of (view held.entry.value.now)) result }
+    ensures { ReadsMeaning (location_of (view held.entry.value.now)) result }
 {
-    if let Err(error) = held.fields(&[
+    match held.five(&(
         "location",
         "interpolation",
         "sampling",
         "blend_src",
         "per_primitive",
-    ]) {
-        return Err(error);
-    }
-    match held.triple("location", "interpolation", "sampling") {
-        Ok((location, interpolation, sampling)) => match held.pair("blend_src", "per_primitive") {
-            Ok((blend_src, per_primitive)) => Ok(Binding::Location {
+    )) {
+        Ok((location, interpolation, sampling, blend_src, per_primitive)) => Ok(
+            Binding::Location {
                 location,
                 interpolation,
                 sampling,
                 blend_src,
                 per_primitive,
-            }),
-            Err(error) => Err(error),
-        },
+            },
+        ),
         Err(error) => Err(error),
+    }
+}
+
+impl Holding<BindingName> for Binding {
+    ghost held_of = { binding_from };
+
+    fn read_held(name: BindingName, held: Held) -> Result<Self, ReadError> {
+        match name {
+            BindingName::BuiltIn => match held.read() {
+                Ok(found) => Ok(Binding::BuiltIn(found)),
+                Err(error) => Err(error),
+            },
+            BindingName::Location => read_location(held),
+        }
     }
 }
 
@@ -180,13 +187,6 @@ impl FromJson for Binding {
     ghost stands_for = { binding_of };
 
     fn from_json(alloc: Global, value: &Value) -> Result<Self, ReadError> {
-        match read_holding(alloc, value, &BINDINGS) {
-            Ok((BindingName::BuiltIn, held)) => match held.read() {
-                Ok(found) => Ok(Binding::BuiltIn(found)),
-                Err(error) => Err(error),
-            },
-            Ok((BindingName::Location, held)) => read_location(held),
-            Err(error) => Err(error),
-        }
+        read_holding(alloc, value, &BINDINGS)
     }
 }

@@ -1,6 +1,6 @@
 //! Global variables, and entry points.
 
-ghost use Rattle.json_values.specs.Document.EntryPoints.{constant_of, early_depth_test_of, entry_point_of, global_variable_of, mesh_output_topology_of, mesh_stage_info_of, override_of, shader_stage_of, special_types_of, workgroup_size_of};
+ghost use Rattle.json_values.specs.Document.EntryPoints.{constant_of, early_depth_test_of, entry_point_of, global_variable_of, mesh_output_topology_of, mesh_stage_info_of, override_of, shader_stage_of, special_types_of};
 
 use crate::read::error::ReadError;
 use crate::read::from_json::{FromJson, Held};
@@ -57,7 +57,7 @@ impl FromJson for MeshStageInfo {
             value,
             variant: None,
         };
-        if let Err(error) = held.fields(&[
+        match held.eight(&(
             "topology",
             "max_vertices",
             "max_vertices_override",
@@ -66,38 +66,28 @@ impl FromJson for MeshStageInfo {
             "vertex_output_type",
             "primitive_output_type",
             "output_variable",
-        ]) {
-            return Err(error);
-        }
-        match held.pair("topology", "max_vertices") {
-            Ok((topology, max_vertices)) => match held.pair(
-                "max_vertices_override",
-                "max_primitives",
-            ) {
-                Ok((max_vertices_override, max_primitives)) => match held.pair(
-                    "max_primitives_override",
-                    "vertex_output_type",
-                ) {
-                    Ok((max_primitives_override, vertex_output_type)) => match held.pair(
-                        "primitive_output_type",
-                        "output_variable",
-                    ) {
-                        Ok((primitive_output_type, output_variable)) => Ok(MeshStageInfo {
-                            topology,
-                            max_vertices,
-                            max_vertices_override,
-                            max_primitives,
-                            max_primitives_override,
-                            vertex_output_type,
-                            primitive_output_type,
-                            output_variable,
-                        }),
-                        Err(error) => Err(error),
-                    },
-                    Err(error) => Err(error),
-                },
-                Err(error) => Err(error),
-            },
+        )) {
+            Ok(
+                (
+                    topology,
+                    max_vertices,
+                    max_vertices_override,
+                    max_primitives,
+                    max_primitives_override,
+                    vertex_output_type,
+                    primitive_output_type,
+                    output_variable,
+                ),
+            ) => Ok(MeshStageInfo {
+                topology,
+                max_vertices,
+                max_vertices_override,
+                max_primitives,
+                max_primitives_override,
+                vertex_output_type,
+                primitive_output_type,
+                output_variable,
+            }),
             Err(error) => Err(error),
         }
     }
@@ -160,20 +150,14 @@ impl FromJson for GlobalVariable {
             value,
             variant: None,
         };
-        if let Err(error) = held.fields(&["space", "binding", "ty", "init", "memory_decorations"]) {
-            return Err(error);
-        }
-        match held.triple("space", "binding", "ty") {
-            Ok((space, binding, ty)) => match held.pair("init", "memory_decorations") {
-                Ok((init, memory_decorations)) => Ok(GlobalVariable {
-                    space,
-                    binding,
-                    ty,
-                    init,
-                    memory_decorations,
-                }),
-                Err(error) => Err(error),
-            },
+        match held.five(&("space", "binding", "ty", "init", "memory_decorations")) {
+            Ok((space, binding, ty, init, memory_decorations)) => Ok(GlobalVariable {
+                space,
+                binding,
+                ty,
+                init,
+                memory_decorations,
+            }),
             Err(error) => Err(error),
         }
     }
@@ -190,18 +174,6 @@ impl FromJson for EarlyDepthTest {
     }
 }
 
-/// A list of three numbers.
-impl FromJson for [u32; 3] {
-    ghost stands_for = { workgroup_size_of };
-
-    fn from_json(alloc: Global, value: &Value) -> Result<Self, ReadError> {
-        match <(u32, u32, u32)>::from_json(alloc, value) {
-            Ok((x, y, z)) => Ok([x, y, z]),
-            Err(error) => Err(error),
-        }
-    }
-}
-
 impl FromJson for EntryPoint {
     ghost stands_for = { entry_point_of };
 
@@ -211,40 +183,26 @@ impl FromJson for EntryPoint {
             value,
             variant: None,
         };
-        if let Err(error) = held.fields(&[
+        match held.six(&(
             "stage",
             "early_depth_test",
             "workgroup_size",
             "function",
             "mesh_info",
             "task_payload",
-        ]) {
-            return Err(error);
-        }
-        match held.get("stage") {
-            Ok(stage) => match held.get("early_depth_test") {
-                Ok(early_depth_test) => match held.get("workgroup_size") {
-                    Ok(workgroup_size) => match held.get("function") {
-                        Ok(function) => match held.get("mesh_info") {
-                            Ok(mesh_info) => match held.get("task_payload") {
-                                Ok(task_payload) => Ok(EntryPoint {
-                                    stage,
-                                    early_depth_test,
-                                    workgroup_size,
-                                    function,
-                                    mesh_info,
-                                    task_payload,
-                                }),
-                                Err(error) => Err(error),
-                            },
-                            Err(error) => Err(error),
-                        },
-                        Err(error) => Err(error),
-                    },
-                    Err(error) => Err(error),
-                },
-                Err(error) => Err(error),
-            },
+        )) {
+            Ok((stage, early_depth_test, size, function, mesh_info, task_payload)) => {
+                let (x, y, z) = size;
+                let workgroup_size = [x, y, z];
+                Ok(EntryPoint {
+                    stage,
+                    early_depth_test,
+                    workgroup_size,
+                    function,
+                    mesh_info,
+                    task_payload,
+                })
+            }
             Err(error) => Err(error),
         }
     }

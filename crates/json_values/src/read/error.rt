@@ -39,7 +39,7 @@ impl ReadError {
         })
     }
 
-    /// The error of a value inside the one that is being read, to which this step leads; or want of memory.
+    /// The error of a value inside the one that is being read, to which this step leads; or out of memory.
     pub fn within(self, step: Step) -> Self
         ensures { IsUnreadable result → IsUnreadable self }
     {
@@ -74,14 +74,19 @@ impl<T: Drop> From<AllocFailed<T>> for ReadError {
     }
 }
 
+/// Writes a slash, and the step.
+fn write_step<W: fmt::Write>(step: &Step, f: &mut fmt::Formatter<W>) -> fmt::Result {
+    match step {
+        Step::Name(name) => write!(f, "/{name}"),
+        Step::Index(index) => write!(f, "/{index}"),
+    }
+}
+
 /// Writes the way from the whole document as a JSON pointer: a slash before each step, and nothing for the whole.
 impl fmt::Display for Unreadable {
     fn fmt<W: fmt::Write>(&self, f: &mut fmt::Formatter<W>) -> fmt::Result {
         for step in self.steps.iter().rev() {
-            match step {
-                Step::Name(name) => write!(f, "/{name}")?,
-                Step::Index(index) => write!(f, "/{index}")?,
-            }
+            write_step(step, f)?;
         }
         Ok(())
     }

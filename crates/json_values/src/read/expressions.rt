@@ -2,13 +2,14 @@
 
 ghost use Rattle.std.specs.Prelude.{◌≡◌};
 ghost use Rattle.serde_json.specs.View.{view};
-ghost use Rattle.json_values.specs.Reads.{Reads};
+ghost use Rattle.json_values.specs.Reads.{ReadsMeaning};
 ghost use Rattle.json_values.specs.Variants.{holding};
-ghost use Rattle.json_values.specs.Document.Expressions.{access_index_of, access_of, atomic_result_of, compose_of, expression_from, expression_of, literal_of, load_of, parts_of, subgroup_operation_result_of, with_parts, work_group_uniform_load_result_of};
+ghost use Rattle.json_values.specs.Document.Expressions.{access_index_of, access_of, atomic_result_of, compose_of, expression_from, expression_of, literal_of, load_of, parts_of, subgroup_operation_result_of, with_index, with_parts, work_group_uniform_load_result_of};
 
 use crate::read::error::ReadError;
 use crate::read::from_json::{FromJson, Held};
 use crate::read::variant::{Variant, read_variant};
+use ir_arena::Handle;
 use ir_module::{Expression, Literal, Operands};
 use serde_json::Value;
 use std::alloc::Global;
@@ -22,7 +23,7 @@ impl FromJson for Literal {
             value,
             variant: None,
         };
-        match held.two("scalar", "bits") {
+        match held.two(&("scalar", "bits")) {
             Ok((scalar, bits)) => Ok(Literal { scalar, bits }),
             Err(error) => Err(error),
         }
@@ -45,7 +46,7 @@ impl FromJson for Parts {
             value,
             variant: None,
         };
-        match held.two("operands", "detail") {
+        match held.two(&("operands", "detail")) {
             Ok((operands, detail)) => Ok(Parts { operands, detail }),
             Err(error) => Err(error),
         }
@@ -108,6 +109,32 @@ fn with_parts(kind: PartsName, parts: Parts) -> Expression
     }
 }
 
+/// The kinds of expressions that hold a number alone, mostly the index of a handle.
+#[derive(Clone, Copy)]
+enum IndexName {
+    Constant,
+    Override,
+    ZeroValue,
+    FunctionArgument,
+    GlobalVariable,
+    LocalVariable,
+    CallResult,
+}
+
+fn with_index(kind: IndexName, index: u32) -> Expression
+    ensures { result ≡ with_index kind index }
+{
+    match kind {
+        IndexName::Constant => Expression::Constant(Handle::new(index)),
+        IndexName::Override => Expression::Override(Handle::new(index)),
+        IndexName::ZeroValue => Expression::ZeroValue(Handle::new(index)),
+        IndexName::FunctionArgument => Expression::FunctionArgument(index),
+        IndexName::GlobalVariable => Expression::GlobalVariable(Handle::new(index)),
+        IndexName::LocalVariable => Expression::LocalVariable(Handle::new(index)),
+        IndexName::CallResult => Expression::CallResult(Handle::new(index)),
+    }
+}
+
 /// The expressions that hold nothing.
 #[derive(Clone, Copy)]
 enum BareName {
@@ -125,18 +152,12 @@ const BARE_EXPRESSIONS: [(&str, BareName); 2] = [
 #[derive(Clone, Copy)]
 enum ExpressionName {
     Parts(PartsName),
+    Index(IndexName),
     Literal,
-    Constant,
-    Override,
-    ZeroValue,
     Compose,
     Access,
     AccessIndex,
-    FunctionArgument,
-    GlobalVariable,
-    LocalVariable,
     Load,
-    CallResult,
     AtomicResult,
     WorkGroupUniformLoadResult,
     SubgroupOperationResult,
@@ -145,17 +166,26 @@ enum ExpressionName {
 /// Their names.
 const EXPRESSIONS: [(&str, ExpressionName); 32] = [
     ("Literal", ExpressionName::Literal),
-    ("Constant", ExpressionName::Constant),
-    ("Override", ExpressionName::Override),
-    ("ZeroValue", ExpressionName::ZeroValue),
+    ("Constant", ExpressionName::Index(IndexName::Constant)),
+    ("Override", ExpressionName::Index(IndexName::Override)),
+    ("ZeroValue", ExpressionName::Index(IndexName::ZeroValue)),
     ("Compose", ExpressionName::Compose),
     ("Access", ExpressionName::Access),
     ("AccessIndex", ExpressionName::AccessIndex),
-    ("FunctionArgument", ExpressionName::FunctionArgument),
-    ("GlobalVariable", ExpressionName::GlobalVariable),
-    ("LocalVariable", ExpressionName::LocalVariable),
+    (
+        "FunctionArgument",
+        ExpressionName::Index(IndexName::FunctionArgument),
+    ),
+    (
+        "GlobalVariable",
+        ExpressionName::Index(IndexName::GlobalVariable),
+    ),
+    (
+        "LocalVariable",
+        ExpressionName::Index(IndexName::LocalVariable),
+    ),
     ("Load", ExpressionName::Load),
-    ("CallResult", ExpressionName::CallResult),
+    ("CallResult", ExpressionName::Index(IndexName::CallResult)),
     ("AtomicResult", ExpressionName::AtomicResult),
     (
         "WorkGroupUniformLoadResult",
@@ -197,34 +227,34 @@ const EXPRESSIONS: [(&str, ExpressionName); 32] = [
 ];
 
 fn read_compose(held: Held) -> Result<Expression, ReadError>
-    ensures { Reads (compose_of (view held.entry.value.now)) result }
+    ensures { ReadsMeaning (compose_of (view held.entry.value.now)) result }
 {
-    match held.two("ty", "components") {
+    match held.two(&("ty", "components")) {
         Ok((ty, components)) => Ok(Expression::Compose { ty, components }),
         Err(error) => Err(error),
     }
 }
 
 fn read_access(held: Held) -> Result<Expression, ReadError>
-    ensures { Reads (access_of (view held.entry.value.now)) result }
+    ensures { ReadsMeaning (access_of (view held.entry.value.now)) result }
 {
-    match held.two("base", "index") {
+    match held.two(&("base", "index")) {
         Ok((base, index)) => Ok(Expression::Access { base, index }),
         Err(error) => Err(error),
     }
 }
 
 fn read_access_index(held: Held) -> Result<Expression, ReadError>
-    ensures { Reads (access_index_of (view held.entry.value.now)) result }
+    ensures { ReadsMeaning (access_index_of (view held.entry.value.now)) result }
 {
-    match held.two("base", "index") {
+    match held.two(&("base", "index")) {
         Ok((base, index)) => Ok(Expression::AccessIndex { base, index }),
         Err(error) => Err(error),
     }
 }
 
 fn read_load(held: Held) -> Result<Expression, ReadError>
-    ensures { Reads (load_of (view held.entry.value.now)) result }
+    ensures { ReadsMeaning (load_of (view held.entry.value.now)) result }
 {
     match held.one("pointer") {
         Ok(pointer) => Ok(Expression::Load { pointer }),
@@ -233,16 +263,16 @@ fn read_load(held: Held) -> Result<Expression, ReadError>
 }
 
 fn read_atomic_result(held: Held) -> Result<Expression, ReadError>
-    ensures { Reads (atomic_result_of (view held.entry.value.now)) result }
+    ensures { ReadsMeaning (atomic_result_of (view held.entry.value.now)) result }
 {
-    match held.two("ty", "comparison") {
+    match held.two(&("ty", "comparison")) {
         Ok((ty, comparison)) => Ok(Expression::AtomicResult { ty, comparison }),
         Err(error) => Err(error),
     }
 }
 
 fn read_work_group_uniform_load_result(held: Held) -> Result<Expression, ReadError>
-    ensures { Reads (work_group_uniform_load_result_of (view held.entry.value.now)) result }
+    ensures { ReadsMeaning (work_group_uniform_load_result_of (view held.entry.value.now)) result }
 {
     match held.one("ty") {
         Ok(ty) => Ok(Expression::WorkGroupUniformLoadResult { ty }),
@@ -251,7 +281,7 @@ fn read_work_group_uniform_load_result(held: Held) -> Result<Expression, ReadErr
 }
 
 fn read_subgroup_operation_result(held: Held) -> Result<Expression, ReadError>
-    ensures { Reads (subgroup_operation_result_of (view held.entry.value.now)) result }
+    ensures { ReadsMeaning (subgroup_operation_result_of (view held.entry.value.now)) result }
 {
     match held.one("ty") {
         Ok(ty) => Ok(Expression::SubgroupOperationResult { ty }),
@@ -260,49 +290,25 @@ fn read_subgroup_operation_result(held: Held) -> Result<Expression, ReadError>
 }
 
 fn read_held_expression(name: ExpressionName, held: Held) -> Result<Expression, ReadError>
-    ensures { Reads (expression_from (holding name (view held.entry.value.now))) result }
+    ensures { ReadsMeaning (expression_from (holding name (view held.entry.value.now))) result }
 {
     match name {
         ExpressionName::Parts(kind) => match held.read() {
             Ok(parts) => Ok(with_parts(kind, parts)),
             Err(error) => Err(error),
         },
+        ExpressionName::Index(kind) => match held.read() {
+            Ok(index) => Ok(with_index(kind, index)),
+            Err(error) => Err(error),
+        },
         ExpressionName::Literal => match held.read() {
             Ok(literal) => Ok(Expression::Literal(literal)),
-            Err(error) => Err(error),
-        },
-        ExpressionName::Constant => match held.read() {
-            Ok(constant) => Ok(Expression::Constant(constant)),
-            Err(error) => Err(error),
-        },
-        ExpressionName::Override => match held.read() {
-            Ok(number) => Ok(Expression::Override(number)),
-            Err(error) => Err(error),
-        },
-        ExpressionName::ZeroValue => match held.read() {
-            Ok(ty) => Ok(Expression::ZeroValue(ty)),
             Err(error) => Err(error),
         },
         ExpressionName::Compose => read_compose(held),
         ExpressionName::Access => read_access(held),
         ExpressionName::AccessIndex => read_access_index(held),
-        ExpressionName::FunctionArgument => match held.read() {
-            Ok(index) => Ok(Expression::FunctionArgument(index)),
-            Err(error) => Err(error),
-        },
-        ExpressionName::GlobalVariable => match held.read() {
-            Ok(variable) => Ok(Expression::GlobalVariable(variable)),
-            Err(error) => Err(error),
-        },
-        ExpressionName::LocalVariable => match held.read() {
-            Ok(variable) => Ok(Expression::LocalVariable(variable)),
-            Err(error) => Err(error),
-        },
         ExpressionName::Load => read_load(held),
-        ExpressionName::CallResult => match held.read() {
-            Ok(function) => Ok(Expression::CallResult(function)),
-            Err(error) => Err(error),
-        },
         ExpressionName::AtomicResult => read_atomic_result(held),
         ExpressionName::WorkGroupUniformLoadResult => read_work_group_uniform_load_result(held),
         ExpressionName::SubgroupOperationResult => read_subgroup_operation_result(held),

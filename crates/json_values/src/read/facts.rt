@@ -1,11 +1,11 @@
 //! Facts: what lower layers say of a module.
 
 ghost use Rattle.serde_json.specs.Find.{as_null};
-ghost use Rattle.json_values.specs.Document.Facts.{expression_fact_of, function_fact_of, immediates_of, info_fact_of, layout_of, mesh_analysis_fact_of, mesh_fault_of, overrides_of, type_info_of};
+ghost use Rattle.json_values.specs.Document.Facts.{expression_fact_from, expression_fact_of, function_fact_from, function_fact_of, immediates_from, immediates_of, info_fact_of, layout_from, layout_of, mesh_analysis_fact_of, mesh_fault_of, type_info_of};
 
 use crate::read::error::ReadError;
 use crate::read::from_json::{FromJson, Held};
-use crate::read::variant::{read_holding, read_name};
+use crate::read::variant::{Holding, read_holding, read_name};
 use check_errors::MeshFault;
 use ir_arena::{Handle, tag};
 use ir_facts::{Disalignment, ImmediateError, TypeInfo};
@@ -42,16 +42,23 @@ impl FromJson for Result<u32, (Handle<tag::Type>, Disalignment)> {
     ghost stands_for = { layout_of };
 
     fn from_json(alloc: Global, value: &Value) -> Result<Self, ReadError> {
-        match read_holding(alloc, value, &OUTCOMES) {
-            Ok((OutcomeName::Ok, held)) => match held.read() {
+        read_holding(alloc, value, &OUTCOMES)
+    }
+}
+
+impl Holding<OutcomeName> for Result<u32, (Handle<tag::Type>, Disalignment)> {
+    ghost held_of = { layout_from };
+
+    fn read_held(name: OutcomeName, held: Held) -> Result<Self, ReadError> {
+        match name {
+            OutcomeName::Ok => match held.read() {
                 Ok(alignment) => Ok(Ok(alignment)),
                 Err(error) => Err(error),
             },
-            Ok((OutcomeName::Err, held)) => match held.read() {
+            OutcomeName::Err => match held.read() {
                 Ok((ty, reason)) => Ok(Err((ty, Disalignment(reason)))),
                 Err(error) => Err(error),
             },
-            Err(error) => Err(error),
         }
     }
 }
@@ -61,16 +68,23 @@ impl FromJson for Result<(), ImmediateError> {
     ghost stands_for = { immediates_of };
 
     fn from_json(alloc: Global, value: &Value) -> Result<Self, ReadError> {
-        match read_holding(alloc, value, &OUTCOMES) {
-            Ok((OutcomeName::Ok, held)) => match held.read() {
+        read_holding(alloc, value, &OUTCOMES)
+    }
+}
+
+impl Holding<OutcomeName> for Result<(), ImmediateError> {
+    ghost held_of = { immediates_from };
+
+    fn read_held(name: OutcomeName, held: Held) -> Result<Self, ReadError> {
+        match name {
+            OutcomeName::Ok => match held.read() {
                 Ok(()) => Ok(Ok(())),
                 Err(error) => Err(error),
             },
-            Ok((OutcomeName::Err, held)) => match held.read() {
+            OutcomeName::Err => match held.read() {
                 Ok(reason) => Ok(Err(ImmediateError(reason))),
                 Err(error) => Err(error),
             },
-            Err(error) => Err(error),
         }
     }
 }
@@ -96,42 +110,18 @@ impl FromJson for TypeInfo {
             value,
             variant: None,
         };
-        if let Err(error) = held.fields(&[
+        match held.four(&(
             "flags",
             "storage_layout",
             "uniform_layout",
             "immediates_compatibility",
-        ]) {
-            return Err(error);
-        }
-        match held.get("flags") {
-            Ok(flags) => match held.get("storage_layout") {
-                Ok(storage_layout) => match held.get("uniform_layout") {
-                    Ok(uniform_layout) => match held.get("immediates_compatibility") {
-                        Ok(immediates_compatibility) => Ok(TypeInfo {
-                            flags,
-                            storage_layout,
-                            uniform_layout,
-                            immediates_compatibility,
-                        }),
-                        Err(error) => Err(error),
-                    },
-                    Err(error) => Err(error),
-                },
-                Err(error) => Err(error),
-            },
-            Err(error) => Err(error),
-        }
-    }
-}
-
-/// A list of two, each of which may be null.
-impl FromJson for [Option<Handle<tag::Override>>; 2] {
-    ghost stands_for = { overrides_of };
-
-    fn from_json(alloc: Global, value: &Value) -> Result<Self, ReadError> {
-        match FromJson::from_json(alloc, value) {
-            Ok((vertices, primitives)) => Ok([vertices, primitives]),
+        )) {
+            Ok((flags, storage_layout, uniform_layout, immediates_compatibility)) => Ok(TypeInfo {
+                flags,
+                storage_layout,
+                uniform_layout,
+                immediates_compatibility,
+            }),
             Err(error) => Err(error),
         }
     }
@@ -146,17 +136,18 @@ impl FromJson for MeshAnalysisFact {
             value,
             variant: None,
         };
-        if let Err(error) = held.fields(&["implied", "overrides", "fault"]) {
-            return Err(error);
+        match held.three(&("implied", "overrides", "fault")) {
+            Ok((implied, two, fault)) => {
+                let (vertices, primitives) = two;
+                let overrides = [vertices, primitives];
+                Ok(MeshAnalysisFact {
+                    implied,
+                    overrides,
+                    fault,
+                })
+            }
+            Err(error) => Err(error),
         }
-        let implied = held.get("implied")?;
-        let overrides = held.get("overrides")?;
-        let fault = held.get("fault")?;
-        Ok(MeshAnalysisFact {
-            implied,
-            overrides,
-            fault,
-        })
     }
 }
 
@@ -177,16 +168,23 @@ impl FromJson for ExpressionFact {
     ghost stands_for = { expression_fact_of };
 
     fn from_json(alloc: Global, value: &Value) -> Result<Self, ReadError> {
-        match read_holding(alloc, value, &EXPRESSION_FACTS) {
-            Ok((ExpressionFactName::Stages, held)) => match held.read() {
+        read_holding(alloc, value, &EXPRESSION_FACTS)
+    }
+}
+
+impl Holding<ExpressionFactName> for ExpressionFact {
+    ghost held_of = { expression_fact_from };
+
+    fn read_held(name: ExpressionFactName, held: Held) -> Result<Self, ReadError> {
+        match name {
+            ExpressionFactName::Stages => match held.read() {
                 Ok(stages) => Ok(ExpressionFact::Stages(stages)),
                 Err(error) => Err(error),
             },
-            Ok((ExpressionFactName::Error, held)) => match held.read() {
+            ExpressionFactName::Error => match held.read() {
                 Ok(fault) => Ok(ExpressionFact::Error(fault)),
                 Err(error) => Err(error),
             },
-            Err(error) => Err(error),
         }
     }
 }
@@ -200,26 +198,20 @@ impl FromJson for InfoFact {
             value,
             variant: None,
         };
-        if let Err(error) = held.fields(&[
+        match held.five(&(
             "types",
             "uses",
             "stages",
             "dual_source_blending",
             "expressions",
-        ]) {
-            return Err(error);
-        }
-        match held.triple("types", "uses", "stages") {
-            Ok((types, uses, stages)) => match held.pair("dual_source_blending", "expressions") {
-                Ok((dual_source_blending, expressions)) => Ok(InfoFact {
-                    types,
-                    uses,
-                    stages,
-                    dual_source_blending,
-                    expressions,
-                }),
-                Err(error) => Err(error),
-            },
+        )) {
+            Ok((types, uses, stages, dual_source_blending, expressions)) => Ok(InfoFact {
+                types,
+                uses,
+                stages,
+                dual_source_blending,
+                expressions,
+            }),
             Err(error) => Err(error),
         }
     }
@@ -242,16 +234,23 @@ impl FromJson for FunctionFact {
     ghost stands_for = { function_fact_of };
 
     fn from_json(alloc: Global, value: &Value) -> Result<Self, ReadError> {
-        match read_holding(alloc, value, &FUNCTION_FACTS) {
-            Ok((FunctionFactName::Info, held)) => match held.read() {
+        read_holding(alloc, value, &FUNCTION_FACTS)
+    }
+}
+
+impl Holding<FunctionFactName> for FunctionFact {
+    ghost held_of = { function_fact_from };
+
+    fn read_held(name: FunctionFactName, held: Held) -> Result<Self, ReadError> {
+        match name {
+            FunctionFactName::Info => match held.read() {
                 Ok(info) => Ok(FunctionFact::Info(info)),
                 Err(error) => Err(error),
             },
-            Ok((FunctionFactName::Error, held)) => match held.read() {
+            FunctionFactName::Error => match held.read() {
                 Ok(fault) => Ok(FunctionFact::Error(fault)),
                 Err(error) => Err(error),
             },
-            Err(error) => Err(error),
         }
     }
 }

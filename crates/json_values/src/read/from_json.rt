@@ -1,12 +1,12 @@
 //! What can be read from a value of the document, and the fields of objects.
 
-ghost use Rattle.std.specs.Prelude.{◌≡◌, ◌∷◌, [], is_some};
+ghost use Rattle.std.specs.Prelude.{◌≡◌, is_some};
 ghost use Rattle.serde_json.specs.Find.{get};
 ghost use Rattle.serde_json.specs.View.{view};
 ghost use Rattle.json_values.specs.Failures.{IsUnreadable};
-ghost use Rattle.json_values.specs.Form.{field_of, has_field, has_each, has_count, has_only};
-ghost use Rattle.json_values.specs.Reads.{Reads, texts_of};
-ghost use Rattle.json_values.specs.ReadsFields.{ReadsFields, ReadsValue, ReadsTwo, ReadsThree, ReadsFour, ReadsOnlyOne, ReadsOnlyTwo, ReadsOnlyThree, ReadsOnlyFour};
+ghost use Rattle.json_values.specs.Form.{field_of, has_field, has_each, has_count, has_only, one_field, two_fields, three_fields, four_fields, five_fields, six_fields, eight_fields};
+ghost use Rattle.json_values.specs.Reads.{ReadsMeaning, texts_of};
+ghost use Rattle.json_values.specs.ReadsFields.{ReadsFields, ReadsValue, ReadsTwo, ReadsThree, ReadsFour};
 
 use crate::read::error::{ReadError, Step};
 use serde_json::Value;
@@ -22,12 +22,12 @@ pub trait FromJson: Drop {
 
     /// What the value stands for, or where reading stopped.
     fn from_json(alloc: Global, value: &Value) -> Result<Self, ReadError>
-        ensures { Reads (stands_for (view value.now)) result };
+        ensures { ReadsMeaning (stands_for (view value.now)) result };
 }
 
 /// What stands a step away.
 pub fn read_at<T: FromJson>(alloc: Global, step: Step, value: &Value) -> Result<T, ReadError>
-    ensures { Reads (T.stands_for (view value.now)) result }
+    ensures { ReadsMeaning (T.stands_for (view value.now)) result }
 {
     match T::from_json(alloc, value) {
         Ok(read) => Ok(read),
@@ -92,7 +92,7 @@ impl<'v> Held<'v> {
 
     /// What it stands for.
     pub fn read<T: FromJson>(self) -> Result<T, ReadError>
-        ensures { Reads (T.stands_for (view self.entry.value.now)) result }
+        ensures { ReadsMeaning (T.stands_for (view self.entry.value.now)) result }
     {
         match T::from_json(self.alloc, self.value) {
             Ok(read) => Ok(read),
@@ -130,7 +130,7 @@ impl<'v> Held<'v> {
 
     /// What a field stands for.
     pub fn get<T: FromJson>(self, name: &'static str) -> Result<T, ReadError>
-        ensures { Reads (field_of T.stands_for name.now (view self.entry.value.now)) result }
+        ensures { ReadsMeaning (field_of T.stands_for name.now (view self.entry.value.now)) result }
     {
         match self.value.get(name) {
             Some(value) => match T::from_json(self.alloc, value) {
@@ -142,7 +142,7 @@ impl<'v> Held<'v> {
     }
 
     /// What two fields stand for.
-    pub fn pair<A: FromJson, B: FromJson>(
+    fn pair<A: FromJson, B: FromJson>(
         self,
         first: &'static str,
         second: &'static str,
@@ -159,7 +159,7 @@ impl<'v> Held<'v> {
     }
 
     /// What three fields stand for.
-    pub fn triple<A: FromJson, B: FromJson, C: FromJson>(
+    fn triple<A: FromJson, B: FromJson, C: FromJson>(
         self,
         first: &'static str,
         second: &'static str,
@@ -177,7 +177,7 @@ impl<'v> Held<'v> {
     }
 
     /// What four fields stand for.
-    pub fn quad<A: FromJson, B: FromJson, C: FromJson, D: FromJson>(
+    fn quad<A: FromJson, B: FromJson, C: FromJson, D: FromJson>(
         self,
         first: &'static str,
         second: &'static str,
@@ -196,56 +196,147 @@ impl<'v> Held<'v> {
     }
 
     /// What the field of an object with exactly this one stands for.
-    pub fn one<A: FromJson>(self, first: &'static str) -> Result<A, ReadError>
-        ensures { ReadsOnlyOne (has_only (first.now ∷ []) (view self.entry.value.now)) (field_of A.stands_for first.now (view self.entry.value.now)) result }
+    #[tactic(auto, unfolding(crate::specs::Form::one_field))]
+    pub fn one<A: FromJson>(self, name: &'static str) -> Result<A, ReadError>
+        ensures { ReadsMeaning (one_field name.now A.stands_for (view self.entry.value.now)) result }
     {
-        match self.fields(&[first]) {
-            Ok(()) => self.get(first),
+        match self.fields(&[name]) {
+            Ok(()) => self.get(name),
             Err(error) => Err(error),
         }
     }
 
     /// What the fields of an object with exactly these two stand for.
+    #[tactic(auto, unfolding(crate::specs::Form::two_fields))]
     pub fn two<A: FromJson, B: FromJson>(
         self,
-        first: &'static str,
-        second: &'static str,
+        names: &(&'static str, &'static str),
     ) -> Result<(A, B), ReadError>
-        ensures { ReadsOnlyTwo (has_only (first.now ∷ second.now ∷ []) (view self.entry.value.now)) (field_of A.stands_for first.now (view self.entry.value.now)) (field_of B.stands_for second.now (view self.entry.value.now)) result }
+        ensures { ReadsMeaning (two_fields names.now.0.now A.stands_for names.now.1.now B.stands_for (view self.entry.value.now)) result }
     {
-        match self.fields(&[first, second]) {
-            Ok(()) => self.pair(first, second),
+        match self.fields(&[names.0, names.1]) {
+            Ok(()) => self.pair(names.0, names.1),
             Err(error) => Err(error),
         }
     }
 
     /// What the fields of an object with exactly these three stand for.
+    #[tactic(auto, unfolding(crate::specs::Form::three_fields))]
     pub fn three<A: FromJson, B: FromJson, C: FromJson>(
         self,
-        first: &'static str,
-        second: &'static str,
-        third: &'static str,
+        names: &(&'static str, &'static str, &'static str),
     ) -> Result<(A, B, C), ReadError>
-        ensures { ReadsOnlyThree (has_only (first.now ∷ second.now ∷ third.now ∷ []) (view self.entry.value.now)) (field_of A.stands_for first.now (view self.entry.value.now)) (field_of B.stands_for second.now (view self.entry.value.now)) (field_of C.stands_for third.now (view self.entry.value.now)) result }
+        ensures { ReadsMeaning (three_fields names.now.0.now A.stands_for names.now.1.now B.stands_for names.now.2.now C.stands_for (view self.entry.value.now)) result }
     {
-        match self.fields(&[first, second, third]) {
-            Ok(()) => self.triple(first, second, third),
+        match self.fields(&[names.0, names.1, names.2]) {
+            Ok(()) => self.triple(names.0, names.1, names.2),
             Err(error) => Err(error),
         }
     }
 
     /// What the fields of an object with exactly these four stand for.
+    #[tactic(auto, unfolding(crate::specs::Form::four_fields))]
     pub fn four<A: FromJson, B: FromJson, C: FromJson, D: FromJson>(
         self,
-        first: &'static str,
-        second: &'static str,
-        third: &'static str,
-        fourth: &'static str,
+        names: &(&'static str, &'static str, &'static str, &'static str),
     ) -> Result<(A, B, C, D), ReadError>
-        ensures { ReadsOnlyFour (has_only (first.now ∷ second.now ∷ third.now ∷ fourth.now ∷ []) (view self.entry.value.now)) (field_of A.stands_for first.now (view self.entry.value.now)) (field_of B.stands_for second.now (view self.entry.value.now)) (field_of C.stands_for third.now (view self.entry.value.now)) (field_of D.stands_for fourth.now (view self.entry.value.now)) result }
+        ensures { ReadsMeaning (four_fields names.now.0.now A.stands_for names.now.1.now B.stands_for names.now.2.now C.stands_for names.now.3.now D.stands_for (view self.entry.value.now)) result }
     {
-        match self.fields(&[first, second, third, fourth]) {
-            Ok(()) => self.quad(first, second, third, fourth),
+        match self.fields(&[names.0, names.1, names.2, names.3]) {
+            Ok(()) => self.quad(names.0, names.1, names.2, names.3),
+            Err(error) => Err(error),
+        }
+    }
+
+    /// What the fields of an object with exactly these five stand for.
+    #[tactic(auto, unfolding(crate::specs::Form::five_fields))]
+    pub fn five<A: FromJson, B: FromJson, C: FromJson, D: FromJson, E: FromJson>(
+        self,
+        names: &(
+            &'static str,
+            &'static str,
+            &'static str,
+            &'static str,
+            &'static str,
+        ),
+    ) -> Result<(A, B, C, D, E), ReadError>
+        ensures { ReadsMeaning (five_fields names.now.0.now A.stands_for names.now.1.now B.stands_for names.now.2.now C.stands_for names.now.3.now D.stands_for names.now.4.now E.stands_for (view self.entry.value.now)) result }
+    {
+        match self.fields(&[names.0, names.1, names.2, names.3, names.4]) {
+            Ok(()) => match self.quad(names.0, names.1, names.2, names.3) {
+                Ok((a, b, c, d)) => match self.get(names.4) {
+                    Ok(e) => Ok((a, b, c, d, e)),
+                    Err(error) => Err(error),
+                },
+                Err(error) => Err(error),
+            },
+            Err(error) => Err(error),
+        }
+    }
+
+    /// What the fields of an object with exactly these six stand for.
+    #[tactic(auto, unfolding(crate::specs::Form::six_fields))]
+    pub fn six<A: FromJson, B: FromJson, C: FromJson, D: FromJson, E: FromJson, F: FromJson>(
+        self,
+        names: &(
+            &'static str,
+            &'static str,
+            &'static str,
+            &'static str,
+            &'static str,
+            &'static str,
+        ),
+    ) -> Result<(A, B, C, D, E, F), ReadError>
+        ensures { ReadsMeaning (six_fields names.now.0.now A.stands_for names.now.1.now B.stands_for names.now.2.now C.stands_for names.now.3.now D.stands_for names.now.4.now E.stands_for names.now.5.now F.stands_for (view self.entry.value.now)) result }
+    {
+        match self.fields(&[names.0, names.1, names.2, names.3, names.4, names.5]) {
+            Ok(()) => match self.triple(names.0, names.1, names.2) {
+                Ok((a, b, c)) => match self.triple(names.3, names.4, names.5) {
+                    Ok((d, e, f)) => Ok((a, b, c, d, e, f)),
+                    Err(error) => Err(error),
+                },
+                Err(error) => Err(error),
+            },
+            Err(error) => Err(error),
+        }
+    }
+
+    /// What the fields of an object with exactly these eight stand for.
+    #[tactic(auto, unfolding(crate::specs::Form::eight_fields))]
+    pub fn eight<
+        A: FromJson,
+        B: FromJson,
+        C: FromJson,
+        D: FromJson,
+        E: FromJson,
+        F: FromJson,
+        G: FromJson,
+        H: FromJson,
+    >(
+        self,
+        names: &(
+            &'static str,
+            &'static str,
+            &'static str,
+            &'static str,
+            &'static str,
+            &'static str,
+            &'static str,
+            &'static str,
+        ),
+    ) -> Result<(A, B, C, D, E, F, G, H), ReadError>
+        ensures { ReadsMeaning (eight_fields names.now.0.now A.stands_for names.now.1.now B.stands_for names.now.2.now C.stands_for names.now.3.now D.stands_for names.now.4.now E.stands_for names.now.5.now F.stands_for names.now.6.now G.stands_for names.now.7.now H.stands_for (view self.entry.value.now)) result }
+    {
+        match self.fields(&[
+            names.0, names.1, names.2, names.3, names.4, names.5, names.6, names.7,
+        ]) {
+            Ok(()) => match self.quad(names.0, names.1, names.2, names.3) {
+                Ok((a, b, c, d)) => match self.quad(names.4, names.5, names.6, names.7) {
+                    Ok((e, f, g, h)) => Ok((a, b, c, d, e, f, g, h)),
+                    Err(error) => Err(error),
+                },
+                Err(error) => Err(error),
+            },
             Err(error) => Err(error),
         }
     }

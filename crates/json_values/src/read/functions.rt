@@ -17,7 +17,7 @@ impl FromJson for LocalVariable {
             value,
             variant: None,
         };
-        match held.three("name", "ty", "init") {
+        match held.three(&("name", "ty", "init")) {
             Ok((name, ty, init)) => Ok(LocalVariable { name, ty, init }),
             Err(error) => Err(error),
         }
@@ -33,14 +33,8 @@ impl FromJson for FunctionArgument {
             value,
             variant: None,
         };
-        if let Err(error) = held.fields(&["name", "ty", "binding"]) {
-            return Err(error);
-        }
-        match held.pair("name", "ty") {
-            Ok((name, ty)) => match held.get("binding") {
-                Ok(binding) => Ok(FunctionArgument { name, ty, binding }),
-                Err(error) => Err(error),
-            },
+        match held.three(&("name", "ty", "binding")) {
+            Ok((name, ty, binding)) => Ok(FunctionArgument { name, ty, binding }),
             Err(error) => Err(error),
         }
     }
@@ -55,7 +49,7 @@ impl FromJson for FunctionResult {
             value,
             variant: None,
         };
-        match held.two("ty", "binding") {
+        match held.two(&("ty", "binding")) {
             Ok((ty, binding)) => Ok(FunctionResult { ty, binding }),
             Err(error) => Err(error),
         }
@@ -71,35 +65,20 @@ impl FromJson for Function {
             value,
             variant: None,
         };
-        if let Err(error) = held.fields(&[
+        match held.five(&(
             "arguments",
             "result",
             "local_variables",
             "expressions",
             "body",
-        ]) {
-            return Err(error);
-        }
-        match held.get("arguments") {
-            Ok(arguments) => match held.get("result") {
-                Ok(result) => match held.get("local_variables") {
-                    Ok(local_variables) => match held.get("expressions") {
-                        Ok(expressions) => match held.get("body") {
-                            Ok(body) => Ok(Function {
-                                arguments,
-                                result,
-                                local_variables,
-                                expressions,
-                                body,
-                            }),
-                            Err(error) => Err(error),
-                        },
-                        Err(error) => Err(error),
-                    },
-                    Err(error) => Err(error),
-                },
-                Err(error) => Err(error),
-            },
+        )) {
+            Ok((arguments, result, local_variables, expressions, body)) => Ok(Function {
+                arguments,
+                result,
+                local_variables,
+                expressions,
+                body,
+            }),
             Err(error) => Err(error),
         }
     }

@@ -1,14 +1,10 @@
 //! Images.
 
-ghost use Rattle.serde_json.specs.View.{view};
-ghost use Rattle.json_values.specs.Reads.{Reads};
-ghost use Rattle.json_values.specs.declared.read.images.ClassName.TheVariants as class_name;
-ghost use Rattle.json_values.specs.Variants.{holding};
 ghost use Rattle.json_values.specs.Document.Images.{image_class_from, image_class_of, image_dimension_of, storage_format_of};
 
 use crate::read::error::ReadError;
 use crate::read::from_json::{FromJson, Held};
-use crate::read::variant::{Variant, read_name, read_variant};
+use crate::read::variant::{Holding, read_either, read_name};
 use ir_types::{ImageClass, ImageDimension, StorageFormat};
 use serde_json::Value;
 use std::alloc::Global;
@@ -100,34 +96,24 @@ const HOLDING_CLASSES: [(&str, ClassName); 3] = [
     ("Storage", ClassName::Storage),
 ];
 
-fn read_storage_class(held: Held) -> Result<ImageClass, ReadError>
-    ensures { Reads (image_class_from (holding class_name.Storage (view held.entry.value.now))) result }
-{
-    if let Err(error) = held.fields(&["format", "access"]) {
-        return Err(error);
-    }
-    match held.get("format") {
-        Ok(format) => match held.get("access") {
-            Ok(access) => Ok(ImageClass::Storage { format, access }),
-            Err(error) => Err(error),
-        },
-        Err(error) => Err(error),
-    }
-}
+impl Holding<ClassName> for ImageClass {
+    ghost held_of = { image_class_from };
 
-fn read_held_class(name: ClassName, held: Held) -> Result<ImageClass, ReadError>
-    ensures { Reads (image_class_from (holding name (view held.entry.value.now))) result }
-{
-    match name {
-        ClassName::Sampled => match held.two("kind", "multi") {
-            Ok((kind, multi)) => Ok(ImageClass::Sampled { kind, multi }),
-            Err(error) => Err(error),
-        },
-        ClassName::Depth => match held.one("multi") {
-            Ok(multi) => Ok(ImageClass::Depth { multi }),
-            Err(error) => Err(error),
-        },
-        ClassName::Storage => read_storage_class(held),
+    fn read_held(name: ClassName, held: Held) -> Result<Self, ReadError> {
+        match name {
+            ClassName::Sampled => match held.two(&("kind", "multi")) {
+                Ok((kind, multi)) => Ok(ImageClass::Sampled { kind, multi }),
+                Err(error) => Err(error),
+            },
+            ClassName::Depth => match held.one("multi") {
+                Ok(multi) => Ok(ImageClass::Depth { multi }),
+                Err(error) => Err(error),
+            },
+            ClassName::Storage => match held.two(&("format", "access")) {
+                Ok((format, access)) => Ok(ImageClass::Storage { format, access }),
+                Err(error) => Err(error),
+            },
+        }
     }
 }
 
@@ -135,10 +121,6 @@ impl FromJson for ImageClass {
     ghost stands_for = { image_class_of };
 
     fn from_json(alloc: Global, value: &Value) -> Result<Self, ReadError> {
-        match read_variant(alloc, value, &IMAGE_CLASSES, &HOLDING_CLASSES) {
-            Ok(Variant::Plain(found)) => Ok(found),
-            Ok(Variant::Holding(name, held)) => read_held_class(name, held),
-            Err(error) => Err(error),
-        }
+        read_either(alloc, value, &IMAGE_CLASSES, &HOLDING_CLASSES)
     }
 }

@@ -1,7 +1,7 @@
 //! Statements that hold no others.
 
 ghost use Rattle.serde_json.specs.View.{view};
-ghost use Rattle.json_values.specs.Reads.{Reads};
+ghost use Rattle.json_values.specs.Reads.{ReadsMeaning};
 ghost use Rattle.json_values.specs.Document.Leaves.{atomic_of, call_of, cooperative_store_of, image_atomic_of, image_store_of, leaf_from, ray_query_statement_of, return_of, store_of, subgroup_ballot_of, subgroup_collective_operation_of, subgroup_gather_of, work_group_uniform_load_of};
 
 use crate::read::error::ReadError;
@@ -30,7 +30,7 @@ pub enum LeafName {
 }
 
 fn read_return(held: Held) -> Result<Statement, ReadError>
-    ensures { Reads (return_of (view held.entry.value.now)) result }
+    ensures { ReadsMeaning (return_of (view held.entry.value.now)) result }
 {
     match held.one("value") {
         Ok(value) => Ok(Statement::Return { value }),
@@ -39,18 +39,18 @@ fn read_return(held: Held) -> Result<Statement, ReadError>
 }
 
 fn read_store(held: Held) -> Result<Statement, ReadError>
-    ensures { Reads (store_of (view held.entry.value.now)) result }
+    ensures { ReadsMeaning (store_of (view held.entry.value.now)) result }
 {
-    match held.two("pointer", "value") {
+    match held.two(&("pointer", "value")) {
         Ok((pointer, value)) => Ok(Statement::Store { pointer, value }),
         Err(error) => Err(error),
     }
 }
 
 fn read_image_store(held: Held) -> Result<Statement, ReadError>
-    ensures { Reads (image_store_of (view held.entry.value.now)) result }
+    ensures { ReadsMeaning (image_store_of (view held.entry.value.now)) result }
 {
-    match held.four("image", "coordinate", "array_index", "value") {
+    match held.four(&("image", "coordinate", "array_index", "value")) {
         Ok((image, coordinate, array_index, value)) => Ok(Statement::ImageStore {
             image,
             coordinate,
@@ -62,9 +62,9 @@ fn read_image_store(held: Held) -> Result<Statement, ReadError>
 }
 
 fn read_atomic(held: Held) -> Result<Statement, ReadError>
-    ensures { Reads (atomic_of (view held.entry.value.now)) result }
+    ensures { ReadsMeaning (atomic_of (view held.entry.value.now)) result }
 {
-    match held.four("pointer", "fun", "value", "result") {
+    match held.four(&("pointer", "fun", "value", "result")) {
         Ok((pointer, fun, value, result)) => Ok(Statement::Atomic {
             pointer,
             fun,
@@ -76,39 +76,33 @@ fn read_atomic(held: Held) -> Result<Statement, ReadError>
 }
 
 fn read_image_atomic(held: Held) -> Result<Statement, ReadError>
-    ensures { Reads (image_atomic_of (view held.entry.value.now)) result }
+    ensures { ReadsMeaning (image_atomic_of (view held.entry.value.now)) result }
 {
-    if let Err(error) = held.fields(&["image", "coordinate", "array_index", "fun", "value"]) {
-        return Err(error);
-    }
-    match held.triple("image", "coordinate", "array_index") {
-        Ok((image, coordinate, array_index)) => match held.pair("fun", "value") {
-            Ok((fun, value)) => Ok(Statement::ImageAtomic {
-                image,
-                coordinate,
-                array_index,
-                fun,
-                value,
-            }),
-            Err(error) => Err(error),
-        },
+    match held.five(&("image", "coordinate", "array_index", "fun", "value")) {
+        Ok((image, coordinate, array_index, fun, value)) => Ok(Statement::ImageAtomic {
+            image,
+            coordinate,
+            array_index,
+            fun,
+            value,
+        }),
         Err(error) => Err(error),
     }
 }
 
 fn read_work_group_uniform_load(held: Held) -> Result<Statement, ReadError>
-    ensures { Reads (work_group_uniform_load_of (view held.entry.value.now)) result }
+    ensures { ReadsMeaning (work_group_uniform_load_of (view held.entry.value.now)) result }
 {
-    match held.two("pointer", "result") {
+    match held.two(&("pointer", "result")) {
         Ok((pointer, result)) => Ok(Statement::WorkGroupUniformLoad { pointer, result }),
         Err(error) => Err(error),
     }
 }
 
 fn read_call(held: Held) -> Result<Statement, ReadError>
-    ensures { Reads (call_of (view held.entry.value.now)) result }
+    ensures { ReadsMeaning (call_of (view held.entry.value.now)) result }
 {
-    match held.three("function", "arguments", "result") {
+    match held.three(&("function", "arguments", "result")) {
         Ok((function, arguments, result)) => Ok(Statement::Call {
             function,
             arguments,
@@ -119,69 +113,54 @@ fn read_call(held: Held) -> Result<Statement, ReadError>
 }
 
 fn read_ray_query(held: Held) -> Result<Statement, ReadError>
-    ensures { Reads (ray_query_statement_of (view held.entry.value.now)) result }
+    ensures { ReadsMeaning (ray_query_statement_of (view held.entry.value.now)) result }
 {
-    match held.two("query", "fun") {
+    match held.two(&("query", "fun")) {
         Ok((query, fun)) => Ok(Statement::RayQuery { query, fun }),
         Err(error) => Err(error),
     }
 }
 
 fn read_subgroup_ballot(held: Held) -> Result<Statement, ReadError>
-    ensures { Reads (subgroup_ballot_of (view held.entry.value.now)) result }
+    ensures { ReadsMeaning (subgroup_ballot_of (view held.entry.value.now)) result }
 {
-    match held.two("result", "predicate") {
+    match held.two(&("result", "predicate")) {
         Ok((result, predicate)) => Ok(Statement::SubgroupBallot { result, predicate }),
         Err(error) => Err(error),
     }
 }
 
 fn read_subgroup_collective_operation(held: Held) -> Result<Statement, ReadError>
-    ensures { Reads (subgroup_collective_operation_of (view held.entry.value.now)) result }
+    ensures { ReadsMeaning (subgroup_collective_operation_of (view held.entry.value.now)) result }
 {
-    if let Err(error) = held.fields(&["op", "collective_op", "argument", "result"]) {
-        return Err(error);
-    }
-    match held.get("op") {
-        Ok(op) => match held.get("collective_op") {
-            Ok(collective_op) => match held.pair("argument", "result") {
-                Ok((argument, result)) => Ok(Statement::SubgroupCollectiveOperation {
-                    op,
-                    collective_op,
-                    argument,
-                    result,
-                }),
-                Err(error) => Err(error),
-            },
-            Err(error) => Err(error),
-        },
+    match held.four(&("op", "collective_op", "argument", "result")) {
+        Ok((op, collective_op, argument, result)) => Ok(Statement::SubgroupCollectiveOperation {
+            op,
+            collective_op,
+            argument,
+            result,
+        }),
         Err(error) => Err(error),
     }
 }
 
 fn read_subgroup_gather(held: Held) -> Result<Statement, ReadError>
-    ensures { Reads (subgroup_gather_of (view held.entry.value.now)) result }
+    ensures { ReadsMeaning (subgroup_gather_of (view held.entry.value.now)) result }
 {
-    if let Err(error) = held.fields(&["mode", "argument", "result"]) {
-        return Err(error);
-    }
-    match held.get("mode") {
-        Ok(mode) => match held.pair("argument", "result") {
-            Ok((argument, result)) => Ok(Statement::SubgroupGather {
-                mode,
-                argument,
-                result,
-            }),
-            Err(error) => Err(error),
-        },
+    match held.three(&("mode", "argument", "result")) {
+        Ok((mode, argument, result)) => Ok(Statement::SubgroupGather {
+            mode,
+            argument,
+            result,
+        }),
         Err(error) => Err(error),
     }
 }
 
 fn read_cooperative_store(held: Held) -> Result<Statement, ReadError>
-    ensures { Reads (cooperative_store_of (view held.entry.value.now)) result }
+    ensures { ReadsMeaning (cooperative_store_of (view held.entry.value.now)) result }
 {
-    match held.two("target", "source") {
+    match held.two(&("target", "source")) {
         Ok((target, source)) => Ok(Statement::CooperativeStore { target, source }),
         Err(error) => Err(error),
     }
@@ -189,7 +168,7 @@ fn read_cooperative_store(held: Held) -> Result<Statement, ReadError>
 
 /// The statement of this kind, by what it holds.
 pub fn read_leaf(kind: LeafName, held: Held) -> Result<Statement, ReadError>
-    ensures { Reads (leaf_from kind (view held.entry.value.now)) result }
+    ensures { ReadsMeaning (leaf_from kind (view held.entry.value.now)) result }
 {
     match kind {
         LeafName::Emit => match held.read() {

@@ -4,7 +4,8 @@ ghost use Rattle.std.specs.Prelude.{◌≡◌};
 ghost use Rattle.serde_json.specs.Find.{as_array};
 ghost use Rattle.serde_json.specs.View.{view};
 ghost use Rattle.json_values.specs.Form.{list_of, optional, two_of, three_of};
-ghost use Rattle.json_values.specs.Reads.{Reads, ReadsElements};
+ghost use Rattle.json_values.specs.Reads.{ReadsMeaning, ReadsElements};
+ghost use Rattle.json_values.specs.ReadsFields.{ReadsTwo};
 
 use crate::read::error::{ReadError, Step};
 use crate::read::from_json::{FromJson, read_at};
@@ -82,6 +83,23 @@ impl<T: FromJson> FromJson for Option<T> {
     }
 }
 
+/// What two items stand for.
+fn read_pair<A: FromJson, B: FromJson>(
+    alloc: Global,
+    first: &Value,
+    second: &Value,
+) -> Result<(A, B), ReadError>
+    ensures { ReadsTwo (A.stands_for (view first.now)) (B.stands_for (view second.now)) result }
+{
+    match read_at(alloc, Step::Index(0), first) {
+        Ok(a) => match read_at(alloc, Step::Index(1), second) {
+            Ok(b) => Ok((a, b)),
+            Err(error) => Err(error),
+        },
+        Err(error) => Err(error),
+    }
+}
+
 /// A list of two.
 impl<A: FromJson, B: FromJson> FromJson for (A, B) {
     ghost stands_for = { two_of A.stands_for B.stands_for };
@@ -94,13 +112,7 @@ impl<A: FromJson, B: FromJson> FromJson for (A, B) {
         if items.len() != 2 {
             return Err(ReadError::expected(alloc, "a list of two"));
         }
-        match read_at(alloc, Step::Index(0), &items[0]) {
-            Ok(first) => match read_at(alloc, Step::Index(1), &items[1]) {
-                Ok(second) => Ok((first, second)),
-                Err(error) => Err(error),
-            },
-            Err(error) => Err(error),
-        }
+        read_pair(alloc, &items[0], &items[1])
     }
 }
 
@@ -116,12 +128,9 @@ impl<A: FromJson, B: FromJson, C: FromJson> FromJson for (A, B, C) {
         if items.len() != 3 {
             return Err(ReadError::expected(alloc, "a list of three"));
         }
-        match read_at(alloc, Step::Index(0), &items[0]) {
-            Ok(first) => match read_at(alloc, Step::Index(1), &items[1]) {
-                Ok(second) => match read_at(alloc, Step::Index(2), &items[2]) {
-                    Ok(third) => Ok((first, second, third)),
-                    Err(error) => Err(error),
-                },
+        match read_pair(alloc, &items[0], &items[1]) {
+            Ok((first, second)) => match read_at(alloc, Step::Index(2), &items[2]) {
+                Ok(third) => Ok((first, second, third)),
                 Err(error) => Err(error),
             },
             Err(error) => Err(error),

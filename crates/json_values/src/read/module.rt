@@ -40,7 +40,7 @@ impl FromJson for Module {
             value,
             variant: None,
         };
-        if let Err(error) = held.fields(&[
+        match held.eight(&(
             "types",
             "special_types",
             "constants",
@@ -49,17 +49,9 @@ impl FromJson for Module {
             "global_expressions",
             "functions",
             "entry_points",
-        ]) {
-            return Err(error);
-        }
-        match held.quad("types", "special_types", "constants", "overrides") {
-            Ok((types, special_types, constants, overrides)) => match held.quad(
-                "global_variables",
-                "global_expressions",
-                "functions",
-                "entry_points",
-            ) {
-                Ok((global_variables, global_expressions, functions, entry_points)) => Ok(Module {
+        )) {
+            Ok(
+                (
                     types,
                     special_types,
                     constants,
@@ -68,9 +60,17 @@ impl FromJson for Module {
                     global_expressions,
                     functions,
                     entry_points,
-                }),
-                Err(error) => Err(error),
-            },
+                ),
+            ) => Ok(Module {
+                types,
+                special_types,
+                constants,
+                overrides,
+                global_variables,
+                global_expressions,
+                functions,
+                entry_points,
+            }),
             Err(error) => Err(error),
         }
     }

@@ -1,14 +1,12 @@
 //! Operations of atomics, subgroups and rays, and what else statements name.
 
-ghost use Rattle.serde_json.specs.View.{view};
-ghost use Rattle.json_values.specs.Reads.{Reads};
-ghost use Rattle.json_values.specs.Variants.{holding};
-ghost use Rattle.json_values.specs.Document.Operations.{atomic_function_of, collective_operation_of, cooperative_data_of, gather_mode_from, gather_mode_of, range_of, ray_pipeline_function_of, ray_query_function_from, ray_query_function_of, subgroup_operation_of, switch_value_of};
+ghost use Rattle.std.specs.Prelude.{◌≡◌};
+ghost use Rattle.json_values.specs.Document.Operations.{atomic_function_from, atomic_function_of, collective_operation_of, cooperative_data_of, gather_from, gather_mode_from, gather_mode_of, range_of, ray_pipeline_function_from, ray_pipeline_function_of, ray_query_function_from, ray_query_function_of, subgroup_operation_of, switch_value_from, switch_value_of};
 
 use crate::read::error::ReadError;
 use crate::read::from_json::{FromJson, Held};
-use crate::read::variant::{Variant, read_holding, read_name, read_variant};
-use ir_arena::Range;
+use crate::read::variant::{Holding, read_either, read_holding, read_name};
+use ir_arena::{Handle, Range, tag};
 use ir_module::{
     AtomicFunction, CollectiveOperation, CooperativeData, GatherMode, RayPipelineFunction,
     RayQueryFunction, SubgroupOperation, SwitchValue,
@@ -34,12 +32,16 @@ impl FromJson for AtomicFunction {
     ghost stands_for = { atomic_function_of };
 
     fn from_json(alloc: Global, value: &Value) -> Result<Self, ReadError> {
-        match read_variant(alloc, value, &ATOMIC_FUNCTIONS, &EXCHANGE) {
-            Ok(Variant::Plain(found)) => Ok(found),
-            Ok(Variant::Holding((), held)) => match held.one("compare") {
-                Ok(compare) => Ok(AtomicFunction::Exchange { compare }),
-                Err(error) => Err(error),
-            },
+        read_either(alloc, value, &ATOMIC_FUNCTIONS, &EXCHANGE)
+    }
+}
+
+impl Holding<()> for AtomicFunction {
+    ghost held_of = { atomic_function_from };
+
+    fn read_held(_: (), held: Held) -> Result<Self, ReadError> {
+        match held.one("compare") {
+            Ok(compare) => Ok(AtomicFunction::Exchange { compare }),
             Err(error) => Err(error),
         }
     }
@@ -84,10 +86,9 @@ impl FromJson for CollectiveOperation {
 /// The gather of which no more is said.
 const BARE_GATHERS: [(&str, GatherMode); 1] = [("BroadcastFirst", GatherMode::BroadcastFirst)];
 
-/// The gathers of which more is said.
+/// From where a gather takes its value, which an expression says.
 #[derive(Clone, Copy)]
-enum GatherName {
-    QuadSwap,
+enum GatherPlace {
     Broadcast,
     Shuffle,
     ShuffleDown,
@@ -96,49 +97,55 @@ enum GatherName {
     QuadBroadcast,
 }
 
+/// The gathers of which more is said.
+#[derive(Clone, Copy)]
+enum GatherName {
+    QuadSwap,
+    From(GatherPlace),
+}
+
 /// Their names.
 const GATHER_MODES: [(&str, GatherName); 7] = [
     ("QuadSwap", GatherName::QuadSwap),
-    ("Broadcast", GatherName::Broadcast),
-    ("Shuffle", GatherName::Shuffle),
-    ("ShuffleDown", GatherName::ShuffleDown),
-    ("ShuffleUp", GatherName::ShuffleUp),
-    ("ShuffleXor", GatherName::ShuffleXor),
-    ("QuadBroadcast", GatherName::QuadBroadcast),
+    ("Broadcast", GatherName::From(GatherPlace::Broadcast)),
+    ("Shuffle", GatherName::From(GatherPlace::Shuffle)),
+    ("ShuffleDown", GatherName::From(GatherPlace::ShuffleDown)),
+    ("ShuffleUp", GatherName::From(GatherPlace::ShuffleUp)),
+    ("ShuffleXor", GatherName::From(GatherPlace::ShuffleXor)),
+    (
+        "QuadBroadcast",
+        GatherName::From(GatherPlace::QuadBroadcast),
+    ),
 ];
 
-fn read_held_gather(name: GatherName, held: Held) -> Result<GatherMode, ReadError>
-    ensures { Reads (gather_mode_from (holding name (view held.entry.value.now))) result }
+/// The gather of a place, which an expression says.
+fn gather_from(place: GatherPlace, index: Handle<tag::Expression>) -> GatherMode
+    ensures { result ≡ gather_from place index }
 {
-    match name {
-        GatherName::QuadSwap => match held.read() {
-            Ok(direction) => Ok(GatherMode::QuadSwap(direction)),
-            Err(error) => Err(error),
-        },
-        GatherName::Broadcast => match held.read() {
-            Ok(index) => Ok(GatherMode::Broadcast(index)),
-            Err(error) => Err(error),
-        },
-        GatherName::Shuffle => match held.read() {
-            Ok(index) => Ok(GatherMode::Shuffle(index)),
-            Err(error) => Err(error),
-        },
-        GatherName::ShuffleDown => match held.read() {
-            Ok(delta) => Ok(GatherMode::ShuffleDown(delta)),
-            Err(error) => Err(error),
-        },
-        GatherName::ShuffleUp => match held.read() {
-            Ok(delta) => Ok(GatherMode::ShuffleUp(delta)),
-            Err(error) => Err(error),
-        },
-        GatherName::ShuffleXor => match held.read() {
-            Ok(mask) => Ok(GatherMode::ShuffleXor(mask)),
-            Err(error) => Err(error),
-        },
-        GatherName::QuadBroadcast => match held.read() {
-            Ok(index) => Ok(GatherMode::QuadBroadcast(index)),
-            Err(error) => Err(error),
-        },
+    match place {
+        GatherPlace::Broadcast => GatherMode::Broadcast(index),
+        GatherPlace::Shuffle => GatherMode::Shuffle(index),
+        GatherPlace::ShuffleDown => GatherMode::ShuffleDown(index),
+        GatherPlace::ShuffleUp => GatherMode::ShuffleUp(index),
+        GatherPlace::ShuffleXor => GatherMode::ShuffleXor(index),
+        GatherPlace::QuadBroadcast => GatherMode::QuadBroadcast(index),
+    }
+}
+
+impl Holding<GatherName> for GatherMode {
+    ghost held_of = { gather_mode_from };
+
+    fn read_held(name: GatherName, held: Held) -> Result<Self, ReadError> {
+        match name {
+            GatherName::QuadSwap => match held.read() {
+                Ok(direction) => Ok(GatherMode::QuadSwap(direction)),
+                Err(error) => Err(error),
+            },
+            GatherName::From(place) => match held.read() {
+                Ok(index) => Ok(gather_from(place, index)),
+                Err(error) => Err(error),
+            },
+        }
     }
 }
 
@@ -146,11 +153,7 @@ impl FromJson for GatherMode {
     ghost stands_for = { gather_mode_of };
 
     fn from_json(alloc: Global, value: &Value) -> Result<Self, ReadError> {
-        match read_variant(alloc, value, &BARE_GATHERS, &GATHER_MODES) {
-            Ok(Variant::Plain(found)) => Ok(found),
-            Ok(Variant::Holding(name, held)) => read_held_gather(name, held),
-            Err(error) => Err(error),
-        }
+        read_either(alloc, value, &BARE_GATHERS, &GATHER_MODES)
     }
 }
 
@@ -175,25 +178,27 @@ const RAY_QUERIES: [(&str, RayQueryName); 3] = [
     ("GenerateIntersection", RayQueryName::GenerateIntersection),
 ];
 
-fn read_held_query(name: RayQueryName, held: Held) -> Result<RayQueryFunction, ReadError>
-    ensures { Reads (ray_query_function_from (holding name (view held.entry.value.now))) result }
-{
-    match name {
-        RayQueryName::Initialize => match held.two("acceleration_structure", "descriptor") {
-            Ok((acceleration_structure, descriptor)) => Ok(RayQueryFunction::Initialize {
-                acceleration_structure,
-                descriptor,
-            }),
-            Err(error) => Err(error),
-        },
-        RayQueryName::Proceed => match held.one("result") {
-            Ok(result) => Ok(RayQueryFunction::Proceed { result }),
-            Err(error) => Err(error),
-        },
-        RayQueryName::GenerateIntersection => match held.one("hit_t") {
-            Ok(hit_t) => Ok(RayQueryFunction::GenerateIntersection { hit_t }),
-            Err(error) => Err(error),
-        },
+impl Holding<RayQueryName> for RayQueryFunction {
+    ghost held_of = { ray_query_function_from };
+
+    fn read_held(name: RayQueryName, held: Held) -> Result<Self, ReadError> {
+        match name {
+            RayQueryName::Initialize => match held.two(&("acceleration_structure", "descriptor")) {
+                Ok((acceleration_structure, descriptor)) => Ok(RayQueryFunction::Initialize {
+                    acceleration_structure,
+                    descriptor,
+                }),
+                Err(error) => Err(error),
+            },
+            RayQueryName::Proceed => match held.one("result") {
+                Ok(result) => Ok(RayQueryFunction::Proceed { result }),
+                Err(error) => Err(error),
+            },
+            RayQueryName::GenerateIntersection => match held.one("hit_t") {
+                Ok(hit_t) => Ok(RayQueryFunction::GenerateIntersection { hit_t }),
+                Err(error) => Err(error),
+            },
+        }
     }
 }
 
@@ -201,11 +206,7 @@ impl FromJson for RayQueryFunction {
     ghost stands_for = { ray_query_function_of };
 
     fn from_json(alloc: Global, value: &Value) -> Result<Self, ReadError> {
-        match read_variant(alloc, value, &BARE_QUERIES, &RAY_QUERIES) {
-            Ok(Variant::Plain(found)) => Ok(found),
-            Ok(Variant::Holding(name, held)) => read_held_query(name, held),
-            Err(error) => Err(error),
-        }
+        read_either(alloc, value, &BARE_QUERIES, &RAY_QUERIES)
     }
 }
 
@@ -216,17 +217,22 @@ impl FromJson for RayPipelineFunction {
     ghost stands_for = { ray_pipeline_function_of };
 
     fn from_json(alloc: Global, value: &Value) -> Result<Self, ReadError> {
-        match read_holding(alloc, value, &RAY_PIPELINES) {
-            Ok(((), held)) => match held.three("acceleration_structure", "descriptor", "payload") {
-                Ok((acceleration_structure, descriptor, payload)) => Ok(
-                    RayPipelineFunction::TraceRay {
-                        acceleration_structure,
-                        descriptor,
-                        payload,
-                    },
-                ),
-                Err(error) => Err(error),
-            },
+        read_holding(alloc, value, &RAY_PIPELINES)
+    }
+}
+
+impl Holding<()> for RayPipelineFunction {
+    ghost held_of = { ray_pipeline_function_from };
+
+    fn read_held(_: (), held: Held) -> Result<Self, ReadError> {
+        match held.three(&("acceleration_structure", "descriptor", "payload")) {
+            Ok((acceleration_structure, descriptor, payload)) => Ok(
+                RayPipelineFunction::TraceRay {
+                    acceleration_structure,
+                    descriptor,
+                    payload,
+                },
+            ),
             Err(error) => Err(error),
         }
     }
@@ -241,7 +247,7 @@ impl FromJson for CooperativeData {
             value,
             variant: None,
         };
-        match held.two("pointer", "detail") {
+        match held.two(&("pointer", "detail")) {
             Ok((pointer, detail)) => Ok(CooperativeData { pointer, detail }),
             Err(error) => Err(error),
         }
@@ -265,17 +271,23 @@ impl FromJson for SwitchValue {
     ghost stands_for = { switch_value_of };
 
     fn from_json(alloc: Global, value: &Value) -> Result<Self, ReadError> {
-        match read_variant(alloc, value, &BARE_VALUES, &SWITCH_VALUES) {
-            Ok(Variant::Plain(found)) => Ok(found),
-            Ok(Variant::Holding(ValueName::I32, held)) => match held.read() {
+        read_either(alloc, value, &BARE_VALUES, &SWITCH_VALUES)
+    }
+}
+
+impl Holding<ValueName> for SwitchValue {
+    ghost held_of = { switch_value_from };
+
+    fn read_held(name: ValueName, held: Held) -> Result<Self, ReadError> {
+        match name {
+            ValueName::I32 => match held.read() {
                 Ok(number) => Ok(SwitchValue::I32(number)),
                 Err(error) => Err(error),
             },
-            Ok(Variant::Holding(ValueName::U32, held)) => match held.read() {
+            ValueName::U32 => match held.read() {
                 Ok(number) => Ok(SwitchValue::U32(number)),
                 Err(error) => Err(error),
             },
-            Err(error) => Err(error),
         }
     }
 }
@@ -289,7 +301,7 @@ impl FromJson for Range {
             value,
             variant: None,
         };
-        match held.two("start", "end") {
+        match held.two(&("start", "end")) {
             Ok((start, end)) => Ok(Range { start, end }),
             Err(error) => Err(error),
         }

@@ -36,7 +36,7 @@ impl FromJson for Scalar {
             value,
             variant: None,
         };
-        match held.two("kind", "width") {
+        match held.two(&("kind", "width")) {
             Ok((kind, width)) => Ok(Scalar { kind, width }),
             Err(error) => Err(error),
         }

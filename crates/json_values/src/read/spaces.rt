@@ -1,10 +1,10 @@
 //! Address spaces, and where resources are bound.
 
-ghost use Rattle.json_values.specs.Document.Spaces.{address_space_of, resource_binding_of};
+ghost use Rattle.json_values.specs.Document.Spaces.{address_space_from, address_space_of, resource_binding_of};
 
 use crate::read::error::ReadError;
 use crate::read::from_json::{FromJson, Held};
-use crate::read::variant::{Variant, read_variant};
+use crate::read::variant::{Holding, read_either};
 use ir_module::ResourceBinding;
 use ir_types::AddressSpace;
 use serde_json::Value;
@@ -30,12 +30,16 @@ impl FromJson for AddressSpace {
     ghost stands_for = { address_space_of };
 
     fn from_json(alloc: Global, value: &Value) -> Result<Self, ReadError> {
-        match read_variant(alloc, value, &ADDRESS_SPACES, &STORAGE_SPACE) {
-            Ok(Variant::Plain(found)) => Ok(found),
-            Ok(Variant::Holding((), held)) => match held.one("access") {
-                Ok(access) => Ok(AddressSpace::Storage { access }),
-                Err(error) => Err(error),
-            },
+        read_either(alloc, value, &ADDRESS_SPACES, &STORAGE_SPACE)
+    }
+}
+
+impl Holding<()> for AddressSpace {
+    ghost held_of = { address_space_from };
+
+    fn read_held(_: (), held: Held) -> Result<Self, ReadError> {
+        match held.one("access") {
+            Ok(access) => Ok(AddressSpace::Storage { access }),
             Err(error) => Err(error),
         }
     }
@@ -50,7 +54,7 @@ impl FromJson for ResourceBinding {
             value,
             variant: None,
         };
-        match held.two("group", "binding") {
+        match held.two(&("group", "binding")) {
             Ok((group, binding)) => Ok(ResourceBinding { group, binding }),
             Err(error) => Err(error),
         }

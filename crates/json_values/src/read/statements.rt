@@ -3,7 +3,7 @@
 ghost use Rattle.serde_json.specs.View.{view};
 ghost use Rattle.std.specs.Prelude.{◌≡◌};
 ghost use Rattle.json_values.specs.Form.{field_of, list_of};
-ghost use Rattle.json_values.specs.Reads.{Reads};
+ghost use Rattle.json_values.specs.Reads.{ReadsMeaning};
 ghost use Rattle.json_values.specs.ReadsFields.{ReadsTwo};
 ghost use Rattle.json_values.specs.Variants.{holding};
 ghost use Rattle.json_values.specs.Document.Statements.{span_of, bare_from, statement_from, block_of, block_at, located_with, long_with, statement_with, if_with, loop_with, switch_with, case_with};
@@ -128,7 +128,7 @@ fn bare_statement(name: BareName) -> Statement
 #[cycle(block)]
 #[tactic(auto, using(crate::proofs::Blocks::no_level, crate::proofs::Blocks::block_refused, crate::proofs::Blocks::block_read))]
 fn read_block(alloc: Global, levels: usize, value: &Value) -> Result<Block, ReadError>
-    ensures { Reads (block_at levels (view value.now)) result }
+    ensures { ReadsMeaning (block_at levels (view value.now)) result }
 {
     if levels == 0 {
         return Err(ReadError::expected(alloc, "a block that nests less deep"));
@@ -146,7 +146,7 @@ fn read_statements(
     levels: usize,
     value: &Value,
 ) -> Result<Sequence<Located>, ReadError>
-    ensures { Reads (list_of (located_with (block_at levels)) (view value.now)) result }
+    ensures { ReadsMeaning (list_of (located_with (block_at levels)) (view value.now)) result }
 {
     let items = match elements(alloc, value) {
         Ok(items) => items,
@@ -165,7 +165,7 @@ fn read_statements(
 /// A statement with its span, or without one, which is 0..0.
 #[cycle(block)]
 fn read_located(alloc: Global, levels: usize, value: &Value) -> Result<Located, ReadError>
-    ensures { Reads (located_with (block_at levels) (view value.now)) result }
+    ensures { ReadsMeaning (located_with (block_at levels) (view value.now)) result }
 {
     if has_field(value, "span") {
         return read_long(alloc, levels, value);
@@ -182,7 +182,7 @@ fn read_located(alloc: Global, levels: usize, value: &Value) -> Result<Located, 
 /// A statement with its span.
 #[cycle(block)]
 fn read_long(alloc: Global, levels: usize, value: &Value) -> Result<Located, ReadError>
-    ensures { Reads (long_with (block_at levels) (view value.now)) result }
+    ensures { ReadsMeaning (long_with (block_at levels) (view value.now)) result }
 {
     let held = Held {
         alloc,
@@ -207,7 +207,7 @@ fn read_long(alloc: Global, levels: usize, value: &Value) -> Result<Located, Rea
 /// A block in a field.
 #[cycle(block)]
 fn block_in(levels: usize, held: Held, name: &'static str) -> Result<Block, ReadError>
-    ensures { Reads (field_of (block_at levels) name.now (view held.entry.value.now)) result }
+    ensures { ReadsMeaning (field_of (block_at levels) name.now (view held.entry.value.now)) result }
 {
     match held.member(name) {
         Ok(value) => match read_block(held.alloc, levels, value) {
@@ -240,7 +240,7 @@ fn blocks_in(
 /// A statement, whatever it holds.
 #[cycle(block)]
 fn read_statement(alloc: Global, levels: usize, value: &Value) -> Result<Statement, ReadError>
-    ensures { Reads (statement_with (block_at levels) (view value.now)) result }
+    ensures { ReadsMeaning (statement_with (block_at levels) (view value.now)) result }
 {
     match read_variant(alloc, value, &BARE_STATEMENTS, &STATEMENTS) {
         Ok(Variant::Plain(name)) => Ok(bare_statement(name)),
@@ -256,7 +256,7 @@ fn read_held_statement(
     name: StatementName,
     held: Held,
 ) -> Result<Statement, ReadError>
-    ensures { Reads (statement_from (block_at levels) (holding name (view held.entry.value.now))) result }
+    ensures { ReadsMeaning (statement_from (block_at levels) (holding name (view held.entry.value.now))) result }
 {
     match name {
         StatementName::Block => match read_block(held.alloc, levels, held.value) {
@@ -272,7 +272,7 @@ fn read_held_statement(
 
 #[cycle(block)]
 fn read_if(levels: usize, held: Held) -> Result<Statement, ReadError>
-    ensures { Reads (if_with (block_at levels) (view held.entry.value.now)) result }
+    ensures { ReadsMeaning (if_with (block_at levels) (view held.entry.value.now)) result }
 {
     if let Err(error) = held.fields(&["condition", "accept", "reject"]) {
         return Err(error);
@@ -292,7 +292,7 @@ fn read_if(levels: usize, held: Held) -> Result<Statement, ReadError>
 
 #[cycle(block)]
 fn read_loop(levels: usize, held: Held) -> Result<Statement, ReadError>
-    ensures { Reads (loop_with (block_at levels) (view held.entry.value.now)) result }
+    ensures { ReadsMeaning (loop_with (block_at levels) (view held.entry.value.now)) result }
 {
     if let Err(error) = held.fields(&["body", "continuing", "break_if"]) {
         return Err(error);
@@ -312,7 +312,7 @@ fn read_loop(levels: usize, held: Held) -> Result<Statement, ReadError>
 
 #[cycle(block)]
 fn read_switch(levels: usize, held: Held) -> Result<Statement, ReadError>
-    ensures { Reads (switch_with (block_at levels) (view held.entry.value.now)) result }
+    ensures { ReadsMeaning (switch_with (block_at levels) (view held.entry.value.now)) result }
 {
     if let Err(error) = held.fields(&["selector", "cases"]) {
         return Err(error);
@@ -336,7 +336,7 @@ fn read_cases(
     levels: usize,
     value: &Value,
 ) -> Result<Sequence<SwitchCase>, ReadError>
-    ensures { Reads (list_of (case_with (block_at levels)) (view value.now)) result }
+    ensures { ReadsMeaning (list_of (case_with (block_at levels)) (view value.now)) result }
 {
     let items = match elements(alloc, value) {
         Ok(items) => items,
@@ -354,7 +354,7 @@ fn read_cases(
 
 #[cycle(block)]
 fn read_case(alloc: Global, levels: usize, value: &Value) -> Result<SwitchCase, ReadError>
-    ensures { Reads (case_with (block_at levels) (view value.now)) result }
+    ensures { ReadsMeaning (case_with (block_at levels) (view value.now)) result }
 {
     let held = Held {
         alloc,

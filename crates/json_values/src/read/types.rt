@@ -1,13 +1,12 @@
 //! Types.
 
 ghost use Rattle.serde_json.specs.View.{view};
-ghost use Rattle.json_values.specs.Reads.{Reads};
-ghost use Rattle.json_values.specs.Variants.{holding};
-ghost use Rattle.json_values.specs.Document.Types.{acceleration_structure_of, array_of, array_size_of, binding_array_of, cooperative_matrix_of, image_of, matrix_of, pointer_of, ray_query_of, sampler_of, struct_member_of, struct_of, type_inner_from, type_inner_of, type_of, type_resolution_of, value_pointer_of, vector_of};
+ghost use Rattle.json_values.specs.Reads.{ReadsMeaning};
+ghost use Rattle.json_values.specs.Document.Types.{acceleration_structure_of, array_of, array_size_from, array_size_of, binding_array_of, cooperative_matrix_of, image_of, matrix_of, pointer_of, ray_query_of, sampler_of, struct_member_of, struct_of, type_inner_from, type_inner_of, type_of, type_resolution_from, type_resolution_of, value_pointer_of, vector_of};
 
 use crate::read::error::ReadError;
 use crate::read::from_json::{FromJson, Held};
-use crate::read::variant::{Variant, read_holding, read_variant};
+use crate::read::variant::{Holding, read_either, read_holding};
 use ir_types::{ArraySize, StructMember, Type, TypeInner, TypeResolution};
 use serde_json::Value;
 use std::alloc::Global;
@@ -32,17 +31,23 @@ impl FromJson for ArraySize {
     ghost stands_for = { array_size_of };
 
     fn from_json(alloc: Global, value: &Value) -> Result<Self, ReadError> {
-        match read_variant(alloc, value, &ARRAY_SIZES, &HOLDING_SIZES) {
-            Ok(Variant::Plain(found)) => Ok(found),
-            Ok(Variant::Holding(SizeName::Constant, held)) => match held.read() {
+        read_either(alloc, value, &ARRAY_SIZES, &HOLDING_SIZES)
+    }
+}
+
+impl Holding<SizeName> for ArraySize {
+    ghost held_of = { array_size_from };
+
+    fn read_held(name: SizeName, held: Held) -> Result<Self, ReadError> {
+        match name {
+            SizeName::Constant => match held.read() {
                 Ok(count) => Ok(ArraySize::Constant(count)),
                 Err(error) => Err(error),
             },
-            Ok(Variant::Holding(SizeName::Pending, held)) => match held.read() {
+            SizeName::Pending => match held.read() {
                 Ok(pending) => Ok(ArraySize::Pending(pending)),
                 Err(error) => Err(error),
             },
-            Err(error) => Err(error),
         }
     }
 }
@@ -56,22 +61,13 @@ impl FromJson for StructMember {
             value,
             variant: None,
         };
-        if let Err(error) = held.fields(&["name", "ty", "binding", "offset"]) {
-            return Err(error);
-        }
-        match held.pair("name", "ty") {
-            Ok((name, ty)) => match held.get("binding") {
-                Ok(binding) => match held.get("offset") {
-                    Ok(offset) => Ok(StructMember {
-                        name,
-                        ty,
-                        binding,
-                        offset,
-                    }),
-                    Err(error) => Err(error),
-                },
-                Err(error) => Err(error),
-            },
+        match held.four(&("name", "ty", "binding", "offset")) {
+            Ok((name, ty, binding, offset)) => Ok(StructMember {
+                name,
+                ty,
+                binding,
+                offset,
+            }),
             Err(error) => Err(error),
         }
     }
@@ -115,18 +111,18 @@ const TYPE_NAMES: [(&str, TypeName); 14] = [
 ];
 
 fn read_vector(held: Held) -> Result<TypeInner, ReadError>
-    ensures { Reads (vector_of (view held.entry.value.now)) result }
+    ensures { ReadsMeaning (vector_of (view held.entry.value.now)) result }
 {
-    match held.two("size", "scalar") {
+    match held.two(&("size", "scalar")) {
         Ok((size, scalar)) => Ok(TypeInner::Vector { size, scalar }),
         Err(error) => Err(error),
     }
 }
 
 fn read_matrix(held: Held) -> Result<TypeInner, ReadError>
-    ensures { Reads (matrix_of (view held.entry.value.now)) result }
+    ensures { ReadsMeaning (matrix_of (view held.entry.value.now)) result }
 {
-    match held.three("columns", "rows", "scalar") {
+    match held.three(&("columns", "rows", "scalar")) {
         Ok((columns, rows, scalar)) => Ok(TypeInner::Matrix {
             columns,
             rows,
@@ -137,81 +133,69 @@ fn read_matrix(held: Held) -> Result<TypeInner, ReadError>
 }
 
 fn read_cooperative_matrix(held: Held) -> Result<TypeInner, ReadError>
-    ensures { Reads (cooperative_matrix_of (view held.entry.value.now)) result }
+    ensures { ReadsMeaning (cooperative_matrix_of (view held.entry.value.now)) result }
 {
-    match held.two("scalar", "detail") {
+    match held.two(&("scalar", "detail")) {
         Ok((scalar, detail)) => Ok(TypeInner::CooperativeMatrix { scalar, detail }),
         Err(error) => Err(error),
     }
 }
 
 fn read_pointer(held: Held) -> Result<TypeInner, ReadError>
-    ensures { Reads (pointer_of (view held.entry.value.now)) result }
+    ensures { ReadsMeaning (pointer_of (view held.entry.value.now)) result }
 {
-    match held.two("base", "space") {
+    match held.two(&("base", "space")) {
         Ok((base, space)) => Ok(TypeInner::Pointer { base, space }),
         Err(error) => Err(error),
     }
 }
 
 fn read_value_pointer(held: Held) -> Result<TypeInner, ReadError>
-    ensures { Reads (value_pointer_of (view held.entry.value.now)) result }
+    ensures { ReadsMeaning (value_pointer_of (view held.entry.value.now)) result }
 {
-    if let Err(error) = held.fields(&["size", "scalar", "space"]) {
-        return Err(error);
-    }
-    match held.pair("size", "scalar") {
-        Ok((size, scalar)) => match held.get("space") {
-            Ok(space) => Ok(TypeInner::ValuePointer {
-                size,
-                scalar,
-                space,
-            }),
-            Err(error) => Err(error),
-        },
+    match held.three(&("size", "scalar", "space")) {
+        Ok((size, scalar, space)) => Ok(TypeInner::ValuePointer {
+            size,
+            scalar,
+            space,
+        }),
         Err(error) => Err(error),
     }
 }
 
 fn read_array(held: Held) -> Result<TypeInner, ReadError>
-    ensures { Reads (array_of (view held.entry.value.now)) result }
+    ensures { ReadsMeaning (array_of (view held.entry.value.now)) result }
 {
-    match held.three("base", "size", "stride") {
+    match held.three(&("base", "size", "stride")) {
         Ok((base, size, stride)) => Ok(TypeInner::Array { base, size, stride }),
         Err(error) => Err(error),
     }
 }
 
 fn read_struct(held: Held) -> Result<TypeInner, ReadError>
-    ensures { Reads (struct_of (view held.entry.value.now)) result }
+    ensures { ReadsMeaning (struct_of (view held.entry.value.now)) result }
 {
-    match held.two("members", "span") {
+    match held.two(&("members", "span")) {
         Ok((members, span)) => Ok(TypeInner::Struct { members, span }),
         Err(error) => Err(error),
     }
 }
 
 fn read_image(held: Held) -> Result<TypeInner, ReadError>
-    ensures { Reads (image_of (view held.entry.value.now)) result }
+    ensures { ReadsMeaning (image_of (view held.entry.value.now)) result }
 {
-    if let Err(error) = held.fields(&["dim", "arrayed", "class"]) {
-        return Err(error);
-    }
-    match held.pair("dim", "arrayed") {
-        Ok((dim, arrayed)) => match held.get("class") {
-            Ok(class) => Ok(TypeInner::Image {
-                dim,
-                arrayed,
-                class,
-            }),
-            Err(error) => Err(error),
-        },
+    match held.three(&("dim", "arrayed", "class")) {
+        Ok((dim, arrayed, class)) => Ok(TypeInner::Image {
+            dim,
+            arrayed,
+            class,
+        }),
         Err(error) => Err(error),
     }
 }
 
 fn read_sampler(held: Held) -> Result<TypeInner, ReadError>
-    ensures { Reads (sampler_of (view held.entry.value.now)) result }
+    ensures { ReadsMeaning (sampler_of (view held.entry.value.now)) result }
 {
     match held.one("comparison") {
         Ok(comparison) => Ok(TypeInner::Sampler { comparison }),
@@ -220,7 +204,7 @@ fn read_sampler(held: Held) -> Result<TypeInner, ReadError>
 }
 
 fn read_acceleration_structure(held: Held) -> Result<TypeInner, ReadError>
-    ensures { Reads (acceleration_structure_of (view held.entry.value.now)) result }
+    ensures { ReadsMeaning (acceleration_structure_of (view held.entry.value.now)) result }
 {
     match held.one("vertex_return") {
         Ok(vertex_return) => Ok(TypeInner::AccelerationStructure { vertex_return }),
@@ -229,7 +213,7 @@ fn read_acceleration_structure(held: Held) -> Result<TypeInner, ReadError>
 }
 
 fn read_ray_query(held: Held) -> Result<TypeInner, ReadError>
-    ensures { Reads (ray_query_of (view held.entry.value.now)) result }
+    ensures { ReadsMeaning (ray_query_of (view held.entry.value.now)) result }
 {
     match held.one("vertex_return") {
         Ok(vertex_return) => Ok(TypeInner::RayQuery { vertex_return }),
@@ -238,38 +222,40 @@ fn read_ray_query(held: Held) -> Result<TypeInner, ReadError>
 }
 
 fn read_binding_array(held: Held) -> Result<TypeInner, ReadError>
-    ensures { Reads (binding_array_of (view held.entry.value.now)) result }
+    ensures { ReadsMeaning (binding_array_of (view held.entry.value.now)) result }
 {
-    match held.two("base", "size") {
+    match held.two(&("base", "size")) {
         Ok((base, size)) => Ok(TypeInner::BindingArray { base, size }),
         Err(error) => Err(error),
     }
 }
 
-fn read_held_type(name: TypeName, held: Held) -> Result<TypeInner, ReadError>
-    ensures { Reads (type_inner_from (holding name (view held.entry.value.now))) result }
-{
-    match name {
-        TypeName::Scalar => match held.read() {
-            Ok(scalar) => Ok(TypeInner::Scalar(scalar)),
-            Err(error) => Err(error),
-        },
-        TypeName::Vector => read_vector(held),
-        TypeName::Matrix => read_matrix(held),
-        TypeName::CooperativeMatrix => read_cooperative_matrix(held),
-        TypeName::Atomic => match held.read() {
-            Ok(scalar) => Ok(TypeInner::Atomic(scalar)),
-            Err(error) => Err(error),
-        },
-        TypeName::Pointer => read_pointer(held),
-        TypeName::ValuePointer => read_value_pointer(held),
-        TypeName::Array => read_array(held),
-        TypeName::Struct => read_struct(held),
-        TypeName::Image => read_image(held),
-        TypeName::Sampler => read_sampler(held),
-        TypeName::AccelerationStructure => read_acceleration_structure(held),
-        TypeName::RayQuery => read_ray_query(held),
-        TypeName::BindingArray => read_binding_array(held),
+impl Holding<TypeName> for TypeInner {
+    ghost held_of = { type_inner_from };
+
+    fn read_held(name: TypeName, held: Held) -> Result<Self, ReadError> {
+        match name {
+            TypeName::Scalar => match held.read() {
+                Ok(scalar) => Ok(TypeInner::Scalar(scalar)),
+                Err(error) => Err(error),
+            },
+            TypeName::Vector => read_vector(held),
+            TypeName::Matrix => read_matrix(held),
+            TypeName::CooperativeMatrix => read_cooperative_matrix(held),
+            TypeName::Atomic => match held.read() {
+                Ok(scalar) => Ok(TypeInner::Atomic(scalar)),
+                Err(error) => Err(error),
+            },
+            TypeName::Pointer => read_pointer(held),
+            TypeName::ValuePointer => read_value_pointer(held),
+            TypeName::Array => read_array(held),
+            TypeName::Struct => read_struct(held),
+            TypeName::Image => read_image(held),
+            TypeName::Sampler => read_sampler(held),
+            TypeName::AccelerationStructure => read_acceleration_structure(held),
+            TypeName::RayQuery => read_ray_query(held),
+            TypeName::BindingArray => read_binding_array(held),
+        }
     }
 }
 
@@ -277,10 +263,7 @@ impl FromJson for TypeInner {
     ghost stands_for = { type_inner_of };
 
     fn from_json(alloc: Global, value: &Value) -> Result<Self, ReadError> {
-        match read_holding(alloc, value, &TYPE_NAMES) {
-            Ok((name, held)) => read_held_type(name, held),
-            Err(error) => Err(error),
-        }
+        read_holding(alloc, value, &TYPE_NAMES)
     }
 }
 
@@ -293,14 +276,8 @@ impl FromJson for Type {
             value,
             variant: None,
         };
-        if let Err(error) = held.fields(&["name", "inner"]) {
-            return Err(error);
-        }
-        match held.get("name") {
-            Ok(name) => match held.get("inner") {
-                Ok(inner) => Ok(Type { name, inner }),
-                Err(error) => Err(error),
-            },
+        match held.two(&("name", "inner")) {
+            Ok((name, inner)) => Ok(Type { name, inner }),
             Err(error) => Err(error),
         }
     }
@@ -323,16 +300,23 @@ impl FromJson for TypeResolution {
     ghost stands_for = { type_resolution_of };
 
     fn from_json(alloc: Global, value: &Value) -> Result<Self, ReadError> {
-        match read_holding(alloc, value, &RESOLUTIONS) {
-            Ok((ResolutionName::Handle, held)) => match held.read() {
+        read_holding(alloc, value, &RESOLUTIONS)
+    }
+}
+
+impl Holding<ResolutionName> for TypeResolution {
+    ghost held_of = { type_resolution_from };
+
+    fn read_held(name: ResolutionName, held: Held) -> Result<Self, ReadError> {
+        match name {
+            ResolutionName::Handle => match held.read() {
                 Ok(handle) => Ok(TypeResolution::Handle(handle)),
                 Err(error) => Err(error),
             },
-            Ok((ResolutionName::Value, held)) => match held.read() {
+            ResolutionName::Value => match held.read() {
                 Ok(inner) => Ok(TypeResolution::Value(inner)),
                 Err(error) => Err(error),
             },
-            Err(error) => Err(error),
         }
     }
 }

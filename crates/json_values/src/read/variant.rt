@@ -3,10 +3,10 @@
 ghost use Rattle.std.specs.Prelude.{◌≡◌, [], option_map, option_and_then};
 ghost use Rattle.serde_json.specs.Find.{as_str};
 ghost use Rattle.serde_json.specs.View.{view, members_view};
-ghost use Rattle.json_values.specs.Form.{lookup, only_member, tagged_of};
-ghost use Rattle.json_values.specs.Reads.{Reads, rows_of};
-ghost use Rattle.json_values.specs.Variants.{variant_of};
-ghost use Rattle.json_values.specs.ReadsVariants.{ReadsHolding, ReadsVariant, tag_of};
+ghost use Rattle.json_values.specs.Form.{given, lookup, only_member, tagged_of};
+ghost use Rattle.json_values.specs.Reads.{ReadsMeaning, rows_of};
+ghost use Rattle.json_values.specs.Variants.{either, variant_of};
+ghost use Rattle.json_values.specs.ReadsVariants.{ReadsVariant, tag_of};
 
 use crate::read::error::ReadError;
 use crate::read::from_json::Held;
@@ -31,7 +31,7 @@ pub fn read_name<T: Copy>(
     value: &Value,
     table: &[(&'static str, T)],
 ) -> Result<T, ReadError>
-    ensures { Reads (option_and_then (lookup (rows_of table.now)) (as_str (view value.now))) result }
+    ensures { ReadsMeaning (option_and_then (lookup (rows_of table.now)) (as_str (view value.now))) result }
 {
     match value.as_str() {
         Some(name) => match look_up(table, name) {
@@ -77,7 +77,7 @@ fn tag<'v>(value: &'v Value) -> Option<Tagged<'v>>
 
 /// A variant: one that holds nothing, as the table of these has it, or one that holds something, which is still to be
 /// read.
-#[derive(Clone, Copy)]
+#[derive(Drop)]
 pub enum Variant<'v, P, H> {
     Plain(P),
     Holding(H, Held<'v>),
@@ -113,24 +113,51 @@ pub fn read_variant<'v, P: Copy, H: Copy>(
     Err(ReadError::expected(alloc, "one of the variants of its form"))
 }
 
-/// The variant that a value is, by a table of variants that hold something, where the enum has no others.
-pub fn read_holding<'v, H: Copy>(
+/// An enum with variants that hold something, each of which has a name.
+pub trait Holding<N>: Drop {
+    ghost use Rattle.std.specs.Prelude.{Option};
+    ghost use Rattle.serde_json.specs.Data.{Data};
+
+    /// What the variant of this name stands for, by what it holds.
+    ghost held_of: { N → Data → Option Self };
+
+    /// The variant of this name.
+    fn read_held(name: N, held: Held) -> Result<Self, ReadError>
+        ensures { ReadsMeaning (held_of name (view held.entry.value.now)) result };
+}
+
+/// A variant by its name alone, which a table has with the variant, or by its name and what it holds.
+pub fn read_either<E: Holding<N> + Copy, N: Copy>(
     alloc: Global,
-    value: &'v Value,
-    holding: &[(&'static str, H)],
-) -> Result<(H, Held<'v>), ReadError>
-    ensures { ReadsHolding (variant_of [] (rows_of holding.now) (view value.now)) result }
+    value: &Value,
+    plain: &[(&'static str, E)],
+    holding: &[(&'static str, N)],
+) -> Result<E, ReadError>
+    ensures { ReadsMeaning (given (variant_of (rows_of plain.now) (rows_of holding.now) (view value.now)) (either E.held_of)) result }
+{
+    match read_variant(alloc, value, plain, holding) {
+        Ok(Variant::Plain(found)) => Ok(found),
+        Ok(Variant::Holding(name, held)) => E::read_held(name, held),
+        Err(error) => Err(error),
+    }
+}
+
+/// A variant by its name and what it holds, of an enum that has no others.
+pub fn read_holding<E: Holding<N>, N: Copy>(
+    alloc: Global,
+    value: &Value,
+    holding: &[(&'static str, N)],
+) -> Result<E, ReadError>
+    ensures { ReadsMeaning (given (variant_of [] (rows_of holding.now) (view value.now)) (either E.held_of)) result }
 {
     if let Some(Tagged::Holding(name, value)) = tag(value) {
         if let Some((name, found)) = look_up(holding, name) {
-            return Ok((
-                found,
-                Held {
-                    alloc,
-                    value,
-                    variant: Some(name),
-                },
-            ));
+            let held = Held {
+                alloc,
+                value,
+                variant: Some(name),
+            };
+            return E::read_held(found, held);
         }
     }
     Err(ReadError::expected(alloc, "one of the variants of its form"))

@@ -1,4 +1,4 @@
-//! Cut input, and the greatest numbers in the notation.
+//! Cut input, and the largest values in the notation.
 
 use crate::tests::made::{Made, Part, cases, once, times};
 use crate::tests::{assert_at, expect_rows, gets};
@@ -112,8 +112,8 @@ fn nested_loop_bodies(rt: HostRuntime) {
     expect_made(&rt, &refused, "fault Expression/NotInScope 3");
 }
 
-/// 250 Loops, each in the continuing part of the one around it. What is put in scope before is in scope in all of them, and
-/// none may be left by a Break from a continuing part.
+/// 250 Loops, each in the continuing part of the one around it. What is put in scope before is in scope in all of
+/// them, and none may be left by a Break from a continuing part.
 #[test]
 fn nested_continuing_parts(rt: HostRuntime) {
     let accepted = [

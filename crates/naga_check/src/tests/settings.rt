@@ -46,12 +46,13 @@ const NO_RESULT: &str = "fault InvalidCall/ExpressionMismatch";
 const STORED: &str = "fault InvalidStoreTypes 4";
 
 /// Bodies, and the line of each under four sets of flags: both EXPRESSIONS and BLOCKS; BLOCKS without EXPRESSIONS;
-/// EXPRESSIONS without BLOCKS; neither. Under all sixteen sets the same bodies are documents of `naga_judge`'s stored run
-/// (docs/MODULES.md): the notation takes no other flag away.
+/// EXPRESSIONS without BLOCKS; neither. Under all sixteen sets the same bodies are documents of `naga_judge`'s stored
+/// run (docs/MODULES.md): the notation takes no other flag away.
 ///
-/// By hand, from what each flag has looked at. Without BLOCKS no statement is, so nothing is refused, and no statement takes
-/// a stage away. Without EXPRESSIONS a result counts as filled from the start, which refuses each good call that names one,
-/// and no result has to be filled at the end. With or without it each expression of a bench may run in all stages.
+/// By hand, from what each flag has checked. Without BLOCKS no statement is, so nothing is refused, and no statement
+/// takes a stage away. Without EXPRESSIONS a result counts as filled from the start, which refuses each good call that
+/// names one, and no result has to be filled at the end. With or without it each expression of a bench may run in all
+/// stages.
 static LINES: [(&str, [&str; 4]); 28] = [
     // case, [both, without EXPRESSIONS, without BLOCKS, neither]
     ("P :", [ALL, ALL, ALL, ALL]),
@@ -148,7 +149,7 @@ static OPTIONS: [(&str, bool, bool); 5] = [
     (" -blocks -expressions", false, false),
 ];
 
-/// What the program makes of an input with options behind its first byte, which is the bench.
+/// What the program makes of an input with options after its first byte, which is the bench.
 fn run_with(alloc: Global, input: &str, options: &str) -> Outcome {
     match input.as_bytes().split_at_checked(1) {
         Some((bench, rest)) => run(alloc, bench.chain(options.as_bytes()).chain(rest)),

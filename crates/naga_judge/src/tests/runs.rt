@@ -167,7 +167,7 @@ entry point 0 (FRAGMENT): accepted; its body could run in: FRAGMENT
         r#"refused
 entry point 0: Function: Expression { handle: [1], source: NotInScope }
   at 50..64
-  the function has a fault: an expression, or an operand of a statement, has a fault: it is not in scope where it is used
+  the function is invalid: an expression, or an operand of a statement, is invalid: the expression is not in scope where it is used
 "#,
         1,
     );
