@@ -65,8 +65,8 @@ fn locals(alloc: Global) -> Result<Arena<LocalVariable>, AllocError> {
     Ok(locals)
 }
 
-/// The expressions of the function: 0 the global, 1 a pointer to its member, 2 the member's value, 3 a pointer to the local,
-/// 4 true.
+/// The expressions of the function: 0 the global, 1 a pointer to its member, 2 the member's value, 3 a pointer to the
+/// local, 4 true.
 fn expressions(alloc: Global) -> Result<Arena<Expression>, AllocError> {
     let mut expressions = Arena::new(alloc);
     let base = expressions.append(Expression::GlobalVariable(Handle::new(0)), Span::UNDEFINED)?;
@@ -193,8 +193,8 @@ fn given(alloc: Global) -> Result<Given, AllocError> {
     })
 }
 
-/// Judges a module over these facts: its infos, or its first fault. All runs of the body of each entry point that is accepted
-/// are sure: what they use is live.
+/// Judges a module over these facts: its infos, or its first fault. All runs of the body of each entry point that is
+/// accepted are sure: what they use is live.
 fn judge(alloc: Global, module: &Module) -> Result<ModuleInfo, ModuleFault>
     ensures { OnOk result ((k : ℕ) (ep : EntryPoint) → slice_get «module».now.entry_points k ≡ Some ep →
         RunsAreSure (pre_emitted_of ep.function) (body_of ep.function)) }
@@ -225,7 +225,7 @@ fn told(alloc: Global, verdict: &Result<ModuleInfo, ModuleFault>) -> anyhow::Res
     Ok(line)
 }
 
-/// What is told of the module.
+/// The verdict of the module, as a line.
 fn verdict(alloc: Global, emits: bool) -> anyhow::Result<String> {
     let module = module(alloc, emits)?;
     let verdict = judge(alloc, &module);

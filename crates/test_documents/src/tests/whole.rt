@@ -1,7 +1,7 @@
 //! Global variables, entry points, modules, facts and documents.
 
 use crate::tests::check;
-use json_document::{Document, KnownFacts};
+use json_document::{Document, Known};
 use naga_below::{
     Constant, Disalignment, EarlyDepthTest, EntryPoint, ExpressionError, GlobalVariable, Handle,
     ImmediateError, MeshOutputTopology, MeshStageInfo, Module, Override, ShaderStage, SpecialTypes,
@@ -17,7 +17,7 @@ type Layout = Result<u32, (Handle<tag::Type>, Disalignment)>;
 type Immediates = Result<(), ImmediateError>;
 
 /// The overrides of the greatest numbers of a mesh.
-type Overrides = [Option<Handle<tag::Override>>; 2];
+type Overrides = (Option<Handle<tag::Override>>, Option<Handle<tag::Override>>);
 
 #[test]
 fn globals_and_entry_points(rt: HostRuntime) {
@@ -158,7 +158,7 @@ fn facts(rt: HostRuntime) {
             r#"{"implied":null,"overrides":[null,0],"fault":"OutputType"}"#,
         ],
     );
-    check::<KnownFacts>(
+    check::<Known>(
         &rt,
         r#"{"type_infos":[],"global_types":[{"Handle":0}],"sizes":[null,4],"mesh_analyses":[null],"functions":[],"entry_points":[]}"#,
         [

@@ -1,4 +1,4 @@
-//! What each error prints: the name of its variant; and the sentence that tells it.
+//! What each error prints: the name of its variant; and its sentence.
 
 mod function;
 mod inner;
@@ -9,7 +9,7 @@ use naga_rules::Explain;
 use std::fmt::Display;
 use std::process::Abort;
 
-/// The error has this name, and is told by this sentence.
+/// The error has this name and this sentence.
 fn expect_told<E: Display + Explain + Drop>(
     rt: &(impl Abort + AllocGlobal),
     error: E,

@@ -1,4 +1,4 @@
-//! What the errors of entry points print: the name of the variant, but for one; and the sentences that tell them.
+//! What the errors of entry points print: the name of the variant, but for one; and their sentences.
 
 use crate::tests::bodies::{expect_text, made};
 use naga_below::{Capabilities, GlobalUse, Handle, Refusal, ShaderStage, Span, WithSpan};
@@ -18,7 +18,7 @@ fn expect_name(rt: &(impl Abort + AllocGlobal), error: &EntryPointError, name: &
     drop(printed);
 }
 
-/// An error is told by its sentence.
+/// An error has this sentence.
 fn expect_sentence(rt: &(impl Abort + AllocGlobal), error: &EntryPointError, sentence: &str) {
     let mut told = String::new(rt.alloc());
     made(rt, error.explain(&mut told));
@@ -26,7 +26,7 @@ fn expect_sentence(rt: &(impl Abort + AllocGlobal), error: &EntryPointError, sen
     drop(told);
 }
 
-/// An error prints as its name, and is told by its sentence.
+/// An error prints as its name, and has this sentence.
 fn assert_told(
     rt: &(impl Abort + AllocGlobal),
     error: EntryPointError,
@@ -43,109 +43,115 @@ static TEXTS: [(&str, &str); 29] = [
     ("Conflict", "two entry points have one name and stage"),
     (
         "MissingVertexOutputPosition",
-        "a vertex entry point, or the vertex output of a mesh, doesn't put out a position",
+        "a vertex entry point, or the vertex output of a mesh, has no position",
     ),
     (
         "UnexpectedEarlyDepthTest",
-        "depth is to be tested early at another stage than the fragment's",
+        "an early depth test is for the fragment stage only",
     ),
     (
         "UnexpectedWorkgroupSize",
-        "a stage without work groups has a size of them",
+        "a stage without workgroups has a workgroup size",
     ),
     (
         "OutOfRangeWorkgroupSize",
-        "a work group has no invocation along a dimension, or more than 16384",
+        "a dimension of the workgroup size is 0, or more than 16384",
     ),
     (
         "ForbiddenStageOperations",
-        "what the function does, or a function that it calls, is not for this stage",
+        "the function, or one that it calls, does what this stage doesn't allow",
     ),
     (
         "InvalidGlobalUsage",
-        "a global is used, in all, in more ways than its space allows at this stage",
+        "a global is used in ways that its address space doesn't allow at this stage",
     ),
     (
         "MoreThanOneImmediateUsed",
-        "two globals in `Immediate` are used",
+        "the entry point uses two globals in `Immediate`",
     ),
     (
         "BindingCollision",
-        "a global that is used has the binding of an earlier one that is used",
+        "the entry point uses an earlier global that has the binding of this one",
     ),
     (
         "Argument",
-        "an argument, counted from 0, has a fault: an argument or a result that is no struct has no binding",
+        "an argument, counted from 0, is invalid: an argument or a result that is not a struct must have a binding",
     ),
     (
         "Result",
-        "the result, an output of a mesh, or the request to test depth early has a fault: a float has to have an interpolation here",
+        "the result, a mesh output or the early depth test is invalid: a float must have an interpolation here",
     ),
     (
         "Function",
-        "the function has a fault: the payload of a ray is no pointer",
+        "the function is invalid: the payload of a ray is not a pointer",
     ),
     (
         "UnsupportedCapability",
-        "the target lacks what the entry point needs",
+        "the target lacks a capability that the entry point needs",
     ),
     (
         "ExpectedMeshShaderAttributes",
-        "a mesh entry point says nothing of its mesh",
+        "a mesh entry point has no `mesh_info`",
     ),
     (
         "UnexpectedMeshShaderAttributes",
-        "an entry point at another stage says something of a mesh",
+        "only a mesh entry point can have a `mesh_info`",
     ),
     (
         "UnexpectedTaskPayload",
-        "a stage that takes no task payload has one",
+        "an entry point at this stage can't have a task payload",
     ),
     (
         "TaskPayloadWrongAddressSpace",
-        "the payload doesn't lie in `TaskPayload`",
+        "the task payload is not in `TaskPayload`",
     ),
     (
         "WrongTaskPayloadUsed",
-        "a global in `TaskPayload` is used that isn't the payload",
+        "the entry point uses a global in `TaskPayload` that is not its task payload",
     ),
     (
         "WrongTaskShaderEntryResult",
-        "a task entry point doesn't return three counts",
+        "a task entry point must return a vector of three `u32`",
     ),
-    ("ExpectedTaskPayload", "a task entry point has no payload"),
+    (
+        "ExpectedTaskPayload",
+        "a task entry point has no task payload",
+    ),
     (
         "BadMeshOutputVariableType",
-        "what a mesh entry point says of its mesh isn't what the type of its output variable implies",
+        "the `mesh_info` is not what the type of the output variable implies",
     ),
     (
         "BadMeshOutputVariableField",
-        "a member of the type of a mesh's output variable can't be put out",
+        "a member of the output variable's type can't be an output of a mesh",
     ),
     (
         "UnexpectedMeshShaderEntryResult",
-        "a mesh entry point returns something",
+        "a mesh entry point can't return a value",
     ),
-    ("InvalidMeshOutputType", "an output of a mesh is no struct"),
+    (
+        "InvalidMeshOutputType",
+        "an output of a mesh is not a struct",
+    ),
     (
         "InvalidMeshPrimitiveOutputType",
-        "a primitive output of a mesh hasn't exactly one built-in of indices",
+        "the primitive output of a mesh must have exactly one built-in of indices",
     ),
     (
         "WrongMeshOutputAddressSpace",
-        "the output variable of a mesh doesn't lie in `WorkGroup`",
+        "the output variable of a mesh is not in `WorkGroup`",
     ),
     (
         "TaskPayloadTooSmall",
-        "the payload has only so many bytes, and has to have at least 4",
+        "the task payload has only so many bytes, and must have at least 4",
     ),
     (
         ONLY_WHERE_RAYS_ARE_TRACED,
-        "a ray payload is used at a stage that hands none to a ray",
+        "a global in `RayPayload` can't be used at this stage",
     ),
     (
         "IncomingRayPayloadInInvalidStage",
-        "an incoming ray payload is used at a stage that no ray brings one to",
+        "a global in `IncomingRayPayload` can't be used at this stage",
     ),
 ];
 
@@ -220,7 +226,7 @@ fn refusal(rt: &(impl Abort + AllocGlobal)) -> Refusal<EntryPointError> {
     Refusal::Fault(made(rt, fault.with_span(Span { start: 50, end: 55 })))
 }
 
-/// The refusal of entry point 1 is told so.
+/// The refusal of entry point 1 has this text.
 fn expect_told(
     rt: &(impl Abort + AllocGlobal),
     refusal: &Refusal<EntryPointError>,
@@ -241,7 +247,7 @@ fn a_refused_entry_point_is_told(rt: HostRuntime) {
     expect_told(
         &rt,
         &refusal,
-        "entry point 1: 50..55: Function(InvalidIfType([3])): the function has a fault: the condition of an if or of a loop's end is no bool",
+        "entry point 1: 50..55: Function(InvalidIfType([3])): the function is invalid: the condition of an if, or the `break_if` of a loop, is not a bool",
     );
     drop(refusal);
 }

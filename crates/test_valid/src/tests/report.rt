@@ -1,4 +1,4 @@
-//! What is told of refusals, and that they pass into `anyhow`.
+//! The texts of refusals, and that refusals pass into `anyhow`.
 
 use crate::tests::bodies::{EVERYTHING, HERE, expect_text, made, validator_for};
 use naga_below::{
@@ -12,7 +12,7 @@ use naga_rules::{CallError, Explain, FunctionError, GlobalVariableError, LocalVa
 use naga_valid::EntryPointError;
 use std::process::Abort;
 
-/// The refusal of a function with this handle is told so.
+/// The refusal of a function with this handle has this text.
 fn assert_told(
     rt: &(impl Abort + AllocGlobal),
     function: u32,
@@ -37,15 +37,15 @@ fn at(
     Refusal::Fault(made(rt, WithSpan::new(rt.alloc(), fault).with_span(place)))
 }
 
-/// What is told of each fault between 50 and 55 in function 2, in the order of `fault_at`.
+/// The text of each fault between 50 and 55 in function 2, in the order of `fault_at`.
 static TOLD: [&str; 7] = [
-    "function [2]: 50..55: InvalidStoreTypes { pointer: [4], value: [1] }: the value is not of the type that the pointer points to",
-    "function [2]: 50..55: MissingCapability(Capabilities(SUBGROUP)): the target lacks what a statement needs",
-    "function [2]: 50..55: InvalidPayloadAddressSpace(Private): the payload of a ray lies in this space and not in one for ray payloads",
-    "function [2]: 50..55: InvalidStoreTexture { actual: [3], actual_ty: Sampler { comparison: true } }: the value of a store is an image or a sampler",
-    "function [2]: 50..55: InvalidReturnType { expression: None, expected_ty: Some([1]) }: what is returned, if anything, doesn't match the declared type, if any",
-    "function [2]: 50..55: LocalVariable { handle: [0], name: \"color\", source: InitializerType }: a local variable has a fault: the initializer is of another type than the variable",
-    "function [2]: 50..55: InvalidCall { function: [1], error: Argument { index: 0, source: NotInScope } }: a call of the function has a fault: an argument has a fault: it is not in scope where it is used",
+    "function [2]: 50..55: InvalidStoreTypes { pointer: [4], value: [1] }: the stored value is not of the type that the pointer points to",
+    "function [2]: 50..55: MissingCapability(Capabilities(SUBGROUP)): the target lacks a capability that a statement needs",
+    "function [2]: 50..55: InvalidPayloadAddressSpace(Private): the payload of a ray is in this address space, which is not for ray payloads",
+    "function [2]: 50..55: InvalidStoreTexture { actual: [3], actual_ty: Sampler { comparison: true } }: the stored value is an image or a sampler",
+    "function [2]: 50..55: InvalidReturnType { expression: None, expected_ty: Some([1]) }: the returned value doesn't match the declared return type, or only one of them is there",
+    "function [2]: 50..55: LocalVariable { handle: [0], name: \"color\", source: InitializerType }: a local variable is invalid: the initializer is of another type than the variable",
+    "function [2]: 50..55: InvalidCall { function: [1], error: Argument { index: 0, source: NotInScope } }: a call of this function is invalid: an argument is invalid: the expression is not in scope where it is used",
 ];
 
 /// The fault at this place.
@@ -107,7 +107,7 @@ fn placed(rt: &(impl Abort + AllocGlobal), index: usize) -> Refusal<FunctionErro
 static PLACED: [&str; 3] = [
     "function [0]: MissingDefaultCase: a switch has no default case",
     "function [0]: 3..5, 7..9: MissingDefaultCase: a switch has no default case",
-    "function [0]: Memory: there was not enough memory",
+    "function [0]: Memory: out of memory",
 ];
 
 #[test]
@@ -119,7 +119,7 @@ fn places_stand_before_the_fault(rt: HostRuntime) {
     }
 }
 
-/// A fault of a subject at these places is told so.
+/// A fault of a subject at these spans has this text.
 fn assert_fault_told<E: Explain>(
     rt: &(impl Abort + AllocGlobal),
     subject: Subject,
@@ -140,14 +140,14 @@ fn subjects_are_told(rt: HostRuntime) {
         Subject::GlobalVariable(Handle::new(1)),
         &[],
         &GlobalVariableError::InvalidBinding,
-        "global [1]: InvalidBinding: a binding is missing where the space is bound, or is there where it isn't",
+        "global [1]: InvalidBinding: a global must have a binding exactly if it is in `Storage`, `Uniform` or `Handle`",
     );
     assert_fault_told(
         &rt,
         Subject::EntryPoint(3),
         &[HERE],
         &FunctionError::InvalidPayloadType,
-        "entry point 3: 3..7: InvalidPayloadType: the payload of a ray is no pointer",
+        "entry point 3: 3..7: InvalidPayloadType: the payload of a ray is not a pointer",
     );
 }
 
@@ -242,7 +242,7 @@ fn expect_name(rt: &(impl Abort + AllocGlobal), fault: &ModuleFault, name: &str)
     drop(printed);
 }
 
-/// The fault of a module is told so.
+/// The fault of a module has this text.
 fn assert_module_told(rt: &(impl Abort + AllocGlobal), fault: &ModuleFault, expected: &str) {
     let mut told = String::new(rt.alloc());
     made(rt, write_module_fault(&mut told, fault));
@@ -250,25 +250,25 @@ fn assert_module_told(rt: &(impl Abort + AllocGlobal), fault: &ModuleFault, expe
     drop(told);
 }
 
-/// Name of each fault of a module, and what is told of it, in the order of `module_fault_at`.
+/// Name and text of each fault of a module, in the order of `module_fault_at`.
 static MODULE_FAULTS: [(&str, &str); 5] = [
     (
         "NotFit",
-        "NotFit: something that is named isn't there, or the size of a task payload isn't known",
+        "NotFit: a handle or a range is out of bounds or out of order, or a fact is missing",
     ),
     (
         "Global",
-        "global [1]: InvalidBinding: a binding is missing where the space is bound, or is there where it isn't",
+        "global [1]: InvalidBinding: a global must have a binding exactly if it is in `Storage`, `Uniform` or `Handle`",
     ),
     (
         "Function",
-        "function [2]: 3..7: InvalidPayloadType: the payload of a ray is no pointer",
+        "function [2]: 3..7: InvalidPayloadType: the payload of a ray is not a pointer",
     ),
     (
         "EntryPoint",
-        "entry point 0: ExpectedTaskPayload: a task entry point has no payload",
+        "entry point 0: ExpectedTaskPayload: a task entry point has no task payload",
     ),
-    ("Memory", "Memory: there was not enough memory"),
+    ("Memory", "Memory: out of memory"),
 ];
 
 /// The fault of a module at this place; that of the function is at `HERE`.

@@ -20,15 +20,15 @@ fn sampler() -> TypeInner {
 static OF_DECLARATIONS_AND_JUMPS: [(&str, &str); 17] = [
     (
         "Expression",
-        "an expression, or an operand of a statement, has a fault: it is not in scope where it is used",
+        "an expression, or an operand of a statement, is invalid: the expression is not in scope where it is used",
     ),
     (
         "ExpressionAlreadyInScope",
-        "a statement puts an expression in scope that is there already",
+        "a statement brings an expression into scope that is already in scope",
     ),
     (
         "LocalVariable",
-        "a local variable has a fault: the initializer is of another type than the variable",
+        "a local variable is invalid: the initializer is of another type than the variable",
     ),
     (
         "InvalidArgumentType",
@@ -36,28 +36,28 @@ static OF_DECLARATIONS_AND_JUMPS: [(&str, &str); 17] = [
     ),
     (
         "NonConstructibleReturnType",
-        "the result is of a type that can't be returned, since it isn't constructible",
+        "the return type must be constructible",
     ),
     (
         "InvalidArgumentPointerSpace",
-        "an argument points into a space other than `Function` and `Private`",
+        "a pointer argument points into an address space other than `Function` and `Private`",
     ),
     (
         "BreakOutsideOfLoopOrSwitch",
-        "a break has no case of a switch and no loop body to leave, or stands in a continuing part between",
+        "a break must be inside a loop body or a switch case, with no continuing block between",
     ),
     (
         "ContinueOutsideOfLoop",
-        "a continue has no loop body around it, or stands in a continuing part between",
+        "a continue must be inside a loop body, with no continuing block between",
     ),
-    ("InvalidReturnSpot", "a return stands in a continuing part"),
+    ("InvalidReturnSpot", "a return stands in a continuing block"),
     (
         "InvalidReturnType",
-        "what is returned, if anything, doesn't match the declared type, if any",
+        "the returned value doesn't match the declared return type, or only one of them is there",
     ),
     (
         "InvalidIfType",
-        "the condition of an if or of a loop's end is no bool",
+        "the condition of an if, or the `break_if` of a loop, is not a bool",
     ),
     (
         "InvalidSwitchType",
@@ -69,7 +69,7 @@ static OF_DECLARATIONS_AND_JUMPS: [(&str, &str); 17] = [
     ),
     (
         "ConflictingCaseType",
-        "a case value has another signedness than the selector",
+        "a case value is signed and the selector isn't, or the other way round",
     ),
     ("MissingDefaultCase", "a switch has no default case"),
     (
@@ -86,123 +86,120 @@ static OF_DECLARATIONS_AND_JUMPS: [(&str, &str); 17] = [
 static OF_STORES_AND_CALLS: [(&str, &str); 17] = [
     (
         "InvalidStorePointer",
-        "the pointer doesn't lead back to a variable or an argument, or its space takes no stores",
+        "the pointer doesn't lead to a variable or an argument, or its address space is not writable",
     ),
     (
         "InvalidStoreTexture",
-        "the value of a store is an image or a sampler",
+        "the stored value is an image or a sampler",
     ),
     (
         "InvalidStoreValue",
-        "the texel of an image store is of another type than the image's format has",
+        "the value of an image store is of another type than the image's format has",
     ),
     (
         "InvalidStoreTypes",
-        "the value is not of the type that the pointer points to",
+        "the stored value is not of the type that the pointer points to",
     ),
     (
         "InvalidImageStore",
-        "the image, the coordinate or the array index of an image store has a fault: it is not in scope where it is used",
+        "the image, the coordinate or the array index of an image store is invalid: the expression is not in scope where it is used",
     ),
     (
         "InvalidImageAtomic",
-        "the image, the coordinate or the array index of an atomic operation on an image has a fault: it is not in scope where it is used",
+        "the image, the coordinate or the array index of an image atomic is invalid: the expression is not in scope where it is used",
     ),
     (
         "InvalidImageAtomicFunction",
-        "the operation isn't done on texels of the image's format",
+        "the image's format doesn't support this atomic operation",
     ),
     (
         "InvalidImageAtomicValue",
-        "the value of an atomic operation on an image isn't of the scalar of the image's format",
+        "the value of an image atomic is not of the scalar type of the image's format",
     ),
     (
         "InvalidCall",
-        "a call of the function has a fault: the result isn't one of this callee, or is there although the callee has none, or is missing although it has one",
+        "a call of this function is invalid: the call must have a result, a `CallResult` of its function, exactly if the function returns a value",
     ),
     (
         "InvalidAtomic",
-        "an atomic operation has a fault: an exchange that compares nothing has no result",
+        "an atomic operation is invalid: an exchange that compares nothing must have a result",
     ),
     (
         "InvalidRayQueryExpression",
-        "the query isn't a local variable",
+        "the ray query is not a local variable",
     ),
     (
         "InvalidAccelerationStructure",
-        "the expression is no acceleration structure",
+        "the expression is not an acceleration structure",
     ),
     (
         "MissingAccelerationStructureVertexReturn",
-        "the query, which is second, returns vertices, and the acceleration structure, which is first, doesn't",
+        "the ray query (second) returns vertices, and the acceleration structure (first) doesn't",
     ),
     (
         "MissingRayQueryVertexReturn",
-        "the query doesn't return vertices",
+        "the ray query doesn't return vertices",
     ),
     (
         "InvalidRayDescriptor",
-        "the expression isn't of the module's type of ray descriptors",
+        "the expression is not of the module's ray descriptor type",
     ),
     (
         "InvalidRayQueryType",
-        "the query is a variable of another type than that of ray queries",
+        "the variable is not of the ray query type",
     ),
-    (
-        "InvalidHitDistanceType",
-        "the distance of a hit is no float",
-    ),
+    ("InvalidHitDistanceType", "the hit distance is not a float"),
 ];
 
 /// Names and sentences of the errors from 34 on, in the order of `error_at`.
 static OF_CONTROL_FLOW_AND_RESULTS: [(&str, &str); 12] = [
     (
         "MissingCapability",
-        "the target lacks what a statement needs",
+        "the target lacks a capability that a statement needs",
     ),
     (
         "NonUniformControlFlow",
-        "control flow has to be uniform at the expression, and isn't",
+        "the expression needs uniform control flow",
     ),
     (
         "PipelineInputRegularFunction",
-        "an argument is bound, and the function is no entry point's",
+        "an argument has a binding, and the function is not an entry point",
     ),
     (
         "PipelineOutputRegularFunction",
-        "the result is bound, and the function is no entry point's",
+        "the result has a binding, and the function is not an entry point",
     ),
     (
         "NonUniformWorkgroupUniformLoad",
-        "control flow has to be uniform at a uniform load, and isn't",
+        "a workgroup uniform load needs uniform control flow",
     ),
     (
         "WorkgroupUniformLoadExpressionMismatch",
-        "the result of a uniform load isn't one",
+        "the result of a workgroup uniform load is not a `WorkGroupUniformLoadResult`",
     ),
     (
         "WorkgroupUniformLoadInvalidPointer",
-        "a uniform load reads outside of `WorkGroup`, or another type than its result has",
+        "a workgroup uniform load reads outside of `WorkGroup`, or another type than its result has",
     ),
     (
         "InvalidSubgroup",
-        "a subgroup operation or a subgroup barrier has a fault: there is no scan by this operation",
+        "a subgroup operation or a subgroup barrier is invalid: a scan supports only Add and Mul",
     ),
     (
         "InvalidCooperativeStoreTarget",
-        "the target of a cooperative store is no cooperative matrix",
+        "the target of a cooperative store is not a cooperative matrix",
     ),
     (
         "InvalidCooperativeDataPointer",
-        "the data pointer of a cooperative store points to another scalar than the matrix has",
+        "the data pointer of a cooperative store points to another scalar type than the matrix has",
     ),
     (
         "EmitResult",
-        "an emit names a result that another kind of statement puts in scope",
+        "an emit covers the result of another statement, which alone brings it into scope",
     ),
     (
         "UnvisitedExpression",
-        "no call and no atomic operation of the body names this result",
+        "no call and no atomic operation of the body has this result",
     ),
 ];
 
@@ -210,7 +207,7 @@ static OF_CONTROL_FLOW_AND_RESULTS: [(&str, &str); 12] = [
 static OF_STAGES: [(&str, &str); 8] = [
     (
         "InvalidMeshFunctionCall",
-        "a count that a mesh shader sets is no `u32`",
+        "a count that a mesh shader sets is not a `u32`",
     ),
     (
         "ConflictingMeshOutputTypes",
@@ -222,20 +219,23 @@ static OF_STAGES: [(&str, &str); 8] = [
     ),
     (
         "InvalidMeshShaderOutputType",
-        "an output of a mesh shader is no struct",
+        "an output of a mesh shader is not a struct",
     ),
-    ("InvalidPayloadType", "the payload of a ray is no pointer"),
+    (
+        "InvalidPayloadType",
+        "the payload of a ray is not a pointer",
+    ),
     (
         "InvalidPayloadAddressSpace",
-        "the payload of a ray lies in this space and not in one for ray payloads",
+        "the payload of a ray is in this address space, which is not for ray payloads",
     ),
     (
         "MismatchedPayloadType",
-        "the payload of a ray is of the first type, and that of an earlier ray of the second",
+        "the payload of this ray is of the first type, and that of an earlier ray of the second",
     ),
     (
         "PayloadPointerNotGlobal",
-        "the payload of a ray is no global",
+        "the payload of a ray is not a global variable",
     ),
 ];
 
@@ -352,7 +352,7 @@ fn of_control_flow(alloc: Global, index: usize) -> FunctionError {
     }
 }
 
-/// Errors of operations whose results others put in scope.
+/// Errors of operations whose results other statements bring into scope.
 fn of_a_result(index: usize) -> FunctionError {
     let expression = Handle::new(1);
     match index {
@@ -421,7 +421,7 @@ fn errors_of_stages(rt: HostRuntime) {
     expect_rows(&rt, 46, OF_STAGES.as_slice());
 }
 
-/// The sentences of errors in errors stand behind each other, from the outside in.
+/// The sentences of errors in errors follow each other, from the outside in.
 #[test]
 fn errors_inside_are_told(rt: HostRuntime) {
     let argument = CallError::Argument {
@@ -436,6 +436,6 @@ fn errors_inside_are_told(rt: HostRuntime) {
         &rt,
         error,
         "InvalidCall",
-        "a call of the function has a fault: an argument has a fault: it is not in scope where it is used",
+        "a call of this function is invalid: an argument is invalid: the expression is not in scope where it is used",
     );
 }

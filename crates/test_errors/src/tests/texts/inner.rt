@@ -12,7 +12,7 @@ use std::process::Abort;
 static CALLS: [(&str, &str); 6] = [
     (
         "Argument",
-        "an argument has a fault: it is not in scope where it is used",
+        "an argument is invalid: the expression is not in scope where it is used",
     ),
     (
         "ResultAlreadyInScope",
@@ -20,19 +20,19 @@ static CALLS: [(&str, &str); 6] = [
     ),
     (
         "ResultAlreadyPopulated",
-        "an earlier call or atomic operation names the result too, or expressions are not looked at",
+        "an earlier call or atomic operation has this result, or the flag EXPRESSIONS is off",
     ),
     (
         "ArgumentCount",
-        "there are more or fewer arguments than the callee declares",
+        "the call passes more or fewer arguments than the function declares",
     ),
     (
         "ArgumentType",
-        "an argument has another type than the callee declares",
+        "an argument is of another type than the function declares",
     ),
     (
         "ExpressionMismatch",
-        "the result isn't one of this callee, or is there although the callee has none, or is missing although it has one",
+        "the call must have a result, a `CallResult` of its function, exactly if the function returns a value",
     ),
 ];
 
@@ -79,40 +79,43 @@ static ATOMICS: [(&str, &str); 11] = [
     ("InvalidPointer", "the pointer doesn't point to an atomic"),
     (
         "InvalidAddressSpace",
-        "the atomic lies in a space where the operation isn't done on its scalar",
+        "the operation isn't supported on this scalar type in this address space",
     ),
     (
         "InvalidOperand",
-        "the value, or the value to compare with, is not of the atomic's scalar",
+        "the value, or the value to compare with, is not of the atomic's scalar type",
     ),
     (
         "InvalidOperator",
-        "the operation isn't done on the atomic's scalar",
+        "the operation isn't supported on the atomic's scalar type",
     ),
-    ("InvalidResultExpression", "the result is no `AtomicResult`"),
+    (
+        "InvalidResultExpression",
+        "the result is not an `AtomicResult`",
+    ),
     (
         "ResultExpressionExchange",
-        "the result is that of a compare exchange, and the operation is none",
+        "the result is marked as that of a compare exchange, and the operation compares nothing",
     ),
     (
         "ResultExpressionNotExchange",
-        "the operation is a compare exchange, and the result isn't one's",
+        "the operation is a compare exchange, and the result isn't marked as that of one",
     ),
     (
         "ResultTypeMismatch",
-        "the result has another type than the operation gives",
+        "the result is of another type than the operation returns",
     ),
     (
         "MissingReturnValue",
-        "an exchange that compares nothing has no result",
+        "an exchange that compares nothing must have a result",
     ),
     (
         "MissingCapability",
-        "the target lacks what the operation needs",
+        "the target lacks a capability that the operation needs",
     ),
     (
         "ResultAlreadyPopulated",
-        "an earlier call or atomic operation names the result too, or expressions are not looked at",
+        "an earlier call or atomic operation has this result, or the flag EXPRESSIONS is off",
     ),
 ];
 
@@ -152,17 +155,20 @@ fn atomic_errors(rt: HostRuntime) {
 static SUBGROUPS: [(&str, &str); 5] = [
     (
         "InvalidOperand",
-        "the operand is of a type that the operation isn't done on",
+        "the operation isn't supported on the operand's type",
     ),
     (
         "ResultTypeMismatch",
-        "the result is of another kind or type than the operation gives",
+        "the result is of another kind or type than the operation returns",
     ),
-    ("UnsupportedOperation", "the target lacks these operations"),
-    ("UnknownOperation", "there is no scan by this operation"),
+    (
+        "UnsupportedOperation",
+        "the target doesn't support these subgroup operations",
+    ),
+    ("UnknownOperation", "a scan supports only Add and Mul"),
     (
         "InvalidInvocationIdExprType",
-        "the index of an invocation has to be a constant here",
+        "the index of a broadcast must be a constant",
     ),
 ];
 
@@ -189,7 +195,7 @@ fn subgroup_errors(rt: HostRuntime) {
 static LOCALS: [(&str, &str); 3] = [
     (
         "InvalidType",
-        "a local can't be of this type, since it isn't constructible",
+        "the type of a local variable must be constructible",
     ),
     (
         "InitializerType",
@@ -197,7 +203,7 @@ static LOCALS: [(&str, &str); 3] = [
     ),
     (
         "NonConstOrOverrideInitializer",
-        "the initializer is known only as the function runs",
+        "the initializer must be a constant or an override expression",
     ),
 ];
 
@@ -220,22 +226,25 @@ fn local_variable_errors(rt: HostRuntime) {
 
 /// Name and sentence of each, in the order of `expression_error`.
 static EXPRESSIONS: [(&str, &str); 11] = [
-    ("NotInScope", "it is not in scope where it is used"),
+    (
+        "NotInScope",
+        "the expression is not in scope where it is used",
+    ),
     (
         "ExpectedGlobalVariable",
-        "it is no global variable, and no element of one",
+        "the image is not a global variable, and not an element of one",
     ),
     (
         "ExpectedBindingArrayType",
-        "what it is an element of is no binding array",
+        "the image is an element of a global that is not a binding array",
     ),
     (
         "ExpectedImageType",
-        "the global is of this type, which is no image",
+        "the global is of this type, which is not an image",
     ),
     (
         "InvalidImageClass",
-        "this isn't done on images of this class",
+        "the operation isn't supported on images of this class",
     ),
     (
         "InvalidImageCoordinateType",
@@ -243,23 +252,23 @@ static EXPRESSIONS: [(&str, &str); 11] = [
     ),
     (
         "InvalidImageArrayIndex",
-        "there is an array index, and the image isn't arrayed, or the other way round",
+        "there is an array index and the image isn't arrayed, or the other way round",
     ),
     (
         "InvalidImageArrayIndexType",
-        "the array index is no integer scalar",
+        "the array index is not an integer scalar",
     ),
     (
         "InvalidImageStorageAccess",
-        "the access of the image doesn't allow this",
+        "the image isn't declared with the access that the operation needs",
     ),
     (
         "InvalidImageFormat",
-        "this isn't done on texels of this format",
+        "the operation isn't supported on texels of this format",
     ),
     (
         "Lower",
-        "the lower layer refuses it, for a reason of its own",
+        "the layer below refuses the expression, for a reason of its own",
     ),
 ];
 

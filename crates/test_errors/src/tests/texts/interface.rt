@@ -1,4 +1,4 @@
-//! Errors of globals, of what a stage takes in and puts out, and of meshes.
+//! Errors of globals, of inputs and outputs, and of meshes.
 
 use crate::tests::texts::expect_told;
 use naga_below::{
@@ -13,10 +13,13 @@ fn sampler() -> TypeInner {
 
 /// Name and sentence of each, in the order of `global_error`.
 static GLOBALS: [(&str, &str); 16] = [
-    ("InvalidUsage", "no global of this type lies in this space"),
+    (
+        "InvalidUsage",
+        "a global of this type can't be in this address space",
+    ),
     (
         "InvalidType",
-        "the space holds resources alone, and this type is none",
+        "only images, samplers, acceleration structures and ray queries can be in this address space",
     ),
     (
         "InvalidBindingArray",
@@ -24,23 +27,23 @@ static GLOBALS: [(&str, &str); 16] = [
     ),
     (
         "MissingTypeFlags",
-        "the type can't be used as the space requires",
+        "the type lacks flags that the address space needs",
     ),
     (
         "UnsupportedCapability",
-        "the target lacks what the global needs",
+        "the target lacks a capability that the global needs",
     ),
     (
         "InvalidBinding",
-        "a binding is missing where the space is bound, or is there where it isn't",
+        "a global must have a binding exactly if it is in `Storage`, `Uniform` or `Handle`",
     ),
     (
         "Alignment",
-        "the layout of the type, which this inner type spoils, is bad in this space",
+        "the layout of the type isn't valid in this address space, because of this inner type",
     ),
     (
         "InitializerExprType",
-        "the initializer is known only as a shader runs",
+        "the initializer must be a constant or an override expression",
     ),
     (
         "InitializerType",
@@ -48,20 +51,32 @@ static GLOBALS: [(&str, &str); 16] = [
     ),
     (
         "InitializerNotAllowed",
-        "a global in this space has no initializer",
+        "a global in this address space can't have an initializer",
     ),
     (
         "StorageAddressSpaceWriteOnlyNotSupported",
-        "storage that can be stored to has to be loaded from too",
+        "a global in `Storage` can't be write-only",
     ),
-    ("InvalidImmediateType", "the type can't be an immediate"),
-    ("ZeroSizedTaskPayload", "a task payload takes no bytes"),
+    (
+        "InvalidImmediateType",
+        "the type can't be that of an immediate",
+    ),
+    (
+        "ZeroSizedTaskPayload",
+        "a task payload has a size of 0 bytes",
+    ),
     (
         "InvalidMemoryDecorationsAddressSpace",
-        "memory decorations are for storage alone",
+        "only a global in `Storage` can have memory decorations",
     ),
-    ("CoherentNotSupported", "the target has no coherent memory"),
-    ("VolatileNotSupported", "the target has no volatile memory"),
+    (
+        "CoherentNotSupported",
+        "the target doesn't support coherent memory",
+    ),
+    (
+        "VolatileNotSupported",
+        "the target doesn't support volatile memory",
+    ),
 ];
 
 /// An error of a global variable.
@@ -101,57 +116,60 @@ fn global_variable_errors(rt: HostRuntime) {
 static VARYINGS: [(&str, &str); 26] = [
     (
         "InvalidType",
-        "nothing of this type goes in or out at a location",
+        "an input or output at a location can't be of this type",
     ),
-    ("NotIOShareableType", "the type isn't shared between stages"),
+    (
+        "NotIOShareableType",
+        "the type can't be shared between stages",
+    ),
     (
         "InvalidInterpolationInStage",
-        "the interpolation is for this stage alone",
+        "the interpolation is for this stage only",
     ),
     (
         "InvalidInterpolationSamplingCombination",
-        "the interpolation doesn't go with the sampling",
+        "the interpolation can't be combined with the sampling",
     ),
     (
         "InvalidInterpolationForInteger",
-        "an integer has to be interpolated flat here",
+        "an integer must have the interpolation `Flat` here",
     ),
     (
         "MissingInterpolation",
-        "a float has to have an interpolation here",
+        "a float must have an interpolation here",
     ),
     (
         "InvalidBuiltInStage",
-        "the built-in isn't visible at this stage in this direction",
+        "the built-in doesn't exist at this stage in this direction",
     ),
-    (
-        "InvalidBuiltInType",
-        "the built-in is of another type than the one that is given",
-    ),
+    ("InvalidBuiltInType", "the built-in can't be of this type"),
     (
         "MissingBinding",
-        "an argument or a result that is no struct has no binding",
+        "an argument or a result that is not a struct must have a binding",
     ),
     (
         "MemberMissingBinding",
-        "a member of a struct, counted from 0, has no binding",
+        "this member of a struct, counted from 0, has no binding",
     ),
     (
         "BindingCollision",
-        "two parts of a group are at this location",
+        "two inputs or two outputs have this location",
     ),
     (
         "BindingCollisionBlendSrc",
-        "two members are this source of a blend",
+        "two members have this blend source",
     ),
-    ("DuplicateBuiltIn", "a group has the built-in twice"),
+    (
+        "DuplicateBuiltIn",
+        "two inputs or two outputs have this built-in",
+    ),
     (
         "UnsupportedCapability",
-        "the target lacks what the part needs",
+        "the target lacks a capability that the input or output needs",
     ),
     (
         "InvalidInputAttributeInStage",
-        "the attribute is for outputs of this stage alone",
+        "the attribute is for outputs of this stage only",
     ),
     (
         "InvalidAttributeInStage",
@@ -159,43 +177,43 @@ static VARYINGS: [(&str, &str); 26] = [
     ),
     (
         "InvalidBlendSrcIndex",
-        "a source of a blend stands elsewhere than at location 0, or is neither 0 nor 1",
+        "a blend source must be at location 0, and must be 0 or 1",
     ),
     (
         "IncompleteBlendSrcUsage",
-        "only one source of a blend is there",
+        "only one of the two blend sources is there",
     ),
     (
         "InvalidBlendSrcWithOtherBindings",
-        "a location stands beside the sources of a blend",
+        "blend sources can't be combined with other locations",
     ),
     (
         "BlendSrcOutputTypeMismatch",
-        "the sources of a blend are of two types",
+        "the two blend sources are of different types",
     ),
     (
         "BlendSrcNotOnStructMember",
-        "a source of a blend is no member of a struct",
+        "a blend source is not on a member of a struct",
     ),
     (
         "InvalidMultiDimensionalSubgroupBuiltIn",
-        "the built-in is for work groups of one dimension alone",
+        "the built-in needs a workgroup of one dimension",
     ),
     (
         "InvalidPerPrimitive",
-        "only primitive outputs of a mesh and fragment inputs go by primitive",
+        "only primitive outputs of a mesh and fragment inputs can be per primitive",
     ),
     (
         "MissingPerPrimitive",
-        "a primitive output of a mesh has to go by primitive",
+        "a primitive output of a mesh must be per primitive",
     ),
     (
         "PerVertexNotArrayOfThree",
-        "an input for each vertex has to be an array of 3",
+        "a per-vertex input must be an array of 3",
     ),
     (
         "InvalidPerVertexSampling",
-        "an input for each vertex has no sampling, or one at the center",
+        "a per-vertex input must have the sampling `Center`, or none",
     ),
 ];
 
@@ -254,11 +272,11 @@ fn varying_errors(rt: HostRuntime) {
 static MESHES: [(&str, &str); 2] = [
     (
         "OutputType",
-        "the type isn't one that a mesh shader can put out",
+        "the type can't be that of a mesh shader's output",
     ),
     (
         "OutputField",
-        "a member of the type isn't one that a mesh shader can put out",
+        "a member of the type can't be an output of a mesh shader",
     ),
 ];
 
