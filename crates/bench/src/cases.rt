@@ -1,11 +1,11 @@
-//! What a case is, and the cases of bodies, by name. The letters are those of the bench that the names are shared with: a straight
-//! bodies, b nesting, c blocks and switches; d stands in `wholes`.
+//! What a case is, and the cases of bodies, by name. The letters are those of the bench that the names are shared with:
+//! a straight bodies, b nesting, c blocks and switches; d stands in `wholes`.
 
 use crate::bodies::{Holder, Shape};
 
 /// What is judged.
 #[derive(Clone, Copy)]
-pub enum Subject {
+pub enum Workload {
     /// A function of a shape.
     Body(Shape),
     /// The same, by a validator that judged one of a million expressions before.
@@ -27,7 +27,7 @@ pub enum Subject {
 pub struct Case {
     pub name: &'static str,
     pub statements: usize,
-    pub subject: Subject,
+    pub workload: Workload,
 }
 
 /// The cases of bodies.
@@ -35,87 +35,87 @@ pub static BODIES: [Case; 50] = [
     Case {
         name: "a emit 1000",
         statements: 1000,
-        subject: Subject::Body(Shape::Emits(1000)),
+        workload: Workload::Body(Shape::Emits(1000)),
     },
     Case {
         name: "a emit 10000",
         statements: 10000,
-        subject: Subject::Body(Shape::Emits(10000)),
+        workload: Workload::Body(Shape::Emits(10000)),
     },
     Case {
         name: "a emit 100000",
         statements: 100000,
-        subject: Subject::Body(Shape::Emits(100000)),
+        workload: Workload::Body(Shape::Emits(100000)),
     },
     Case {
         name: "a emit 1000000",
         statements: 1000000,
-        subject: Subject::Body(Shape::Emits(1000000)),
+        workload: Workload::Body(Shape::Emits(1000000)),
     },
     Case {
         name: "a store 1000",
         statements: 1000,
-        subject: Subject::Body(Shape::Stores(1000)),
+        workload: Workload::Body(Shape::Stores(1000)),
     },
     Case {
         name: "a store 10000",
         statements: 10000,
-        subject: Subject::Body(Shape::Stores(10000)),
+        workload: Workload::Body(Shape::Stores(10000)),
     },
     Case {
         name: "a store 100000",
         statements: 100000,
-        subject: Subject::Body(Shape::Stores(100000)),
+        workload: Workload::Body(Shape::Stores(100000)),
     },
     Case {
         name: "a store 1000000",
         statements: 1000000,
-        subject: Subject::Body(Shape::Stores(1000000)),
+        workload: Workload::Body(Shape::Stores(1000000)),
     },
     Case {
         name: "a call 1000",
         statements: 1000,
-        subject: Subject::Body(Shape::Calls(1000)),
+        workload: Workload::Body(Shape::Calls(1000)),
     },
     Case {
         name: "a call 10000",
         statements: 10000,
-        subject: Subject::Body(Shape::Calls(10000)),
+        workload: Workload::Body(Shape::Calls(10000)),
     },
     Case {
         name: "a call 100000",
         statements: 100000,
-        subject: Subject::Body(Shape::Calls(100000)),
+        workload: Workload::Body(Shape::Calls(100000)),
     },
     Case {
         name: "a call 1000000",
         statements: 1000000,
-        subject: Subject::Body(Shape::Calls(1000000)),
+        workload: Workload::Body(Shape::Calls(1000000)),
     },
     Case {
         name: "a mix 1000",
         statements: 1000,
-        subject: Subject::Body(Shape::Mix(1000)),
+        workload: Workload::Body(Shape::Mix(1000)),
     },
     Case {
         name: "a mix 10000",
         statements: 10000,
-        subject: Subject::Body(Shape::Mix(10000)),
+        workload: Workload::Body(Shape::Mix(10000)),
     },
     Case {
         name: "a mix 100000",
         statements: 100000,
-        subject: Subject::Body(Shape::Mix(100000)),
+        workload: Workload::Body(Shape::Mix(100000)),
     },
     Case {
         name: "a mix 1000000",
         statements: 1000000,
-        subject: Subject::Body(Shape::Mix(1000000)),
+        workload: Workload::Body(Shape::Mix(1000000)),
     },
     Case {
         name: "b block depth 200 width 100",
         statements: 40400,
-        subject: Subject::Body(Shape::Nest {
+        workload: Workload::Body(Shape::Nest {
             holder: Holder::Block,
             depth: 200,
             width: 100,
@@ -124,7 +124,7 @@ pub static BODIES: [Case; 50] = [
     Case {
         name: "b if depth 200 width 100",
         statements: 40400,
-        subject: Subject::Body(Shape::Nest {
+        workload: Workload::Body(Shape::Nest {
             holder: Holder::If,
             depth: 200,
             width: 100,
@@ -133,7 +133,7 @@ pub static BODIES: [Case; 50] = [
     Case {
         name: "b loop depth 200 width 100",
         statements: 40400,
-        subject: Subject::Body(Shape::Nest {
+        workload: Workload::Body(Shape::Nest {
             holder: Holder::Loop,
             depth: 200,
             width: 100,
@@ -142,7 +142,7 @@ pub static BODIES: [Case; 50] = [
     Case {
         name: "b mix depth 200 width 100",
         statements: 40400,
-        subject: Subject::Body(Shape::Nest {
+        workload: Workload::Body(Shape::Nest {
             holder: Holder::Mix,
             depth: 200,
             width: 100,
@@ -151,7 +151,7 @@ pub static BODIES: [Case; 50] = [
     Case {
         name: "b block depth 200 width 2",
         statements: 1004,
-        subject: Subject::Body(Shape::Nest {
+        workload: Workload::Body(Shape::Nest {
             holder: Holder::Block,
             depth: 200,
             width: 2,
@@ -160,7 +160,7 @@ pub static BODIES: [Case; 50] = [
     Case {
         name: "b block depth 200 width 25",
         statements: 10250,
-        subject: Subject::Body(Shape::Nest {
+        workload: Workload::Body(Shape::Nest {
             holder: Holder::Block,
             depth: 200,
             width: 25,
@@ -169,7 +169,7 @@ pub static BODIES: [Case; 50] = [
     Case {
         name: "b block depth 200 width 250",
         statements: 100700,
-        subject: Subject::Body(Shape::Nest {
+        workload: Workload::Body(Shape::Nest {
             holder: Holder::Block,
             depth: 200,
             width: 250,
@@ -178,7 +178,7 @@ pub static BODIES: [Case; 50] = [
     Case {
         name: "b block depth 200 width 2500",
         statements: 1005200,
-        subject: Subject::Body(Shape::Nest {
+        workload: Workload::Body(Shape::Nest {
             holder: Holder::Block,
             depth: 200,
             width: 2500,
@@ -187,7 +187,7 @@ pub static BODIES: [Case; 50] = [
     Case {
         name: "b if depth 200 width 2",
         statements: 1004,
-        subject: Subject::Body(Shape::Nest {
+        workload: Workload::Body(Shape::Nest {
             holder: Holder::If,
             depth: 200,
             width: 2,
@@ -196,7 +196,7 @@ pub static BODIES: [Case; 50] = [
     Case {
         name: "b if depth 200 width 25",
         statements: 10250,
-        subject: Subject::Body(Shape::Nest {
+        workload: Workload::Body(Shape::Nest {
             holder: Holder::If,
             depth: 200,
             width: 25,
@@ -205,7 +205,7 @@ pub static BODIES: [Case; 50] = [
     Case {
         name: "b if depth 200 width 250",
         statements: 100700,
-        subject: Subject::Body(Shape::Nest {
+        workload: Workload::Body(Shape::Nest {
             holder: Holder::If,
             depth: 200,
             width: 250,
@@ -214,7 +214,7 @@ pub static BODIES: [Case; 50] = [
     Case {
         name: "b if depth 200 width 2500",
         statements: 1005200,
-        subject: Subject::Body(Shape::Nest {
+        workload: Workload::Body(Shape::Nest {
             holder: Holder::If,
             depth: 200,
             width: 2500,
@@ -223,7 +223,7 @@ pub static BODIES: [Case; 50] = [
     Case {
         name: "b loop depth 200 width 2",
         statements: 1004,
-        subject: Subject::Body(Shape::Nest {
+        workload: Workload::Body(Shape::Nest {
             holder: Holder::Loop,
             depth: 200,
             width: 2,
@@ -232,7 +232,7 @@ pub static BODIES: [Case; 50] = [
     Case {
         name: "b loop depth 200 width 25",
         statements: 10250,
-        subject: Subject::Body(Shape::Nest {
+        workload: Workload::Body(Shape::Nest {
             holder: Holder::Loop,
             depth: 200,
             width: 25,
@@ -241,7 +241,7 @@ pub static BODIES: [Case; 50] = [
     Case {
         name: "b loop depth 200 width 250",
         statements: 100700,
-        subject: Subject::Body(Shape::Nest {
+        workload: Workload::Body(Shape::Nest {
             holder: Holder::Loop,
             depth: 200,
             width: 250,
@@ -250,7 +250,7 @@ pub static BODIES: [Case; 50] = [
     Case {
         name: "b loop depth 200 width 2500",
         statements: 1005200,
-        subject: Subject::Body(Shape::Nest {
+        workload: Workload::Body(Shape::Nest {
             holder: Holder::Loop,
             depth: 200,
             width: 2500,
@@ -259,7 +259,7 @@ pub static BODIES: [Case; 50] = [
     Case {
         name: "b mix depth 200 width 2",
         statements: 1004,
-        subject: Subject::Body(Shape::Nest {
+        workload: Workload::Body(Shape::Nest {
             holder: Holder::Mix,
             depth: 200,
             width: 2,
@@ -268,7 +268,7 @@ pub static BODIES: [Case; 50] = [
     Case {
         name: "b mix depth 200 width 25",
         statements: 10250,
-        subject: Subject::Body(Shape::Nest {
+        workload: Workload::Body(Shape::Nest {
             holder: Holder::Mix,
             depth: 200,
             width: 25,
@@ -277,7 +277,7 @@ pub static BODIES: [Case; 50] = [
     Case {
         name: "b mix depth 200 width 250",
         statements: 100700,
-        subject: Subject::Body(Shape::Nest {
+        workload: Workload::Body(Shape::Nest {
             holder: Holder::Mix,
             depth: 200,
             width: 250,
@@ -286,7 +286,7 @@ pub static BODIES: [Case; 50] = [
     Case {
         name: "b mix depth 200 width 2500",
         statements: 1005200,
-        subject: Subject::Body(Shape::Nest {
+        workload: Workload::Body(Shape::Nest {
             holder: Holder::Mix,
             depth: 200,
             width: 2500,
@@ -295,7 +295,7 @@ pub static BODIES: [Case; 50] = [
     Case {
         name: "c own 10000 blocks of 10",
         statements: 30000,
-        subject: Subject::Body(Shape::Own {
+        workload: Workload::Body(Shape::Own {
             blocks: 10000,
             loads: 10,
         }),
@@ -303,7 +303,7 @@ pub static BODIES: [Case; 50] = [
     Case {
         name: "c own 333 blocks of 10",
         statements: 999,
-        subject: Subject::Body(Shape::Own {
+        workload: Workload::Body(Shape::Own {
             blocks: 333,
             loads: 10,
         }),
@@ -311,7 +311,7 @@ pub static BODIES: [Case; 50] = [
     Case {
         name: "c own 3333 blocks of 10",
         statements: 9999,
-        subject: Subject::Body(Shape::Own {
+        workload: Workload::Body(Shape::Own {
             blocks: 3333,
             loads: 10,
         }),
@@ -319,7 +319,7 @@ pub static BODIES: [Case; 50] = [
     Case {
         name: "c own 33333 blocks of 10",
         statements: 99999,
-        subject: Subject::Body(Shape::Own {
+        workload: Workload::Body(Shape::Own {
             blocks: 33333,
             loads: 10,
         }),
@@ -327,7 +327,7 @@ pub static BODIES: [Case; 50] = [
     Case {
         name: "c own 333333 blocks of 10",
         statements: 999999,
-        subject: Subject::Body(Shape::Own {
+        workload: Workload::Body(Shape::Own {
             blocks: 333333,
             loads: 10,
         }),
@@ -335,7 +335,7 @@ pub static BODIES: [Case; 50] = [
     Case {
         name: "c stores 10000 blocks of 10",
         statements: 110000,
-        subject: Subject::Body(Shape::Blocks {
+        workload: Workload::Body(Shape::Blocks {
             blocks: 10000,
             stores: 10,
         }),
@@ -343,41 +343,41 @@ pub static BODIES: [Case; 50] = [
     Case {
         name: "c switch 1000",
         statements: 1002,
-        subject: Subject::Body(Shape::Switch(1000)),
+        workload: Workload::Body(Shape::Switch(1000)),
     },
     Case {
         name: "c switch 10000",
         statements: 10002,
-        subject: Subject::Body(Shape::Switch(10000)),
+        workload: Workload::Body(Shape::Switch(10000)),
     },
     Case {
         name: "c switch 100000",
         statements: 100002,
-        subject: Subject::Body(Shape::Switch(100000)),
+        workload: Workload::Body(Shape::Switch(100000)),
     },
     Case {
         name: "c switch 1000000",
         statements: 1000002,
-        subject: Subject::Body(Shape::Switch(1000000)),
+        workload: Workload::Body(Shape::Switch(1000000)),
     },
     Case {
         name: "c scattered switch 1000",
         statements: 1002,
-        subject: Subject::Body(Shape::Scattered(1000)),
+        workload: Workload::Body(Shape::Scattered(1000)),
     },
     Case {
         name: "c scattered switch 10000",
         statements: 10002,
-        subject: Subject::Body(Shape::Scattered(10000)),
+        workload: Workload::Body(Shape::Scattered(10000)),
     },
     Case {
         name: "c scattered switch 100000",
         statements: 100002,
-        subject: Subject::Body(Shape::Scattered(100000)),
+        workload: Workload::Body(Shape::Scattered(100000)),
     },
     Case {
         name: "c scattered switch 1000000",
         statements: 1000002,
-        subject: Subject::Body(Shape::Scattered(1000000)),
+        workload: Workload::Body(Shape::Scattered(1000000)),
     },
 ];

@@ -15,7 +15,7 @@ mod timing;
 mod wholes;
 
 use crate::bodies::Shape;
-use crate::cases::{BODIES, Case, Subject};
+use crate::cases::{BODIES, Case, Workload};
 use crate::modules::{Program, fill_entry, fill_module};
 use crate::timing::{Stop, Timed, Times, validator};
 use crate::wholes::WHOLES;
@@ -179,15 +179,15 @@ fn times_of(
     case: Case,
 ) -> Result<Times, Stop> {
     let count = repetitions(case.statements);
-    match case.subject {
-        Subject::Body(shape) => functions(rt, validator, program, shape, 1, count),
-        Subject::AfterLarge(shape) => {
+    match case.workload {
+        Workload::Body(shape) => functions(rt, validator, program, shape, 1, count),
+        Workload::AfterLarge(shape) => {
             judge_large(rt, validator)?;
             functions(rt, validator, program, shape, 1, count)
         }
-        Subject::FirstAfterLarge(shape) => first_after_large(rt, validator, program, shape),
-        Subject::Functions(shape, of) => functions(rt, validator, program, shape, of, count),
-        Subject::Entry {
+        Workload::FirstAfterLarge(shape) => first_after_large(rt, validator, program, shape),
+        Workload::Functions(shape, of) => functions(rt, validator, program, shape, of, count),
+        Workload::Entry {
             location,
             varyings,
             globals,
