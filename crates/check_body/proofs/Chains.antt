@@ -22,7 +22,7 @@ use Rattle.ir_module.specs.Tree.{Act}
 use Rattle.ir_facts.proofs.OtherOperands.{body_fits-other}
 use Rattle.check_errors.specs.Meaning.{Meaning}
 use Rattle.naga_runs.proofs.Laws.{all_listed}
-use Rattle.naga_runs.proofs.VisitOrders.{all_append}
+use Rattle.naga_runs.proofs.EachOf.{all_append}
 use Rattle.naga_runs.proofs.VisitsByTree.{visits_are}
 use Rattle.naga_runs.specs.ByTree.{past, in_case, in_loop, in_continuing, at_break_if, break_if_visits, body_visits, part_visits, case_visits}
 use Rattle.naga_runs.specs.Handles.{Handles}

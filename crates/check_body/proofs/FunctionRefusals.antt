@@ -29,7 +29,8 @@ use Rattle.check_statement.specs.FunctionJudgement.{context_with, lower_step, de
 use Rattle.check_statement.specs.Past.{past_of}
 use Rattle.check_statement.specs.Rules.{body_rules, points_at}
 use Rattle.check_body.specs.FunctionRefusals.{OfRefusedBody, UsesDeadIn, UsesSomeDeadIn, IsStuckIn, RefusedUseIsWitnessed, RefusedJumpIsStuck}
-use Rattle.check_body.proofs.Refused.{Refused, fault_says, node_answered}
+use Rattle.check_body.proofs.Refused.{Refused, fault_says}
+use Rattle.check_body.proofs.RefusedNodes.{node_answered}
 
 -- a fault of a body, at a position
 record RefusedAt (context : Context) (fault : FunctionError) : Type 0 where

@@ -9,6 +9,12 @@ pub mod Shapes
 pub mod Guarded
 pub mod FunctionLaw
 pub mod Refused
+pub mod RefusedFlow
+pub mod RefusedMemory
+pub mod RefusedImages
+pub mod RefusedRays
+pub mod RefusedSubgroups
+pub mod RefusedNodes
 pub mod FunctionRefusals
 pub mod Each
 pub mod Chains

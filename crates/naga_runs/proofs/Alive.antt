@@ -9,9 +9,10 @@ use Rattle.naga_runs.specs.Must.{holds_continue, body_holds_continue, cases_hold
 use Rattle.naga_runs.specs.Positions.{Part, Position, statement_at, case_at, list_in, list_below, node_below, node_at, Root, Inner, Accept, Reject, Case, LoopBody, Continuing, Condition, In}
 use Rattle.naga_runs.specs.PutsAndUses.{acts_of, with_acts, with_body}
 use Rattle.naga_runs.specs.Scope.{with_earlier, with_lists, known_at}
-use Rattle.naga_runs.proofs.Arrivals.{holds}
 use Rattle.naga_runs.proofs.Bools.{not_true, and_both, and_first, and_second, or_map, or_none}
-use Rattle.naga_runs.proofs.Meets.{Stands, node_none}
+use Rattle.naga_runs.proofs.EveryPosition.{node_none}
+use Rattle.naga_runs.proofs.Meets.{Stands}
+use Rattle.naga_runs.proofs.Settings.{holds}
 use Rattle.naga_runs.proofs.Ways.{with_until, with_turn}
 
 -- wherever something stands in a list, it may be come to

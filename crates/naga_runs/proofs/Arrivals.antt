@@ -6,99 +6,18 @@ use Rattle.std.proofs.Common.{refl, sym, ap, subst, arith, append_assoc, append-
 use Rattle.ir_module.specs.Tree.{Stmt, Body, Cases, Use, Leaf, Block, Branch, Switch, Loop, Break, Continue, Return, Kill, Done, Then, NoCase, OneCase}
 use Rattle.ir_module.specs.declared.statements.SwitchValue.{SwitchValue}
 use Rattle.naga_runs.specs.Handles.{Handles}
-use Rattle.naga_runs.specs.Abilities.{may_return_from, may_break_from, may_continue_from, node_jump}
-use Rattle.naga_runs.specs.DeadCode.{has_no_case, goes_on, breaks, continues, list_goes_on, list_breaks, list_continues, cases_go_on, cases_continue, turn_goes_on, earlier_go_on, lists_go_on, may_come}
+use Rattle.naga_runs.specs.DeadCode.{has_no_case, goes_on, breaks, continues, list_goes_on, list_breaks, list_continues, cases_go_on, turn_goes_on, earlier_go_on, lists_go_on, may_come}
 use Rattle.naga_runs.specs.Machine.{Event, Outcome, Run, recorded, after, left, by_choice, at_zero, then_rest, then_case, closing, then_close, turn, turns, run_stmt, run_body, run_cases, Next, Broken, Continued, Returned, Ended, Stopped, Stuck, Ran}
-use Rattle.naga_runs.specs.Must.{holds_continue, body_holds_continue, cases_hold_continue, with_sure}
-use Rattle.naga_runs.specs.Positions.{Part, Position, Node, statement_at, case_at, list_below, condition_node, node_below, node_at, Root, Inner, Accept, Reject, Case, LoopBody, Continuing, Condition, In, StatementNode, BreakIfNode}
+use Rattle.naga_runs.specs.Must.{with_sure}
+use Rattle.naga_runs.specs.Positions.{Part, Position, Node, statement_at, case_at, list_below, condition_node, node_at, Root, Inner, Accept, Reject, Case, LoopBody, Continuing, Condition, In, StatementNode, BreakIfNode}
 use Rattle.naga_runs.specs.PutsAndUses.{acts_of, node_acts, with_acts, with_body}
-use Rattle.naga_runs.specs.Scope.{with_lists, known_at}
-use Rattle.naga_runs.specs.Soundness.{Allowed}
+use Rattle.naga_runs.specs.Scope.{known_at}
 use Rattle.naga_runs.specs.Trail.{Arrival, where_next, where_turned, where_fallen, trail_by_choice, trail_at_zero, trail_closing, trail_turns, trail_stmt, trail_body, trail_cases}
-use Rattle.naga_runs.proofs.Bools.{not_true, and_both, and_second, or_left, or_right, or_map}
+use Rattle.naga_runs.proofs.Bools.{not_true, and_both, or_left, or_right, or_map}
+use Rattle.naga_runs.proofs.Contexts.{node_in}
+use Rattle.naga_runs.proofs.EachOf.{all_append}
+use Rattle.naga_runs.proofs.Settings.{must_in, may_come_in, Setting, past, in_case, in_body, in_continuing, AbleAt, able_of, StmtEnds, ListEnds, CasesEnd, holds}
 use Rattle.naga_runs.proofs.Tallies.{Within, within_all, acts_mono, sure_below, sure_cut, sure_on}
-
--- the same below a statement
-abbrev pub node_in : Stmt → Position → Node
-node_in x p = node_below (Some x) p (node_at (list_below (Some x) p) p)
-
-abbrev pub must_in : Stmt → Handles → Position → Handles
-must_in x s p = known_at with_sure (with_lists with_sure s (Some x) p) (list_below (Some x) p) p
-
-abbrev pub may_come_in : Stmt → Position → Bool
-may_come_in x p = lists_go_on (Some x) p && may_come (list_below (Some x) p) p
-
-pub all_both : {X : Type 0} (P : X → Type 0) (xs ys : List X) → AllByRecursion P xs → AllByRecursion P ys →
-    AllByRecursion P (xs ++ ys)
-all_both P [] ys a b = b
-all_both P (x ∷ xs) ys a b = (a.0, all_both P xs ys a.1 b)
-
--- what a place has from further out
-pub record Setting : Type 0 where
-  pub must : Handles
-  pub ret : Bool
-  pub brk : Bool
-  pub cont : Bool
-
-abbrev pub past : Stmt → Setting → Setting
-past x S = record S { must = with_acts S.must (acts_of x) }
-
-abbrev pub in_case : Setting → Setting
-in_case S = record S { brk = true }
-
-abbrev pub in_body : Setting → Setting
-in_body S = record S { brk = true; cont = true }
-
-abbrev pub in_continuing : Body → Setting → Setting
-in_continuing b S = record { must = with_sure S.must b; ret = false; brk = false; cont = false }
-
-abbrev pub AbleAt : Node → Setting → Position → Type 0
-AbleAt node S p = Allowed (node_jump node) (may_return_from S.ret p) (may_break_from S.brk p)
-    (may_continue_from S.cont p)
-
--- whether the jump that gives this outcome has its ability
-abbrev pub able_of : Setting → Outcome → Bool
-able_of S Broken = S.brk
-able_of S Continued = S.cont
-able_of S Returned = S.ret
-able_of S Stuck = false
-able_of S _ = true
-
--- how a statement, a list, the cases of a Switch end
-abbrev pub StmtEnds : Stmt → Setting → Outcome → Handles → Type 0
-StmtEnds x S Next live = (goes_on x ≡ true) × Within (with_acts S.must (acts_of x)) live
-StmtEnds x S Broken live = breaks x ≡ true
-StmtEnds x S Continued live = (continues x ≡ true) × Within S.must live
-StmtEnds x S _ live = Unit {0}
-
-abbrev pub ListEnds : Body → Setting → Outcome → Handles → Type 0
-ListEnds b S Next live = (list_goes_on b ≡ true) × Within (with_body S.must b) live
-ListEnds b S Broken live = list_breaks b ≡ true
-ListEnds b S Continued live = (list_continues b ≡ true) × Within (with_sure S.must b) live
-ListEnds b S _ live = Unit {0}
-
-abbrev pub CasesEnd : Cases → Setting → Outcome → Handles → Type 0
-CasesEnd cs S Next live = ((has_no_case cs || cases_go_on cs) ≡ true) × Within S.must live
-CasesEnd cs S Broken live = ⊥
-CasesEnd cs S Continued live = (cases_continue cs ≡ true) × Within S.must live
-CasesEnd cs S _ live = Unit {0}
-
--- what gives "continue" holds a Continue
-mutual
-  pub holds : (x : Stmt) → continues x ≡ true → holds_continue x ≡ true
-  holds (Block b) e = list_holds b e
-  holds (Branch h a r) e = or_map _ _ _ _ (list_holds a) (list_holds r) e
-  holds (Switch h cs) e = cases_hold cs e
-  holds Continue e = refl
-  holds x e = absurd (not_true e)
-
-  pub list_holds : (b : Body) → list_continues b ≡ true → body_holds_continue b ≡ true
-  list_holds Done e = e
-  list_holds (Then x b) e = or_map _ _ _ _ (holds x) (λ f. list_holds b (and_second (goes_on x) _ f)) e
-
-  pub cases_hold : (cs : Cases) → cases_continue cs ≡ true → cases_hold_continue cs ≡ true
-  cases_hold NoCase e = e
-  cases_hold (OneCase v falls b cs) e = or_map _ _ _ _ (list_holds b) (cases_hold cs) e
 
 module _ (n : ℕ) (Q A : Arrival → Type 0) where
   -- all able, but the last
@@ -114,13 +33,13 @@ module _ (n : ℕ) (Q A : Arrival → Type 0) where
   Settled false t = LastLacks t
 
   settled_after : (s : Bool) (t u : List Arrival) → AllByRecursion A t → Settled s u → Settled s (t ++ u)
-  settled_after true t u a b = all_both A t u a b
+  settled_after true t u a b = all_append A t u a b
   settled_after false t u a b =
       record {
         before = t ++ b.before;
         last = b.last;
         is = ap (λ v. t ++ v) b.is ∙ sym (append_assoc t b.before (b.last ∷ []));
-        able = all_both A t b.before a b.able;
+        able = all_append A t b.before a b.able;
         lacks = b.lacks;
       }
 
@@ -178,20 +97,20 @@ module _ (n : ℕ) (Q A : Arrival → Type 0) where
       goes_on x ≡ true → AllByRecursion Q t → AllByRecursion A t → Fine (past x S) (ListEnds b (past x S)) r u →
       Fine S (ListEnds (Then x b) S) (after es r) (t ++ u)
   rest_fine x b S es (Ran fs Next i l cs) t u on q a f =
-      (all_both Q t u q f.0, all_both A t u a f.1, (and_both (goes_on x) _ on f.2.0, f.2.1))
+      (all_append Q t u q f.0, all_append A t u a f.1, (and_both (goes_on x) _ on f.2.0, f.2.1))
   rest_fine x b S es (Ran fs Broken i l cs) t u on q a f =
-      (all_both Q t u q f.0, settled_after S.brk t u a f.1, or_right (breaks x) _ (and_both (goes_on x) _ on f.2))
+      (all_append Q t u q f.0, settled_after S.brk t u a f.1, or_right (breaks x) _ (and_both (goes_on x) _ on f.2))
   rest_fine x b S es (Ran fs Continued i l cs) t u on q a f = (
-    all_both Q t u q f.0,
+    all_append Q t u q f.0,
     settled_after S.cont t u a f.1,
     (or_right (continues x) _ (and_both (goes_on x) _ on f.2.0), sure_on x b S.must l f.2.1),
   )
   rest_fine x b S es (Ran fs Returned i l cs) t u on q a f =
-      (all_both Q t u q f.0, settled_after S.ret t u a f.1, tt)
-  rest_fine x b S es (Ran fs Ended i l cs) t u on q a f = (all_both Q t u q f.0, all_both A t u a f.1, tt)
-  rest_fine x b S es (Ran fs Stopped i l cs) t u on q a f = (all_both Q t u q f.0, all_both A t u a f.1, tt)
+      (all_append Q t u q f.0, settled_after S.ret t u a f.1, tt)
+  rest_fine x b S es (Ran fs Ended i l cs) t u on q a f = (all_append Q t u q f.0, all_append A t u a f.1, tt)
+  rest_fine x b S es (Ran fs Stopped i l cs) t u on q a f = (all_append Q t u q f.0, all_append A t u a f.1, tt)
   rest_fine x b S es (Ran fs Stuck i l cs) t u on q a f =
-      (all_both Q t u q f.0, settled_after false t u a f.1, tt)
+      (all_append Q t u q f.0, settled_after false t u a f.1, tt)
 
   -- a statement, and the rest of its list
   then_fine : (x : Stmt) (b : Body) (S : Setting) (i : ℕ) (r : Run) (t : List Arrival)
@@ -218,19 +137,19 @@ module _ (n : ℕ) (Q A : Arrival → Type 0) where
       (t u : List Arrival) → list_goes_on b ≡ true → AllByRecursion Q t → AllByRecursion A t →
       Fine S (CasesEnd more S) r u → Fine S (CasesEnd (OneCase v true b more) S) (after es r) (t ++ u)
   case_next v b more S es (Ran fs Next i l cs) t u on q a f =
-      (all_both Q t u q f.0, all_both A t u a f.1, (fall_on (list_breaks b) _ _ _ on f.2.0, f.2.1))
+      (all_append Q t u q f.0, all_append A t u a f.1, (fall_on (list_breaks b) _ _ _ on f.2.0, f.2.1))
   case_next v b more S es (Ran fs Broken i l cs) t u on q a f = absurd f.2
   case_next v b more S es (Ran fs Continued i l cs) t u on q a f = (
-    all_both Q t u q f.0,
+    all_append Q t u q f.0,
     settled_after S.cont t u a f.1,
     (or_right (list_continues b) _ f.2.0, f.2.1),
   )
   case_next v b more S es (Ran fs Returned i l cs) t u on q a f =
-      (all_both Q t u q f.0, settled_after S.ret t u a f.1, tt)
-  case_next v b more S es (Ran fs Ended i l cs) t u on q a f = (all_both Q t u q f.0, all_both A t u a f.1, tt)
-  case_next v b more S es (Ran fs Stopped i l cs) t u on q a f = (all_both Q t u q f.0, all_both A t u a f.1, tt)
+      (all_append Q t u q f.0, settled_after S.ret t u a f.1, tt)
+  case_next v b more S es (Ran fs Ended i l cs) t u on q a f = (all_append Q t u q f.0, all_append A t u a f.1, tt)
+  case_next v b more S es (Ran fs Stopped i l cs) t u on q a f = (all_append Q t u q f.0, all_append A t u a f.1, tt)
   case_next v b more S es (Ran fs Stuck i l cs) t u on q a f =
-      (all_both Q t u q f.0, settled_after false t u a f.1, tt)
+      (all_append Q t u q f.0, settled_after false t u a f.1, tt)
 
   case_fine : (v : SwitchValue) (falls : Bool) (b : Body) (more : Cases) (S : Setting) (live : Handles) (r : Run)
       (t : List Arrival) (next : List ℕ → Run) (there : List ℕ → List Arrival) → Within S.must live →
@@ -321,7 +240,7 @@ module _ (n : ℕ) (Q A : Arrival → Type 0) where
   prefix_fine : (S : Setting) (E : Outcome → Handles → Type 0) (r : Run) (t u : List Arrival) → AllByRecursion Q t →
       AllByRecursion A t → Fine S E r u → Fine S E r (t ++ u)
   prefix_fine S E (Ran es o i live cs) t u q a f =
-      (all_both Q t u q f.0, settled_after (able_of S o) t u a f.1, f.2)
+      (all_append Q t u q f.0, settled_after (able_of S o) t u a f.1, f.2)
 
   -- the turns of a Loop
   module _ (b c : Body) (S : Setting) (p : Position) (cuts : List (Option ℕ)) (live : Handles)

@@ -6,7 +6,7 @@ use Rattle.ir_module.specs.Tree.{Stmt, Body, Cases, Block, Branch, Switch, Loop,
 use Rattle.naga_runs.specs.Positions.{Part, Position, Node, case_at, list_below, condition_node, node_below, node_at, Root, Inner, Accept, Reject, Case, LoopBody, Continuing, Condition, In, NoNode}
 use Rattle.naga_runs.specs.VisitOrder.{condition_positions, positions_from, positions_below, positions_of_cases, positions}
 
-node_none : (p : Position) → node_at Done p ≡ NoNode
+pub node_none : (p : Position) → node_at Done p ≡ NoNode
 node_none [] = refl
 node_none (In part i ∷ []) = refl
 node_none (In part i ∷ In next j ∷ p) = node_none (In next j ∷ p)

@@ -18,13 +18,14 @@ use Rattle.naga_runs.specs.Trail.{Arrival, trail}
 use Rattle.naga_runs.specs.Unions.{EarlierSibling}
 use Rattle.naga_runs.specs.VisitOrder.{positions, StartsAtRoot}
 use Rattle.naga_runs.proofs.Alive.{Alive, known_same}
-use Rattle.naga_runs.proofs.Arrivals.{Setting, LastLacks, Settled, Fine, ListEnds, from_start, body_law}
+use Rattle.naga_runs.proofs.Arrivals.{LastLacks, Settled, Fine, from_start, body_law}
 use Rattle.naga_runs.proofs.Bools.{not_true, or_none}
 use Rattle.naga_runs.proofs.EveryPosition.{at_every}
 use Rattle.naga_runs.proofs.Meets.{Found, Arrives, ListMeets, Stands, list_met, moved}
 use Rattle.naga_runs.proofs.Laws.{all_listed}
+use Rattle.naga_runs.proofs.Settings.{Setting, ListEnds}
 use Rattle.naga_runs.proofs.Tallies.{Within}
-use Rattle.naga_runs.proofs.Told.{run_tells}
+use Rattle.naga_runs.proofs.TrailEvents.{run_records}
 use Rattle.naga_runs.proofs.UnionsAre.{must_is_union}
 use Rattle.naga_runs.proofs.VisitOrders.{positions_are_visits}
 use Rattle.naga_runs.proofs.Ways.{with_turn}
@@ -337,6 +338,6 @@ every_node pre b (x ∷ t) a = (a.0.node, every_node pre b t a.1)
 pub trail_is_of_run : TrailIsOfRun
 trail_is_of_run =
     record {
-      events = λ pre b n cs. run_tells pre b n cs;
+      events = λ pre b n cs. run_records pre b n cs;
       nodes = λ pre b n cs. every_node pre b (trail b pre n cs) (every_run pre b n cs).0;
     }

@@ -11,8 +11,8 @@ use Rattle.naga_runs.specs.Machine.{Run, run_stmt, run_body, Next, Ran}
 use Rattle.naga_runs.specs.Positions.{Position, Root, LoopBody, Continuing, In, StatementNode}
 use Rattle.naga_runs.specs.Samples.{given}
 use Rattle.naga_runs.specs.Trail.{Arrival, where_next, trail_turns, trail_stmt, trail_body, trail}
-use Rattle.naga_runs.proofs.Arrivals.{all_both}
 use Rattle.naga_runs.proofs.Bools.{not_true}
+use Rattle.naga_runs.proofs.EachOf.{all_append}
 use Rattle.naga_runs.proofs.Exact.{arrived, dead_code_is_exact}
 
 pub dead_code_is_refused : DeadCodeIsRefused
@@ -56,7 +56,7 @@ turns_unput (suc n) m (suc c ∷ cs) =
 
 none_after : (t : List Arrival) (r : Run) → AllByRecursion Unput t →
     AllByRecursion Unput (where_next t r (λ l rest. []))
-none_after t (Ran es Next i l cs) a = all_both Unput t [] a tt
+none_after t (Ran es Next i l cs) a = all_append Unput t [] a tt
 none_after t (Ran es o i l cs) a = a
 
 trail_unput : (n : ℕ) (cs : List ℕ) → AllByRecursion Unput (trail put_twice given n cs)

@@ -14,8 +14,10 @@ use Rattle.naga_runs.specs.Scope.{scope_at}
 use Rattle.naga_runs.specs.Skipped.{skipped_at}
 use Rattle.naga_runs.specs.Soundness.{Fit, HasAbility, SurelyFitsAt, IsSurelyFit, IsSure, SurelyFitIsSure}
 use Rattle.naga_runs.specs.VisitOrder.{positions}
+use Rattle.naga_runs.proofs.Bools.{not_true}
+use Rattle.naga_runs.proofs.Contexts.{Context, At, BodyEnds}
 use Rattle.naga_runs.proofs.EveryPosition.{at_every}
-use Rattle.naga_runs.proofs.Induction.{Context, At, BodyEnds, not_true, Fine, from_start, body_law}
+use Rattle.naga_runs.proofs.Induction.{Fine, from_start, body_law}
 use Rattle.naga_runs.proofs.Tallies.{Tally, acts_grow, acts-append, Fresh, outside, alive, skipped}
 
 fit_fresh : (acts : List Act) (u s : Handles) → Fit u s acts → Fresh s acts

@@ -1,4 +1,6 @@
 pub mod Tallies
+pub mod EachOf
+pub mod Contexts
 pub mod Induction
 pub mod EveryPosition
 pub mod Laws
@@ -13,11 +15,12 @@ pub mod Reading
 pub mod Judgements
 pub mod PlainRulesGuard
 pub mod Bools
+pub mod Settings
 pub mod Arrivals
 pub mod Ways
 pub mod Meets
 pub mod Alive
-pub mod Told
+pub mod TrailEvents
 pub mod Exact
 pub mod ExactnessFacts
 pub mod Witnessed

@@ -10,8 +10,10 @@ use Rattle.naga_runs.specs.Positions.{Part, Position, Node, case_at, list_below,
 use Rattle.naga_runs.specs.PutsAndUses.{with_body}
 use Rattle.naga_runs.specs.Scope.{with_lists, known_at}
 use Rattle.naga_runs.specs.Trail.{Arrival, where_next, where_turned, where_fallen, trail_closing, trail_turns, trail_stmt, trail_body, trail_cases}
-use Rattle.naga_runs.proofs.Arrivals.{node_in, may_come_in}
 use Rattle.naga_runs.proofs.Bools.{and_both, and_first, and_second}
+use Rattle.naga_runs.proofs.Contexts.{node_in}
+use Rattle.naga_runs.proofs.EveryPosition.{node_none}
+use Rattle.naga_runs.proofs.Settings.{may_come_in}
 use Rattle.naga_runs.proofs.Ways.{Gives, StmtWay, ListWay, TurnWay, ByNext, ByContinue, no_bound, past, with_turn, stmt_goes, list_goes, turn_way}
 
 -- one of a trail
@@ -61,11 +63,6 @@ module _ (P : Arrival → Type 0) where
       Found P (where_turned t r rest)
   found_turned_cut t r rest live cs g f =
       subst (λ r. Found P (where_turned t r rest)) (sym g.is) (found_right t (rest (Some g.index) live cs) f)
-
-pub node_none : (p : Position) → node_at Done p ≡ NoNode
-node_none [] = refl
-node_none (In part i ∷ []) = refl
-node_none (In part i ∷ In next j ∷ p) = node_none (In next j ∷ p)
 
 abbrev pub turn_in : Stmt → Handles → Position → Handles
 turn_in x s p = known_at with_turn (with_lists with_turn s (Some x) p) (list_below (Some x) p) p

@@ -17,7 +17,8 @@ use Rattle.naga_runs.specs.Handles.{no_handles}
 use Rattle.naga_runs.specs.Positions.{StatementNode}
 use Rattle.naga_runs.specs.VisitOrder.{positions}
 use Rattle.naga_runs.specs.Visits.{Place, Visit, at_begin, visit_at}
-use Rattle.naga_runs.proofs.VisitOrders.{all_append, unmap}
+use Rattle.naga_runs.proofs.EachOf.{all_append}
+use Rattle.naga_runs.proofs.VisitOrders.{unmap}
 use Rattle.naga_runs.proofs.VisitsByTree.{visits_are}
 
 module _ (operands : ℕ → List ℕ) where

@@ -8,19 +8,10 @@ use Rattle.naga_runs.specs.Handles.{no_handles}
 use Rattle.naga_runs.specs.Positions.{Part, Step, Position, node_at, Root, Inner, Accept, Reject, Case, LoopBody, Continuing, Condition, In, NoNode}
 use Rattle.naga_runs.specs.VisitOrder.{condition_positions, positions_from, positions_below, positions_of_cases, positions, rank_of, IsBefore, IsInOrder, StartsAtRoot, PositionsAreVisits, LiesIn, EarlierPart, LowerIndex}
 use Rattle.naga_runs.specs.Visits.{Place, Visit, at_begin, visit_at}
+use Rattle.naga_runs.proofs.EachOf.{all_append, all_mono}
 use Rattle.naga_runs.proofs.EveryPosition.{at_every}
 use Rattle.naga_runs.proofs.Laws.{all_listed}
 use Rattle.naga_runs.proofs.VisitsByTree.{visits_are}
-
-pub all_append : {A : Type 0} (P : A → Type 0) (xs ys : List A) → AllByRecursion P xs → AllByRecursion P ys →
-    AllByRecursion P (xs ++ ys)
-all_append P [] ys a b = b
-all_append P (x ∷ xs) ys a b = (a.0, all_append P xs ys a.1 b)
-
-all_mono : {A : Type 0} (P Q : A → Type 0) (xs : List A) → ((x : A) → P x → Q x) → AllByRecursion P xs →
-    AllByRecursion Q xs
-all_mono P Q [] f a = tt
-all_mono P Q (x ∷ xs) f a = (f x a.0, all_mono P Q xs f a.1)
 
 all_map : {A B : Type 0} (P : B → Type 0) (g : A → B) (xs : List A) → AllByRecursion (λ x. P (g x)) xs →
     AllByRecursion P (map g xs)

@@ -1,10 +1,10 @@
 -- Ways: choices with which a statement, a list or a Switch ends as the tree says that it may. Where it stands, what is
 -- live, and which choices follow makes no difference.
-use Rattle.std.specs.Prelude.{ℕ, zero, suc, Bool, true, false, not, List, Option, Some, None, ◌≡◌, ◌⊎◌, ◌∷◌, ◌++◌, ◌||◌, ◌&&◌, if◌then◌else◌, [], ◌+◌, ◌≤◌}
+use Rattle.std.specs.Prelude.{ℕ, zero, suc, Bool, true, false, not, List, Option, Some, None, ◌≡◌, ◌⊎◌, ◌∷◌, ◌++◌, ◌||◌, ◌&&◌, if◌then◌else◌, [], ◌+◌, ◌≤◌, is_some}
 use Rattle.std.proofs.Common.{refl, sym, ap, subst, arith, append_assoc, append-nil, inl, inr, ◌∙◌}
 use Rattle.ir_module.specs.Tree.{Stmt, Body, Cases, Use, Leaf, Block, Branch, Switch, Loop, Break, Continue, Return, Kill, Done, Then, NoCase, OneCase}
 use Rattle.ir_module.specs.declared.statements.SwitchValue.{SwitchValue}
-use Rattle.naga_runs.specs.DeadCode.{has_no_case, has_condition, goes_on, breaks, continues, list_goes_on, list_breaks, list_continues, cases_go_on, cases_continue, turn_goes_on}
+use Rattle.naga_runs.specs.DeadCode.{has_no_case, goes_on, breaks, continues, list_goes_on, list_breaks, list_continues, cases_go_on, cases_continue, turn_goes_on}
 use Rattle.naga_runs.specs.Handles.{Handles}
 use Rattle.naga_runs.specs.Machine.{Event, Outcome, Run, recorded, after, left, then_rest, then_case, then_close, turn, turns, run_stmt, run_body, run_cases, Next, Broken, Continued, Returned, Ended, Stopped, Stuck, Ran}
 use Rattle.naga_runs.specs.Positions.{Part, Position, Inner, Accept, Reject, Case, LoopBody, Continuing, Condition, In}
@@ -357,7 +357,7 @@ loop_of : (b c : Body) (q : Option ℕ) →
     (list_breaks b ≡ true → ListWay b Broken (λ live. with_until breaks live b)) →
     (turn_goes_on b ≡ true → TurnWay b (λ live. with_turn live b)) →
     (list_goes_on c ≡ true → ListWay c Next (λ live. with_body live c)) →
-    (list_breaks b ≡ true) ⊎ ((turn_goes_on b && (list_goes_on c && has_condition q)) ≡ true) →
+    (list_breaks b ≡ true) ⊎ ((turn_goes_on b && (list_goes_on c && is_some q)) ≡ true) →
     StmtWay (Loop b c q) Next same
 loop_of b c q br turned on (inl e) = loop_breaks b c q _ (br e)
 loop_of b c None br turned on (inr e) =

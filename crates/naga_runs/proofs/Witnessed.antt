@@ -16,8 +16,9 @@ use Rattle.naga_runs.specs.VisitOrder.{positions}
 use Rattle.naga_runs.specs.Visits.{Visit, visit_at, visits_of}
 use Rattle.naga_runs.specs.Witnesses.{UsesAreWitnessed, JumpsAreWitnessed, IsFaultAt, FaultIsOfAVisit}
 use Rattle.naga_runs.proofs.Alive.{known_same}
+use Rattle.naga_runs.proofs.EachOf.{all_mono}
 use Rattle.naga_runs.proofs.Exact.{witness, clean_come, alive_of, arrived, stuck_by}
-use Rattle.naga_runs.proofs.Told.{told, run_tells}
+use Rattle.naga_runs.proofs.TrailEvents.{events_at, run_records}
 
 -- among the acts that are recorded
 record RecordedUse (acts : List Act) (before : List Act) (live : Handles) (p : Position) (cuts : List (Option ℕ))
@@ -58,27 +59,22 @@ recorded_use (Put g ∷ done) rest h before live p cuts =
       lives = more.lives;
     }
 
-all_mono : {A : Type 0} (P Q : A → Type 0) (xs : List A) → ((x : A) → P x → Q x) → AllByRecursion P xs →
-    AllByRecursion Q xs
-all_mono P Q [] f a = tt
-all_mono P Q (x ∷ xs) f a = (f x a.0, all_mono P Q xs f a.1)
-
--- what an arrival tells, its trail does
-all_told : (t : List Arrival) →
-    AllByRecursion (λ a. (e : Event) → Contains (told a) e → Contains (flat_map told t) e) t
-all_told [] = tt
-all_told (x ∷ t) = (
-  λ e c. Contains-append_left (told x) (flat_map told t) e c,
-  all_mono (λ a. (e : Event) → Contains (told a) e → Contains (flat_map told t) e)
-      (λ a. (e : Event) → Contains (told a) e → Contains (told x ++ flat_map told t) e) t
-      (λ a f e c. Contains-append_right (told x) (flat_map told t) e (f e c)) (all_told t),
+-- what an arrival records, its trail does
+all_recorded : (t : List Arrival) →
+    AllByRecursion (λ a. (e : Event) → Contains (events_at a) e → Contains (flat_map events_at t) e) t
+all_recorded [] = tt
+all_recorded (x ∷ t) = (
+  λ e c. Contains-append_left (events_at x) (flat_map events_at t) e c,
+  all_mono (λ a. (e : Event) → Contains (events_at a) e → Contains (flat_map events_at t) e)
+      (λ a. (e : Event) → Contains (events_at a) e → Contains (events_at x ++ flat_map events_at t) e) t
+      (λ a f e c. Contains-append_right (events_at x) (flat_map events_at t) e (f e c)) (all_recorded t),
 )
 
-told_in : (t : List Arrival) (a : Arrival) (e : Event) → Contains t a → Contains (told a) e →
-    Contains (flat_map told t) e
-told_in t a e c d =
-    All-contains (λ a. (e : Event) → Contains (told a) e → Contains (flat_map told t) e) t a
-    (All-from_recursion (λ a. (e : Event) → Contains (told a) e → Contains (flat_map told t) e) t (all_told t)) c e d
+recorded_in : (t : List Arrival) (a : Arrival) (e : Event) → Contains t a → Contains (events_at a) e →
+    Contains (flat_map events_at t) e
+recorded_in t a e c d =
+    All-contains (λ a. (e : Event) → Contains (events_at a) e → Contains (flat_map events_at t) e) t a
+    (All-from_recursion (λ a. (e : Event) → Contains (events_at a) e → Contains (flat_map events_at t) e) t (all_recorded t)) c e d
 
 pub uses_are_witnessed : UsesAreWitnessed
 uses_are_witnessed pre b clean p c h u =
@@ -95,8 +91,8 @@ uses_are_witnessed pre b clean p c h u =
       bound = there.bound;
       choices = there.choices;
       event = found.event;
-      recorded = subst (λ es. Contains es found.event) (sym (run_tells pre b there.bound there.choices))
-          (told_in (trail b pre there.bound there.choices) a found.event there.comes.in_trail found.is_recorded);
+      recorded = subst (λ es. Contains es found.event) (sym (run_records pre b there.bound there.choices))
+          (recorded_in (trail b pre there.bound there.choices) a found.event there.comes.in_trail found.is_recorded);
       uses = found.uses;
       dead = ap (λ l. l h) (found.lives ∙ ap (λ l. with_acts l u.done) lives) ∙ u.unknown;
     }

@@ -1,6 +1,6 @@
 -- Dead code over the tree: whether each position of a body may be come to, computed without a run.
 use Rattle.std.specs.List.{list_any}
-use Rattle.std.specs.Prelude.{ℕ, zero, suc, Bool, true, false, not, Option, Some, None, ◌∷◌, ◌||◌, ◌&&◌, []}
+use Rattle.std.specs.Prelude.{ℕ, zero, suc, Bool, true, false, not, Option, Some, is_some, ◌∷◌, ◌||◌, ◌&&◌, []}
 use Rattle.ir_module.specs.Tree.{Stmt, Body, Cases, Leaf, Block, Branch, Switch, Loop, Break, Continue, Kill, Done, Then, NoCase, OneCase}
 use Rattle.naga_runs.specs.Positions.{Position, statement_at, list_below, Continuing, Condition, In}
 use Rattle.naga_runs.specs.VisitOrder.{positions}
@@ -8,10 +8,6 @@ use Rattle.naga_runs.specs.VisitOrder.{positions}
 abbrev pub has_no_case : Cases → Bool
 has_no_case NoCase = true
 has_no_case (OneCase v falls b cs) = false
-
-abbrev pub has_condition : Option ℕ → Bool
-has_condition None = false
-has_condition (Some h) = true
 
 -- Whether a statement, a list or a Switch with these cases may go on, may end by a Break that leaves it, may end by a
 -- Continue that leaves it. A Loop goes on by a Break in its body list, or by its break condition.
@@ -22,7 +18,7 @@ abbrev mutual
   goes_on (Branch h a r) = list_goes_on a || list_goes_on r
   goes_on (Switch h cs) = cases_go_on cs
   goes_on (Loop b c q) =
-      list_breaks b || ((list_goes_on b || list_continues b) && (list_goes_on c && has_condition q))
+      list_breaks b || ((list_goes_on b || list_continues b) && (list_goes_on c && is_some q))
   goes_on Kill = true
   goes_on _ = false
 

@@ -2,9 +2,10 @@
 -- bound how many turns one execution of a Loop may begin. It computes no values and enters no function that is called.
 use Rattle.std.specs.Prelude.{ℕ, zero, suc, Bool, true, false, List, Option, Some, None, ◌∷◌, ◌++◌, []}
 use Rattle.ir_module.specs.Tree.{Act, Stmt, Body, Cases, Use, Leaf, Block, Branch, Switch, Loop, Break, Continue, Return, Kill, Done, Then, NoCase, OneCase}
+use Rattle.ir_module.specs.View.{used_if}
 use Rattle.naga_runs.specs.Handles.{Handles}
 use Rattle.naga_runs.specs.Positions.{Part, Position, condition_node, Root, Inner, Accept, Reject, Case, LoopBody, Continuing, Condition, In}
-use Rattle.naga_runs.specs.PutsAndUses.{value_acts, node_acts, with_acts}
+use Rattle.naga_runs.specs.PutsAndUses.{node_acts, with_acts}
 
 -- A use or a put, as a run records it.
 pub record Event : Type 0 where
@@ -130,7 +131,7 @@ abbrev mutual
       (λ cut l rest. run_body c n Continuing 0 p (cuts ++ cut ∷ []) l rest) q p cuts live cs
   run_stmt Break n p cuts live cs = Ran [] Broken 0 live cs
   run_stmt Continue n p cuts live cs = Ran [] Continued 0 live cs
-  run_stmt (Return v) n p cuts live cs = Ran (recorded (value_acts v) [] live p cuts) Returned 0 live cs
+  run_stmt (Return v) n p cuts live cs = Ran (recorded (used_if v) [] live p cuts) Returned 0 live cs
   run_stmt Kill n p cuts live cs =
       by_choice live cs (λ c rest. at_zero c (λ rest. Ran [] Ended 0 live rest) (λ rest. Ran [] Next 0 live rest) rest)
 

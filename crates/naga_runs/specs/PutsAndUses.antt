@@ -1,12 +1,9 @@
 -- Puts and uses: what a statement does with handles itself, without what its parts do.
-use Rattle.std.specs.Prelude.{ℕ, List, Option, Some, None, ◌∷◌, ◌++◌, []}
+use Rattle.std.specs.Prelude.{ℕ, List, ◌∷◌, ◌++◌, []}
 use Rattle.ir_module.specs.Tree.{Act, Stmt, Body, Use, Put, Leaf, Branch, Switch, Return, Done, Then}
+use Rattle.ir_module.specs.View.{used_if}
 use Rattle.naga_runs.specs.Handles.{Handles, with_handle}
 use Rattle.naga_runs.specs.Positions.{Node, NoNode, StatementNode, BreakIfNode}
-
-abbrev pub value_acts : Option ℕ → List Act
-value_acts None = []
-value_acts (Some h) = Use h ∷ []
 
 -- The acts of a statement in order. An If uses its condition, a Switch its selector, a Return its value if it has
 -- one; Block, Loop, Break, Continue and Kill do nothing themselves. Every other kind is a leaf of the tree, which has
@@ -15,7 +12,7 @@ abbrev pub acts_of : Stmt → List Act
 acts_of (Leaf acts x span) = acts
 acts_of (Branch h a r) = Use h ∷ []
 acts_of (Switch h cs) = Use h ∷ []
-acts_of (Return v) = value_acts v
+acts_of (Return v) = used_if v
 acts_of _ = []
 
 -- A break condition uses its one handle.

@@ -13,8 +13,8 @@ use Rattle.naga_runs.specs.WorkedPlaces.{musts}
 use Rattle.naga_runs.specs.WorkedRuns.{ends}
 
 -- the events of a run with these choices: the act, where it stands, what is live before it, and what is skipped there
-abbrev pub told : Body → List ℕ → List (Act × Position × List ℕ × List ℕ)
-told b choices =
+abbrev pub recorded_by : Body → List ℕ → List (Act × Position × List ℕ × List ℕ)
+recorded_by b choices =
     map (λ e. (e.act, e.position, members_below 7 e.live, members_below 7 (skipped_at b e.position e.cuts)))
     (events_of (run b given 1 choices))
 
@@ -33,7 +33,7 @@ pub record InnerBlockContinues : Type 0 where
       ∷ (0 ∷ 1 ∷ 2 ∷ 4 ∷ [])
       ∷ []
   pub refused : plainly continue_in_inner_block ≡ Err (NotInScope 3)
-  pub skips : told continue_in_inner_block (0 ∷ 0 ∷ []) ≡
+  pub skips : recorded_by continue_in_inner_block (0 ∷ 0 ∷ []) ≡
       (Use 0, In Root 0 ∷ In LoopBody 0 ∷ [], 0 ∷ 1 ∷ 2 ∷ 4 ∷ [], [])
       ∷ (Use 3, In Root 0 ∷ In Condition 0 ∷ [], 0 ∷ 1 ∷ 2 ∷ 4 ∷ [], 3 ∷ [])
       ∷ []
@@ -51,7 +51,7 @@ pub record ContinuingContinues : Type 0 where
       ∷ (0 ∷ 1 ∷ 2 ∷ 3 ∷ 4 ∷ [])
       ∷ []
   pub refused : plainly continue_in_continuing ≡ Err ContinueOutside
-  pub comes_to_it : told continue_in_continuing (0 ∷ []) ≡
+  pub comes_to_it : recorded_by continue_in_continuing (0 ∷ []) ≡
       (Use 1, In Root 0 ∷ In LoopBody 0 ∷ In Continuing 0 ∷ [], 0 ∷ 1 ∷ 2 ∷ 4 ∷ [], [])
       ∷ []
   pub stuck : ends continue_in_continuing (0 ∷ []) ≡ Stuck
@@ -67,11 +67,11 @@ pub record ReturnsFirst : Type 0 where
       ∷ (0 ∷ 1 ∷ 2 ∷ 4 ∷ [])
       ∷ []
   pub refused : plainly continue_behind_return ≡ Err (NotInScope 3)
-  pub uses : told continue_behind_return (0 ∷ []) ≡
+  pub uses : recorded_by continue_behind_return (0 ∷ []) ≡
       (Use 0, In Root 0 ∷ In LoopBody 0 ∷ [], 0 ∷ 1 ∷ 2 ∷ 4 ∷ [], [])
       ∷ []
   pub returns : ends continue_behind_return (0 ∷ []) ≡ Returned
-  pub puts : told continue_behind_return (1 ∷ 0 ∷ []) ≡
+  pub puts : recorded_by continue_behind_return (1 ∷ 0 ∷ []) ≡
       (Use 0, In Root 0 ∷ In LoopBody 0 ∷ [], 0 ∷ 1 ∷ 2 ∷ 4 ∷ [], [])
       ∷ (Put 3, In Root 0 ∷ In LoopBody 1 ∷ [], 0 ∷ 1 ∷ 2 ∷ 4 ∷ [], [])
       ∷ (Use 3, In Root 0 ∷ In Condition 0 ∷ [], 0 ∷ 1 ∷ 2 ∷ 3 ∷ 4 ∷ [], [])
@@ -91,17 +91,17 @@ pub record ContinuesTwice : Type 0 where
       ∷ (0 ∷ 1 ∷ 2 ∷ 4 ∷ [])
       ∷ []
   pub refused : plainly two_continues ≡ Err (NotInScope 3)
-  pub first : told two_continues (0 ∷ 0 ∷ []) ≡
+  pub first : recorded_by two_continues (0 ∷ 0 ∷ []) ≡
       (Use 0, In Root 0 ∷ In LoopBody 0 ∷ [], 0 ∷ 1 ∷ 2 ∷ 4 ∷ [], [])
       ∷ (Use 3, In Root 0 ∷ In Condition 0 ∷ [], 0 ∷ 1 ∷ 2 ∷ 4 ∷ [], 3 ∷ 5 ∷ [])
       ∷ []
-  pub second : told two_continues (1 ∷ 0 ∷ 0 ∷ []) ≡
+  pub second : recorded_by two_continues (1 ∷ 0 ∷ 0 ∷ []) ≡
       (Use 0, In Root 0 ∷ In LoopBody 0 ∷ [], 0 ∷ 1 ∷ 2 ∷ 4 ∷ [], [])
       ∷ (Put 3, In Root 0 ∷ In LoopBody 1 ∷ [], 0 ∷ 1 ∷ 2 ∷ 4 ∷ [], [])
       ∷ (Use 0, In Root 0 ∷ In LoopBody 2 ∷ [], 0 ∷ 1 ∷ 2 ∷ 3 ∷ 4 ∷ [], [])
       ∷ (Use 3, In Root 0 ∷ In Condition 0 ∷ [], 0 ∷ 1 ∷ 2 ∷ 3 ∷ 4 ∷ [], 5 ∷ [])
       ∷ []
-  pub neither : told two_continues (1 ∷ 1 ∷ 0 ∷ []) ≡
+  pub neither : recorded_by two_continues (1 ∷ 1 ∷ 0 ∷ []) ≡
       (Use 0, In Root 0 ∷ In LoopBody 0 ∷ [], 0 ∷ 1 ∷ 2 ∷ 4 ∷ [], [])
       ∷ (Put 3, In Root 0 ∷ In LoopBody 1 ∷ [], 0 ∷ 1 ∷ 2 ∷ 4 ∷ [], [])
       ∷ (Use 0, In Root 0 ∷ In LoopBody 2 ∷ [], 0 ∷ 1 ∷ 2 ∷ 3 ∷ 4 ∷ [], [])
@@ -120,7 +120,7 @@ pub record InnerContinues : Type 0 where
       ∷ (0 ∷ 1 ∷ 2 ∷ 3 ∷ 4 ∷ [])
       ∷ []
   pub accepted : plainly inner_continue_before ≡ Ok 6
-  pub puts : told inner_continue_before (0 ∷ 0 ∷ []) ≡
+  pub puts : recorded_by inner_continue_before (0 ∷ 0 ∷ []) ≡
       (Use 0, In Root 0 ∷ In LoopBody 0 ∷ In Condition 0 ∷ [], 0 ∷ 1 ∷ 2 ∷ 4 ∷ [], [])
       ∷ (Put 3, In Root 0 ∷ In LoopBody 1 ∷ [], 0 ∷ 1 ∷ 2 ∷ 4 ∷ [], [])
       ∷ (Use 3, In Root 0 ∷ In Condition 0 ∷ [], 0 ∷ 1 ∷ 2 ∷ 3 ∷ 4 ∷ [], [])
@@ -140,13 +140,13 @@ pub record EmitsRoundContinue : Type 0 where
       ∷ (0 ∷ 1 ∷ 2 ∷ 3 ∷ 4 ∷ [])
       ∷ []
   pub refused : plainly emits_round_continue ≡ Err (NotInScope 5)
-  pub skips : told emits_round_continue (0 ∷ 0 ∷ 0 ∷ []) ≡
+  pub skips : recorded_by emits_round_continue (0 ∷ 0 ∷ 0 ∷ []) ≡
       (Put 3, In Root 0 ∷ In LoopBody 0 ∷ [], 0 ∷ 1 ∷ 2 ∷ 4 ∷ [], [])
       ∷ (Use 0, In Root 0 ∷ In LoopBody 1 ∷ [], 0 ∷ 1 ∷ 2 ∷ 3 ∷ 4 ∷ [], [])
       ∷ (Use 3, In Root 0 ∷ In Continuing 0 ∷ [], 0 ∷ 1 ∷ 2 ∷ 3 ∷ 4 ∷ [], 5 ∷ [])
       ∷ (Use 5, In Root 0 ∷ In Continuing 1 ∷ [], 0 ∷ 1 ∷ 2 ∷ 3 ∷ 4 ∷ [], 5 ∷ [])
       ∷ []
-  pub puts : told emits_round_continue (1 ∷ 0 ∷ 0 ∷ []) ≡
+  pub puts : recorded_by emits_round_continue (1 ∷ 0 ∷ 0 ∷ []) ≡
       (Put 3, In Root 0 ∷ In LoopBody 0 ∷ [], 0 ∷ 1 ∷ 2 ∷ 4 ∷ [], [])
       ∷ (Use 0, In Root 0 ∷ In LoopBody 1 ∷ [], 0 ∷ 1 ∷ 2 ∷ 3 ∷ 4 ∷ [], [])
       ∷ (Put 5, In Root 0 ∷ In LoopBody 2 ∷ [], 0 ∷ 1 ∷ 2 ∷ 3 ∷ 4 ∷ [], [])
@@ -158,46 +158,46 @@ pub record EmitsRoundContinue : Type 0 where
 -- One run each of bodies that stand among the judgements: what is refused there is not live here, or put while it is.
 pub record RowsRun : Type 0 where
   -- loop { emit 3 if 0 { continue } { } } { } break_if 3, where 3 has the operand 0
-  pub emitted_first : told sure_loop (0 ∷ 0 ∷ []) ≡
+  pub emitted_first : recorded_by sure_loop (0 ∷ 0 ∷ []) ≡
       (Use 0, In Root 0 ∷ In LoopBody 0 ∷ [], 0 ∷ 1 ∷ 2 ∷ 4 ∷ [], [])
       ∷ (Put 3, In Root 0 ∷ In LoopBody 0 ∷ [], 0 ∷ 1 ∷ 2 ∷ 4 ∷ [], [])
       ∷ (Use 0, In Root 0 ∷ In LoopBody 1 ∷ [], 0 ∷ 1 ∷ 2 ∷ 3 ∷ 4 ∷ [], [])
       ∷ (Use 3, In Root 0 ∷ In Condition 0 ∷ [], 0 ∷ 1 ∷ 2 ∷ 3 ∷ 4 ∷ [], [])
       ∷ []
   -- loop { if 0 { continue } { } emit 3 if 3 { } { } } { }
-  pub in_the_body : told (one (Loop (Then may_continue_here (Then (emit 3) (one (reads 3)))) Done None)) (1 ∷ 0 ∷ []) ≡
+  pub in_the_body : recorded_by (one (Loop (Then may_continue_here (Then (emit 3) (one (reads 3)))) Done None)) (1 ∷ 0 ∷ []) ≡
       (Use 0, In Root 0 ∷ In LoopBody 0 ∷ [], 0 ∷ 1 ∷ 2 ∷ 4 ∷ [], [])
       ∷ (Put 3, In Root 0 ∷ In LoopBody 1 ∷ [], 0 ∷ 1 ∷ 2 ∷ 4 ∷ [], [])
       ∷ (Use 3, In Root 0 ∷ In LoopBody 2 ∷ [], 0 ∷ 1 ∷ 2 ∷ 3 ∷ 4 ∷ [], [])
       ∷ []
   -- loop { if 0 { continue } { } emit 3 } { emit 3 }
-  pub put_again : told (one (Loop (Then may_continue_here (one (emit 3))) (one (emit 3)) None)) (1 ∷ []) ≡
+  pub put_again : recorded_by (one (Loop (Then may_continue_here (one (emit 3))) (one (emit 3)) None)) (1 ∷ []) ≡
       (Use 0, In Root 0 ∷ In LoopBody 0 ∷ [], 0 ∷ 1 ∷ 2 ∷ 4 ∷ [], [])
       ∷ (Put 3, In Root 0 ∷ In LoopBody 1 ∷ [], 0 ∷ 1 ∷ 2 ∷ 4 ∷ [], [])
       ∷ (Put 3, In Root 0 ∷ In Continuing 0 ∷ [], 0 ∷ 1 ∷ 2 ∷ 3 ∷ 4 ∷ [], [])
       ∷ []
   -- loop { switch 1 { default { continue } } emit 3 } { } break_if 3
-  pub continue_in_switch : told continue_in_switch (0 ∷ 0 ∷ []) ≡
+  pub continue_in_switch : recorded_by continue_in_switch (0 ∷ 0 ∷ []) ≡
       (Use 1, In Root 0 ∷ In LoopBody 0 ∷ [], 0 ∷ 1 ∷ 2 ∷ 4 ∷ [], [])
       ∷ (Use 3, In Root 0 ∷ In Condition 0 ∷ [], 0 ∷ 1 ∷ 2 ∷ 4 ∷ [], 3 ∷ [])
       ∷ []
   -- loop { break continue emit 3 } { } break_if 3
-  pub dead_continue : told dead_continue [] ≡
+  pub dead_continue : recorded_by dead_continue [] ≡
       []
   -- loop { if 0 { continue } { } emit 3 } { loop { if 3 { } { } } { } }
   pub further_in :
-      told (one (Loop (Then may_continue_here (one (emit 3))) (one (Loop (one (reads 3)) Done None)) None)) (0 ∷ 0 ∷ []) ≡
+      recorded_by (one (Loop (Then may_continue_here (one (emit 3))) (one (Loop (one (reads 3)) Done None)) None)) (0 ∷ 0 ∷ []) ≡
       (Use 0, In Root 0 ∷ In LoopBody 0 ∷ [], 0 ∷ 1 ∷ 2 ∷ 4 ∷ [], [])
       ∷ (Use 3, In Root 0 ∷ In Continuing 0 ∷ In LoopBody 0 ∷ [], 0 ∷ 1 ∷ 2 ∷ 4 ∷ [], 3 ∷ [])
       ∷ []
   -- loop { if 0 { continue } { } emit 5 } { emit 6 }
-  pub operand_skipped : told (one (Loop (Then may_continue_here (one emit_5)) (one emit_6) None)) (0 ∷ []) ≡
+  pub operand_skipped : recorded_by (one (Loop (Then may_continue_here (one emit_5)) (one emit_6) None)) (0 ∷ []) ≡
       (Use 0, In Root 0 ∷ In LoopBody 0 ∷ [], 0 ∷ 1 ∷ 2 ∷ 4 ∷ [], [])
       ∷ (Use 5, In Root 0 ∷ In Continuing 0 ∷ [], 0 ∷ 1 ∷ 2 ∷ 4 ∷ [], 5 ∷ [])
       ∷ (Put 6, In Root 0 ∷ In Continuing 0 ∷ [], 0 ∷ 1 ∷ 2 ∷ 4 ∷ [], 5 ∷ [])
       ∷ []
   -- loop { if 0 { continue } { } emit 3 } { a call with the argument 3 }
-  pub argument_skipped : told (one (Loop (Then may_continue_here (one (emit 3))) (one (calls_with 3)) None)) (0 ∷ []) ≡
+  pub argument_skipped : recorded_by (one (Loop (Then may_continue_here (one (emit 3))) (one (calls_with 3)) None)) (0 ∷ []) ≡
       (Use 0, In Root 0 ∷ In LoopBody 0 ∷ [], 0 ∷ 1 ∷ 2 ∷ 4 ∷ [], [])
       ∷ (Use 3, In Root 0 ∷ In Continuing 0 ∷ [], 0 ∷ 1 ∷ 2 ∷ 4 ∷ [], 3 ∷ [])
       ∷ []
