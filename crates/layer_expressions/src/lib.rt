@@ -1,4 +1,4 @@
-//! The types of expressions, computed from a module alone, or the rule that an expression breaks ([`types_of`], [`global_types`]).
+//! The types of expressions, computed from a module alone, or the rule that one breaks ([`types_of`], [`global_types`]).
 #![tactic(auto)]
 
 pub mod access;

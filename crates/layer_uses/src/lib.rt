@@ -1,4 +1,4 @@
-//! The stages of expressions, the uses of globals and when values are known, by a function alone ([`uses_of`], [`stages_of`], [`kinds_of`]).
+//! Stages of expressions, uses of globals, kinds of values, by a function alone ([`stages_of`], [`uses_of`], [`kinds_of`]).
 #![tactic(auto)]
 
 pub mod joins;

@@ -1,4 +1,4 @@
-//! For users: three lower layers: `Recorded` answers recorded facts, `Typed` computes, and `Plain` types the plainest expressions.
+//! For users: three lower layers: `Recorded` answers recorded facts, `Typed` computes, `Plain` types the plainest expressions.
 #![tactic(auto)]
 
 pub mod facts;

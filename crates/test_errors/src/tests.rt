@@ -1,6 +1,8 @@
-//! Tests of what no clause says: printed names and sentences, calls with ample memory, and a lower layer that answers within its laws.
+//! Tests of what no clause says: printed names and sentences, calls with ample memory, and a lower layer that answers
+//! within its laws.
 //!
-//! What owns memory is made by a helper, looked at by helpers that take references, and let go by `drop`: so the proofs stay small.
+//! What owns memory is made by a helper, read by helpers that take references, and dropped by `drop`: so the proofs
+//! stay small.
 
 ghost use Rattle.std.specs.Prelude.{◌≡◌, true};
 

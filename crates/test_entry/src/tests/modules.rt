@@ -14,8 +14,8 @@ use naga_rules::Below;
 use naga_valid::EntryPointError;
 use std::process::Abort;
 
-/// A module of this function and this entry point, if they are there. Its types, and what is known of them, are those of the rows of
-/// entry points; of a function the body counts alone.
+/// A module of this function and this entry point, if they are there. Its types, and what is known of them, are those
+/// of the rows of entry points; of a function the body counts alone.
 #[derive(Clone, Copy)]
 pub struct Parts {
     function: Option<Case>,

@@ -65,9 +65,27 @@ impl Below for Bools {
     ghost use Rattle.check_errors.specs.Lawful.{IsNoStruct};
 
     ghost meaning = { λ _. record {
-      function_info = λ f m _ _ _. Ok (record { expression_types = replicate (length f.expressions) (Value (ScalarType bool_scalar)); global_uses = replicate (length m.global_variables) READ; available_stages = ALL_STAGES; dual_source_blending = false });
+      function_info = λ f m _ _ _. Ok (record {
+        expression_types = replicate (length f.expressions) (Value (ScalarType bool_scalar));
+        global_uses = replicate (length m.global_variables) READ;
+        available_stages = ALL_STAGES;
+        dual_source_blending = false;
+      });
       expression_stages = λ _ _ _ _ _ _ _. Err NotInScope;
-      mesh_analysis = λ _ output. record { implied = record { topology = Points; max_vertices = 1; max_vertices_override = None; max_primitives = 1; max_primitives_override = None; vertex_output_type = 0; primitive_output_type = 0; output_variable = output }; overrides = None ∷ None ∷ []; fault = None };
+      mesh_analysis = λ _ output. record {
+        implied = record {
+          topology = Points;
+          max_vertices = 1;
+          max_vertices_override = None;
+          max_primitives = 1;
+          max_primitives_override = None;
+          vertex_output_type = 0;
+          primitive_output_type = 0;
+          output_variable = output;
+        };
+        overrides = None ∷ None ∷ [];
+        fault = None;
+      };
       kinds_of = λ es. replicate (length es) Const;
       size_of = λ _ _. Some 1;
     } };

@@ -332,7 +332,8 @@ fn expect_last(rt: &impl Abort, module: &Module, fits: bool) {
     holds!(rt; fits_function(last, module, 1) == fits);
 }
 
-/// The module of the first handles with this function behind its own: the function fits, and so does the module, where this is so.
+/// The module of the first handles with this function behind its own: the function fits, and so does the module, where
+/// this is so.
 pub fn expect_function(rt: &(impl Abort + AllocGlobal), fun: Function, fits: bool) {
     let module = module(rt, &FIRST, Some(fun));
     expect_last(rt, &module, fits);

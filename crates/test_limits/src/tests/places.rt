@@ -1,5 +1,5 @@
-//! The greatest handle, and the first that names nothing, in each place of a module but inside a body: one test of conditions sees
-//! it, all others hold, and the module doesn't fit.
+//! The greatest handle, and the first that names nothing, in each place of a module but inside a body: one test of
+//! conditions sees it, all others hold, and the module doesn't fit.
 
 use crate::tests::handles::{FIRST, GREATEST, Handles, LAST, SECOND, TYPES};
 use crate::tests::module::{expect_unfit, global_types_of, infos_of_types, made, module};
