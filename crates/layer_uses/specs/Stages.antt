@@ -1,5 +1,5 @@
 -- The stages that expressions may run in.
-use Rattle.std.specs.Prelude.{ℕ, Option, None, Some, Result, Ok, Err, slice_get}
+use Rattle.std.specs.Prelude.{Option, None, Some, Result, Ok, Err, slice_get}
 use Rattle.ir_flags.specs.Bits.{ALL_STAGES, FRAGMENT, COMPUTE, COMPUTE_LIKE}
 use Rattle.ir_flags.specs.declared.valid.ShaderStages.{ShaderStages}
 use Rattle.ir_facts.specs.declared.valid.expression_error.ExpressionError.{ExpressionError}

@@ -28,12 +28,9 @@ abbrev pub space_use : Option AddressSpace → GlobalUse
 space_use (Some space.Handle) = READ
 space_use _ = BOTH
 
-abbrev pub global_use : List GlobalVariable → Option ℕ → GlobalUse
-global_use globals None = BOTH
-global_use globals (Some g) = space_use (option_map (λ v. v.space) (slice_get globals g))
-
 abbrev pub call_use : List GlobalVariable → Option ℕ → GlobalUse
-call_use globals root = global_use globals root
+call_use globals None = BOTH
+call_use globals (Some g) = space_use (option_map (λ v. v.space) (slice_get globals g))
 
 unfoldable pub argument_uses : List GlobalVariable → List (Option ℕ) → List GlobalUse → List ℕ → List GlobalUse
 argument_uses globals roots uses [] = uses
