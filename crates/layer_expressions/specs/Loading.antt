@@ -8,7 +8,6 @@ use Rattle.ir_types.specs.declared.types.ImageClass.{ImageClass}
 use Rattle.ir_types.specs.declared.types.ImageClass.TheVariants as class
 use Rattle.ir_types.specs.declared.types.ImageDimension.{ImageDimension}
 use Rattle.ir_types.specs.declared.types.ImageDimension.TheVariants.{D1, D2, D3, Cube}
-use Rattle.ir_types.specs.declared.types.Scalar.{Scalar}
 use Rattle.ir_types.specs.declared.types.ScalarKind.TheVariants as kind
 use Rattle.ir_types.specs.declared.types.Type.{«Type» as IrType}
 use Rattle.ir_types.specs.declared.types.VectorSize.TheVariants.{Bi, Tri, Quad}
@@ -25,13 +24,8 @@ use Rattle.layer_expressions.specs.declared.shapes.Shape.{Shape}
 use Rattle.layer_expressions.specs.declared.shapes.Shape.TheVariants as shape
 use Rattle.layer_expressions.specs.Images.{is_resource, is_integer_coordinate, is_integer_scalar, has_levels, is_multisampled}
 use Rattle.layer_expressions.specs.Rules.{or_broken}
-use Rattle.layer_expressions.specs.Sampling.{ones, shape_if, takes_array_index, four_of, image_among}
-
-abbrev pub f32_scalar : Scalar
-f32_scalar = record { kind = kind.Float; width = 4 }
-
-abbrev pub u32_scalar : Scalar
-u32_scalar = record { kind = kind.Uint; width = 4 }
+use Rattle.layer_expressions.specs.Sampling.{ones, shape_if, takes_integer, four_of, image_among}
+use Rattle.layer_expressions.specs.Shapes.{four_bytes}
 
 -- the operands of a load: image and coordinate; then array index, sample and level, where they are there
 abbrev pub before_level : Loading → ℕ
@@ -58,15 +52,15 @@ abbrev pub load_points : Loading → Image → Loaded → List (Point Rule)
 load_points form image loaded =
     (is_readable image.class, rule.Image)
     ∷ (is_integer_coordinate image.dim loaded.coordinate, rule.Coordinate)
-    ∷ (takes_array_index image.arrayed form.has_array_index loaded.array_index, rule.ArrayIndex)
-    ∷ (takes_array_index (is_multisampled image.class) form.has_sample loaded.sample, rule.Sample)
-    ∷ (takes_array_index (has_levels image.class) form.has_level loaded.level, rule.Level)
+    ∷ (takes_integer image.arrayed form.has_array_index loaded.array_index, rule.ArrayIndex)
+    ∷ (takes_integer (is_multisampled image.class) form.has_sample loaded.sample, rule.Sample)
+    ∷ (takes_integer (has_levels image.class) form.has_level loaded.level, rule.Level)
     ∷ []
 
 -- what a load gives: four of the image's kind, of its format's scalar; of depths one float
 abbrev pub load_shape : ImageClass → Shape
 load_shape (class.Sampled kind multi) = four_of kind
-load_shape (class.Depth multi) = shape.Scalar f32_scalar
+load_shape (class.Depth multi) = shape.Scalar (four_bytes kind.Float)
 load_shape class.External = four_of kind.Float
 load_shape (class.Storage format access) = shape.Vector Quad (format_scalar format)
 
@@ -87,7 +81,9 @@ abbrev pub load_as : List IrType → List Expression → List TypeResolution →
 load_as types expressions earlier hs None = Err rule.Detail
 load_as types expressions earlier hs (Some form) =
     if length hs == before_level form + ones form.has_level
-    then (if is_resource_first expressions hs then load_of_image types earlier form hs (image_among types earlier hs) else Err rule.Image)
+    then (if is_resource_first expressions hs
+    then load_of_image types earlier form hs (image_among types earlier hs)
+    else Err rule.Image)
     else Err rule.Detail
 
 -- ImageLoad
@@ -96,16 +92,16 @@ load_type types expressions earlier hs detail = load_as types expressions earlie
 
 -- sizes: one number, two of planes and cubes, three
 abbrev pub size_shape : ImageDimension → Shape
-size_shape D1 = shape.Scalar u32_scalar
-size_shape D2 = shape.Vector Bi u32_scalar
-size_shape Cube = shape.Vector Bi u32_scalar
-size_shape D3 = shape.Vector Tri u32_scalar
+size_shape D1 = shape.Scalar (four_bytes kind.Uint)
+size_shape D2 = shape.Vector Bi (four_bytes kind.Uint)
+size_shape Cube = shape.Vector Bi (four_bytes kind.Uint)
+size_shape D3 = shape.Vector Tri (four_bytes kind.Uint)
 
 abbrev pub query_shape : ImageQuery → ImageDimension → Shape
 query_shape query.Size dim = size_shape dim
-query_shape query.NumLevels dim = shape.Scalar u32_scalar
-query_shape query.NumLayers dim = shape.Scalar u32_scalar
-query_shape query.NumSamples dim = shape.Scalar u32_scalar
+query_shape query.NumLevels dim = shape.Scalar (four_bytes kind.Uint)
+query_shape query.NumLayers dim = shape.Scalar (four_bytes kind.Uint)
+query_shape query.NumSamples dim = shape.Scalar (four_bytes kind.Uint)
 
 -- the number of levels, layers and samples is asked of images that have them
 abbrev pub can_be_asked : ImageQuery → Image → Bool

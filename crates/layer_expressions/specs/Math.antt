@@ -7,12 +7,13 @@ use Rattle.ir_types.specs.declared.types.VectorSize.{VectorSize}
 use Rattle.ir_types.specs.declared.types.VectorSize.TheVariants.{Tri}
 use Rattle.layer_forms.specs.declared.math.MathClass.{MathClass}
 use Rattle.layer_forms.specs.declared.math.MathClass.TheVariants as class
+use Rattle.layer_types.specs.Leaves.{is_number}
 use Rattle.layer_expressions.specs.declared.operands.Arguments.{Arguments}
 use Rattle.layer_expressions.specs.declared.operands.Arguments.TheVariants.{One, Two, Three, Four}
 use Rattle.layer_expressions.specs.declared.shapes.Shape.{Shape}
 use Rattle.layer_expressions.specs.declared.shapes.Shape.TheVariants as shape
 use Rattle.layer_expressions.specs.Operators.{own_of, is_same_size}
-use Rattle.layer_expressions.specs.Shapes.{scalar_of, with_scalar, is_matrix, is_same, is_same_scalar, is_number, is_integer, is_signed, is_float}
+use Rattle.layer_expressions.specs.Shapes.{scalar_of, four_bytes, with_scalar, is_matrix, is_same, is_same_scalar, is_integer, is_signed, is_float}
 
 -- so many of one type, which is given
 abbrev pub alike : ℕ → Arguments → Option Shape
@@ -45,9 +46,6 @@ has_three _ = false
 abbrev pub is_sint : ScalarKind → Bool
 is_sint kind.Sint = true
 is_sint _ = false
-
-abbrev pub four_bytes : ScalarKind → Scalar
-four_bytes k = record { kind = k; width = 4 }
 
 abbrev pub is_u32 : Shape → Bool
 is_u32 x = is_same x (shape.Scalar (four_bytes kind.Uint))

@@ -18,6 +18,7 @@ use Rattle.ir_types.specs.declared.typifier.TypeResolution.TheVariants.{Handle, 
 use Rattle.layer_expressions.specs.declared.rules.Rule.{Rule}
 use Rattle.layer_expressions.specs.declared.rules.Rule.TheVariants as rule
 use Rattle.layer_expressions.specs.Rules.{or_broken}
+use Rattle.layer_expressions.specs.Shapes.{four_bytes}
 
 -- the type with this handle, where it is there
 abbrev pub type_at : ℕ → ℕ → Option TypeResolution
@@ -57,6 +58,6 @@ named_type m arguments locals (e.LocalVariable h) =
 named_type m arguments locals (e.AtomicResult t c) = type_at (length m.types) t
 named_type m arguments locals (e.WorkGroupUniformLoadResult t) = type_at (length m.types) t
 named_type m arguments locals e.RayQueryProceedResult = Some (Value (inner.Scalar bool_scalar))
-named_type m arguments locals e.SubgroupBallotResult = Some (Value (inner.Vector Quad (record { kind = Uint; width = 4 })))
+named_type m arguments locals e.SubgroupBallotResult = Some (Value (inner.Vector Quad (four_bytes Uint)))
 named_type m arguments locals (e.SubgroupOperationResult t) = type_at (length m.types) t
 named_type m arguments locals _ = None

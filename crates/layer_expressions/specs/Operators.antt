@@ -1,5 +1,5 @@
 -- The shapes that operators give; None where they don't take their operands.
-use Rattle.std.specs.Prelude.{ℕ, Bool, true, false, not, ◌&&◌, ◌||◌, Option, None, Some, if◌then◌else◌}
+use Rattle.std.specs.Prelude.{ℕ, Bool, true, false, not, ◌&&◌, ◌||◌, Option, None, Some, unwrap_or, if◌then◌else◌}
 use Rattle.ir_types.specs.Types.{bool_scalar}
 use Rattle.ir_types.specs.contracts.types.VectorSizePartialEq.TheImpl as size
 use Rattle.ir_types.specs.declared.types.Scalar.{Scalar}
@@ -17,12 +17,12 @@ use Rattle.layer_forms.specs.declared.operators.UnaryOperator.TheVariants as una
 use Rattle.layer_forms.specs.declared.vectors.Swizzle.{Swizzle}
 use Rattle.layer_forms.specs.declared.vectors.SwizzleComponent.{SwizzleComponent}
 use Rattle.layer_forms.specs.declared.vectors.SwizzleComponent.TheVariants as component
-use Rattle.layer_types.specs.Leaves.{is_known}
+use Rattle.layer_types.specs.Leaves.{is_known, is_number}
 use Rattle.layer_expressions.specs.declared.operands.Arguments.{Arguments}
 use Rattle.layer_expressions.specs.declared.operands.Arguments.TheVariants.{One, Two, Three}
 use Rattle.layer_expressions.specs.declared.shapes.Shape.{Shape}
 use Rattle.layer_expressions.specs.declared.shapes.Shape.TheVariants as shape
-use Rattle.layer_expressions.specs.Shapes.{scalar_of, with_scalar, is_matrix, is_same, is_same_scalar, is_number, is_integer, is_signed, is_float, is_bool}
+use Rattle.layer_expressions.specs.Shapes.{scalar_of, with_scalar, is_matrix, is_same, is_same_scalar, is_integer, is_signed, is_float, is_bool}
 
 -- this shape, where it fits
 abbrev pub own_of : Shape → Bool → Option Shape
@@ -190,12 +190,8 @@ related function (One x) = if is_matrix x then None else related_to function x
 related function _ = None
 
 -- As: the scalar of the kind and the width that are given; a bitcast keeps the width
-abbrev pub cast_as : ScalarKind → Option ℕ → ℕ → Scalar
-cast_as k (Some width) kept = record { kind = k; width = width }
-cast_as k None kept = record { kind = k; width = kept }
-
 abbrev pub cast_scalar : Cast → Scalar → Scalar
-cast_scalar cast s = cast_as cast.kind cast.convert s.width
+cast_scalar cast s = record { kind = cast.kind; width = unwrap_or cast.convert s.width }
 
 -- of numbers and bools to any kind, of a matrix to floats alone; a bitcast is of numbers to numbers, and no matrix
 abbrev pub is_cast_to : ScalarKind → Option ℕ → Shape → Bool

@@ -14,6 +14,7 @@ use Rattle.layer_expressions.specs.declared.rules.Rule.{Rule}
 use Rattle.layer_expressions.specs.declared.rules.Rule.TheVariants as rule
 use Rattle.layer_expressions.specs.Operands.{type_of_operand}
 use Rattle.layer_expressions.specs.Rules.{or_broken}
+use Rattle.layer_expressions.specs.Shapes.{four_bytes}
 
 abbrev pub is_dynamic_size : ArraySize → Bool
 is_dynamic_size size.Dynamic = true
@@ -37,7 +38,7 @@ has_length types _ = false
 abbrev pub length_type : List IrType → List TypeResolution → List ℕ → Result TypeResolution Rule
 length_type types earlier (h ∷ []) =
     if has_length types (type_of_operand types earlier h)
-    then Ok (Value (inner.Scalar (record { kind = Uint; width = 4 })))
+    then Ok (Value (inner.Scalar (four_bytes Uint)))
     else Err rule.ArrayLength
 length_type types earlier _ = Err rule.ArrayLength
 
@@ -55,13 +56,10 @@ abbrev pub matrix_of : ℕ → Option Scalar → Result TypeResolution Rule
 matrix_of detail None = Err rule.Cooperative
 matrix_of detail (Some s) = Ok (Value (inner.CooperativeMatrix s (detail / 2)))
 
-abbrev pub matrix_behind : List IrType → List TypeResolution → List ℕ → ℕ → Result TypeResolution Rule
-matrix_behind types earlier [] detail = Err rule.Cooperative
-matrix_behind types earlier (h ∷ hs) detail = matrix_of detail (scalar_behind types (type_of_operand types earlier h))
-
 -- CooperativeLoad: the matrix of the scalar that is pointed to; `detail` is twice that of its type, and 1 where it lies by rows
 abbrev pub cooperative_load : List IrType → List TypeResolution → List ℕ → ℕ → Result TypeResolution Rule
-cooperative_load types earlier hs detail = matrix_behind types earlier hs detail
+cooperative_load types earlier [] detail = Err rule.Cooperative
+cooperative_load types earlier (h ∷ hs) detail = matrix_of detail (scalar_behind types (type_of_operand types earlier h))
 
 abbrev pub cooperative_of : Option TypeInner → Option TypeResolution
 cooperative_of (Some (inner.CooperativeMatrix s d)) = Some (Value (inner.CooperativeMatrix s d))

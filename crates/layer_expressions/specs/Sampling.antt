@@ -23,6 +23,7 @@ use Rattle.layer_expressions.specs.declared.shapes.Shape.{Shape}
 use Rattle.layer_expressions.specs.declared.shapes.Shape.TheVariants as shape
 use Rattle.layer_expressions.specs.Images.{image_of, comparison_of, is_resource, is_float_coordinate, is_f32_scalar, is_offset, is_integer_scalar}
 use Rattle.layer_expressions.specs.Operands.{type_of_operand, shape_of_operand}
+use Rattle.layer_expressions.specs.Shapes.{four_bytes, is_float}
 
 -- how many operands there are: image, sampler and coordinate, then array index and offset where they are there, those of the
 -- level, and the depth reference where it is there
@@ -79,33 +80,29 @@ sampled_of types earlier form hs =
       depth_ref = shape_if types earlier hs form.has_depth_ref (before_depth form);
     }
 
-abbrev pub is_float_kind : ScalarKind → Bool
-is_float_kind kind.Float = true
-is_float_kind _ = false
-
 -- the classes: images of floats, and gathered of any numbers; of depths; external images are clamped to the edge, depths
 -- are not. None is multisampled, and a depth reference asks for depths
 abbrev pub takes_class : Sampling → ImageClass → Bool
-takes_class form (class.Sampled kind multi) = not multi && not form.has_depth_ref && (is_some form.gather || is_float_kind kind)
+takes_class form (class.Sampled kind multi) = not multi && not form.has_depth_ref && (is_some form.gather || is_float kind)
 takes_class form (class.Depth multi) = not multi && not form.clamp_to_edge
 takes_class form class.External = form.clamp_to_edge && not form.has_depth_ref
 takes_class form (class.Storage format access) = false
 
-abbrev pub is_flat : ImageDimension → Bool
-is_flat D2 = true
-is_flat Cube = true
-is_flat D1 = false
-is_flat D3 = false
+abbrev pub can_be_gathered : ImageDimension → Bool
+can_be_gathered D2 = true
+can_be_gathered Cube = true
+can_be_gathered D1 = false
+can_be_gathered D3 = false
 
-abbrev pub is_plane : ImageDimension → Bool
-is_plane D2 = true
-is_plane _ = false
+abbrev pub can_be_clamped : ImageDimension → Bool
+can_be_clamped D2 = true
+can_be_clamped _ = false
 
 -- the dimensions: a gather is of two or of a cube; clamping is of two alone, not arrayed, without offset and gather
 abbrev pub takes_dimension : Sampling → Image → Bool
 takes_dimension form image =
-    (is_none form.gather || is_flat image.dim)
-    && (not form.clamp_to_edge || (is_plane image.dim && not image.arrayed && not form.has_offset && is_none form.gather))
+    (is_none form.gather || can_be_gathered image.dim)
+    && (not form.clamp_to_edge || (can_be_clamped image.dim && not image.arrayed && not form.has_offset && is_none form.gather))
 
 abbrev pub is_zero : LevelKind → Bool
 is_zero level.Zero = true
@@ -140,10 +137,10 @@ abbrev pub takes_sampler : Sampling → Option Bool → Bool
 takes_sampler form None = false
 takes_sampler form (Some comparison) = if form.has_depth_ref then comparison else not comparison
 
--- there is an array index exactly where the image is arrayed, an integer
-abbrev pub takes_array_index : Bool → Bool → Option Shape → Bool
-takes_array_index true is_there index = is_there && is_integer_scalar index
-takes_array_index false is_there index = not is_there
+-- an operand is there exactly where it is asked for, an integer
+abbrev pub takes_integer : Bool → Bool → Option Shape → Bool
+takes_integer true is_there operand = is_there && is_integer_scalar operand
+takes_integer false is_there operand = not is_there
 
 -- the rules of a sample, in order
 abbrev pub sample_points : Sampling → Image → Sampled → List (Point Rule)
@@ -151,7 +148,7 @@ sample_points form image sampled =
     (takes_class form image.class && takes_dimension form image, rule.Image)
     ∷ (takes_sampler form sampled.comparison, rule.Sampler)
     ∷ (is_float_coordinate image.dim sampled.coordinate, rule.Coordinate)
-    ∷ (takes_array_index image.arrayed form.has_array_index sampled.array_index, rule.ArrayIndex)
+    ∷ (takes_integer image.arrayed form.has_array_index sampled.array_index, rule.ArrayIndex)
     ∷ (not form.has_offset || is_offset image.dim sampled.offset, rule.Offset)
     ∷ (fits_level form && takes_level form.level image sampled, rule.Level)
     ∷ (not form.has_depth_ref || is_f32_scalar sampled.depth_ref, rule.DepthReference)
@@ -159,13 +156,13 @@ sample_points form image sampled =
 
 -- four of a kind, of 4 bytes
 abbrev pub four_of : ScalarKind → Shape
-four_of k = shape.Vector Quad (record { kind = k; width = 4 })
+four_of k = shape.Vector Quad (four_bytes k)
 
 -- what a sample gives: four of the image's kind; of depths one float, gathered four
 abbrev pub sample_shape : ImageClass → Bool → Shape
 sample_shape (class.Sampled kind multi) gathers = four_of kind
 sample_shape (class.Depth multi) true = four_of kind.Float
-sample_shape (class.Depth multi) false = shape.Scalar (record { kind = kind.Float; width = 4 })
+sample_shape (class.Depth multi) false = shape.Scalar (four_bytes kind.Float)
 sample_shape class.External gathers = four_of kind.Float
 sample_shape (class.Storage format access) gathers = four_of kind.Float
 
@@ -193,7 +190,9 @@ abbrev pub sample_as : List IrType → List Expression → List TypeResolution �
 sample_as types expressions earlier hs None = Err rule.Detail
 sample_as types expressions earlier hs (Some form) =
     if length hs == before_depth form + ones form.has_depth_ref
-    then (if are_resources expressions hs then sample_of_image types earlier form hs (image_among types earlier hs) else Err rule.Image)
+    then (if are_resources expressions hs
+    then sample_of_image types earlier form hs (image_among types earlier hs)
+    else Err rule.Image)
     else Err rule.Detail
 
 -- ImageSample

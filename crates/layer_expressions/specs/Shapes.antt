@@ -34,7 +34,11 @@ scalar_of (shape.Scalar s) = s
 scalar_of (shape.Vector n s) = s
 scalar_of (shape.Matrix c r s) = s
 
--- the same of another scalar
+-- the scalar of a kind, of 4 bytes
+abbrev pub four_bytes : ScalarKind → Scalar
+four_bytes k = record { kind = k; width = 4 }
+
+-- the same shape of another scalar
 abbrev pub with_scalar : Shape → Scalar → Shape
 with_scalar (shape.Scalar s) t = shape.Scalar t
 with_scalar (shape.Vector n s) t = shape.Vector n t
@@ -50,13 +54,6 @@ is_same a b = (shapes.ghosts).eq a b
 
 abbrev pub is_same_scalar : Scalar → Scalar → Bool
 is_same_scalar a b = (scalar.ghosts).eq a b
-
--- integers and floats
-abbrev pub is_number : ScalarKind → Bool
-is_number kind.Sint = true
-is_number kind.Uint = true
-is_number kind.Float = true
-is_number _ = false
 
 abbrev pub is_integer : ScalarKind → Bool
 is_integer kind.Sint = true

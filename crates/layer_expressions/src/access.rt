@@ -2,26 +2,16 @@
 
 ghost use Rattle.std.specs.Prelude.{◌≡◌};
 ghost use Rattle.std.specs.Option.{option_copied};
-ghost use Rattle.ir_types.specs.Types.{inner_at};
 ghost use Rattle.layer_expressions.specs.Access.{value_item, pointer_item, item_of, is_index, access_type, item_count, count_behind, is_below, member_of, access_index_type, is_loadable, loaded_at, loaded};
 
 use crate::named::{pointer_to, type_at};
 use crate::rules::Rule;
+use crate::shapes::is_integer;
 use ir_arena::handle::Handle;
 use ir_arena::tag;
-use ir_types::types::{AddressSpace, ArraySize, ScalarKind, Type, TypeInner};
+use ir_types::types::{AddressSpace, ArraySize, Type, TypeInner};
 use ir_types::typifier::TypeResolution;
-use layer_types::sizes::components_of;
-
-/// A type of the module.
-fn inner_at(types: &[Type], ty: Handle<tag::Type>) -> Option<&TypeInner>
-    ensures { option_copied result ≡ inner_at types.now ty }
-{
-    match types.get(ty.index()) {
-        Some(ty) => Some(&ty.inner),
-        None => None,
-    }
-}
+use layer_types::sizes::{components_of, inner_at};
 
 /// The type of the items of a value.
 fn value_item(count: usize, inner: &TypeInner) -> Option<TypeResolution>
@@ -91,10 +81,7 @@ fn is_index(inner: &TypeInner) -> bool
     ensures { result ≡ is_index inner.now }
 {
     match inner {
-        TypeInner::Scalar(scalar) => match scalar.kind {
-            ScalarKind::Sint | ScalarKind::Uint => true,
-            _ => false,
-        },
+        TypeInner::Scalar(scalar) => is_integer(scalar.kind),
         _ => false,
     }
 }

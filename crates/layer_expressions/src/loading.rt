@@ -8,7 +8,7 @@ use crate::images::{
     Image, has_levels, is_integer_coordinate, is_integer_scalar, is_multisampled, is_resource,
 };
 use crate::rules::Rule;
-use crate::sampling::{four_of, image_among, ones, shape_if, takes_array_index};
+use crate::sampling::{four_of, image_among, ones, shape_if, takes_integer};
 use crate::shapes::Shape;
 use ir_arena::handle::Handle;
 use ir_arena::tag;
@@ -76,13 +76,13 @@ fn load_fault(form: Loading, image: &Image, loaded: &Loaded) -> Option<Rule>
     if !is_integer_coordinate(image.dim, loaded.coordinate) {
         return Some(Rule::Coordinate);
     }
-    if !takes_array_index(image.arrayed, form.has_array_index, loaded.array_index) {
+    if !takes_integer(image.arrayed, form.has_array_index, loaded.array_index) {
         return Some(Rule::ArrayIndex);
     }
-    if !takes_array_index(is_multisampled(image.class), form.has_sample, loaded.sample) {
+    if !takes_integer(is_multisampled(image.class), form.has_sample, loaded.sample) {
         return Some(Rule::Sample);
     }
-    if !takes_array_index(has_levels(image.class), form.has_level, loaded.level) {
+    if !takes_integer(has_levels(image.class), form.has_level, loaded.level) {
         return Some(Rule::Level);
     }
     None

@@ -1,13 +1,14 @@
 //! The shapes that the functions of `Math` give.
 
 ghost use Rattle.std.specs.Prelude.{◌≡◌};
-ghost use Rattle.layer_expressions.specs.Math.{alike, are_numbers, are_signed, are_floats, are_integers, is_vector, numbers_of, signed_of, floats_of, float_vectors_of, distance_of, dot_of, has_three, cross_of, refracted, mix_of, is_sint, ldexp_of, four_bytes, is_u32, packed_dot_of, transposed, determinant_of, quantized, integers_of, extracted, inserted, packed, unpacked, math_of};
+ghost use Rattle.layer_expressions.specs.Math.{alike, are_numbers, are_signed, are_floats, are_integers, is_vector, numbers_of, signed_of, floats_of, float_vectors_of, distance_of, dot_of, has_three, cross_of, refracted, mix_of, is_sint, ldexp_of, is_u32, packed_dot_of, transposed, determinant_of, quantized, integers_of, extracted, inserted, packed, unpacked, math_of};
 
 use crate::operands::Arguments;
 use crate::operators::{is_same_size, own_of};
-use crate::shapes::{Shape, is_float, is_integer, is_number, is_same_scalar, is_signed};
+use crate::shapes::{Shape, four_bytes, is_float, is_integer, is_same_scalar, is_signed};
 use ir_types::types::{Scalar, ScalarKind, VectorSize};
 use layer_forms::MathClass;
+use layer_types::leaves::is_number;
 
 /// So many of one type.
 fn alike(count: u32, arguments: Arguments) -> Option<Shape>
@@ -181,13 +182,6 @@ fn ldexp_of(arguments: Arguments) -> Option<Shape>
         }
         _ => None,
     }
-}
-
-/// A scalar of 4 bytes.
-fn four_bytes(kind: ScalarKind) -> Scalar
-    ensures { result ≡ four_bytes kind }
-{
-    Scalar { kind, width: 4 }
 }
 
 /// Whether it is an unsigned number of 32 bits.

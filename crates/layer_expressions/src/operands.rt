@@ -9,6 +9,7 @@ use ir_arena::handle::Handle;
 use ir_arena::tag;
 use ir_types::types::{Type, TypeInner};
 use ir_types::typifier::TypeResolution;
+use layer_types::sizes::inner_at;
 
 /// The shapes of one to four operands, in order.
 #[derive(Clone, Copy)]
@@ -28,10 +29,7 @@ pub fn type_of_operand<'a>(
     ensures { option_copied result ≡ type_of_operand types.now earlier.now operand }
 {
     match earlier.get(operand.index())? {
-        TypeResolution::Handle(ty) => match types.get(ty.index()) {
-            Some(ty) => Some(&ty.inner),
-            None => None,
-        },
+        TypeResolution::Handle(ty) => inner_at(types, *ty),
         TypeResolution::Value(inner) => Some(inner),
     }
 }

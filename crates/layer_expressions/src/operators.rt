@@ -4,12 +4,12 @@ ghost use Rattle.std.specs.Prelude.{◌≡◌};
 ghost use Rattle.layer_expressions.specs.Operators.{splat_of, has_component, covers, swizzled, unary_takes, unary_of, mixed, own_of, number_of_two, sum_of, is_same_size, matrix_product, product_by_matrix, product_of, bools_of, is_comparable, compared, has_bits, bits_of, logical_of, shifted, is_unsigned, binary_shape, binary_of, selects, selected, derived, related, cast_scalar, is_cast, cast_of};
 
 use crate::operands::Arguments;
-use crate::shapes::{Shape, is_bool, is_float, is_integer, is_number, is_same_scalar, is_signed};
+use crate::shapes::{Shape, is_bool, is_float, is_integer, is_same_scalar, is_signed};
 use ir_types::types::{Scalar, ScalarKind, VectorSize};
 use layer_forms::{
     BinaryOperator, Cast, RelationalFunction, Swizzle, SwizzleComponent, UnaryOperator,
 };
-use layer_types::leaves::is_known;
+use layer_types::leaves::{is_known, is_number};
 
 /// A splat of this size.
 pub fn splat_of(size: VectorSize, arguments: Arguments) -> Option<Shape>
@@ -388,15 +388,9 @@ pub fn related(function: RelationalFunction, arguments: Arguments) -> Option<Sha
 fn cast_scalar(cast: Cast, from: Scalar) -> Scalar
     ensures { result ≡ cast_scalar cast from }
 {
-    match cast.convert {
-        Some(width) => Scalar {
-            kind: cast.kind,
-            width,
-        },
-        None => Scalar {
-            kind: cast.kind,
-            width: from.width,
-        },
+    Scalar {
+        kind: cast.kind,
+        width: cast.convert.unwrap_or(from.width),
     }
 }
 

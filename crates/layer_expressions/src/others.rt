@@ -10,6 +10,7 @@ use ir_arena::handle::Handle;
 use ir_arena::tag;
 use ir_types::types::{ArraySize, Scalar, Type, TypeInner};
 use ir_types::typifier::TypeResolution;
+use layer_types::sizes::inner_at;
 
 /// Whether a type is an array of dynamic size.
 fn is_dynamic(inner: &TypeInner) -> bool
@@ -29,8 +30,8 @@ fn has_length(types: &[Type], inner: Option<&TypeInner>) -> bool
     ensures { result ≡ has_length types.now (option_copied inner.entry) }
 {
     match inner {
-        Some(TypeInner::Pointer { base, .. }) => match types.get(base.index()) {
-            Some(ty) => is_dynamic(&ty.inner),
+        Some(TypeInner::Pointer { base, .. }) => match inner_at(types, *base) {
+            Some(inner) => is_dynamic(inner),
             None => false,
         },
         _ => false,
@@ -62,8 +63,8 @@ fn scalar_behind(types: &[Type], inner: Option<&TypeInner>) -> Option<Scalar>
     ensures { result ≡ scalar_behind types.now (option_copied inner.entry) }
 {
     match inner {
-        Some(TypeInner::Pointer { base, .. }) => match types.get(base.index()) {
-            Some(ty) => scalar_alone(&ty.inner),
+        Some(TypeInner::Pointer { base, .. }) => match inner_at(types, *base) {
+            Some(inner) => scalar_alone(inner),
             None => None,
         },
         Some(

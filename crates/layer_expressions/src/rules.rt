@@ -16,7 +16,7 @@ pub enum Rule {
     Index,
     /// The number of an access lies below the count of items.
     Bounds,
-    /// What is loaded is pointed to, and can be copied.
+    /// What is loaded is pointed to, and is a value, an atomic, a struct, or an array whose size isn't dynamic.
     Load,
     /// `detail` stands for something of this kind of expression.
     Detail,

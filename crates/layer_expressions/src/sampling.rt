@@ -2,7 +2,7 @@
 
 ghost use Rattle.std.specs.Prelude.{◌≡◌, ◌≤◌};
 ghost use Rattle.ir_facts.specs.Points.{first_fault};
-ghost use Rattle.layer_expressions.specs.Sampling.{ones, level_count, before_level, before_depth, shape_if, comparison_among, has_level, has_gradients, sampled_of, takes_class, is_float_kind, is_flat, is_plane, takes_dimension, is_zero, is_depth, takes_exact, takes_level, fits_level, takes_sampler, takes_array_index, sample_points, four_of, sample_shape, are_resources, image_among, sample_type};
+ghost use Rattle.layer_expressions.specs.Sampling.{ones, level_count, before_level, before_depth, shape_if, comparison_among, has_level, has_gradients, sampled_of, takes_class, can_be_gathered, can_be_clamped, takes_dimension, is_zero, is_depth, takes_exact, takes_level, fits_level, takes_sampler, takes_integer, sample_points, four_of, sample_shape, are_resources, image_among, sample_type};
 
 use crate::images::{
     Image, comparison_of, image_of, is_f32_scalar, is_float_coordinate, is_integer_scalar,
@@ -10,7 +10,7 @@ use crate::images::{
 };
 use crate::operands::{shape_of_operand, type_of_operand};
 use crate::rules::Rule;
-use crate::shapes::Shape;
+use crate::shapes::{Shape, four_bytes, is_float};
 use ir_arena::handle::Handle;
 use ir_arena::tag;
 use ir_module::expressions::Expression;
@@ -160,7 +160,7 @@ fn takes_class(form: Sampling, class: ImageClass) -> bool
 {
     match class {
         ImageClass::Sampled { kind, multi } => {
-            !multi && !form.has_depth_ref && (form.gather.is_some() || is_float_kind(kind))
+            !multi && !form.has_depth_ref && (form.gather.is_some() || is_float(kind))
         }
         ImageClass::Depth { multi } => !multi && !form.clamp_to_edge,
         ImageClass::External => form.clamp_to_edge && !form.has_depth_ref,
@@ -168,19 +168,9 @@ fn takes_class(form: Sampling, class: ImageClass) -> bool
     }
 }
 
-/// Whether a kind is that of floats.
-fn is_float_kind(kind: ScalarKind) -> bool
-    ensures { result ≡ is_float_kind kind }
-{
-    match kind {
-        ScalarKind::Float => true,
-        _ => false,
-    }
-}
-
 /// Whether images of a dimension can be gathered.
-fn is_flat(dim: ImageDimension) -> bool
-    ensures { result ≡ is_flat dim }
+fn can_be_gathered(dim: ImageDimension) -> bool
+    ensures { result ≡ can_be_gathered dim }
 {
     match dim {
         ImageDimension::D2 | ImageDimension::Cube => true,
@@ -188,9 +178,9 @@ fn is_flat(dim: ImageDimension) -> bool
     }
 }
 
-/// Whether it is the dimension of images that are clamped to the edge.
-fn is_plane(dim: ImageDimension) -> bool
-    ensures { result ≡ is_plane dim }
+/// Whether images of a dimension can be clamped to the edge.
+fn can_be_clamped(dim: ImageDimension) -> bool
+    ensures { result ≡ can_be_clamped dim }
 {
     match dim {
         ImageDimension::D2 => true,
@@ -202,8 +192,11 @@ fn is_plane(dim: ImageDimension) -> bool
 fn takes_dimension(form: Sampling, image: &Image) -> bool
     ensures { result ≡ takes_dimension form image.now }
 {
-    let gathers = form.gather.is_none() || is_flat(image.dim);
-    let clamps = is_plane(image.dim) && !image.arrayed && !form.has_offset && form.gather.is_none();
+    let gathers = form.gather.is_none() || can_be_gathered(image.dim);
+    let clamps = can_be_clamped(image.dim)
+        && !image.arrayed
+        && !form.has_offset
+        && form.gather.is_none();
     gathers && (!form.clamp_to_edge || clamps)
 }
 
@@ -278,12 +271,12 @@ fn takes_sampler(form: Sampling, comparison: Option<bool>) -> bool
     }
 }
 
-/// Whether there is an array index exactly where the image is arrayed, of the right type.
-pub fn takes_array_index(arrayed: bool, is_there: bool, index: Option<Shape>) -> bool
-    ensures { result ≡ takes_array_index arrayed is_there index }
+/// Whether an operand is there exactly where it is asked for, an integer scalar: an array index, a sample, a level.
+pub fn takes_integer(is_asked: bool, is_there: bool, operand: Option<Shape>) -> bool
+    ensures { result ≡ takes_integer is_asked is_there operand }
 {
-    if arrayed {
-        is_there && is_integer_scalar(index)
+    if is_asked {
+        is_there && is_integer_scalar(operand)
     } else {
         !is_there
     }
@@ -302,7 +295,7 @@ fn sample_fault(form: Sampling, image: &Image, sampled: &Sampled) -> Option<Rule
     if !is_float_coordinate(image.dim, sampled.coordinate) {
         return Some(Rule::Coordinate);
     }
-    if !takes_array_index(image.arrayed, form.has_array_index, sampled.array_index) {
+    if !takes_integer(image.arrayed, form.has_array_index, sampled.array_index) {
         return Some(Rule::ArrayIndex);
     }
     if form.has_offset && !is_offset(image.dim, sampled.offset) {
@@ -321,7 +314,7 @@ fn sample_fault(form: Sampling, image: &Image, sampled: &Sampled) -> Option<Rule
 pub fn four_of(kind: ScalarKind) -> Shape
     ensures { result ≡ four_of kind }
 {
-    Shape::Vector(VectorSize::Quad, Scalar { kind, width: 4 })
+    Shape::Vector(VectorSize::Quad, four_bytes(kind))
 }
 
 /// What a sample of images of a class gives.

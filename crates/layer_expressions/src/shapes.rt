@@ -1,7 +1,7 @@
 //! Scalars, vectors and matrices: what operators and functions compute with.
 
 ghost use Rattle.std.specs.Prelude.{◌≡◌};
-ghost use Rattle.layer_expressions.specs.Shapes.{shape_of, value_of, scalar_of, with_scalar, is_matrix, is_same, is_same_scalar, is_number, is_integer, is_signed, is_float, is_bool};
+ghost use Rattle.layer_expressions.specs.Shapes.{shape_of, value_of, scalar_of, four_bytes, with_scalar, is_matrix, is_same, is_same_scalar, is_integer, is_signed, is_float, is_bool};
 
 use ir_types::types::{Scalar, ScalarKind, TypeInner, VectorSize};
 use ir_types::typifier::TypeResolution;
@@ -85,6 +85,13 @@ impl Shape {
     }
 }
 
+/// The scalar of a kind, of 4 bytes.
+pub fn four_bytes(kind: ScalarKind) -> Scalar
+    ensures { result ≡ four_bytes kind }
+{
+    Scalar { kind, width: 4 }
+}
+
 /// Whether both are the same.
 pub fn is_same_scalar(first: Scalar, second: Scalar) -> bool
     ensures { result ≡ is_same_scalar first second }
@@ -92,17 +99,7 @@ pub fn is_same_scalar(first: Scalar, second: Scalar) -> bool
     first == second
 }
 
-/// Whether a kind is that of numbers: integers and floats.
-pub fn is_number(kind: ScalarKind) -> bool
-    ensures { result ≡ is_number kind }
-{
-    match kind {
-        ScalarKind::Sint | ScalarKind::Uint | ScalarKind::Float => true,
-        _ => false,
-    }
-}
-
-/// Whether it is that of integers.
+/// Whether a kind is that of integers.
 pub fn is_integer(kind: ScalarKind) -> bool
     ensures { result ≡ is_integer kind }
 {

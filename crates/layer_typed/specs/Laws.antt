@@ -312,12 +312,14 @@ module _ (m : Module) (arguments : List FunctionArgument) (locals : List LocalVa
 by_types : (f : Function) (m : Module) (infos : ModuleInfo) (info : FunctionInfo) (P : FunctionInfo → Type 0)
     → ((types : List TypeResolution) → All (IsLawful m.types) types → length types ≡ length f.expressions
     → P (info_of_types f m infos types))
-    → (found : Result (List TypeResolution) Untyped) → OfOk (AreTypes m f.arguments f.local_variables (length f.expressions)) found
+    → (found : Result (List TypeResolution) Untyped)
+    → OfOk (AreTypes m f.arguments f.local_variables (length f.expressions)) found
     → with_types f m infos found ≡ Ok info → P info
 by_types f m infos info P p (Err untyped) lawful h = absurd cc
 by_types f m infos info P p (Ok types) lawful h = IfOk-at_ok P h (p types lawful.0 lawful.1)
 
-module _ (f : Function) (m : Module) (infos : ModuleInfo) (info : FunctionInfo) (answered : computed_info f m infos ≡ Ok info) where
+module _ (f : Function) (m : Module) (infos : ModuleInfo) (info : FunctionInfo)
+    (answered : computed_info f m infos ≡ Ok info) where
   by_answer : (P : FunctionInfo → Type 0)
       → ((types : List TypeResolution) → All (IsLawful m.types) types → length types ≡ length f.expressions
       → P (info_of_types f m infos types))
@@ -325,7 +327,8 @@ module _ (f : Function) (m : Module) (infos : ModuleInfo) (info : FunctionInfo) 
   by_answer P p =
       let n = length f.expressions in
       let found = types_of m f.arguments f.local_variables f.expressions in
-      let lawful = types_from-lawful m f.arguments f.local_variables f.expressions [] f.expressions (All-nil (IsLawful m.types)) in
+      let lawful = types_from-lawful m f.arguments f.local_variables f.expressions [] f.expressions
+      (All-nil (IsLawful m.types)) in
       by_types f m infos info P p found
       (as_many m f.arguments f.local_variables (0 + n) n found (omega arith) lawful) answered
 

@@ -29,7 +29,12 @@ fault_of untyped = InExpression untyped.handle (Lower (number_of untyped.rule))
 -- the info of a function whose expressions have these types
 abbrev pub info_of_types : Function → Module → ModuleInfo → List TypeResolution → FunctionInfo
 info_of_types f m infos types =
-    record { expression_types = types; global_uses = uses_of m f infos; available_stages = ALL_STAGES; dual_source_blending = false }
+    record {
+      expression_types = types;
+      global_uses = uses_of m f infos;
+      available_stages = ALL_STAGES;
+      dual_source_blending = false;
+    }
 
 abbrev pub with_types : Function → Module → ModuleInfo → Result (List TypeResolution) Untyped → Result FunctionInfo FunctionError
 with_types f m infos (Err untyped) = Err (fault_of untyped)

@@ -1,5 +1,5 @@
 -- What the type of a mesh shader's output variable implies: a struct of two numbers, an array of vertices, one of primitives.
-use Rattle.std.specs.Prelude.{ℕ, Bool, true, false, not, ◌==◌, ◌&&◌, ◌||◌, List, [], ◌∷◌, Option, None, Some, is_some, is_none, slice_get, if◌then◌else◌, option_and_then}
+use Rattle.std.specs.Prelude.{ℕ, Bool, true, false, not, ◌&&◌, ◌||◌, List, [], ◌∷◌, Option, None, Some, is_some, is_none, slice_get, if◌then◌else◌, option_and_then}
 use Rattle.ir_module.specs.declared.module.MeshOutputTopology.{MeshOutputTopology}
 use Rattle.ir_module.specs.declared.module.MeshOutputTopology.TheVariants.{Points, Lines, Triangles}
 use Rattle.ir_module.specs.declared.module.MeshStageInfo.{MeshStageInfo}
@@ -11,8 +11,6 @@ use Rattle.ir_types.specs.declared.types.ArraySize.{ArraySize}
 use Rattle.ir_types.specs.declared.types.ArraySize.TheVariants as size
 use Rattle.ir_types.specs.declared.types.Binding.{Binding}
 use Rattle.ir_types.specs.declared.types.Binding.TheVariants as binding
-use Rattle.ir_types.specs.declared.types.Scalar.{Scalar}
-use Rattle.ir_types.specs.declared.types.ScalarKind.{ScalarKind}
 use Rattle.ir_types.specs.declared.types.ScalarKind.TheVariants.{Uint}
 use Rattle.ir_types.specs.declared.types.StructMember.{StructMember}
 use Rattle.ir_types.specs.declared.types.Type.{«Type» as IrType}
@@ -21,6 +19,7 @@ use Rattle.ir_types.specs.declared.types.TypeInner.TheVariants as inner
 use Rattle.check_errors.specs.declared.mesh.MeshAnalysis.{MeshAnalysis}
 use Rattle.check_errors.specs.declared.mesh.MeshFault.{MeshFault}
 use Rattle.check_errors.specs.declared.mesh.MeshFault.TheVariants.{OutputType, OutputField}
+use Rattle.layer_expressions.specs.Shapes.{four_bytes, is_same_scalar}
 use Rattle.layer_typed.specs.declared.mesh.Items.{Items}
 use Rattle.layer_typed.specs.declared.mesh.Outputs.{Outputs}
 use Rattle.layer_typed.specs.declared.mesh.Role.{Role}
@@ -30,20 +29,9 @@ abbrev pub no_outputs : Outputs
 no_outputs = record { has_vertex_count = false; has_primitive_count = false; vertices = None; primitives = None }
 
 -- the two numbers are u32
-abbrev pub is_u32_of : ScalarKind → ℕ → Bool
-is_u32_of Uint w = w == 4
-is_u32_of _ w = false
-
-abbrev pub is_u32_scalar : Scalar → Bool
-is_u32_scalar s = is_u32_of s.kind s.width
-
-abbrev pub is_u32 : TypeInner → Bool
-is_u32 (inner.Scalar s) = is_u32_scalar s
+abbrev pub is_u32 : Option TypeInner → Bool
+is_u32 (Some (inner.Scalar s)) = is_same_scalar s (four_bytes Uint)
 is_u32 _ = false
-
-abbrev pub is_u32_in : Option TypeInner → Bool
-is_u32_in None = false
-is_u32_in (Some i) = is_u32 i
 
 -- the arrays have a constant size, or one that an override gives: then the number is 0
 abbrev pub items_by : ℕ → ArraySize → Option Items
@@ -86,8 +74,8 @@ with_primitives outputs items =
 
 abbrev pub with_role : List IrType → Outputs → ℕ → Option Role → Option Outputs
 with_role types outputs t None = None
-with_role types outputs t (Some role.VertexCount) = with_vertex_count outputs (is_u32_in (inner_at types t))
-with_role types outputs t (Some role.PrimitiveCount) = with_primitive_count outputs (is_u32_in (inner_at types t))
+with_role types outputs t (Some role.VertexCount) = with_vertex_count outputs (is_u32 (inner_at types t))
+with_role types outputs t (Some role.PrimitiveCount) = with_primitive_count outputs (is_u32 (inner_at types t))
 with_role types outputs t (Some role.Vertices) = with_vertices outputs (option_and_then items_of (inner_at types t))
 with_role types outputs t (Some role.Primitives) = with_primitives outputs (option_and_then items_of (inner_at types t))
 
@@ -122,7 +110,7 @@ abbrev pub topology_in : Option TypeInner → Option MeshOutputTopology
 topology_in (Some (inner.Struct members span)) = topology_among members
 topology_in _ = None
 
--- what is implied by vertices, primitives and their topology
+-- what is implied by vertices, primitives and their topology; overrides of their numbers stand beside it
 abbrev pub implied_of : ℕ → MeshOutputTopology → Items → Items → MeshStageInfo
 implied_of output topology vertices primitives =
     record {

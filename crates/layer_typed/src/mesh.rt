@@ -3,7 +3,7 @@
 ghost use Rattle.std.specs.Prelude.{◌≡◌, option_and_then};
 ghost use Rattle.ir_types.specs.Types.{inner_at};
 ghost use Rattle.std.specs.Option.{option_copied};
-ghost use Rattle.layer_typed.specs.Mesh.{no_outputs, is_u32, is_u32_scalar, items_of, role_of, role_of_binding, is_u32_in, with_vertex_count, with_primitive_count, with_vertices, with_primitives, with_output, outputs_from, topology_role, topology_of_binding, topology_among, topology_in, implied_of, wrong, right, analysis_of, analysis_in, type_of_global, mesh_analysis};
+ghost use Rattle.layer_typed.specs.Mesh.{no_outputs, is_u32, items_of, role_of, role_of_binding, with_vertex_count, with_primitive_count, with_vertices, with_primitives, with_output, outputs_from, topology_role, topology_of_binding, topology_among, topology_in, implied_of, wrong, right, analysis_of, analysis_in, type_of_global, mesh_analysis};
 
 use check_errors::mesh::{MeshAnalysis, MeshFault};
 use ir_arena::handle::Handle;
@@ -11,7 +11,9 @@ use ir_arena::span::WithSpan;
 use ir_arena::tag;
 use ir_module::module::{MeshOutputTopology, MeshStageInfo, Module};
 use ir_types::built_in::BuiltIn;
-use ir_types::types::{ArraySize, Binding, Scalar, ScalarKind, StructMember, Type, TypeInner};
+use ir_types::types::{ArraySize, Binding, Scalar, StructMember, Type, TypeInner};
+use layer_expressions::shapes::is_same_scalar;
+use layer_types::sizes::inner_at;
 use std::alloc::Global;
 
 /// What a member of the output variable's struct is.
@@ -52,22 +54,12 @@ fn no_outputs() -> Outputs
     }
 }
 
-/// Whether a type is u32.
-fn is_u32(inner: &TypeInner) -> bool
-    ensures { result ≡ is_u32 inner.now }
+/// Whether the type of a member is u32.
+fn is_u32(inner: Option<&TypeInner>) -> bool
+    ensures { result ≡ is_u32 (option_copied inner.entry) }
 {
     match inner {
-        TypeInner::Scalar(scalar) => is_u32_scalar(*scalar),
-        _ => false,
-    }
-}
-
-/// Whether a scalar is.
-fn is_u32_scalar(scalar: Scalar) -> bool
-    ensures { result ≡ is_u32_scalar scalar }
-{
-    match scalar.kind {
-        ScalarKind::Uint => scalar.width == 4,
+        Some(TypeInner::Scalar(scalar)) => is_same_scalar(*scalar, Scalar::U32),
         _ => false,
     }
 }
@@ -121,19 +113,9 @@ fn role_of_binding(binding: Option<Binding>) -> Option<Role>
 fn items_at(types: &[Type], ty: Handle<tag::Type>) -> Option<Items>
     ensures { result ≡ option_and_then items_of (inner_at types.now ty) }
 {
-    match types.get(ty.index()) {
-        Some(ty) => items_of(&ty.inner),
+    match inner_at(types, ty) {
+        Some(inner) => items_of(inner),
         None => None,
-    }
-}
-
-/// Whether the type that a member has is u32.
-fn is_u32_at(types: &[Type], ty: Handle<tag::Type>) -> bool
-    ensures { result ≡ is_u32_in (inner_at types.now ty) }
-{
-    match types.get(ty.index()) {
-        Some(ty) => is_u32(&ty.inner),
-        None => false,
     }
 }
 
@@ -144,9 +126,7 @@ fn with_vertex_count(outputs: Outputs, fits: bool) -> Option<Outputs>
     if fits && !outputs.has_vertex_count {
         Some(Outputs {
             has_vertex_count: true,
-            has_primitive_count: outputs.has_primitive_count,
-            vertices: outputs.vertices,
-            primitives: outputs.primitives,
+            ..outputs
         })
     } else {
         None
@@ -159,10 +139,8 @@ fn with_primitive_count(outputs: Outputs, fits: bool) -> Option<Outputs>
 {
     if fits && !outputs.has_primitive_count {
         Some(Outputs {
-            has_vertex_count: outputs.has_vertex_count,
             has_primitive_count: true,
-            vertices: outputs.vertices,
-            primitives: outputs.primitives,
+            ..outputs
         })
     } else {
         None
@@ -175,10 +153,8 @@ fn with_vertices(outputs: Outputs, items: Option<Items>) -> Option<Outputs>
 {
     if items.is_some() && outputs.vertices.is_none() {
         Some(Outputs {
-            has_vertex_count: outputs.has_vertex_count,
-            has_primitive_count: outputs.has_primitive_count,
             vertices: items,
-            primitives: outputs.primitives,
+            ..outputs
         })
     } else {
         None
@@ -191,10 +167,8 @@ fn with_primitives(outputs: Outputs, items: Option<Items>) -> Option<Outputs>
 {
     if items.is_some() && outputs.primitives.is_none() {
         Some(Outputs {
-            has_vertex_count: outputs.has_vertex_count,
-            has_primitive_count: outputs.has_primitive_count,
-            vertices: outputs.vertices,
             primitives: items,
+            ..outputs
         })
     } else {
         None
@@ -206,8 +180,11 @@ fn with_output(types: &[Type], outputs: Outputs, member: &StructMember) -> Optio
     ensures { result ≡ with_output types.now outputs member.now }
 {
     match role_of_binding(member.binding) {
-        Some(Role::VertexCount) => with_vertex_count(outputs, is_u32_at(types, member.ty)),
-        Some(Role::PrimitiveCount) => with_primitive_count(outputs, is_u32_at(types, member.ty)),
+        Some(Role::VertexCount) => with_vertex_count(outputs, is_u32(inner_at(types, member.ty))),
+        Some(Role::PrimitiveCount) => with_primitive_count(
+            outputs,
+            is_u32(inner_at(types, member.ty)),
+        ),
         Some(Role::Vertices) => with_vertices(outputs, items_at(types, member.ty)),
         Some(Role::Primitives) => with_primitives(outputs, items_at(types, member.ty)),
         None => None,
@@ -265,12 +242,9 @@ fn topology_among(members: &[StructMember]) -> Option<MeshOutputTopology>
 fn topology_of(types: &[Type], ty: Handle<tag::Type>) -> Option<MeshOutputTopology>
     ensures { result ≡ topology_in (inner_at types.now ty) }
 {
-    match types.get(ty.index()) {
-        Some(ty) => match &ty.inner {
-            TypeInner::Struct { members, .. } => topology_among(members.as_slice()),
-            _ => None,
-        },
-        None => None,
+    match inner_at(types, ty) {
+        Some(TypeInner::Struct { members, .. }) => topology_among(members.as_slice()),
+        _ => None,
     }
 }
 
@@ -374,10 +348,7 @@ fn type_of_global(module: &Module, output: Handle<tag::GlobalVariable>) -> Optio
     ensures { option_copied result ≡ type_of_global «module».now output }
 {
     match module.global_variables.as_slice().get(output.index()) {
-        Some(global) => match module.types.as_slice().get(global.ty.index()) {
-            Some(ty) => Some(&ty.inner),
-            None => None,
-        },
+        Some(global) => inner_at(module.types.as_slice(), global.ty),
         None => None,
     }
 }

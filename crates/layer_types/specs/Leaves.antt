@@ -46,12 +46,12 @@ is_atomic_of _ w = false
 abbrev pub is_atomic : Scalar → Bool
 is_atomic s = is_atomic_of s.kind s.width
 
--- texels of sampled images are numbers
-abbrev pub is_sampled : ScalarKind → Bool
-is_sampled kind.Sint = true
-is_sampled kind.Uint = true
-is_sampled kind.Float = true
-is_sampled _ = false
+-- integers and floats
+abbrev pub is_number : ScalarKind → Bool
+is_number kind.Sint = true
+is_number kind.Uint = true
+is_number kind.Float = true
+is_number _ = false
 
 -- all of these flags
 abbrev pub all_of : List TypeFlags → TypeFlags
@@ -110,9 +110,9 @@ of_scalar s flags alignment = record (info flags alignment) { immediates_compati
 abbrev pub known_info : Bool → TypeInfo → Option TypeInfo
 known_info is_there info = if is_there then Some info else None
 
--- an image: of any class, but a sampled one of numbers alone
+-- an image: of any class, but the texels of a sampled one are numbers
 abbrev pub image_info : ImageClass → Option TypeInfo
-image_info (class.Sampled kind multi) = known_info (is_sampled kind) (info OPAQUE 1)
+image_info (class.Sampled kind multi) = known_info (is_number kind) (info OPAQUE 1)
 image_info _ = Some (info OPAQUE 1)
 
 -- each type without parts; None where it isn't well formed, and for those that have parts

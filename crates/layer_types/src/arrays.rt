@@ -12,14 +12,21 @@ use ir_facts::valid::types::{Disalignment, TypeInfo};
 use ir_flags::valid::TypeFlags;
 use ir_types::types::ArraySize;
 
+/// DATA, SIZED, COPY, HOST_SHAREABLE, CREATION_RESOLVED, ARGUMENT, CONSTRUCTIBLE.
+const CONSTANT: TypeFlags = TypeFlags(0xf7);
+/// DATA, SIZED, COPY, HOST_SHAREABLE, ARGUMENT.
+const PENDING: TypeFlags = TypeFlags(0x57);
+/// DATA, HOST_SHAREABLE, CREATION_RESOLVED.
+const DYNAMIC: TypeFlags = TypeFlags(0x31);
+
 /// What an array of this size can be used for, if what it holds can.
-pub fn kept_flags(size: &ArraySize) -> TypeFlags
+fn kept_flags(size: &ArraySize) -> TypeFlags
     ensures { result ≡ kept_flags size.now }
 {
     match size {
-        ArraySize::Constant(_) => TypeFlags(0xf7),
-        ArraySize::Pending(_) => TypeFlags(0x57),
-        ArraySize::Dynamic => TypeFlags(0x31),
+        ArraySize::Constant(_) => CONSTANT,
+        ArraySize::Pending(_) => PENDING,
+        ArraySize::Dynamic => DYNAMIC,
     }
 }
 

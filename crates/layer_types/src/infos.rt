@@ -8,6 +8,7 @@ use crate::arrays::array_info;
 use crate::leaves::{info, leaf_info, pointer_flags};
 use crate::parts::{NOT_WELL_FORMED, part_at};
 use crate::structs::struct_info;
+use bitflags::Flags;
 use ir_arena::handle::Handle;
 use ir_arena::sequence::Sequence;
 use ir_arena::tag;
@@ -17,8 +18,11 @@ use ir_module::module::Module;
 use ir_types::types::{AddressSpace, Type, TypeInner};
 use std::alloc::{AllocError, Global};
 
-/// The info of each type of a module, by its handle. A type that isn't well formed has no flags, and no buffer takes it:
-/// one that names itself or a later type, or one whose size or stride passes 32 bits.
+/// The info of each type of a module, by its handle. An Err is out of memory.
+///
+/// A type that isn't well formed has no flags, and no buffer takes it. Not well formed is, among others, one that names
+/// itself or a later type, a scalar of a width that its kind doesn't have, an array whose size passes 32 bits, a struct
+/// whose members overlap. docs/TYPES.md has the rule of each type.
 #[tactic(auto, unfolding(crate::specs::Infos::infos_from))]
 pub fn type_infos(alloc: Global, module: &Module) -> Result<Sequence<TypeInfo>, AllocError>
     ensures { IfOk result (λ infos. infos ≡ infos_from «module».now.types [] «module».now.types) }
@@ -39,7 +43,7 @@ fn ill_formed(own: Handle<tag::Type>) -> TypeInfo
     ensures { result ≡ ill_formed own }
 {
     TypeInfo {
-        flags: TypeFlags(0),
+        flags: TypeFlags::empty(),
         storage_layout: Err((own, NOT_WELL_FORMED)),
         uniform_layout: Err((own, NOT_WELL_FORMED)),
         immediates_compatibility: Err(ImmediateError(0)),
@@ -108,6 +112,6 @@ fn binding_info(base: Option<TypeInfo>) -> Option<TypeInfo>
     if base.flags.0 == 0 {
         None
     } else {
-        Some(info(TypeFlags(0), 1))
+        Some(info(TypeFlags::empty(), 1))
     }
 }

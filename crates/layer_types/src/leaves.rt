@@ -1,7 +1,7 @@
 //! Infos of the types that have no parts.
 
 ghost use Rattle.std.specs.Prelude.{◌≡◌};
-ghost use Rattle.layer_types.specs.Leaves.{is_known, is_float, is_atomic, is_sampled, value_flags, immediate_of, info, of_scalar, pointer_flags, image_info, known_info, leaf_info};
+ghost use Rattle.layer_types.specs.Leaves.{is_known, is_float, is_atomic, is_number, value_flags, immediate_of, info, of_scalar, pointer_flags, image_info, known_info, leaf_info};
 
 use crate::sizes::aligned_components_of;
 use ir_facts::valid::types::{ImmediateError, TypeInfo};
@@ -125,9 +125,9 @@ fn known_info(is_there: bool, info: TypeInfo) -> Option<TypeInfo>
     if is_there { Some(info) } else { None }
 }
 
-/// Whether a sampled image can have texels of this kind.
-fn is_sampled(kind: ScalarKind) -> bool
-    ensures { result ≡ is_sampled kind }
+/// Whether a kind is that of numbers: integers and floats. Texels of sampled images are of these.
+pub fn is_number(kind: ScalarKind) -> bool
+    ensures { result ≡ is_number kind }
 {
     match kind {
         ScalarKind::Sint | ScalarKind::Uint | ScalarKind::Float => true,
@@ -140,7 +140,7 @@ fn image_info(class: ImageClass) -> Option<TypeInfo>
     ensures { result ≡ image_info class }
 {
     match class {
-        ImageClass::Sampled { kind, .. } => known_info(is_sampled(kind), info(OPAQUE, 1)),
+        ImageClass::Sampled { kind, .. } => known_info(is_number(kind), info(OPAQUE, 1)),
         _ => Some(info(OPAQUE, 1)),
     }
 }

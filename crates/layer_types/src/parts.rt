@@ -4,7 +4,7 @@ ghost use Rattle.std.specs.Prelude.{◌≡◌, slice_get};
 ghost use Rattle.ir_types.specs.Types.{inner_at};
 ghost use Rattle.layer_types.specs.Parts.{is_struct, data_part, part_of};
 
-use crate::sizes::inner_size;
+use crate::sizes::{inner_at, inner_size};
 use ir_arena::handle::Handle;
 use ir_arena::tag;
 use ir_facts::valid::types::{Disalignment, TypeInfo};
@@ -35,7 +35,7 @@ pub struct Part {
 pub fn part_at(types: &[Type], earlier: &[TypeInfo], ty: Handle<tag::Type>) -> Option<Part>
     ensures { result ≡ part_of (slice_get earlier.now ty) (inner_at types.now ty) }
 {
-    let inner = &types.get(ty.index())?.inner;
+    let inner = inner_at(types, ty)?;
     match earlier.get(ty.index()) {
         Some(info) => data_part(info, inner),
         None => None,

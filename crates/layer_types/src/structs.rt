@@ -21,7 +21,9 @@ pub struct Laid {
     pub uniform_end: u64,
     /// Whether the last member has no size, so that none follows.
     pub is_open: bool,
+    /// What all members can be used for.
     pub flags: TypeFlags,
+    /// The largest of the members, in bytes.
     pub alignment: u32,
     pub uniform_layout: Result<u32, (Handle<tag::Type>, Disalignment)>,
     pub immediates: Result<(), ImmediateError>,
