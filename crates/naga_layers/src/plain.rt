@@ -5,11 +5,9 @@ ghost use Rattle.check_errors.specs.Answers.{Answers, Exactly};
 ghost use Rattle.naga_layers.specs.Plain.Infos.{plain_info};
 ghost use Rattle.naga_layers.specs.Plain.Meaning.{plain_layer};
 
-mod sizes;
 mod types;
 mod uses;
 
-use crate::plain::sizes::size_of;
 use crate::plain::types::types_of;
 use crate::plain::uses::uses_of;
 use check_errors::below::Below;
@@ -28,6 +26,7 @@ use ir_flags::valid::{ShaderStages, ValidationFlags};
 use ir_module::expressions::Expression;
 use ir_module::functions::Function;
 use ir_module::module::{MeshOutputTopology, MeshStageInfo, Module};
+use layer_types::size_of;
 use layer_uses::kinds_of;
 use std::alloc::{AllocError, Global};
 

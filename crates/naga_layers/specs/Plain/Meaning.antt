@@ -3,9 +3,9 @@ use Rattle.std.specs.Prelude.{[], ◌∷◌, None, Ok}
 use Rattle.ir_flags.specs.Bits.{ALL_STAGES}
 use Rattle.ir_module.specs.declared.module.MeshOutputTopology.TheVariants.{Points}
 use Rattle.check_errors.specs.Meaning.{Meaning}
-use Rattle.naga_layers.specs.Plain.Infos.{plain_info}
+use Rattle.layer_types.specs.Sizes.{size_at}
 use Rattle.layer_uses.specs.Kinds.{kinds_from}
-use Rattle.naga_layers.specs.Plain.Sizes.{size_at}
+use Rattle.naga_layers.specs.Plain.Infos.{plain_info}
 use Rattle.naga_layers.specs.declared.plain.Plain.{Plain}
 
 -- it types the plainest expressions; every expression may run in all stages; one mesh analysis answers for all
@@ -16,7 +16,7 @@ plain_meaning plain =
       expression_stages = λ settings h f m info earlier kinds. Ok ALL_STAGES;
       mesh_analysis = λ m output. plain.analysis;
       kinds_of = λ es. kinds_from [] es;
-      size_of = λ m t. size_at m t;
+      size_of = λ m t. size_at m.types t;
     }
 
 -- the one for modules without mesh shaders: its analysis is one of nothing

@@ -254,7 +254,13 @@ fn sizes(rt: HostRuntime) {
         size: VectorSize::Tri,
         scalar: Scalar::F32,
     };
+    let matrix = TypeInner::Matrix {
+        columns: VectorSize::Bi,
+        rows: VectorSize::Tri,
+        scalar: Scalar::F32,
+    };
     expect_size(&rt, vector, Some(12));
+    expect_size(&rt, matrix, Some(32));
     expect_size(&rt, TypeInner::Atomic(Scalar::U64), Some(8));
     expect_size(&rt, array_of(count, 65535), Some(4294901760));
     expect_size(&rt, array_of(count, 65536), None);
