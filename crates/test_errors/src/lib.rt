@@ -1,5 +1,0 @@
-//! Tests of the errors and their messages, and of a small lower layer's laws.
-#![tactic(auto)]
-
-#[cfg(test)]
-mod tests;

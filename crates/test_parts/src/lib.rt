@@ -1,0 +1,5 @@
+//! Tests of what stands below `naga_valid`: the IR, errors and their messages, inputs and outputs, lower layers.
+#![tactic(auto)]
+
+#[cfg(test)]
+mod tests;
