@@ -1,8 +1,11 @@
+pub mod SmallSets
+pub mod BuiltInNumbers
 pub mod Seeing
 pub mod RuleColumns
 pub mod Kept
 pub mod TypesAt
 pub mod Behind
+pub mod Holding
 pub mod PlainFaults
 pub mod Members
 pub mod DistinctParts

@@ -1,5 +1,5 @@
 -- What a state has seen, as the code changes it: work of lemmas, which private functions alone cite.
-use Rattle.std.specs.Prelude.{ℕ, Bool, not, ◌==◌, ◌&&◌, ◌||◌, List}
+use Rattle.std.specs.Prelude.{ℕ, Bool, not, ◌==◌, ◌&&◌, ◌||◌, nat_lt, List, Option, None, Some, if◌then◌else◌}
 use Rattle.std.specs.List.{list_any}
 use Rattle.ir_types.specs.declared.types.Binding.{Binding}
 use Rattle.ir_types.specs.declared.types.Binding.TheVariants as binding
@@ -25,10 +25,17 @@ seen_more seen given =
       built_ins = λ b. seen.built_ins b || is_bound_to b given;
     }
 
--- without what is bound
-abbrev pub seen_less : Seen → List Binding → Seen
-seen_less seen given =
-    record {
-      locations = λ location. seen.locations location && not (list_any (is_bound_at location) given);
-      built_ins = λ b. seen.built_ins b && not (list_any (is_bound_to b) given);
-    }
+-- the location that is bound
+abbrev pub location_of : Binding → Option ℕ
+location_of (binding.BuiltIn b) = None
+location_of (binding.Location location interpolation sampling blend_src per_primitive) = Some location
+
+-- the location that is bound, where it is kept among those from 64 on
+abbrev pub far_location : Binding → Option ℕ
+far_location (binding.BuiltIn b) = None
+far_location (binding.Location location interpolation sampling blend_src per_primitive) =
+    if nat_lt location 64 then None else Some location
+
+-- locations without these
+abbrev pub far_less : (ℕ → Bool) → List ℕ → ℕ → Bool
+far_less far given location = far location && not (list_any (λ l. location == l) given)

@@ -1,5 +1,7 @@
 pub mod BuiltIns
 pub mod CodeBuiltIns
+pub mod BuiltInNumbers
+pub mod SmallSets
 pub mod Seen
 pub mod Locations
 pub mod VaryingFaults

@@ -16,7 +16,7 @@
 --   other   where all earlier parts go another way, the same without the built-ins is seen (so a state whose built-ins are
 --           cleared goes from the vertex output of a mesh to its primitive output)
 -- In an accepted group no location and no built-in stands twice (`DistinctVaryings`).
-use Rattle.std.specs.Prelude.{◌≡◌, ℕ, suc, Bool, true, false, not, ◌&&◌, ◌||◌, ◌==◌, List, [], ◌∷◌, ◌++◌, slice_index, Option, None, Some, if◌then◌else◌, map, codes, nat_le, unwrap_or}
+use Rattle.std.specs.Prelude.{◌≡◌, ℕ, suc, Bool, true, false, not, ◌&&◌, ◌||◌, ◌==◌, List, [], ◌∷◌, ◌++◌, slice_index, Option, None, Some, if◌then◌else◌, map, codes, nat_le, nat_lt, unwrap_or}
 use Rattle.std.specs.BTreeSet.{contains as set_contains}
 use Rattle.std.specs.List.{list_any}
 use Rattle.std.specs.Ordering.{nat_cmp}
@@ -25,7 +25,6 @@ use Rattle.ir_flags.specs.Capabilities.{MESH_SHADER, NO_CAPABILITY, has_capabili
 use Rattle.ir_facts.specs.Points.{Point, within}
 use Rattle.ir_types.specs.TypeTests.{is_same_inner, is_scalar}
 use Rattle.ir_types.specs.Types.{inner_at}
-use Rattle.ir_types.specs.contracts.built_in.BuiltInOrd.TheImpl as built_in_order
 use Rattle.ir_types.specs.declared.built_in.BuiltIn.{BuiltIn}
 use Rattle.ir_types.specs.declared.built_in.BuiltIn.TheVariants.{SubgroupId, SubgroupInvocationId}
 use Rattle.ir_module.specs.declared.module.ShaderStage.TheVariants.{Fragment}
@@ -38,14 +37,17 @@ use Rattle.ir_types.specs.declared.types.TypeInner.{TypeInner}
 use Rattle.ir_types.specs.declared.types.TypeInner.TheVariants as inner
 use Rattle.ir_flags.specs.declared.capabilities.Capabilities.{Capabilities}
 use Rattle.ir_facts.specs.declared.valid.types.TypeInfo.{TypeInfo}
+use Rattle.check_varyings.specs.BuiltInNumbers.{number_of}
 use Rattle.check_varyings.specs.BuiltIns.{built_in_rule, canonical, f32, is_same_built_in, is_stage}
 use Rattle.check_varyings.specs.Locations.{location_points, may_take}
 use Rattle.check_errors.specs.WhatIsChecked.{checks_bindings}
 use Rattle.check_varyings.specs.Seen.{Seen}
+use Rattle.check_varyings.specs.SmallSets.{has_number}
 use Rattle.check_errors.specs.TypeInfos.{type_has}
 use Rattle.check_varyings.specs.VaryingFaults.{VaryingFault, InvalidInputAttribute, InvalidAttribute, Itself}
 use Rattle.check_errors.specs.declared.interface.VaryingError.{VaryingError}
 use Rattle.check_errors.specs.declared.interface.VaryingError.TheVariants.{DuplicateBuiltIn, UnsupportedCapability, InvalidMultiDimensionalSubgroupBuiltIn, InvalidBuiltInStage, InvalidBuiltInType, MissingBinding, MemberMissingBinding, BindingCollision}
+use Rattle.check_varyings.specs.declared.varying.Near.{Near}
 use Rattle.check_varyings.specs.declared.varying.VaryingPlace.{VaryingPlace}
 use Rattle.check_varyings.specs.declared.varying.VaryingState.{VaryingState}
 use Rattle.check_varyings.specs.declared.rule.BuiltInRule.{BuiltInRule}
@@ -237,13 +239,21 @@ module _ (types : List IrType) (infos : List TypeInfo) where
 abbrev pub nothing_seen : Seen
 nothing_seen = record { locations = λ location. false; built_ins = λ b. false }
 
+-- what is seen, where the locations below 64 and the built-ins are kept so, and these are the other locations
+abbrev pub seen_by : Near → (ℕ → Bool) → Seen
+seen_by near far =
+    record {
+      locations = λ location. if nat_lt location 64 then has_number near.locations location else far location;
+      built_ins = λ b. has_number near.built_ins (number_of b);
+    }
+
+-- the locations from 64 on, as a state keeps them
+abbrev pub far_in : VaryingState → ℕ → Bool
+far_in state location = set_contains nat_cmp state.far location
+
 -- what a state has seen
 abbrev pub seen_in : VaryingState → Seen
-seen_in state =
-    record {
-      locations = λ location. set_contains nat_cmp state.locations location;
-      built_ins = λ b. set_contains (built_in_order.ghosts).cmp state.built_ins b;
-    }
+seen_in state = seen_by state.near (far_in state)
 
 -- what was seen, and parts behind it
 abbrev pub seen_with : Seen → List Part → Seen

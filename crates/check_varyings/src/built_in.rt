@@ -59,7 +59,10 @@ pub(crate) fn check_built_in(
 }
 
 /// The capability that is required, where the target lacks it.
-fn missing(capabilities: Capabilities, required: Option<Capabilities>) -> Option<Capabilities>
+pub(crate) fn missing(
+    capabilities: Capabilities,
+    required: Option<Capabilities>,
+) -> Option<Capabilities>
     ensures { result ≡ (if has_required capabilities required then None else required) }
 {
     match required {
@@ -80,7 +83,7 @@ pub(crate) fn has_mesh_shader(place: &VaryingPlace, wanted: bool) -> bool
 }
 
 /// Whether the work group has one dimension, or the built-in is there for others too.
-fn suits_work_group(place: &VaryingPlace, built_in: BuiltIn) -> bool
+pub(crate) fn suits_work_group(place: &VaryingPlace, built_in: BuiltIn) -> bool
     ensures { result ≡ (not (is_of_one_dimension built_in) || has_one_dimension place.now) }
 {
     let [_, second, third] = place.workgroup_size;
@@ -144,7 +147,7 @@ fn is_of_one_dimension(built_in: BuiltIn) -> bool
 }
 
 /// Whether a type is the one that a built-in has.
-fn has_type(types: &UniqueArena<Type>, inner: &TypeInner, ty: &BuiltInType) -> bool
+pub(crate) fn has_type(types: &UniqueArena<Type>, inner: &TypeInner, ty: &BuiltInType) -> bool
     requires { NamesTypesBelow (length types.now) inner.now }
     ensures { result ≡ has_built_in_type types.now inner.now ty.now }
 {

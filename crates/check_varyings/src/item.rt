@@ -1,20 +1,21 @@
 //! The check of an item: naga 30.0.1's `VaryingContext::validate`.
 
-ghost use Rattle.std.specs.Prelude.{◌≡◌, ◌<◌, All, None, [], ◌∷◌, OnOk, OnErr, length, not};
+ghost use Rattle.std.specs.Prelude.{◌≡◌, ◌<◌, ◌≤◌, ℕ, All, None, [], ◌∷◌, OnOk, OnErr, length, not};
 ghost use Rattle.ir_facts.specs.Fits.{MemberCountFits};
 ghost use Rattle.ir_facts.specs.FitsBody.{FitsCount};
 ghost use Rattle.ir_types.specs.Types.{NameEachOther};
 ghost use Rattle.check_errors.specs.Answers.{Answers, FirstOf, read_by};
-ghost use Rattle.check_varyings.specs.CodeVaryings.{seen_less, seen_more, with_location};
+ghost use Rattle.check_varyings.specs.CodeVaryings.{far_less, seen_more, with_location};
 ghost use Rattle.check_errors.specs.WhatIsChecked.{checks_bindings};
 ghost use Rattle.check_errors.specs.declared.interface.VaryingError.TheVariants.{MissingBinding};
 ghost use Rattle.check_varyings.specs.VaryingFaults.{Itself, varying_fault_of};
-ghost use Rattle.check_varyings.specs.Varyings.{Bound, bound_points, blend_points, member_part, member_parts, part_points, parts_of, points_behind, points_from, seen_in, seen_with};
+ghost use Rattle.check_varyings.specs.Varyings.{Bound, bound_points, blend_points, member_part, member_parts, part_points, parts_of, points_behind, points_from, far_in, seen_in, seen_with};
 
 use crate::built_in::check_built_in;
 use crate::context::VaryingContext;
+use crate::holds::bound_holds;
 use crate::location::{Location, check_location, may_take};
-use crate::varying::{VaryingPlace, VaryingState};
+use crate::varying::{VaryingPlace, VaryingState, far_location};
 use check_errors::interface::VaryingError;
 use ir_arena::handle::Handle;
 use ir_arena::span::Refusal;
@@ -143,6 +144,27 @@ fn check_bound(
     ensures { Answers (FirstOf (bound_points context.now.place.now context.now.types.now context.now.infos.now
         (seen_in state.now) ty binding)) result }
 {
+    if bound_holds(context, state, ty, binding) {
+        return Ok(());
+    }
+    first_fault_of_bound(context, state, ty, binding)
+}
+
+/// The list of what is bound, with the fault of each point, where one fails.
+#[cold]
+#[inline(never)]
+fn first_fault_of_bound(
+    context: &VaryingContext,
+    state: &VaryingState,
+    ty: Handle<tag::Type>,
+    binding: Binding,
+) -> Result<(), Refusal<VaryingError>>
+    requires ty { ty < length context.now.types.now }
+    requires infos { length context.now.infos.now ≡ length context.now.types.now }
+    requires types { NameEachOther context.now.types.now }
+    ensures { Answers (FirstOf (bound_points context.now.place.now context.now.types.now context.now.infos.now
+        (seen_in state.now) ty binding)) result }
+{
     match binding {
         Binding::BuiltIn(built_in) => check_built_in(context, state, ty, built_in),
         Binding::Location {
@@ -167,12 +189,12 @@ fn check_bound(
     }
 }
 
-/// A member of a struct, with its index. What it puts into the state and wasn't there goes last into `added`, before
-/// it is put there.
+/// A member of a struct, with its index. A location that it puts into the state, that takes memory and wasn't there goes last
+/// into `added`, before it is put there.
 fn check_member(
     context: &VaryingContext,
     state: &mut VaryingState,
-    added: &mut Vec<Binding>,
+    added: &mut Vec<u32>,
     index: u32,
     member: &StructMember,
 ) -> Result<(), Refusal<VaryingError>>
@@ -184,7 +206,7 @@ fn check_member(
         (member_part index member.now.ty member.now.binding))) (read_by varying_fault_of result) }
     ensures seen { OnOk result
         (seen_in state.new ≡ seen_with (seen_in state.old) (member_part index member.now.ty member.now.binding ∷ [])) }
-    ensures added { seen_less (seen_in state.new) added.new.items ≡ seen_less (seen_in state.old) added.old.items }
+    ensures added { (l : ℕ) → far_less (far_in state.new) added.new.items l ≡ far_less (far_in state.old) added.old.items l }
 {
     let Some(binding) = member.binding else {
         if context.place.flags.contains(ValidationFlags::BINDINGS) {
@@ -197,27 +219,38 @@ fn check_member(
     Ok(())
 }
 
-/// Puts in what is bound. What wasn't there goes last into `added`, before it is put there.
-fn hold(
-    state: &mut VaryingState,
-    added: &mut Vec<Binding>,
-    binding: Binding,
-) -> Result<(), AllocError>
+/// Puts in what is bound. A location that takes memory and wasn't there goes last into `added`, before it is put there.
+fn hold(state: &mut VaryingState, added: &mut Vec<u32>, binding: Binding) -> Result<(), AllocError>
     ensures seen { OnOk result (seen_in state.new ≡ seen_with (seen_in state.old) (Bound 0 binding ∷ [])) }
-    ensures added { seen_less (seen_in state.new) added.new.items ≡ seen_less (seen_in state.old) added.old.items }
+    ensures added { (l : ℕ) → far_less (far_in state.new) added.new.items l ≡ far_less (far_in state.old) added.old.items l }
 {
-    if state.has(binding) {
-        return Ok(());
+    match far_location(binding) {
+        Some(location) => hold_far(state, added, location),
+        None => {
+            state.put_near(binding);
+            Ok(())
+        }
     }
-    added.push(binding)?;
-    state.put(binding)
 }
 
-/// The members of a struct, in order. What they add to the state goes into `added`.
+/// Takes a location from 64 on. One that wasn't taken goes last into `added`, before it is.
+fn hold_far(state: &mut VaryingState, added: &mut Vec<u32>, location: u32) -> Result<(), AllocError>
+    requires { 64 ≤ location }
+    ensures seen { OnOk result (seen_in state.new ≡ with_location (seen_in state.old) location) }
+    ensures added { (l : ℕ) → far_less (far_in state.new) added.new.items l ≡ far_less (far_in state.old) added.old.items l }
+{
+    if state.has_location(location) {
+        return Ok(());
+    }
+    added.push(location)?;
+    state.put_far(location)
+}
+
+/// The members of a struct, in order. The locations that take memory and that they add to the state go into `added`.
 fn check_members(
     context: &VaryingContext,
     state: &mut VaryingState,
-    added: &mut Vec<Binding>,
+    added: &mut Vec<u32>,
     members: &[StructMember],
 ) -> Result<(), Refusal<VaryingError>>
     requires members { All (λ m. m.ty < length context.now.types.now) members.now }
@@ -228,7 +261,7 @@ fn check_members(
         (FirstOf (points_behind context.now.place.now context.now.types.now context.now.infos.now (seen_in state.old)
         [] (member_parts 0 members.now))) (read_by varying_fault_of result) }
     ensures seen { OnOk result (seen_in state.new ≡ seen_with (seen_in state.old) (member_parts 0 members.now)) }
-    ensures added { seen_less (seen_in state.new) added.new.items ≡ seen_less (seen_in state.old) added.old.items }
+    ensures added { (l : ℕ) → far_less (far_in state.new) added.new.items l ≡ far_less (far_in state.old) added.old.items l }
 {
     for (index, member) in members.iter().enumerate() {
         check_member(context, state, added, index as u32, member)?;
@@ -252,11 +285,12 @@ fn check_struct(
     ensures seen { OnOk result (seen_in state.new ≡ seen_with (seen_in state.old) (member_parts 0 members.now)) }
     ensures refused { OnErr result (seen_in state.new ≡ seen_in state.old) }
 {
+    let near = state.near();
     let mut added = Vec::new(context.alloc);
     match check_members(context, state, &mut added, members) {
         Ok(()) => Ok(()),
         Err(refused) => {
-            take_back(state, added.as_slice());
+            state.go_back(near, added.as_slice());
             Err(refused)
         }
     }
@@ -285,15 +319,6 @@ fn check_blend_sources(
     if !may_take(place, state, 0) {
         return Err(context.refusal(VaryingError::BindingCollision { location: 0 }));
     }
-    state.put_location(0)?;
+    state.put_low(0);
     Ok(())
-}
-
-/// Takes back what is bound.
-fn take_back(state: &mut VaryingState, added: &[Binding])
-    ensures { seen_in state.new ≡ seen_less (seen_in state.old) added.now }
-{
-    for &binding in added {
-        state.take(binding);
-    }
 }

@@ -3,11 +3,14 @@
 #![tactic(auto)]
 
 mod built_in;
+mod built_in_number;
 mod context;
+mod holds;
 pub mod item;
 pub mod laws;
 mod location;
 pub mod rule;
+mod small_set;
 pub mod varying;
 
 pub use crate::item::check_varying_item;

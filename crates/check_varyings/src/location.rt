@@ -232,7 +232,7 @@ fn check_interpolation(
 }
 
 /// Whether an interpolation goes with a sampling: none does for what is given for each vertex.
-fn go_together(interpolation: Interpolation, sampling: Sampling) -> bool
+pub(crate) fn go_together(interpolation: Interpolation, sampling: Sampling) -> bool
     ensures { result ≡ go_together interpolation sampling }
 {
     match interpolation {
@@ -249,7 +249,7 @@ fn go_together(interpolation: Interpolation, sampling: Sampling) -> bool
 
 /// Whether an interpolation is needed: for outputs of a vertex or mesh stage, and for fragment inputs that aren't per
 /// primitive.
-fn is_interpolated(place: &VaryingPlace, per_primitive: bool) -> bool
+pub(crate) fn is_interpolated(place: &VaryingPlace, per_primitive: bool) -> bool
     ensures { result ≡ is_interpolated place.now.stage place.now.output per_primitive }
 {
     match place.stage {

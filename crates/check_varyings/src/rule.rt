@@ -249,7 +249,7 @@ fn is_output(place: &VaryingPlace, stages: &[St]) -> bool
 }
 
 /// Whether primitives of a mesh are put out here.
-fn is_primitive_output(place: &VaryingPlace) -> bool
+pub(crate) fn is_primitive_output(place: &VaryingPlace) -> bool
     ensures { result ≡ is_primitive_output place.now.mesh_output }
 {
     match place.mesh_output {

@@ -1,11 +1,13 @@
 //! The inputs and outputs of a stage, that is arguments, result and mesh outputs: naga 30.0.1's `VaryingContext`.
 
-ghost use Rattle.std.specs.Prelude.{◌≡◌, ◌||◌, ◌&&◌, not, [], ◌∷◌, OnOk, OnErr};
+ghost use Rattle.std.specs.Prelude.{◌≡◌, ◌<◌, ◌≤◌, ◌||◌, ◌&&◌, ◌==◌, not, ℕ, None, OnOk, OnErr};
 ghost use Rattle.std.specs.BTreeSet.{contains as set_contains};
 ghost use Rattle.check_varyings.specs.BuiltIns.{canonical};
-ghost use Rattle.check_varyings.specs.CodeVaryings.{is_taken, seen_less, seen_more, with_location};
-ghost use Rattle.check_varyings.specs.Varyings.{seen_in, nothing_seen, without_built_ins};
+ghost use Rattle.check_varyings.specs.CodeVaryings.{far_less, far_location, is_taken, seen_more, with_location};
+ghost use Rattle.check_varyings.specs.Varyings.{far_in, nothing_seen, seen_by, seen_in, without_built_ins};
 
+use crate::built_in_number::number_of;
+use crate::small_set::SmallSet;
 use ir_flags::capabilities::Capabilities;
 use ir_flags::valid::ValidationFlags;
 use ir_module::module::ShaderStage;
@@ -39,21 +41,33 @@ pub struct VaryingPlace {
 
 /// The locations and built-ins of the items of a group so far. It keeps its allocator.
 ///
-/// Built-ins are stored with `invariant` and `perspective` cleared.
+/// Built-ins are stored with `invariant` and `perspective` cleared. A location from 64 on takes memory.
 #[derive(Drop)]
 pub struct VaryingState {
-    pub locations: BTreeSet<u32>,
-    pub built_ins: BTreeSet<BuiltIn>,
+    near: Near,
+    // the locations from 64 on
+    far: BTreeSet<u32>,
+}
+
+/// What a state keeps without memory: the locations below 64, and the built-ins by their numbers.
+#[derive(Clone, Copy)]
+pub(crate) struct Near {
+    locations: SmallSet,
+    built_ins: SmallSet,
 }
 
 impl VaryingState {
     /// An empty state, which keeps the allocator.
+    #[tactic(auto, using(crate::proofs::Kept::nothing_by))]
     pub fn new(alloc: Global) -> VaryingState
         ensures { seen_in result ≡ nothing_seen }
     {
         VaryingState {
-            locations: BTreeSet::new(alloc),
-            built_ins: BTreeSet::new(alloc),
+            near: Near {
+                locations: SmallSet::new(),
+                built_ins: SmallSet::new(),
+            },
+            far: BTreeSet::new(alloc),
         }
     }
 
@@ -61,29 +75,52 @@ impl VaryingState {
     pub fn has_location(&self, location: u32) -> bool
         ensures { result ≡ (seen_in self.now).locations location }
     {
-        self.locations.contains(&location)
+        if location < 64 {
+            self.near.locations.contains(location)
+        } else {
+            self.far.contains(&location)
+        }
     }
 
     /// Whether a built-in is there. It must have `invariant` and `perspective` cleared.
     pub fn has_built_in(&self, built_in: BuiltIn) -> bool
         ensures { result ≡ (seen_in self.now).built_ins built_in }
     {
-        self.built_ins.contains(&built_in)
+        self.near.built_ins.contains(number_of(built_in))
     }
 
     /// Drops the built-ins and keeps the locations, as from one output of a mesh to the other.
     pub fn clear_built_ins(&mut self)
         ensures { seen_in self.new ≡ without_built_ins (seen_in self.old) }
     {
-        self.built_ins.clear();
+        self.near.built_ins = SmallSet::new();
     }
 
-    /// Takes a location. A refused call leaves the state as it was.
-    pub(crate) fn put_location(&mut self, location: u32) -> Result<(), AllocError>
+    /// What is kept without memory.
+    pub(crate) fn near(&self) -> Near
+        ensures { result ≡ self.now.near }
+    {
+        self.near
+    }
+
+    /// Takes a location below 64.
+    pub(crate) fn put_low(&mut self, location: u32)
+        requires { location < 64 }
+        ensures seen { seen_in self.new ≡ with_location (seen_in self.old) location }
+        ensures far { self.new.far ≡ self.old.far }
+    {
+        self.near.locations.insert(location);
+    }
+
+    /// Takes a location from 64 on. A refused call leaves the state as it was.
+    pub(crate) fn put_far(&mut self, location: u32) -> Result<(), AllocError>
+        requires { 64 ≤ location }
         ensures put { OnOk result (seen_in self.new ≡ with_location (seen_in self.old) location) }
         ensures err { OnErr result (seen_in self.new ≡ seen_in self.old) }
+        ensures far { OnOk result ((l : ℕ) → far_in self.new l ≡ (far_in self.old l || (l == location))) }
+        ensures far_err { OnErr result ((l : ℕ) → far_in self.new l ≡ far_in self.old l) }
     {
-        insert(&mut self.locations, location)
+        insert(&mut self.far, location)
     }
 
     /// Whether what is bound is there.
@@ -96,25 +133,52 @@ impl VaryingState {
         }
     }
 
+    /// Puts in what is bound, which takes no memory.
+    pub(crate) fn put_near(&mut self, binding: Binding)
+        requires { far_location binding ≡ None }
+        ensures seen { seen_in self.new ≡ seen_more (seen_in self.old) binding }
+        ensures far { self.new.far ≡ self.old.far }
+    {
+        match binding {
+            Binding::BuiltIn(built_in) => {
+                self.near.built_ins.insert(number_of(canonical(built_in)));
+            }
+            Binding::Location { location, .. } => self.put_low(location),
+        }
+    }
+
     /// Puts in what is bound. A refused call leaves the state as it was.
     pub(crate) fn put(&mut self, binding: Binding) -> Result<(), AllocError>
         ensures put { OnOk result (seen_in self.new ≡ seen_more (seen_in self.old) binding) }
         ensures err { OnErr result (seen_in self.new ≡ seen_in self.old) }
     {
-        match binding {
-            Binding::BuiltIn(built_in) => { insert(&mut self.built_ins, canonical(built_in)) }
-            Binding::Location { location, .. } => insert(&mut self.locations, location),
+        match far_location(binding) {
+            Some(location) => self.put_far(location),
+            None => {
+                self.put_near(binding);
+                Ok(())
+            }
         }
     }
 
-    /// Takes out what is bound.
-    pub(crate) fn take(&mut self, binding: Binding)
-        ensures { seen_in self.new ≡ seen_less (seen_in self.old) (binding ∷ []) }
+    /// Goes back to what was kept without memory, and takes out these locations from 64 on.
+    pub(crate) fn go_back(&mut self, near: Near, added: &[u32])
+        ensures { seen_in self.new ≡ seen_by near (far_less (far_in self.old) added.now) }
     {
-        match binding {
-            Binding::BuiltIn(built_in) => remove(&mut self.built_ins, canonical(built_in)),
-            Binding::Location { location, .. } => remove(&mut self.locations, location),
+        self.near = near;
+        for &location in added {
+            remove(&mut self.far, location);
         }
+    }
+}
+
+/// The location that is bound, if it takes memory.
+pub(crate) fn far_location(binding: Binding) -> Option<u32>
+    ensures { result ≡ far_location binding }
+{
+    match binding {
+        Binding::BuiltIn(_) => None,
+        Binding::Location { location, .. } => if location < 64 { None } else { Some(location) },
     }
 }
 

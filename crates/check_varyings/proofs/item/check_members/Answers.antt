@@ -35,5 +35,5 @@ loop-index-preserved c =
     record {
       rest = passed_at points _ _ turn c.in_ok-check_member.ensures.fault ∙ c.loop-index.invariant.rest;
       seen = seen_turns ms i m c.loop-index-test.true c.index-members-index.is start now (seen_in c.check_member.new.state) c.loop-index.invariant.seen c.in_ok-check_member.ensures.seen;
-      added = c.check_member.ensures.added ∙ c.loop-index.invariant.added;
+      added = λ l. c.check_member.ensures.added l ∙ c.loop-index.invariant.added l;
     }

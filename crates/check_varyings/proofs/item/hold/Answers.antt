@@ -1,15 +1,16 @@
-use Rattle.std.proofs.Common.{sym, ◌∙◌}
-use Rattle.check_varyings.specs.Varyings.{seen_in}
-use Rattle.check_varyings.proofs.Kept.{held_is, held_less, more_is, on_ok}
+use Rattle.std.proofs.Common.{sym, ap, ◌∙◌}
+use Rattle.check_varyings.specs.CodeVaryings.{far_less}
+use Rattle.check_varyings.specs.Varyings.{far_in, seen_in}
+use Rattle.check_varyings.proofs.Kept.{far_is, is_far, more_is, on_ok}
 use Rattle.check_varyings.proofs.item.hold.Goals as goal
 
-pub returns-then-has-clause-seen : goal.returns-then-has-clause-seen
-returns-then-has-clause-seen c = held_is (seen_in c.args.state.now) 0 c.args.binding (sym c.has.ensures ∙ c.if-has.true)
+pub hold_far-requires : goal.hold_far-requires
+hold_far-requires c = is_far c.args.binding c.in-Some.location (sym c.far_location.ensures ∙ c.in-Some.is)
 
-pub returns-clause-seen : goal.returns-clause-seen
-returns-clause-seen c = on_ok c.put.result (λ e. e ∙ more_is (seen_in c.args.state.now) 0 c.args.binding) c.put.ensures.put
+pub returns-in-Some-clause-seen : goal.returns-in-Some-clause-seen
+returns-in-Some-clause-seen c =
+    let far = far_is (seen_in c.args.state.now) c.args.binding c.in-Some.location (sym c.far_location.ensures ∙ c.in-Some.is) in
+    on_ok c.hold_far.result (λ e. e ∙ far ∙ more_is (seen_in c.args.state.now) 0 c.args.binding) c.hold_far.ensures.seen
 
-pub returns-clause-added : goal.returns-clause-added
-returns-clause-added c =
-    held_less (seen_in c.args.state.now) (seen_in c.put.new.self) c.args.added.now.items c.push.new.self.items c.args.binding
-    (sym c.has.ensures ∙ c.if-has.false) c.in_ok-push.ensures.items c.put.result c.put.ensures.put c.put.ensures.err
+pub returns-in-None-clause-seen : goal.returns-in-None-clause-seen
+returns-in-None-clause-seen c = c.put_near.ensures.seen ∙ more_is (seen_in c.args.state.now) 0 c.args.binding
