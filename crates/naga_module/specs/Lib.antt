@@ -1,6 +1,7 @@
 pub mod ModuleJudgement
 pub mod CodeModule
 pub mod Misfits
+pub mod ShortFacts
 pub mod ModuleInfos
 pub mod ModuleLaw
 pub mod OneJudgement
