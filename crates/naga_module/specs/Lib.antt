@@ -1,5 +1,7 @@
 pub mod ModuleJudgement
 pub mod CodeModule
+pub mod Misfits
+pub mod ShortFacts
 pub mod ModuleInfos
 pub mod ModuleLaw
 pub mod OneJudgement
@@ -21,6 +23,8 @@ pub use Rattle.naga_valid.specs.EntryFacts.{IsUsedAt, BindingsAreDistinct, Group
 pub use Rattle.naga_layers.specs.Plain.Meaning.{plain_meaning, plain_layer}
 pub use Rattle.naga_layers.specs.Recorded.Meaning.{recorded_meaning}
 pub use Rattle.naga_module.specs.ModuleInfos.{infos_before, OfFunctions, OfEntryPoints, IsJudgedEntry, ModuleIsJudged}
+pub use Rattle.ir_misfits.specs.declared.misfit.Misfit.{Misfit}
+pub use Rattle.naga_module.specs.Misfits.{module_points, AllFits}
 pub use Rattle.naga_module.specs.ModuleJudgement.{Fits, IsJudgement, IsJudgementOrMemory}
 pub use Rattle.naga_module.specs.ModuleLaw.{IsSoundFunction, ModuleHolds, ModuleFillsOnce, ModuleBindsApart, AcceptedModuleIsJudged, AcceptedModuleHolds, AcceptedModuleFillsOnce, AcceptedModuleBindsApart, IsToldOfFunctions, FunctionsAloneAreTold}
 pub use Rattle.naga_module.specs.OneJudgement.{IsSameFault, IsSameAnswer, ModuleHasOneJudgement}

@@ -1,15 +1,23 @@
-//! For users: `check_module`, which judges a whole module, its law, and the messages of refusals.
+//! For users: `check_module`, which judges a whole module, its law, `find_misfit`, and the messages of refusals.
 //! It passes on the lower layers of `naga_layers`.
 #![tactic(auto)]
 
 pub mod check;
 pub mod laws;
+pub mod misfit;
 pub mod report;
+pub mod short;
 pub mod worked;
 
 pub use crate::check::{Given, ModuleFault, check_module};
 pub use crate::laws::module_law;
+pub use crate::misfit::find_misfit;
 pub use crate::report::{Subject, write_fault, write_module_fault, write_refusal};
+pub use crate::short::{Shortage, find_short_fact};
+pub use ir_misfits::{
+    EntryField, HandleOf, Misfit, Owner, Place, Problem, StatementField, TypeField, TypeOwner,
+    VariableField,
+};
 pub use naga_layers::{
     ExpressionFact, Facts, FunctionFact, InfoFact, LowerFunctionError, MeshAnalysisFact, Plain,
     Recorded,

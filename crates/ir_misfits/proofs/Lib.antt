@@ -1,0 +1,5 @@
+pub mod Exact
+pub mod ExactParts
+pub mod ExactBodies
+pub mod Lists
+pub mod Walks

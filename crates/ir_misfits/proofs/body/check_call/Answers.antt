@@ -1,0 +1,20 @@
+use Rattle.std.proofs.Common.{◌++◌, rules}
+use Rattle.ir_facts.specs.Points.{points_of_each}
+use Rattle.ir_misfits.specs.declared.misfit.HandleOf.TheVariants.{Functions}
+use Rattle.ir_misfits.specs.declared.misfit.Place.TheVariants.{InStatement}
+use Rattle.ir_misfits.specs.declared.misfit.StatementField.TheVariants as field
+use Rattle.ir_misfits.specs.Points.{named}
+use Rattle.ir_misfits.specs.OfSignatures.{callee_points}
+use Rattle.ir_misfits.specs.OfBodies.{call_argument_points, names_if}
+use Rattle.ir_misfits.proofs.Walks.{stops_in}
+use Rattle.ir_misfits.proofs.body.check_call.Goals as goal
+
+pub returns-in_err-check_callee : goal.returns-in_err-check_callee
+returns-in_err-check_callee c =
+    let asked = c.args.asked.now in
+    let at = InStatement asked.owner c.args.number field.Function in
+    let first = named at Functions asked.earlier c.args.function in
+    let rest = points_of_each (call_argument_points asked.expressions asked.owner c.args.number) c.args.arguments.now ++ names_if asked.expressions asked.owner c.args.number field.Result c.args.answer in
+    let holds = rw c.index.ensures.value at c.in_ok-names.ensures in
+    let told = stops_in first.0 first.1 (callee_points asked.module.now at c.args.function) rest c.in_err-check_callee.field-0.0 holds c.in_err-check_callee.ensures in
+    search (rules, told)

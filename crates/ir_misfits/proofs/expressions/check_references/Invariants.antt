@@ -1,0 +1,10 @@
+use Rattle.std.proofs.Common.{◌≡◌, drop}
+use Rattle.ir_facts.specs.Points.{first_fault, points_from, points_of_each}
+use Rattle.ir_misfits.specs.OfExpressions.{reference_points}
+use Rattle.ir_misfits.proofs.expressions.check_references.Given as goal
+
+-- what is left decides
+abbrev pub invariant-loop-place : goal.invariant-loop-place
+invariant-loop-place l =
+    first_fault (points_from (reference_points l.«module» l.fun l.owner) l.place (drop l.place l.expressions))
+    ≡ first_fault (points_of_each (reference_points l.«module» l.fun l.owner) l.expressions)

@@ -1,0 +1,15 @@
+use Rattle.ir_misfits.proofs.ExactParts.{types_exact, globals_exact, entry_exact}
+use Rattle.ir_misfits.proofs.ExactBodies.{function_exact}
+use Rattle.ir_misfits.proofs.laws.misfits_law.Goals as goal
+
+pub returns-clause-types : goal.returns-clause-types
+returns-clause-types c = λ m. let e = types_exact m in (e.holds, e.passes)
+
+pub returns-clause-globals : goal.returns-clause-globals
+returns-clause-globals c = λ m types. let e = globals_exact m types in (e.holds, e.passes)
+
+pub returns-clause-functions : goal.returns-clause-functions
+returns-clause-functions c = λ of f m earlier. let e = function_exact of f m earlier in (e.holds, e.passes)
+
+pub returns-clause-entries : goal.returns-clause-entries
+returns-clause-entries c = λ k p m. let e = entry_exact k p m in (e.holds, e.passes)

@@ -1,0 +1,9 @@
+pub mod Points
+pub mod OfTypes
+pub mod OfSignatures
+pub mod OfExpressions
+pub mod OfGlobals
+pub mod OfBodies
+pub mod OfFunctions
+pub mod OfEntries
+pub mod Laws

@@ -1,0 +1,144 @@
+//! What doesn't fit of expressions.
+
+ghost use Rattle.std.specs.Prelude.{◌≡◌, slice_get};
+ghost use Rattle.std.specs.Result.{result_err};
+ghost use Rattle.ir_facts.specs.Points.{first_fault, points_of_each};
+ghost use Rattle.ir_module.specs.Operands.{operands_of};
+ghost use Rattle.ir_misfits.specs.Points.{points_if};
+ghost use Rattle.ir_misfits.specs.OfExpressions.{expressions_of, operand_points, operands_points, expressions_points, reference_points};
+
+use crate::misfit::{HandleOf, Misfit, Owner, Place};
+use crate::signature::check_callee;
+use ir_module::expressions::Expression;
+use ir_module::functions::Function;
+use ir_module::module::Module;
+use ir_module::operands::{operand, operand_count};
+
+/// The list that the operands index.
+fn expressions_of(owner: Owner) -> HandleOf
+    ensures { result ≡ expressions_of owner }
+{
+    match owner {
+        Owner::Module => HandleOf::GlobalExpressions,
+        Owner::Function(_) | Owner::EntryPoint(_) => HandleOf::Expressions,
+    }
+}
+
+/// The operand with this index, if there is one, is an expression before the one at `place`.
+fn check_operand(
+    owner: Owner,
+    place: usize,
+    expression: &Expression,
+    index: usize,
+) -> Result<(), Misfit>
+    ensures { result_err result ≡ first_fault (points_if (operand_points owner place index)
+        (slice_get (operands_of expression.now) index)) }
+{
+    match operand(expression, index) {
+        Some(handle) => Place::Operand(owner, place, index).names(
+            expressions_of(owner),
+            handle.index(),
+            place,
+        ),
+        None => Ok(()),
+    }
+}
+
+/// Each operand of the expression at `place` is an earlier expression.
+fn check_operands(owner: Owner, place: usize, expression: &Expression) -> Result<(), Misfit>
+    ensures { result_err result ≡ first_fault (operands_points owner place expression.now) }
+{
+    for index in 0..operand_count(expression) {
+        check_operand(owner, place, expression, index)?;
+    }
+    Ok(())
+}
+
+/// The same of each expression.
+pub(crate) fn check_expressions(owner: Owner, expressions: &[Expression]) -> Result<(), Misfit>
+    ensures { result_err result ≡ first_fault (expressions_points owner expressions.now) }
+{
+    for (place, expression) in expressions.iter().enumerate() {
+        check_operands(owner, place, expression)?;
+    }
+    Ok(())
+}
+
+/// What the expression at `place` names besides its operands is there.
+fn check_reference(
+    owner: Owner,
+    place: usize,
+    expression: &Expression,
+    fun: &Function,
+    module: &Module,
+) -> Result<(), Misfit>
+    ensures { result_err result ≡ first_fault (reference_points «module».now fun.now owner place expression.now) }
+{
+    let place = Place::Reference(owner, place);
+    match expression {
+        Expression::Constant(handle) => {
+            place.names(HandleOf::Constants, handle.index(), module.constants.len())
+        }
+        Expression::Override(handle) => {
+            place.names(HandleOf::Overrides, handle.index(), module.overrides.len())
+        }
+        Expression::ZeroValue(ty)
+        | Expression::Compose { ty, .. }
+        | Expression::AtomicResult { ty, .. }
+        | Expression::WorkGroupUniformLoadResult { ty }
+        | Expression::SubgroupOperationResult { ty } => {
+            place.names(HandleOf::Types, ty.index(), module.types.len())
+        }
+        Expression::GlobalVariable(handle) => place.names(
+            HandleOf::GlobalVariables,
+            handle.index(),
+            module.global_variables.len(),
+        ),
+        Expression::LocalVariable(handle) => place.names(
+            HandleOf::LocalVariables,
+            handle.index(),
+            fun.local_variables.len(),
+        ),
+        Expression::CallResult(function) => check_callee(place, *function, module),
+        Expression::Literal(_)
+        | Expression::Access { .. }
+        | Expression::AccessIndex { .. }
+        | Expression::FunctionArgument(_)
+        | Expression::Load { .. }
+        | Expression::RayQueryProceedResult
+        | Expression::SubgroupBallotResult
+        | Expression::Splat { .. }
+        | Expression::Swizzle { .. }
+        | Expression::ImageSample { .. }
+        | Expression::ImageLoad { .. }
+        | Expression::ImageQuery { .. }
+        | Expression::Unary { .. }
+        | Expression::Binary { .. }
+        | Expression::Select { .. }
+        | Expression::Derivative { .. }
+        | Expression::Relational { .. }
+        | Expression::Math { .. }
+        | Expression::As { .. }
+        | Expression::ArrayLength { .. }
+        | Expression::RayQueryGetIntersection { .. }
+        | Expression::RayQueryVertexPositions { .. }
+        | Expression::CooperativeLoad { .. }
+        | Expression::CooperativeMultiplyAdd { .. } => Ok(()),
+    }
+}
+
+/// The same of each expression of a function.
+pub(crate) fn check_references(
+    owner: Owner,
+    expressions: &[Expression],
+    fun: &Function,
+    module: &Module,
+) -> Result<(), Misfit>
+    ensures { result_err result
+        ≡ first_fault (points_of_each (reference_points «module».now fun.now owner) expressions.now) }
+{
+    for (place, expression) in expressions.iter().enumerate() {
+        check_reference(owner, place, expression, fun, module)?;
+    }
+    Ok(())
+}

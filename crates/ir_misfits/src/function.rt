@@ -1,0 +1,91 @@
+//! What doesn't fit of a function.
+
+ghost use Rattle.std.specs.Prelude.{◌≡◌, length};
+ghost use Rattle.std.specs.Result.{result_err};
+ghost use Rattle.ir_facts.specs.Points.{first_fault, points_of_each};
+ghost use Rattle.ir_module.specs.View.{no_operands, body_of};
+ghost use Rattle.ir_misfits.specs.OfBodies.{body_points};
+ghost use Rattle.ir_misfits.specs.OfFunctions.{local_points, function_points};
+
+use crate::body::{Asked, check_block};
+use crate::expressions::{check_expressions, check_references};
+use crate::misfit::{HandleOf, Misfit, Owner, Place, VariableField};
+use crate::signature::check_signature;
+use ir_module::functions::{Function, LocalVariable};
+use ir_module::module::Module;
+
+/// The first misfit of a function, which is that of `owner`: Ok exactly where `fits_function` is true.
+///
+/// In this order: the number of arguments, their types and that of the result; of each local the type and the initializer;
+/// the operands of the expressions, which are earlier ones; what else each expression names; the statements, in visit order.
+/// Where a function is named whose signature doesn't fit, the misfit is that signature's.
+#[tactic(auto, using(ir_facts::proofs::Points::first_of_both))]
+pub fn check_function_fits(
+    owner: Owner,
+    fun: &Function,
+    module: &Module,
+    earlier: usize,
+) -> Result<(), Misfit>
+    ensures { result_err result ≡ first_fault (function_points owner fun.now «module».now earlier) }
+{
+    let expressions = fun.expressions.as_slice();
+    check_signature(owner, fun, module)?;
+    check_locals(owner, fun.local_variables.as_slice(), fun, module)?;
+    check_expressions(owner, expressions)?;
+    check_references(owner, expressions, fun, module)?;
+    check_body(owner, fun, module, earlier)
+}
+
+/// The type and the initializer of a local are there.
+fn check_local(
+    owner: Owner,
+    place: usize,
+    local: &LocalVariable,
+    fun: &Function,
+    module: &Module,
+) -> Result<(), Misfit>
+    ensures { result_err result ≡ first_fault (local_points «module».now fun.now owner place local.now) }
+{
+    Place::InLocal(owner, place, VariableField::Ty).names(
+        HandleOf::Types,
+        local.ty.index(),
+        module.types.len(),
+    )?;
+    Place::InLocal(owner, place, VariableField::Init).names_if_any(
+        HandleOf::Expressions,
+        local.init,
+        fun.expressions.len(),
+    )
+}
+
+fn check_locals(
+    owner: Owner,
+    locals: &[LocalVariable],
+    fun: &Function,
+    module: &Module,
+) -> Result<(), Misfit>
+    ensures { result_err result
+        ≡ first_fault (points_of_each (local_points «module».now fun.now owner) locals.now) }
+{
+    for (place, local) in locals.iter().enumerate() {
+        check_local(owner, place, local, fun, module)?;
+    }
+    Ok(())
+}
+
+/// The statements, of which the first has number 0.
+fn check_body(owner: Owner, fun: &Function, module: &Module, earlier: usize) -> Result<(), Misfit>
+    ensures { result_err result ≡ first_fault (body_points «module».now (length fun.now.expressions) earlier owner 0
+        (body_of no_operands fun.now.body)) }
+{
+    let asked = Asked {
+        owner,
+        module,
+        expressions: fun.expressions.len(),
+        earlier,
+    };
+    match check_block(&asked, 0, &fun.body) {
+        Ok(_) => Ok(()),
+        Err(misfit) => Err(misfit),
+    }
+}

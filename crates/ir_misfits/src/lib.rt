@@ -1,0 +1,25 @@
+//! What doesn't fit: the first thing that fails a test of conditions, by its place and what is wrong there. Nothing allocates.
+//! Users import these from `naga_module`.
+#![tactic(auto)]
+
+pub mod body;
+pub mod entry;
+pub mod expressions;
+pub mod function;
+pub mod globals;
+pub mod laws;
+pub mod misfit;
+pub mod naming;
+pub mod signature;
+pub mod texts;
+pub mod types;
+
+pub use crate::entry::check_entry_fits;
+pub use crate::function::check_function_fits;
+pub use crate::globals::check_globals_fit;
+pub use crate::laws::misfits_law;
+pub use crate::misfit::{
+    EntryField, HandleOf, Misfit, Owner, Place, Problem, StatementField, TypeField, TypeOwner,
+    VariableField,
+};
+pub use crate::types::check_types_fit;

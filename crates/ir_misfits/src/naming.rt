@@ -1,0 +1,56 @@
+//! Whether a handle that stands at a place names something there.
+
+ghost use Rattle.std.specs.Prelude.{◌≡◌, nat_lt, nat_le, true, false, IfErr, OnOk, [], ◌∷◌};
+ghost use Rattle.std.specs.Result.{result_err};
+ghost use Rattle.ir_facts.specs.Points.{first_fault};
+ghost use Rattle.ir_misfits.specs.Points.{named, named_if, counted};
+
+use crate::misfit::{HandleOf, Misfit, Place, Problem};
+use ir_arena::handle::Handle;
+
+impl Place {
+    /// What is wrong at this place.
+    pub fn fails(self, problem: Problem) -> Result<(), Misfit>
+        ensures { result ≡ Err (record { place = self; problem = problem }) }
+    {
+        Err(Misfit {
+            place: self,
+            problem,
+        })
+    }
+
+    /// The handle with this index stands here, and only those below `below` may.
+    pub fn names(self, of: HandleOf, index: usize, below: usize) -> Result<(), Misfit>
+        ensures { result_err result ≡ first_fault (named self of below index ∷ []) }
+    {
+        if index < below {
+            return Ok(());
+        }
+        self.fails(Problem::Handle { of, index, below })
+    }
+
+    /// The same of a handle that may be left out.
+    pub fn names_if_any<T>(
+        self,
+        of: HandleOf,
+        handle: Option<Handle<T>>,
+        below: usize,
+    ) -> Result<(), Misfit>
+        ensures { result_err result ≡ first_fault (named_if self of below handle) }
+    {
+        match handle {
+            Some(handle) => self.names(of, handle.index(), below),
+            None => Ok(()),
+        }
+    }
+
+    /// A list of this length stands here, and 32 bits have to count its items.
+    pub fn counts(self, found: usize) -> Result<(), Misfit>
+        ensures { result_err result ≡ first_fault (counted self found ∷ []) }
+    {
+        if found <= u32::MAX as usize {
+            return Ok(());
+        }
+        self.fails(Problem::TooMany { found })
+    }
+}

@@ -1,0 +1,59 @@
+//! What doesn't fit of the signature of a function.
+
+ghost use Rattle.std.specs.Prelude.{◌≡◌, length};
+ghost use Rattle.std.specs.Result.{result_err};
+ghost use Rattle.ir_facts.specs.Points.{first_fault, points_of_each};
+ghost use Rattle.ir_misfits.specs.OfSignatures.{argument_points, outcome_points, signature_points, callee_points};
+
+use crate::misfit::{HandleOf, Misfit, Owner, Place};
+use ir_arena::handle::Handle;
+use ir_arena::tag;
+use ir_module::functions::{Function, FunctionArgument, FunctionResult};
+use ir_module::module::Module;
+
+/// Of so many types: that of each argument is there.
+fn check_arguments(owner: Owner, arguments: &[FunctionArgument], types: usize) -> Result<(), Misfit>
+    ensures { result_err result ≡ first_fault (points_of_each (argument_points owner types) arguments.now) }
+{
+    for (place, argument) in arguments.iter().enumerate() {
+        Place::ArgumentType(owner, place).names(HandleOf::Types, argument.ty.index(), types)?;
+    }
+    Ok(())
+}
+
+/// And that of the result.
+fn check_outcome(owner: Owner, outcome: Option<FunctionResult>, types: usize) -> Result<(), Misfit>
+    ensures { result_err result ≡ first_fault (outcome_points owner types outcome) }
+{
+    match outcome {
+        Some(outcome) => Place::ResultType(owner).names(HandleOf::Types, outcome.ty.index(), types),
+        None => Ok(()),
+    }
+}
+
+/// 32 bits count the arguments; their types are there, and that of the result.
+#[tactic(auto, using(ir_facts::proofs::Points::first_of_both))]
+pub(crate) fn check_signature(owner: Owner, fun: &Function, module: &Module) -> Result<(), Misfit>
+    ensures { result_err result ≡ first_fault (signature_points «module».now owner fun.now) }
+{
+    Place::Arguments(owner).counts(fun.arguments.len())?;
+    check_arguments(owner, fun.arguments.as_slice(), module.types.len())?;
+    check_outcome(owner, fun.result, module.types.len())
+}
+
+/// A function that is named at this place is there, and its signature fits. What doesn't fit of this has its own place.
+pub(crate) fn check_callee(
+    place: Place,
+    function: Handle<tag::Function>,
+    module: &Module,
+) -> Result<(), Misfit>
+    ensures { result_err result ≡ first_fault (callee_points «module».now place function) }
+{
+    place.names(
+        HandleOf::Functions,
+        function.index(),
+        module.functions.len(),
+    )?;
+    let callee = &module.functions[function];
+    check_signature(Owner::Function(function.index()), callee, module)
+}

@@ -1,0 +1,10 @@
+use Rattle.std.proofs.Common.{◌≡◌, drop}
+use Rattle.ir_facts.specs.Points.{first_fault, points_from, points_of_each}
+use Rattle.naga_module.specs.ShortFacts.{type_points}
+use Rattle.naga_module.proofs.short.check_types.Given as goal
+
+-- what is left decides
+abbrev pub invariant-loop-place : goal.invariant-loop-place
+invariant-loop-place l =
+    first_fault (points_from (type_points l.below) l.place (drop l.place l.types))
+    ≡ first_fault (points_of_each (type_points l.below) l.types)
