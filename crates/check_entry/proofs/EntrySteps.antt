@@ -13,7 +13,8 @@ use Rattle.check_entry.specs.EntryAnswers.{EntryPoints}
 use Rattle.check_entry.specs.declared.error.EntryPointError.{EntryPointError}
 use Rattle.check_entry.specs.declared.error.EntryPointError.TheVariants as fault
 use Rattle.check_scope.proofs.Refusals.{fault_first, fault_second}
-use Rattle.check_errors.specs.Answers.{Answers, FirstOf, read_by}
+use Rattle.check_entry.specs.RefusedEntries.{IsRefusalFor}
+use Rattle.check_errors.specs.Answers.{Answers, FirstOf, IsFirstFault, read_by, refusal_read_by}
 
 pub ruleset finding = (fault_first, fault_second)
 
@@ -31,6 +32,17 @@ meets_second (Err refusal.Memory) first second e h = tt
 
 pub ruleset meeting = (meets_first, meets_second)
 
+-- the refusal for the first fault: as it is, and as contracts see it
+pub refuses_fault : (fault : EntryPointError) (given : Refusal EntryPointError) (points : EntryPoints) → IsRefusalFor fault given →
+    Some fault ≡ first_fault points → IsFirstFault points given
+refuses_fault fault (refusal.Fault f) points is h = sym h ∙ ap Some (sym is)
+refuses_fault fault refusal.Memory points is h = tt
+
+pub refuses_as : (fault : EntryPointError) (given : Refusal EntryPointError) (points : List (Point EntryFault)) → IsRefusalFor fault given →
+    first_fault points ≡ Some (fault_of fault) → IsFirstFault points (refusal_read_by fault_of given)
+refuses_as fault (refusal.Fault f) points is h = h ∙ ap (λ e. Some (fault_of e)) (sym is)
+refuses_as fault refusal.Memory points is h = tt
+
 -- a refusal at the first of them, and an answer at the second
 pub judges_first : {T : Type 0} (r : Result T (Refusal EntryPointError)) (first second : List (Point EntryFault)) → IsErr r → Answers (FirstOf first) (read_by fault_of r) → Answers (FirstOf (first ++ second)) (read_by fault_of r)
 judges_first (Err (refusal.Fault f)) first second e h = first_of_both first second ∙ ap (λ o. option_or o (first_fault second)) h
@@ -43,6 +55,10 @@ judges_second (Err (refusal.Fault f)) first second e h = first_of_both first sec
 judges_second (Err refusal.Memory) first second e h = tt
 
 pub ruleset judging = (judges_first, judges_second)
+
+-- points of which none fails
+pub both_pass : {Fault : Type 0} (ps qs : List (Point Fault)) → first_fault ps ≡ None → first_fault qs ≡ None → first_fault (ps ++ qs) ≡ None
+both_pass ps qs e f = first_of_both ps qs ∙ ap (λ o. option_or o (first_fault qs)) e ∙ f
 
 -- points without a fault, inside others
 pub passes_within : {Inner Outer : Type 0} (outer : Inner → Outer) (points : List (Point Inner)) → first_fault points ≡ None → first_fault (within outer points) ≡ None

@@ -1,6 +1,7 @@
 //! The bindings of the globals that an entry point uses.
 
-ghost use Rattle.std.specs.Prelude.{◌≡◌, ◌+◌, List, OnOk};
+ghost use Rattle.std.specs.Prelude.{◌≡◌, ◌+◌, IsTrue, List, None, OnOk, ℕ};
+ghost use Rattle.ir_facts.specs.Points.{first_fault};
 ghost use Rattle.ir_flags.specs.declared.valid.GlobalUse.{GlobalUse as Use};
 ghost use Rattle.ir_module.specs.declared.module.GlobalVariable.{GlobalVariable as Variable};
 ghost use Rattle.check_entry.specs.TakenBindings.{AreTaken};
@@ -24,6 +25,21 @@ fn binding_at(module: &Module, index: usize) -> Option<ResourceBinding>
     match module.global_variables.as_slice().get(index) {
         Some(global) => global.binding,
         None => None,
+    }
+}
+
+/// Whether bindings aren't checked, or no earlier global that is used has this one.
+pub fn binding_holds(
+    flags: ValidationFlags,
+    taken: &BTreeSet<ResourceBinding>,
+    binding: Option<ResourceBinding>,
+) -> bool
+    ensures { (uses : List Use) (globals : List Variable) (h : ℕ) → AreTaken taken.now uses globals h → IsTrue result →
+        first_fault (binding_points flags uses globals h binding) ≡ None }
+{
+    match binding {
+        Some(binding) => !flags.contains(ValidationFlags::BINDINGS) || !taken.contains(&binding),
+        None => true,
     }
 }
 

@@ -1,9 +1,10 @@
 //! The checks of the globals that an entry point uses.
 
-ghost use Rattle.std.specs.Prelude.{◌≡◌, ◌++◌, length, slice_get};
+ghost use Rattle.std.specs.Prelude.{◌≡◌, ◌++◌, IsTrue, None, Option, ℕ, length, slice_get};
+ghost use Rattle.ir_facts.specs.Points.{first_fault};
 ghost use Rattle.std.specs.Option.{option_copied};
 ghost use Rattle.ir_types.specs.Types.{inner_at};
-ghost use Rattle.check_entry.specs.UsedGlobals.{is_used, is_used_immediate, used_immediates, immediate_points, image_access, access_in, ray_points, is_within, allowed_points};
+ghost use Rattle.check_entry.specs.UsedGlobals.{is_used, is_used_immediate, used_immediates, immediate_points, image_access, access_in, ray_points, is_within, allowed_points, used_payload_points};
 ghost use Rattle.check_variables.specs.Spaces.{is_task_payload};
 ghost use Rattle.check_errors.specs.Answers.{Finds, FirstOf};
 
@@ -57,7 +58,8 @@ fn count_used_immediates(module: &Module, info: &FunctionInfo) -> usize
     count
 }
 
-fn is_used_immediate(module: &Module, info: &FunctionInfo, index: usize) -> bool
+/// Whether a global is an immediate that is used.
+pub fn is_used_immediate(module: &Module, info: &FunctionInfo, index: usize) -> bool
     ensures { result ≡ is_used_immediate info.now.global_uses «module».now.global_variables index }
 {
     match module.global_variables.as_slice().get(index) {
@@ -71,6 +73,29 @@ pub fn is_task_payload(space: AddressSpace) -> bool
     ensures { result ≡ is_task_payload space }
 {
     matches!(space, AddressSpace::TaskPayload)
+}
+
+/// Whether every use of a global is allowed, and the global holds no payload.
+pub fn use_holds(module: &Module, stage: ShaderStage, var: &GlobalVariable, uses: GlobalUse) -> bool
+    ensures { (payload : Option ℕ) (size : Option ℕ) (h : ℕ) → IsTrue result → first_fault
+        (used_payload_points payload size h var.now.space ++ (ray_points stage var.now.space
+        ++ allowed_points «module».now.types stage h var.now uses)) ≡ None }
+{
+    match var.space {
+        AddressSpace::Private
+        | AddressSpace::WorkGroup
+        | AddressSpace::Uniform
+        | AddressSpace::Storage { .. }
+        | AddressSpace::Immediate => is_within(allowed_use(var.space, None, stage), uses),
+        AddressSpace::Handle => {
+            let storage = access_in(module, inner_at(module, var.ty));
+            is_within(allowed_use(var.space, storage, stage), uses)
+        }
+        AddressSpace::Function
+        | AddressSpace::TaskPayload
+        | AddressSpace::RayPayload
+        | AddressSpace::IncomingRayPayload => false,
+    }
 }
 
 /// A ray payload is used at a stage that has one, and every use of a global is one that is allowed.

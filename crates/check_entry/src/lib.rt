@@ -8,6 +8,7 @@ pub mod error;
 pub mod globals;
 pub mod mesh;
 pub mod outcome;
+pub mod refused;
 pub mod start;
 pub mod uses;
 pub mod varyings;

@@ -1,6 +1,8 @@
 //! The checks of an entry point up to its function: naga's `validate_entry_point` before it calls `validate_function`.
 
-ghost use Rattle.std.specs.Prelude.{◌≡◌};
+ghost use Rattle.std.specs.Prelude.{◌≡◌, IsTrue, None};
+ghost use Rattle.ir_facts.specs.Points.{first_fault};
+ghost use Rattle.ir_flags.specs.declared.capabilities.Capabilities.{Capabilities as Target};
 ghost use Rattle.std.specs.List.{list_all};
 ghost use Rattle.check_entry.specs.Start.{needed_by, needed_points, is_fragment, depth_points, has_work_groups, is_group_size, is_zero, size_points, mesh_info_points, start_points};
 ghost use Rattle.check_errors.specs.Answers.{Finds, FirstOf};
@@ -13,7 +15,31 @@ use ir_module::module::{EarlyDepthTest, EntryPoint, MeshStageInfo, ShaderStage};
 /// The most invocations that a work group has along a dimension.
 const MAX_WORKGROUP_SIZE: u32 = 16384;
 
+/// Whether no point up to the function fails, where this shows at once: the stage needs no capability, and no early depth test
+/// and no mesh is given.
+#[tactic(auto, using(crate::proofs::Starts::start_all_holds))]
+pub fn start_holds(ep: &EntryPoint) -> bool
+    ensures { (capabilities : Target) → IsTrue result → first_fault (start_points capabilities ep.now) ≡ None }
+{
+    needed_by(ep.stage).is_none()
+        && ep.early_depth_test.is_none()
+        && size_holds(ep.stage, &ep.workgroup_size)
+        && ep.mesh_info.is_none()
+}
+
+fn size_holds(stage: ShaderStage, size: &[u32]) -> bool
+    ensures { IsTrue result → first_fault (size_points stage size.now) ≡ None }
+{
+    if has_work_groups(stage) {
+        are_group_sizes(size)
+    } else {
+        are_zero(size)
+    }
+}
+
 /// What the stage needs, the early depth test, the size of a work group, and whether something is said of a mesh.
+#[cold]
+#[inline(never)]
 #[tactic(auto, using(crate::proofs::EntrySteps::finding))]
 pub fn check_start(capabilities: Capabilities, ep: &EntryPoint) -> Result<(), EntryPointError>
     ensures { Finds (FirstOf (start_points capabilities ep.now)) result }

@@ -1,11 +1,16 @@
 //! The task payload of an entry point, what the entry point itself does with globals, and its stage.
 
-ghost use Rattle.std.specs.Prelude.{◌≡◌, ◌<◌, IfSome, length};
+ghost use Rattle.std.specs.Prelude.{◌≡◌, ◌<◌, IfSome, IsTrue, List, None, length};
+ghost use Rattle.ir_facts.specs.Points.{first_fault, within};
+ghost use Rattle.ir_module.specs.declared.module.GlobalVariable.{GlobalVariable as Variable};
+ghost use Rattle.check_entry.specs.EntryFaults.{fault_of};
 ghost use Rattle.check_variables.specs.Spaces.{is_task_payload};
 ghost use Rattle.check_entry.specs.EntryUses.{lies_in, place_points, made_points, taken_points, payload_points, with_use_of, output_variable_of, with_own_uses, only, stage_points};
-ghost use Rattle.check_errors.specs.Answers.{Finds, FirstOf};
+ghost use Rattle.check_errors.specs.Answers.{Answers, Finds, FirstOf, read_by};
 
+use crate::answers::{answer, refusal};
 use crate::error::EntryPointError;
+use crate::refused::RefusedEntry;
 use bitflags::Flags;
 use ir_arena::handle::Handle;
 use ir_arena::tag;
@@ -13,9 +18,47 @@ use ir_facts::valid::info::FunctionInfo;
 use ir_flags::valid::{GlobalUse, ShaderStages};
 use ir_module::module::{EntryPoint, MeshStageInfo, Module, ShaderStage};
 use ir_types::types::AddressSpace;
+use std::alloc::Global;
 
 /// The task payload: the task stage has one, the mesh stage may have one, others have none; and it lies in its space.
-pub fn check_payload(module: &Module, ep: &EntryPoint) -> Result<(), EntryPointError>
+pub fn check_payload(alloc: Global, module: &Module, ep: &EntryPoint) -> Result<(), RefusedEntry>
+    ensures { Answers (FirstOf (within fault_of (payload_points «module».now.global_variables ep.now.stage
+        ep.now.task_payload))) (read_by fault_of result) }
+{
+    if payload_holds(ep) {
+        return Ok(());
+    }
+    refuse_payload(alloc, module, ep)
+}
+
+/// Whether no point of the payload fails, where this shows at once: the stage has none.
+fn payload_holds(ep: &EntryPoint) -> bool
+    ensures { (globals : List Variable) → IsTrue result →
+        first_fault (payload_points globals ep.now.stage ep.now.task_payload) ≡ None }
+{
+    match ep.stage {
+        ShaderStage::Vertex
+        | ShaderStage::Fragment
+        | ShaderStage::Compute
+        | ShaderStage::RayGeneration
+        | ShaderStage::AnyHit
+        | ShaderStage::ClosestHit
+        | ShaderStage::Miss => ep.task_payload.is_none(),
+        ShaderStage::Task | ShaderStage::Mesh => false,
+    }
+}
+
+#[cold]
+#[inline(never)]
+fn refuse_payload(alloc: Global, module: &Module, ep: &EntryPoint) -> Result<(), RefusedEntry>
+    ensures { Answers (FirstOf (within fault_of (payload_points «module».now.global_variables ep.now.stage
+        ep.now.task_payload))) (read_by fault_of result) }
+{
+    answer(alloc, first_fault_of_payload(module, ep))
+}
+
+/// The points of the payload, with the fault of each.
+fn first_fault_of_payload(module: &Module, ep: &EntryPoint) -> Result<(), EntryPointError>
     ensures { Finds (FirstOf (payload_points «module».now.global_variables ep.now.stage ep.now.task_payload)) result }
 {
     match ep.stage {
@@ -142,11 +185,15 @@ fn only(stage: ShaderStage) -> ShaderStages
 }
 
 /// What the function does is for this stage.
-pub fn check_stage(stage: ShaderStage, available: ShaderStages) -> Result<(), EntryPointError>
-    ensures { Finds (FirstOf (stage_points stage available)) result }
+pub fn check_stage(
+    alloc: Global,
+    stage: ShaderStage,
+    available: ShaderStages,
+) -> Result<(), RefusedEntry>
+    ensures { Answers (FirstOf (within fault_of (stage_points stage available))) (read_by fault_of result) }
 {
     if !available.contains(only(stage)) {
-        return Err(EntryPointError::ForbiddenStageOperations);
+        return Err(refusal(alloc, EntryPointError::ForbiddenStageOperations));
     }
     Ok(())
 }

@@ -1,9 +1,11 @@
 //! The checks of what an entry point puts in and out.
 
-ghost use Rattle.std.specs.Prelude.{◌≡◌, List};
+ghost use Rattle.std.specs.Prelude.{◌≡◌, IsTrue, List, None, Option};
 ghost use Rattle.std.specs.Option.{option_copied};
 ghost use Rattle.ir_flags.specs.Bits.{IO_SHAREABLE};
-ghost use Rattle.ir_facts.specs.Points.{Point, within};
+ghost use Rattle.ir_facts.specs.Points.{Point, first_fault, within};
+ghost use Rattle.ir_module.specs.declared.functions.FunctionResult.{FunctionResult as Declared};
+ghost use Rattle.ir_types.specs.declared.types.Type.{«Type» as IrType};
 ghost use Rattle.ir_types.specs.TypeTests.{it_is};
 ghost use Rattle.ir_types.specs.declared.built_in.BuiltIn.TheVariants.{PointIndex, LineIndices, TriangleIndices};
 ghost use Rattle.check_errors.specs.TypeInfos.{type_has};
@@ -11,11 +13,12 @@ ghost use Rattle.check_varyings.specs.VaryingFaults.{VaryingFault as Given, vary
 ghost use Rattle.check_varyings.specs.Varyings.{seen_in};
 ghost use Rattle.check_entry.specs.EntryFaults.{OfArgument, OfResult, fault_of};
 ghost use Rattle.check_entry.specs.EntryVaryings.{is_struct, is_three_counts, returns_counts, is_one_of_three, returned_points, are_blend_sources, with_blending};
-ghost use Rattle.check_errors.specs.Answers.{Finds, FirstOf, IsFirstFault, refusal_read_by};
+ghost use Rattle.check_errors.specs.Answers.{Answers, Finds, FirstOf, IsFirstFault, read_by, refusal_read_by};
 
-use crate::answers::refusal;
+use crate::answers::{answer, refusal};
 use crate::error::EntryPointError;
 use crate::globals::inner_at;
+use crate::refused::RefusedEntry;
 use check_errors::interface::VaryingError;
 use check_varyings::varying::VaryingState;
 use ir_arena::handle::Handle;
@@ -28,7 +31,7 @@ use ir_module::functions::FunctionResult;
 use ir_module::module::{EntryPoint, Module, ShaderStage};
 use ir_types::built_in::BuiltIn;
 use ir_types::types::{Scalar, TypeInner, VectorSize};
-use std::alloc::Global;
+use std::alloc::{AllocError, Global};
 
 /// Whether a type is a struct.
 pub fn is_struct(inner: Option<&TypeInner>) -> bool
@@ -53,6 +56,58 @@ fn is_three_counts(inner: Option<&TypeInner>) -> bool
 
 /// What a stage has to return, where a position is among its outputs or not.
 pub fn check_returned(
+    alloc: Global,
+    module: &Module,
+    stage: ShaderStage,
+    position: bool,
+    declared: Option<FunctionResult>,
+) -> Result<(), RefusedEntry>
+    ensures { Answers (FirstOf (within fault_of (returned_points «module».now.types stage position declared)))
+        (read_by fault_of result) }
+{
+    if returned_holds(stage, position) {
+        return Ok(());
+    }
+    refuse_returned(alloc, module, stage, position, declared)
+}
+
+#[cold]
+#[inline(never)]
+fn refuse_returned(
+    alloc: Global,
+    module: &Module,
+    stage: ShaderStage,
+    position: bool,
+    declared: Option<FunctionResult>,
+) -> Result<(), RefusedEntry>
+    ensures { Answers (FirstOf (within fault_of (returned_points «module».now.types stage position declared)))
+        (read_by fault_of result) }
+{
+    answer(
+        alloc,
+        first_fault_of_returned(module, stage, position, declared),
+    )
+}
+
+/// Whether no point of what a stage has to return fails, where this shows at once.
+fn returned_holds(stage: ShaderStage, position: bool) -> bool
+    ensures { (types : List IrType) (declared : Option Declared) → IsTrue result →
+        first_fault (returned_points types stage position declared) ≡ None }
+{
+    match stage {
+        ShaderStage::Vertex => position,
+        ShaderStage::Mesh | ShaderStage::Task => false,
+        ShaderStage::Fragment
+        | ShaderStage::Compute
+        | ShaderStage::RayGeneration
+        | ShaderStage::AnyHit
+        | ShaderStage::ClosestHit
+        | ShaderStage::Miss => true,
+    }
+}
+
+/// The points of what a stage has to return, with the fault of each.
+fn first_fault_of_returned(
     module: &Module,
     stage: ShaderStage,
     position: bool,
@@ -91,11 +146,9 @@ fn returns_counts(module: &Module, declared: Option<FunctionResult>) -> bool
 }
 
 /// The refusal of an argument, counted from 0.
-pub fn argument_refused(
-    alloc: Global,
-    index: u32,
-    refused: Refusal<VaryingError>,
-) -> Refusal<EntryPointError>
+#[cold]
+#[inline(never)]
+pub fn argument_refused(alloc: Global, index: u32, refused: Refusal<VaryingError>) -> RefusedEntry
     ensures { (points : List (Point Given)) → IsFirstFault points (refusal_read_by varying_fault_of refused) →
         IsFirstFault (within (OfArgument index) points) (refusal_read_by fault_of result) }
 {
@@ -104,18 +157,20 @@ pub fn argument_refused(
             alloc,
             EntryPointError::Argument(index, fault.into_inner()),
         ),
-        Refusal::Memory => Refusal::Memory,
+        Refusal::Memory => RefusedEntry::from(AllocError),
     }
 }
 
 /// The refusal of the result, or of an output of a mesh.
-pub fn result_refused(refused: Refusal<VaryingError>) -> Refusal<EntryPointError>
+#[cold]
+#[inline(never)]
+pub fn result_refused(alloc: Global, refused: Refusal<VaryingError>) -> RefusedEntry
     ensures { (points : List (Point Given)) → IsFirstFault points (refusal_read_by varying_fault_of refused) →
         IsFirstFault (within OfResult points) (refusal_read_by fault_of result) }
 {
     match refused {
-        Refusal::Fault(fault) => Refusal::Fault(fault.into_other()),
-        Refusal::Memory => Refusal::Memory,
+        Refusal::Fault(fault) => RefusedEntry::new(alloc, fault.into_other()),
+        Refusal::Memory => RefusedEntry::from(AllocError),
     }
 }
 

@@ -4,6 +4,8 @@ pub mod EntrySteps
 pub mod EntryGlobals
 pub mod EntryUses
 pub mod EntryJudgement
+pub mod InterfaceSteps
+pub mod UsedGlobals
 pub mod Groups
 pub mod EntryAccepted
 pub mod GlobalFits

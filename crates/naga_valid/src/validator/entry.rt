@@ -1,9 +1,12 @@
 //! The judgement of an entry point: naga's `validate_entry_point`, step by step.
 
-ghost use Rattle.std.specs.Prelude.{◌≡◌, length};
+ghost use Rattle.std.specs.Prelude.{◌≡◌, None, OnOk, length};
+ghost use Rattle.ir_facts.specs.Points.{first_fault};
 ghost use Rattle.ir_facts.specs.Fits.{FitsTypes, FitsFunction, FitsEntry};
 ghost use Rattle.ir_facts.specs.FitsBody.{SignatureFits};
-ghost use Rattle.check_entry.specs.EntryJudgement.{HasPayloadSizes, entry_judgement, interface_step, used_points, AnswersAfter};
+ghost use Rattle.check_entry.specs.EntryJudgement.{HasPayloadSizes, entry_judgement, interface_points, interface_step, used_points, AnswersAfter};
+ghost use Rattle.check_entry.specs.EntryUses.{with_own_uses};
+ghost use Rattle.check_entry.specs.EntryVaryings.{with_blending};
 ghost use Rattle.check_entry.specs.Start.{start_points};
 ghost use Rattle.check_statement.specs.ValidatorParts.{AreInfosOf};
 ghost use Rattle.check_errors.specs.Answers.{Answers, FirstOf, Exactly, read_by};
@@ -11,10 +14,11 @@ ghost use Rattle.check_entry.specs.EntryFaults.{fault_of};
 
 use crate::validator::Validator;
 use crate::validator::judge::FunctionContext;
-use check_entry::answers::{answer, answer_of_function, refusal};
+use check_entry::answers::{refusal_at_start, refusal_of_function};
 use check_entry::error::EntryPointError;
 use check_entry::outcome::FunctionOutcome;
-use check_entry::start::check_start;
+use check_entry::refused::RefusedEntry;
+use check_entry::start::{check_start, start_holds};
 use check_entry::uses::{check_payload, check_stage, insert_own_uses};
 use check_entry::varyings::set_blending;
 use check_errors::below::Below;
@@ -26,9 +30,20 @@ use std::alloc::Global;
 /// An entry point that is judged: its module, and the infos of all functions of the module.
 #[derive(Clone, Copy)]
 pub(crate) struct EntryContext<'a> {
+    pub(crate) alloc: Global,
     pub(crate) program: &'a Module,
     pub(crate) earlier: &'a ModuleInfo,
     pub(crate) entry_point: &'a EntryPoint,
+}
+
+/// An entry point after its function: its module, and what is known of the function, with what the entry point itself does
+/// with globals.
+#[derive(Clone, Copy)]
+pub(crate) struct InterfaceContext<'a> {
+    pub(crate) alloc: Global,
+    pub(crate) program: &'a Module,
+    pub(crate) entry_point: &'a EntryPoint,
+    pub(crate) info: &'a FunctionInfo,
 }
 
 impl<B: Below> Validator<B> {
@@ -36,7 +51,6 @@ impl<B: Below> Validator<B> {
     /// The validator is as before, but for the table that it keeps for its memory alone.
     pub(crate) fn judge_entry_point(
         &mut self,
-        alloc: Global,
         entry: &EntryContext,
     ) -> Result<FunctionOutcome, Refusal<EntryPointError>>
         requires infos { AreInfosOf entry.now.program.now self.old.types }
@@ -50,24 +64,47 @@ impl<B: Below> Validator<B> {
             entry.now.program.now entry.now.earlier.now entry.now.entry_point.now) (read_by fault_of result) }
         ensures kept { self.new ≡ self.old }
     {
-        if let Err(fault) = check_start(self.settings.capabilities, entry.entry_point) {
-            return Err(refusal(alloc, fault));
+        if start_holds(entry.entry_point) {
+            return self.judge_started(entry);
         }
+        match check_start(self.settings.capabilities, entry.entry_point) {
+            Ok(()) => self.judge_started(entry),
+            Err(fault) => Err(refusal_at_start(entry.alloc, fault)),
+        }
+    }
+
+    /// The judgement from the function on.
+    fn judge_started(
+        &mut self,
+        entry: &EntryContext,
+    ) -> Result<FunctionOutcome, Refusal<EntryPointError>>
+        requires infos { AreInfosOf entry.now.program.now self.old.types }
+        requires types { FitsTypes entry.now.program.now }
+        requires function { FitsFunction entry.now.entry_point.now.function entry.now.program.now
+            (length entry.now.earlier.now.functions) }
+        requires entry { FitsEntry entry.now.entry_point.now entry.now.program.now }
+        requires sizes { HasPayloadSizes (B.meaning self.old.below) entry.now.program.now }
+        requires started { first_fault (start_points self.old.settings.capabilities entry.now.entry_point.now) ≡ None }
+        ensures judged { AnswersAfter (start_points self.old.settings.capabilities entry.now.entry_point.now)
+            (entry_judgement (B.meaning self.old.below) self.old.settings self.old.types self.old.trace
+            entry.now.program.now entry.now.earlier.now entry.now.entry_point.now) (read_by fault_of result) }
+        ensures kept { self.new ≡ self.old }
+    {
         let function = FunctionContext {
             program: entry.program,
             earlier: entry.earlier,
             fun: &entry.entry_point.function,
             entry_point: true,
         };
-        let outcome = answer_of_function(self.judge_function(alloc, &function))?;
-        self.judge_interface(alloc, entry, outcome)
+        match self.judge_function(entry.alloc, &function) {
+            Ok(outcome) => self.judge_outcome(entry, outcome),
+            Err(refused) => Err(refusal_of_function(refused)),
+        }
     }
 
-    /// The steps after the function: its payload, with what the entry point itself does with globals; what is put in and
-    /// out, the globals and the mesh; and whether two sources of a blend are put out.
-    fn judge_interface(
+    /// The judgement after the function.
+    fn judge_outcome(
         &self,
-        alloc: Global,
         entry: &EntryContext,
         outcome: FunctionOutcome,
     ) -> Result<FunctionOutcome, Refusal<EntryPointError>>
@@ -80,37 +117,62 @@ impl<B: Below> Validator<B> {
         ensures { Answers (Exactly (interface_step (B.meaning self.now.below) self.now.settings self.now.types
             entry.now.program.now entry.now.entry_point.now outcome)) (read_by fault_of result) }
     {
-        answer(alloc, check_payload(entry.program, entry.entry_point))?;
         let FunctionOutcome { mut info, trace } = outcome;
-        insert_own_uses(&mut info, entry.entry_point);
-        self.check_interface(alloc, entry, &info)?;
-        set_blending(&mut info, entry.entry_point, entry.program, self.infos());
-        Ok(FunctionOutcome { info, trace })
+        match self.judge_interface(entry, &mut info) {
+            Ok(()) => Ok(FunctionOutcome { info, trace }),
+            Err(refused) => Err(refused.into_refusal()),
+        }
+    }
+
+    /// The steps after the function: its payload, with what the entry point itself does with globals; what is put in and
+    /// out, the globals and the mesh; and whether two sources of a blend are put out.
+    fn judge_interface(
+        &self,
+        entry: &EntryContext,
+        info: &mut FunctionInfo,
+    ) -> Result<(), RefusedEntry>
+        requires infos { AreInfosOf entry.now.program.now self.now.types }
+        requires types { FitsTypes entry.now.program.now }
+        requires signature { SignatureFits entry.now.program.now entry.now.entry_point.now.function }
+        requires entry { FitsEntry entry.now.entry_point.now entry.now.program.now }
+        requires sizes { HasPayloadSizes (B.meaning self.now.below) entry.now.program.now }
+        requires uses { length info.old.global_uses ≡ length entry.now.program.now.global_variables }
+        ensures fault { Answers (FirstOf (interface_points (B.meaning self.now.below) self.now.settings self.now.types
+            entry.now.program.now entry.now.entry_point.now info.old)) (read_by fault_of result) }
+        ensures info { OnOk result (info.new ≡ with_blending entry.now.program.now.types self.now.types
+            entry.now.entry_point.now (with_own_uses entry.now.entry_point.now info.old)) }
+    {
+        check_payload(entry.alloc, entry.program, entry.entry_point)?;
+        insert_own_uses(info, entry.entry_point);
+        self.check_interface(&InterfaceContext {
+            alloc: entry.alloc,
+            program: entry.program,
+            entry_point: entry.entry_point,
+            info: &*info,
+        })?;
+        set_blending(info, entry.entry_point, entry.program, self.infos());
+        Ok(())
     }
 
     /// What an entry point that uses globals so puts in and out: its stage, its arguments, its result, the globals and the
     /// mesh.
-    fn check_interface(
-        &self,
-        alloc: Global,
-        entry: &EntryContext,
-        info: &FunctionInfo,
-    ) -> Result<(), Refusal<EntryPointError>>
+    fn check_interface(&self, entry: &InterfaceContext) -> Result<(), RefusedEntry>
         requires infos { AreInfosOf entry.now.program.now self.now.types }
         requires types { FitsTypes entry.now.program.now }
         requires signature { SignatureFits entry.now.program.now entry.now.entry_point.now.function }
         requires entry { FitsEntry entry.now.entry_point.now entry.now.program.now }
         requires sizes { HasPayloadSizes (B.meaning self.now.below) entry.now.program.now }
         ensures { Answers (FirstOf (used_points (B.meaning self.now.below) self.now.settings self.now.types
-            entry.now.program.now entry.now.entry_point.now info.now)) (read_by fault_of result) }
+            entry.now.program.now entry.now.entry_point.now entry.now.info.now)) (read_by fault_of result) }
     {
-        answer(
-            alloc,
-            check_stage(entry.entry_point.stage, info.available_stages),
+        check_stage(
+            entry.alloc,
+            entry.entry_point.stage,
+            entry.info.available_stages,
         )?;
-        self.check_arguments(alloc, entry)?;
-        self.check_result(alloc, entry)?;
-        self.check_used_globals(alloc, entry, info)?;
-        self.check_mesh(alloc, entry)
+        self.check_arguments(entry)?;
+        self.check_result(entry)?;
+        self.check_used_globals(entry)?;
+        self.check_mesh(entry)
     }
 }

@@ -114,11 +114,12 @@ impl<B: Below> Validator<B> {
         ensures refused { OnErr result (self.new ≡ self.old) }
     {
         let entry = EntryContext {
+            alloc,
             program: module,
             earlier: mod_info,
             entry_point: ep,
         };
-        let outcome = self.judge_entry_point(alloc, &entry)?;
+        let outcome = self.judge_entry_point(&entry)?;
         self.trace = outcome.trace;
         Ok(outcome.info)
     }

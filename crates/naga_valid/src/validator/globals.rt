@@ -1,30 +1,31 @@
 //! The checks of the globals that an entry point uses which ask the lower layer for a size.
 
-ghost use Rattle.std.specs.Prelude.{◌≡◌, ◌↔◌, ◌<◌, IsTrue, IsSome, Some, [], slice_get, length};
-ghost use Rattle.ir_facts.specs.Points.{points_of_each, within};
+ghost use Rattle.std.specs.Prelude.{◌≡◌, ◌↔◌, ◌<◌, ◌+◌, IfOk, IsTrue, IsSome, None, [], if◌then◌else◌};
+ghost use Rattle.ir_facts.specs.Points.{first_fault, points_of_each, within};
 ghost use Rattle.ir_types.specs.declared.types.AddressSpace.TheVariants as space;
 ghost use Rattle.check_entry.specs.TakenBindings.{AreTaken};
-ghost use Rattle.check_entry.specs.UsedGlobals.{used_payload_points, use_points, points_if_used, global_points, globals_points};
+ghost use Rattle.check_entry.specs.UsedGlobals.{used_payload_points, use_points, global_points, globals_points};
 ghost use Rattle.check_entry.specs.EntryJudgement.{HasPayloadSizes};
 ghost use Rattle.check_entry.specs.EntryFaults.{fault_of};
 ghost use Rattle.check_errors.specs.Answers.{Answers, Finds, FirstOf, read_by};
 
 use crate::validator::Validator;
-use crate::validator::entry::EntryContext;
+use crate::validator::entry::InterfaceContext;
 use bitflags::Flags;
 use check_entry::answers::answer;
-use check_entry::bindings::{check_binding, take_binding};
+use check_entry::bindings::{binding_holds, check_binding, take_binding};
 use check_entry::error::EntryPointError;
-use check_entry::globals::{check_allowed, check_immediates, is_task_payload, uses_of};
+use check_entry::globals::{
+    check_allowed, check_immediates, is_task_payload, is_used_immediate, use_holds, uses_of,
+};
+use check_entry::refused::RefusedEntry;
 use check_errors::below::Below;
 use ir_arena::handle::Handle;
-use ir_arena::span::Refusal;
 use ir_arena::tag;
-use ir_facts::valid::info::FunctionInfo;
 use ir_flags::valid::GlobalUse;
 use ir_module::module::{GlobalVariable, Module, ResourceBinding};
 use ir_types::types::AddressSpace;
-use std::alloc::Global;
+use std::alloc::AllocError;
 use std::collections::BTreeSet;
 
 impl<B: Below> Validator<B> {
@@ -49,7 +50,7 @@ impl<B: Below> Validator<B> {
     /// A payload that is used is the entry point's, and has at least 4 bytes.
     fn check_used_payload(
         &self,
-        entry: &EntryContext,
+        entry: &InterfaceContext,
         handle: Handle<tag::GlobalVariable>,
         var: &GlobalVariable,
     ) -> Result<(), EntryPointError>
@@ -75,7 +76,7 @@ impl<B: Below> Validator<B> {
     #[tactic(auto, using(crate::proofs::EntrySteps::finding))]
     fn check_use(
         &self,
-        entry: &EntryContext,
+        entry: &InterfaceContext,
         handle: Handle<tag::GlobalVariable>,
         var: &GlobalVariable,
         uses: GlobalUse,
@@ -93,19 +94,18 @@ impl<B: Below> Validator<B> {
     #[tactic(auto, using(crate::proofs::EntrySteps::finding))]
     fn check_used_global(
         &self,
-        entry: &EntryContext,
-        info: &FunctionInfo,
+        entry: &InterfaceContext,
         taken: &BTreeSet<ResourceBinding>,
         handle: Handle<tag::GlobalVariable>,
         var: &GlobalVariable,
     ) -> Result<(), EntryPointError>
         requires size { var.now.space ≡ space.TaskPayload →
             IsSome ((B.meaning self.now.below).size_of entry.now.program.now var.now.ty) }
-        requires taken { AreTaken taken.now info.now.global_uses entry.now.program.now.global_variables handle }
+        requires taken { AreTaken taken.now entry.now.info.now.global_uses entry.now.program.now.global_variables handle }
         ensures { Finds (FirstOf (global_points (B.meaning self.now.below) self.now.settings.flags entry.now.program.now
-            entry.now.entry_point.now info.now.global_uses handle var.now)) result }
+            entry.now.entry_point.now entry.now.info.now.global_uses handle var.now)) result }
     {
-        let Some(uses) = uses_of(info, handle.index()) else {
+        let Some(uses) = uses_of(entry.info, handle.index()) else {
             return Ok(());
         };
         if uses.is_empty() {
@@ -116,41 +116,97 @@ impl<B: Below> Validator<B> {
     }
 
     /// Each global that is used, in order.
-    fn check_each_used_global(
-        &self,
-        alloc: Global,
-        entry: &EntryContext,
-        info: &FunctionInfo,
-    ) -> Result<(), Refusal<EntryPointError>>
+    fn check_each_used_global(&self, entry: &InterfaceContext) -> Result<(), RefusedEntry>
         requires { HasPayloadSizes (B.meaning self.now.below) entry.now.program.now }
         ensures { Answers (FirstOf (points_of_each (global_points (B.meaning self.now.below) self.now.settings.flags
-            entry.now.program.now entry.now.entry_point.now info.now.global_uses)
+            entry.now.program.now entry.now.entry_point.now entry.now.info.now.global_uses)
             entry.now.program.now.global_variables)) result }
     {
-        let mut taken = BTreeSet::new(alloc);
+        let mut taken = BTreeSet::new(entry.alloc);
         let globals = entry.program.global_variables.as_slice();
         for index in 0..entry.program.global_variables.len() {
             let handle = Handle::new(index as u32);
-            let checked = self.check_used_global(entry, info, &taken, handle, &globals[index]);
-            answer(alloc, checked)?;
-            take_binding(entry.program, info, &mut taken, index)?;
+            let checked = self.check_used_global(entry, &taken, handle, &globals[index]);
+            answer(entry.alloc, checked)?;
+            take_binding(entry.program, entry.info, &mut taken, index)?;
         }
         Ok(())
     }
 
-    /// The globals that are used: of immediates at most one; and then each in order.
+    /// The list of the globals that are used, with the fault of each point, where one fails.
+    #[cold]
+    #[inline(never)]
     #[tactic(auto, using(crate::proofs::EntrySteps::meeting))]
-    pub(crate) fn check_used_globals(
-        &self,
-        alloc: Global,
-        entry: &EntryContext,
-        info: &FunctionInfo,
-    ) -> Result<(), Refusal<EntryPointError>>
+    fn first_fault_of_used_globals(&self, entry: &InterfaceContext) -> Result<(), RefusedEntry>
         requires { HasPayloadSizes (B.meaning self.now.below) entry.now.program.now }
         ensures { Answers (FirstOf (within fault_of (globals_points (B.meaning self.now.below) self.now.settings.flags
-            entry.now.program.now entry.now.entry_point.now info.now.global_uses))) (read_by fault_of result) }
+            entry.now.program.now entry.now.entry_point.now entry.now.info.now.global_uses))) (read_by fault_of result) }
     {
-        answer(alloc, check_immediates(entry.program, info))?;
-        self.check_each_used_global(alloc, entry, info)
+        answer(entry.alloc, check_immediates(entry.program, entry.info))?;
+        self.check_each_used_global(entry)
     }
+
+    /// Whether no point of a global fails, where this shows at once: it isn't used, or it holds no payload, its uses are
+    /// allowed, and its binding isn't taken.
+    #[tactic(auto, using(crate::proofs::UsedGlobals::holding))]
+    fn used_global_holds(
+        &self,
+        entry: &InterfaceContext,
+        taken: &BTreeSet<ResourceBinding>,
+        index: usize,
+        var: &GlobalVariable,
+    ) -> bool
+        requires { AreTaken taken.now entry.now.info.now.global_uses entry.now.program.now.global_variables index }
+        ensures { IsTrue result → first_fault (global_points (B.meaning self.now.below) self.now.settings.flags
+            entry.now.program.now entry.now.entry_point.now entry.now.info.now.global_uses index var.now) ≡ None }
+    {
+        let Some(uses) = uses_of(entry.info, index) else {
+            return true;
+        };
+        if uses.is_empty() {
+            return true;
+        }
+        use_holds(entry.program, entry.entry_point.stage, var, uses)
+            && binding_holds(self.settings.flags, taken, var.binding)
+    }
+
+    /// Whether no point of the globals that are used fails, by one walk over them, as far as it shows at once.
+    fn used_globals_hold(&self, entry: &InterfaceContext) -> Result<bool, AllocError>
+        ensures { IfOk result (λ hold. IsTrue hold → first_fault (globals_points (B.meaning self.now.below)
+            self.now.settings.flags entry.now.program.now entry.now.entry_point.now
+            entry.now.info.now.global_uses) ≡ None) }
+    {
+        let mut taken = BTreeSet::new(entry.alloc);
+        let mut immediates: usize = 0;
+        let globals = entry.program.global_variables.as_slice();
+        for index in 0..entry.program.global_variables.len() {
+            if !self.used_global_holds(entry, &taken, index, &globals[index]) {
+                return Ok(false);
+            }
+            let is_one = is_used_immediate(entry.program, entry.info, index);
+            immediates = with_one(immediates, is_one);
+            take_binding(entry.program, entry.info, &mut taken, index)?;
+        }
+        Ok(immediates <= 1)
+    }
+
+    /// The globals that are used: of immediates at most one; and then each in order.
+    pub(crate) fn check_used_globals(&self, entry: &InterfaceContext) -> Result<(), RefusedEntry>
+        requires { HasPayloadSizes (B.meaning self.now.below) entry.now.program.now }
+        ensures { Answers (FirstOf (within fault_of (globals_points (B.meaning self.now.below) self.now.settings.flags
+            entry.now.program.now entry.now.entry_point.now entry.now.info.now.global_uses))) (read_by fault_of result) }
+    {
+        if self.used_globals_hold(entry)? {
+            return Ok(());
+        }
+        self.first_fault_of_used_globals(entry)
+    }
+}
+
+/// One more, if there is one.
+fn with_one(count: usize, is_one: bool) -> usize
+    requires { count < 18446744073709551615 }
+    ensures { result ≡ count + (if is_one then 1 else 0) }
+{
+    if is_one { count + 1 } else { count }
 }

@@ -7,15 +7,13 @@ ghost use Rattle.check_entry.specs.Mesh.{said_points};
 ghost use Rattle.check_errors.specs.Answers.{Answers, FirstOf, read_by};
 
 use crate::validator::Validator;
-use crate::validator::entry::EntryContext;
+use crate::validator::entry::InterfaceContext;
 use check_entry::answers::answer;
-use check_entry::error::EntryPointError;
 use check_entry::mesh::{check_stated, mesh_error};
+use check_entry::refused::RefusedEntry;
 use check_errors::below::Below;
 use check_errors::mesh::MeshAnalysis;
-use ir_arena::span::Refusal;
 use ir_module::module::MeshStageInfo;
-use std::alloc::Global;
 
 impl<B: Below> Validator<B> {
     /// What is said of a mesh: the type of its output variable can be put out, and implies just that; and the target has
@@ -23,14 +21,14 @@ impl<B: Below> Validator<B> {
     #[tactic(auto, using(check_entry::proofs::EntrySteps::judges_within))]
     pub(crate) fn check_said(
         &self,
-        alloc: Global,
-        entry: &EntryContext,
+        entry: &InterfaceContext,
         mesh: &MeshStageInfo,
-    ) -> Result<(), Refusal<EntryPointError>>
+    ) -> Result<(), RefusedEntry>
         ensures { Answers (FirstOf (within fault_of (said_points self.now.settings.capabilities entry.now.program.now
             ((B.meaning self.now.below).mesh_analysis entry.now.program.now mesh.now.output_variable) mesh.now)))
             (read_by fault_of result) }
     {
+        let alloc = entry.alloc;
         let below = &self.below;
         let analysis = below.analyze_mesh_shader_info(alloc, entry.program, mesh.output_variable)?;
         let MeshAnalysis {
@@ -40,7 +38,7 @@ impl<B: Below> Validator<B> {
         } = analysis;
         if let Some(found) = fault {
             let error = mesh_error(*found.as_inner());
-            return Err(Refusal::Fault(found.with_fault(error)));
+            return Err(RefusedEntry::new(alloc, found.with_fault(error)));
         }
         let capabilities = self.settings.capabilities;
         answer(

@@ -17,11 +17,12 @@ ghost use Rattle.check_entry.specs.declared.error.EntryPointError.TheVariants as
 ghost use Rattle.check_errors.specs.Answers.{Answers, FirstOf, read_by};
 
 use crate::validator::Validator;
-use crate::validator::entry::EntryContext;
+use crate::validator::entry::InterfaceContext;
 use check_entry::answers::{answer, refusal};
 use check_entry::error::EntryPointError;
 use check_entry::globals::inner_at;
 use check_entry::mesh::check_variable;
+use check_entry::refused::RefusedEntry;
 use check_entry::varyings::{
     argument_refused, check_returned, has_one_of_indices, is_struct, result_refused,
 };
@@ -29,11 +30,9 @@ use check_errors::below::Below;
 use check_varyings::item::check_varying_item;
 use check_varyings::varying::{MeshOutputType, VaryingPlace, VaryingState};
 use ir_arena::handle::Handle;
-use ir_arena::span::Refusal;
 use ir_arena::tag;
 use ir_module::module::{EntryPoint, MeshStageInfo};
 use ir_types::built_in::BuiltIn;
-use std::alloc::Global;
 
 impl<B: Below> Validator<B> {
     /// Where an input or an output of an entry point stands.
@@ -52,11 +51,7 @@ impl<B: Below> Validator<B> {
     }
 
     /// The arguments, which are one group.
-    pub(crate) fn check_arguments(
-        &self,
-        alloc: Global,
-        entry: &EntryContext,
-    ) -> Result<(), Refusal<EntryPointError>>
+    pub(crate) fn check_arguments(&self, entry: &InterfaceContext) -> Result<(), RefusedEntry>
         requires infos { AreInfosOf entry.now.program.now self.now.types }
         requires types { FitsTypes entry.now.program.now }
         requires signature { SignatureFits entry.now.program.now entry.now.entry_point.now.function }
@@ -66,12 +61,12 @@ impl<B: Below> Validator<B> {
         let place = self.place_of(entry.entry_point, false, MeshOutputType::Neither);
         let types = &entry.program.types;
         let infos = self.infos();
-        let mut state = VaryingState::new(alloc);
+        let mut state = VaryingState::new(entry.alloc);
         let arguments = entry.entry_point.function.arguments.as_slice();
         for index in 0..arguments.len() {
             let argument = &arguments[index];
             match check_varying_item(
-                alloc,
+                entry.alloc,
                 &place,
                 &mut state,
                 types,
@@ -80,7 +75,7 @@ impl<B: Below> Validator<B> {
                 argument.binding,
             ) {
                 Ok(()) => {}
-                Err(refused) => return Err(argument_refused(alloc, index as u32, refused)),
+                Err(refused) => return Err(argument_refused(entry.alloc, index as u32, refused)),
             }
         }
         Ok(())
@@ -89,10 +84,9 @@ impl<B: Below> Validator<B> {
     /// The result, if there is one, which is one group; whether a position is among its parts.
     fn check_declared(
         &self,
-        alloc: Global,
-        entry: &EntryContext,
+        entry: &InterfaceContext,
         state: &mut VaryingState,
-    ) -> Result<(), Refusal<EntryPointError>>
+    ) -> Result<(), RefusedEntry>
         requires infos { AreInfosOf entry.now.program.now self.now.types }
         requires types { FitsTypes entry.now.program.now }
         requires signature { SignatureFits entry.now.program.now entry.now.entry_point.now.function }
@@ -109,7 +103,7 @@ impl<B: Below> Validator<B> {
         let types = &entry.program.types;
         let infos = self.infos();
         match check_varying_item(
-            alloc,
+            entry.alloc,
             &place,
             state,
             types,
@@ -118,42 +112,34 @@ impl<B: Below> Validator<B> {
             declared.binding,
         ) {
             Ok(()) => Ok(()),
-            Err(refused) => Err(result_refused(refused)),
+            Err(refused) => Err(result_refused(entry.alloc, refused)),
         }
     }
 
     /// The result, and what the stage has to return.
-    pub(crate) fn check_result(
-        &self,
-        alloc: Global,
-        entry: &EntryContext,
-    ) -> Result<(), Refusal<EntryPointError>>
+    pub(crate) fn check_result(&self, entry: &InterfaceContext) -> Result<(), RefusedEntry>
         requires infos { AreInfosOf entry.now.program.now self.now.types }
         requires types { FitsTypes entry.now.program.now }
         requires signature { SignatureFits entry.now.program.now entry.now.entry_point.now.function }
         ensures { Answers (FirstOf (result_points self.now.settings entry.now.program.now.types self.now.types
             entry.now.entry_point.now)) (read_by fault_of result) }
     {
-        let mut state = VaryingState::new(alloc);
-        self.check_declared(alloc, entry, &mut state)?;
+        let mut state = VaryingState::new(entry.alloc);
+        self.check_declared(entry, &mut state)?;
         let position = state.has_built_in(BuiltIn::Position { invariant: false });
         let stage = entry.entry_point.stage;
         let declared = entry.entry_point.function.result;
-        answer(
-            alloc,
-            check_returned(entry.program, stage, position, declared),
-        )
+        check_returned(entry.alloc, entry.program, stage, position, declared)
     }
 
     /// An output of a mesh: a struct, whose members may be put out.
     fn check_output(
         &self,
-        alloc: Global,
-        entry: &EntryContext,
+        entry: &InterfaceContext,
         state: &mut VaryingState,
         mesh_output: MeshOutputType,
         ty: Handle<tag::Type>,
-    ) -> Result<(), Refusal<EntryPointError>>
+    ) -> Result<(), RefusedEntry>
         requires infos { AreInfosOf entry.now.program.now self.now.types }
         requires types { FitsTypes entry.now.program.now }
         requires ty { ty < length entry.now.program.now.types }
@@ -165,25 +151,24 @@ impl<B: Below> Validator<B> {
             (parts_of entry.now.program.now.types self.now.types ty None)) }
     {
         if !is_struct(inner_at(entry.program, ty)) {
-            return Err(refusal(alloc, EntryPointError::InvalidMeshOutputType));
+            return Err(refusal(entry.alloc, EntryPointError::InvalidMeshOutputType));
         }
         let place = self.place_of(entry.entry_point, true, mesh_output);
         let types = &entry.program.types;
         let infos = self.infos();
-        match check_varying_item(alloc, &place, state, types, infos, ty, None) {
+        match check_varying_item(entry.alloc, &place, state, types, infos, ty, None) {
             Ok(()) => Ok(()),
-            Err(refused) => Err(result_refused(refused)),
+            Err(refused) => Err(result_refused(entry.alloc, refused)),
         }
     }
 
     /// The output of each vertex of a mesh, which has a position.
     fn check_vertex_output(
         &self,
-        alloc: Global,
-        entry: &EntryContext,
+        entry: &InterfaceContext,
         state: &mut VaryingState,
         ty: Handle<tag::Type>,
-    ) -> Result<(), Refusal<EntryPointError>>
+    ) -> Result<(), RefusedEntry>
         requires infos { AreInfosOf entry.now.program.now self.now.types }
         requires types { FitsTypes entry.now.program.now }
         requires ty { ty < length entry.now.program.now.types }
@@ -194,10 +179,10 @@ impl<B: Below> Validator<B> {
             which.VertexOutput) (placed_parts entry.now.program.now.types self.now.types
             (output_item self.now.settings entry.now.entry_point.now which.VertexOutput ty))) }
     {
-        self.check_output(alloc, entry, state, MeshOutputType::VertexOutput, ty)?;
+        self.check_output(entry, state, MeshOutputType::VertexOutput, ty)?;
         if !state.has_built_in(BuiltIn::Position { invariant: false }) {
             let fault = EntryPointError::MissingVertexOutputPosition;
-            return Err(refusal(alloc, fault));
+            return Err(refusal(entry.alloc, fault));
         }
         Ok(())
     }
@@ -206,11 +191,10 @@ impl<B: Below> Validator<B> {
     /// has this type, are taken.
     fn check_primitive_output(
         &self,
-        alloc: Global,
-        entry: &EntryContext,
+        entry: &InterfaceContext,
         state: &mut VaryingState,
         mesh: &MeshStageInfo,
-    ) -> Result<(), Refusal<EntryPointError>>
+    ) -> Result<(), RefusedEntry>
         requires infos { AreInfosOf entry.now.program.now self.now.types }
         requires types { FitsTypes entry.now.program.now }
         requires ty { mesh.now.primitive_output_type < length entry.now.program.now.types }
@@ -223,10 +207,10 @@ impl<B: Below> Validator<B> {
             mesh.now.primitive_output_type)) (read_by fault_of result) }
     {
         let ty = mesh.primitive_output_type;
-        self.check_output(alloc, entry, state, MeshOutputType::PrimitiveOutput, ty)?;
+        self.check_output(entry, state, MeshOutputType::PrimitiveOutput, ty)?;
         if !has_one_of_indices(state) {
             let fault = EntryPointError::InvalidMeshPrimitiveOutputType;
-            return Err(refusal(alloc, fault));
+            return Err(refusal(entry.alloc, fault));
         }
         Ok(())
     }
@@ -234,10 +218,9 @@ impl<B: Below> Validator<B> {
     /// The vertex output, and then the primitive output, which share locations.
     fn check_outputs(
         &self,
-        alloc: Global,
-        entry: &EntryContext,
+        entry: &InterfaceContext,
         mesh: &MeshStageInfo,
-    ) -> Result<(), Refusal<EntryPointError>>
+    ) -> Result<(), RefusedEntry>
         requires infos { AreInfosOf entry.now.program.now self.now.types }
         requires types { FitsTypes entry.now.program.now }
         requires vertex { mesh.now.vertex_output_type < length entry.now.program.now.types }
@@ -246,18 +229,14 @@ impl<B: Below> Validator<B> {
             entry.now.entry_point.now mesh.now.vertex_output_type mesh.now.primitive_output_type))
             (read_by fault_of result) }
     {
-        let mut state = VaryingState::new(alloc);
-        self.check_vertex_output(alloc, entry, &mut state, mesh.vertex_output_type)?;
+        let mut state = VaryingState::new(entry.alloc);
+        self.check_vertex_output(entry, &mut state, mesh.vertex_output_type)?;
         state.clear_built_ins();
-        self.check_primitive_output(alloc, entry, &mut state, mesh)
+        self.check_primitive_output(entry, &mut state, mesh)
     }
 
     /// The mesh: its output variable, what is said of it, and its outputs.
-    pub(crate) fn check_mesh(
-        &self,
-        alloc: Global,
-        entry: &EntryContext,
-    ) -> Result<(), Refusal<EntryPointError>>
+    pub(crate) fn check_mesh(&self, entry: &InterfaceContext) -> Result<(), RefusedEntry>
         requires infos { AreInfosOf entry.now.program.now self.now.types }
         requires types { FitsTypes entry.now.program.now }
         requires entry { FitsEntry entry.now.entry_point.now entry.now.program.now }
@@ -268,8 +247,8 @@ impl<B: Below> Validator<B> {
         let Some(mesh) = &entry.entry_point.mesh_info else {
             return Ok(());
         };
-        answer(alloc, check_variable(entry.program, mesh))?;
-        self.check_said(alloc, entry, mesh)?;
-        self.check_outputs(alloc, entry, mesh)
+        answer(entry.alloc, check_variable(entry.program, mesh))?;
+        self.check_said(entry, mesh)?;
+        self.check_outputs(entry, mesh)
     }
 }

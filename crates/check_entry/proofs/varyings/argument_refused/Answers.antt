@@ -1,10 +1,13 @@
-use Rattle.std.proofs.Common.{◌≡◌, Some}
-use Rattle.ir_facts.specs.Points.{first_fault}
+use Rattle.std.proofs.Common.{◌≡◌, Some, sym, ap, ◌∙◌}
+use Rattle.ir_facts.specs.Points.{first_fault, within}
 use Rattle.check_varyings.specs.VaryingFaults.{varying_fault_of}
-use Rattle.check_entry.proofs.EntrySteps.{argument_fault}
+use Rattle.check_entry.specs.EntryFaults.{OfArgument, fault_of}
+use Rattle.check_entry.specs.declared.error.EntryPointError.TheVariants as fault
+use Rattle.check_entry.proofs.EntrySteps.{argument_fault, refuses_as}
 use Rattle.check_entry.proofs.varyings.argument_refused.Goals as goal
 
 pub returns-in-Fault : goal.returns-in-Fault
 returns-in-Fault c = λ points h.
     let found : first_fault points ≡ Some (varying_fault_of c.in-Fault.fault) = rw c.in-Fault.is at h in
-    rw (c.refusal.ensures, c.into_inner.ensures) (argument_fault c.args.index points c.in-Fault.fault found)
+    refuses_as (fault.Argument c.args.index c.into_inner.result) c.refusal.result (within (OfArgument c.args.index) points) c.refusal.ensures
+    (argument_fault c.args.index points c.in-Fault.fault found ∙ ap (λ e. Some (fault_of (fault.Argument c.args.index e))) (sym c.into_inner.ensures))

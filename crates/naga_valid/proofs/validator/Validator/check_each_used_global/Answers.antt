@@ -7,7 +7,7 @@ use Rattle.check_errors.specs.Answers.{Answers, FirstOf}
 
 pub returns-in_err-answer : goal.returns-in_err-answer
 returns-in_err-answer g c =
-    let points = global_points (g.B.Below.meaning c.args.self.now.below) c.args.self.now.settings.flags c.args.entry.now.program.now c.args.entry.now.entry_point.now c.args.info.now.global_uses in
+    let points = global_points (g.B.Below.meaning c.args.self.now.below) c.args.self.now.settings.flags c.args.entry.now.program.now c.args.entry.now.entry_point.now c.args.entry.now.info.now.global_uses in
     let x = c.index-globals-index.result in
     let r = c.from_residual.result in
     let met = c.in_err-answer.ensures.meets (points c.new-handle.result x) c.check_used_global-checked.ensures in
@@ -16,7 +16,7 @@ returns-in_err-answer g c =
 
 pub loop-index-preserved : goal.loop-index-preserved
 loop-index-preserved g c =
-    let points = global_points (g.B.Below.meaning c.args.self.now.below) c.args.self.now.settings.flags c.args.entry.now.program.now c.args.entry.now.entry_point.now c.args.info.now.global_uses in
+    let points = global_points (g.B.Below.meaning c.args.self.now.below) c.args.self.now.settings.flags c.args.entry.now.program.now c.args.entry.now.entry_point.now c.args.entry.now.info.now.global_uses in
     let x = c.index-globals-index.result in
     let met = c.in_ok-answer.ensures.meets (points c.new-handle.result x) c.check_used_global-checked.ensures in
     record {

@@ -7,7 +7,7 @@ use Rattle.naga_valid.proofs.validator.Validator.check_each_used_global.Given as
 -- what is left decides, and the set has what is taken
 abbrev pub invariant-loop-index : goal.invariant-loop-index
 invariant-loop-index g l =
-    let points = global_points (g.B.Below.meaning l.self.below) l.self.settings.flags l.entry.program.now l.entry.entry_point.now l.info.global_uses in record {
+    let points = global_points (g.B.Below.meaning l.self.below) l.self.settings.flags l.entry.program.now l.entry.entry_point.now l.entry.info.now.global_uses in record {
       faults : first_fault (points_from points l.index (drop l.index l.globals)) ≡ first_fault (points_from points 0 l.globals);
-      taken : AreTaken l.taken l.info.global_uses l.globals l.index;
+      taken : AreTaken l.taken l.entry.info.now.global_uses l.globals l.index;
     }

@@ -1,4 +1,4 @@
-use Rattle.std.proofs.Common.{rules, ◌≡◌, ◌∷◌, true, false, None, [], refl, sym, ap, ◌∙◌, subst}
+use Rattle.std.proofs.Common.{rules, ◌≡◌, ◌∷◌, ◌++◌, true, false, None, [], refl, sym, ap, ◌∙◌, subst}
 use Rattle.ir_facts.specs.Points.{first_fault, within}
 use Rattle.ir_types.specs.TypeTests.{it_is}
 use Rattle.ir_types.specs.Types.{inner_at}
@@ -10,7 +10,7 @@ use Rattle.check_varyings.specs.declared.varying.MeshOutputType.TheVariants.{Ver
 use Rattle.check_entry.specs.EntryFaults.{OfResult, Other, fault_of}
 use Rattle.check_entry.specs.EntryVaryings.{has_one_of_indices, is_one_of_three, is_struct, output_item, output_points, place_of}
 use Rattle.check_entry.specs.declared.error.EntryPointError.TheVariants as fault
-use Rattle.check_entry.proofs.EntrySteps.{judges_first}
+use Rattle.check_entry.proofs.EntrySteps.{judges_first, refuses_as}
 use Rattle.naga_valid.proofs.Groups.{last_fails, last_holds, output_by_position}
 use Rattle.naga_valid.proofs.validator.Validator.check_primitive_output.Goals as goal
 use Rattle.check_errors.specs.Answers.{Answers, FirstOf, read_by}
@@ -46,7 +46,8 @@ returns-then-not-has_one_of_indices g c =
     let seen = c.in_ok-check_output.ensures.seen ∙ ap (λ (s : Seen). seen_with s parts) (c.requires.seen ∙ alone) in
     let same = sym (c.has_one_of_indices.ensures ∙ ap (λ (s : Seen). is_one_of_three (s.built_ins PointIndex) (s.built_ins LineIndices) (s.built_ins TriangleIndices)) seen) in
     let no : c.has_one_of_indices.result ≡ false = search rules in
-    rw c.refusal.ensures (last_fails out (has_one_of_indices parts) (Other fault.InvalidMeshPrimitiveOutputType) none (same ∙ no))
+    refuses_as fault.InvalidMeshPrimitiveOutputType c.refusal.result (out ++ ((has_one_of_indices parts, Other fault.InvalidMeshPrimitiveOutputType) ∷ [])) c.refusal.ensures
+    (last_fails out (has_one_of_indices parts) (Other fault.InvalidMeshPrimitiveOutputType) none (same ∙ no))
 
 pub returns : goal.returns
 returns g c =

@@ -5,7 +5,7 @@ use Rattle.check_entry.specs.EntryFaults.{fault_of}
 use Rattle.check_entry.specs.EntryVaryings.{declared_points, has_built_in, result_parts, returned_points}
 use Rattle.check_entry.proofs.EntrySteps.{judges_first, judges_second}
 use Rattle.naga_valid.proofs.validator.Validator.check_result.Goals as goal
-use Rattle.check_errors.specs.Answers.{Answers, Finds, FirstOf, read_by}
+use Rattle.check_errors.specs.Answers.{Answers, FirstOf, read_by}
 
 pub returns-in_err-check_declared : goal.returns-in_err-check_declared
 returns-in_err-check_declared g c =
@@ -24,10 +24,10 @@ returns g c =
     let infos = c.args.self.now.types in
     let types = c.args.entry.now.program.now.types in
     let ep = c.args.entry.now.entry_point.now in
-    let r = c.answer.result in
+    let r = c.check_returned.result in
     let first = declared_points c.args.self.now.settings types infos ep ep.function.result in
     let position = has_built_in (Position false) (result_parts types infos ep.function.result) in
     let points = returned_points types ep.stage position ep.function.result in
     let same = c.has_built_in-position.ensures ∙ c.in_ok-check_declared.ensures.seen in
-    let found = subst (λ (b : Bool). Finds (FirstOf (returned_points types ep.stage b ep.function.result)) c.check_returned.result) same c.check_returned.ensures in
-    judges_second r first (within fault_of points) c.in_ok-check_declared.ensures.fault (c.answer.ensures.judges points found)
+    let found = subst (λ (b : Bool). Answers (FirstOf (within fault_of (returned_points types ep.stage b ep.function.result))) (read_by fault_of r)) same c.check_returned.ensures in
+    judges_second r first (within fault_of points) c.in_ok-check_declared.ensures.fault found

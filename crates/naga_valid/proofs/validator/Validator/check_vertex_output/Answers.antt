@@ -1,4 +1,4 @@
-use Rattle.std.proofs.Common.{rules, ◌≡◌, ◌∷◌, true, false, None, [], sym, ap, ◌∙◌, subst}
+use Rattle.std.proofs.Common.{rules, ◌≡◌, ◌∷◌, ◌++◌, true, false, None, [], sym, ap, ◌∙◌, subst}
 use Rattle.ir_facts.specs.Points.{first_fault, within}
 use Rattle.ir_types.specs.TypeTests.{it_is}
 use Rattle.ir_types.specs.Types.{inner_at}
@@ -10,7 +10,7 @@ use Rattle.check_varyings.specs.declared.varying.MeshOutputType.TheVariants.{Ver
 use Rattle.check_entry.specs.EntryFaults.{OfResult, Other, fault_of}
 use Rattle.check_entry.specs.EntryVaryings.{has_built_in, is_struct, output_points, place_of}
 use Rattle.check_entry.specs.declared.error.EntryPointError.TheVariants as fault
-use Rattle.check_entry.proofs.EntrySteps.{judges_first}
+use Rattle.check_entry.proofs.EntrySteps.{judges_first, refuses_as}
 use Rattle.naga_valid.proofs.Groups.{last_fails, last_holds, output_by_position}
 use Rattle.naga_valid.proofs.validator.Validator.check_vertex_output.Goals as goal
 use Rattle.check_errors.specs.Answers.{Answers, FirstOf, read_by}
@@ -41,7 +41,8 @@ returns-then-not-has_built_in-clause-fault g c =
     let none = subst (λ points. first_fault points ≡ None) by c.in_ok-check_output.ensures.fault in
     let same = sym (c.has_built_in.ensures ∙ ap (λ (s : Seen). s.built_ins (Position false)) (c.in_ok-check_output.ensures.seen ∙ ap (λ (s : Seen). seen_with s parts) c.requires.seen)) in
     let no : c.has_built_in.result ≡ false = search rules in
-    rw c.refusal.ensures (last_fails out (has_built_in (Position false) parts) (Other fault.MissingVertexOutputPosition) none (same ∙ no))
+    refuses_as fault.MissingVertexOutputPosition c.refusal.result (out ++ ((has_built_in (Position false) parts, Other fault.MissingVertexOutputPosition) ∷ [])) c.refusal.ensures
+    (last_fails out (has_built_in (Position false) parts) (Other fault.MissingVertexOutputPosition) none (same ∙ no))
 
 pub returns-clause-fault : goal.returns-clause-fault
 returns-clause-fault g c =

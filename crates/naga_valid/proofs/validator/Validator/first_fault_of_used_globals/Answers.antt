@@ -2,12 +2,12 @@ use Rattle.std.proofs.Common.{rules, ◌++◌}
 use Rattle.check_entry.specs.UsedGlobals.{immediate_points, global_points}
 use Rattle.ir_facts.specs.Points.{points_of_each}
 use Rattle.check_entry.proofs.EntrySteps.{meets_first, meets_second, judges_within}
-use Rattle.naga_valid.proofs.validator.Validator.check_used_globals.Goals as goal
+use Rattle.naga_valid.proofs.validator.Validator.first_fault_of_used_globals.Goals as goal
 use Rattle.check_errors.specs.Answers.{Answers, FirstOf}
 
 pub returns-in_err-answer : goal.returns-in_err-answer
 returns-in_err-answer g c =
-    let uses = c.args.info.now.global_uses in
+    let uses = c.args.entry.now.info.now.global_uses in
     let globals = c.args.entry.now.program.now.global_variables in
     let each = points_of_each (global_points (g.B.Below.meaning c.args.self.now.below) c.args.self.now.settings.flags c.args.entry.now.program.now c.args.entry.now.entry_point.now uses) globals in
     let met = c.in_err-answer.ensures.meets (immediate_points uses globals) c.check_immediates.ensures in
@@ -17,7 +17,7 @@ returns-in_err-answer g c =
 
 pub returns : goal.returns
 returns g c =
-    let uses = c.args.info.now.global_uses in
+    let uses = c.args.entry.now.info.now.global_uses in
     let globals = c.args.entry.now.program.now.global_variables in
     let each = points_of_each (global_points (g.B.Below.meaning c.args.self.now.below) c.args.self.now.settings.flags c.args.entry.now.program.now c.args.entry.now.entry_point.now uses) globals in
     let met = c.in_ok-answer.ensures.meets (immediate_points uses globals) c.check_immediates.ensures in

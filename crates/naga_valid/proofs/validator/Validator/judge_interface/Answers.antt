@@ -1,24 +1,19 @@
-use Rattle.std.proofs.Common.{rules, ◌++◌}
-use Rattle.ir_facts.specs.Points.{within}
-use Rattle.check_entry.specs.EntryFaults.{fault_of}
-use Rattle.check_entry.specs.EntryJudgement.{used_points, entry_outcome}
-use Rattle.check_entry.specs.EntryUses.{payload_points, with_own_uses}
-use Rattle.naga_valid.proofs.EntryJudgement.{points_refuse}
-use Rattle.check_entry.proofs.EntrySteps.{judges_first}
-use Rattle.naga_valid.proofs.validator.Validator.judge_interface.Goals as goal
+use Rattle.std.proofs.Common.{rules, ◌≡◌, None, subst}
+use Rattle.ir_facts.specs.Points.{first_fault, within}
+use Rattle.ir_facts.specs.declared.valid.info.FunctionInfo.{FunctionInfo}
 use Rattle.check_errors.specs.Answers.{Answers, FirstOf, read_by}
+use Rattle.check_entry.specs.EntryFaults.{fault_of}
+use Rattle.check_entry.specs.EntryJudgement.{used_points}
+use Rattle.check_entry.specs.EntryUses.{payload_points, with_own_uses}
+use Rattle.check_entry.proofs.EntrySteps.{both_pass, judges_first, judges_second}
+use Rattle.naga_valid.proofs.validator.Validator.judge_interface.Goals as goal
 
-pub returns-in_err-answer : goal.returns-in_err-answer
-returns-in_err-answer g c =
+pub returns-in_err-check_payload-clause-fault : goal.returns-in_err-check_payload-clause-fault
+returns-in_err-check_payload-clause-fault g c =
     let below = g.B.Below.meaning c.args.self.now.below in
     let settings = c.args.self.now.settings in
     let infos = c.args.self.now.types in
     let program = c.args.entry.now.program.now in
     let ep = c.args.entry.now.entry_point.now in
-    let outcome = c.args.outcome in
-    let r = c.from_residual.result in
-    let payload = payload_points program.global_variables ep.stage ep.task_payload in
-    let first = within fault_of payload in
-    let second = used_points below settings infos program ep (with_own_uses ep outcome.info) in
-    let here : Answers (FirstOf first) (read_by fault_of r) = search (rules, c.answer.ensures.judges payload c.check_payload.ensures) in
-    points_refuse (first ++ second) (entry_outcome below settings infos program ep outcome) r (search rules) (judges_first r first second (search rules) here)
+    judges_first c.from_residual.result (within fault_of (payload_points program.global_variables ep.stage ep.task_payload))
+    (used_points below settings infos program ep (with_own_uses ep c.args.info.now)) (search rules) (search (rules, c.check_payload.ensures))
