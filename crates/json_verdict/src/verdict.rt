@@ -4,9 +4,7 @@ use crate::judge::Verdict;
 use json_document::Unreadable;
 use json_faults::json::{ToJson, field, write_list, write_names};
 use naga_below::{FunctionInfo, Module, ModuleInfo, ShaderStage, Span};
-use naga_module::ModuleFault;
-use naga_rules::Explain;
-use naga_valid::EntryPointError;
+use naga_module::{ModuleFault, Whereabouts, write_module_fault_lines};
 use std::fmt;
 
 /// Writes the verdict as JSON, on one line, without white space and without a newline at the end. An Err is that of
@@ -166,47 +164,10 @@ fn tell_unreadable<W: fmt::Write>(out: &mut W, unreadable: &Unreadable) -> fmt::
 /// What has the fault, the fault, its spans, and what it means; or out of memory.
 fn tell_refused<W: fmt::Write>(out: &mut W, fault: &ModuleFault) -> fmt::Result {
     match fault {
-        ModuleFault::NotFit => out.write_str(
-            "refused\nNotFit\n  a handle or a range is out of bounds or out of order, or a fact is missing",
-        ),
-        ModuleFault::Global(global, error) => {
-            let index = global.index();
-            write!(out, "refused\nglobal {index}: {error:?}")?;
-            tell_meaning(out, &[], error)
-        }
-        ModuleFault::Function(function, error) => {
-            let index = function.index();
-            let inner = error.as_inner();
-            write!(out, "refused\nfunction {index}: {inner:?}")?;
-            tell_meaning(out, error.spans(), inner)
-        }
-        ModuleFault::EntryPoint(index, error) => {
-            write!(out, "refused\nentry point {index}: ")?;
-            tell_entry_fault(out, error.as_inner())?;
-            tell_meaning(out, error.spans(), error.as_inner())
-        }
         ModuleFault::Memory => out.write_str("memory"),
+        fault => {
+            out.write_str("refused\n")?;
+            write_module_fault_lines(out, fault, Whereabouts::UNKNOWN)
+        }
     }
-}
-
-/// The fault of an entry point, with the name of its part before a fault inside.
-fn tell_entry_fault<W: fmt::Write>(out: &mut W, fault: &EntryPointError) -> fmt::Result {
-    match fault {
-        EntryPointError::Function(error) => write!(out, "Function: {error:?}"),
-        EntryPointError::Argument(index, error) => write!(out, "Argument {index}: {error:?}"),
-        EntryPointError::Result(error) => write!(out, "Result: {error:?}"),
-        _ => write!(out, "{fault:?}"),
-    }
-}
-
-/// The spans of a fault, and what it means, on lines of their own.
-fn tell_meaning<E: Explain, W: fmt::Write>(out: &mut W, spans: &[Span], fault: &E) -> fmt::Result {
-    let mut before = "\n  at ";
-    for span in spans {
-        let (start, end) = (span.start, span.end);
-        write!(out, "{before}{start}..{end}")?;
-        before = ", ";
-    }
-    out.write_str("\n  ")?;
-    fault.explain(out)
 }

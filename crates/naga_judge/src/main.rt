@@ -1,32 +1,30 @@
 //! Program for users: judges whole modules from JSON documents (docs/MODULES.md).
 //!
-//! It reads documents from standard input, and writes verdicts to standard output. Its exit status: 0 accepted, 1
-//! refused, 2 not a document or a wrong command line, 3 out of memory, 4 reading or writing failed.
+//! It reads documents from files or from standard input, and writes verdicts to standard output. Its exit status: 0
+//! accepted, 1 refused, 2 not a document or a wrong command line, 3 out of memory, 4 reading or writing failed; of
+//! several documents the largest.
 #![tactic(auto)]
 
 mod arguments;
 #[cfg(test)]
 mod tests;
 
-use crate::arguments::{Task, task_of};
+use crate::arguments::{Request, request_of};
 use clap::error::ErrorKind;
-use json_verdict::run::{Form, run_document, run_lines};
+use json_listing::run::{MEMORY, Output, failure, run_files, run_reader};
+use json_verdict::run::{Form, run_document};
+use std::alloc::Global;
 use std::io;
+use std::io::{Read, Write};
 use std::process::ExitCode;
-
-/// The exit status if it is out of memory.
-const MEMORY: u8 = 3;
-
-/// The exit status if a read or a write fails.
-const FAILED: u8 = 4;
 
 /// Does what the command line asks for, and answers the exit status. An Err is that of the arguments, the reader or
 /// the writer.
 fn answer(rt: &HostRuntime) -> io::Result<u8> {
     let alloc = rt.alloc();
     let words: Vec<String> = std::env::args(rt)?.collect(alloc)?;
-    let task = match task_of(alloc, words.as_slice()) {
-        Ok(task) => task,
+    let request = match request_of(alloc, words.as_slice()) {
+        Ok(request) => request,
         Err(error) => {
             let is_wanting = error.kind() == ErrorKind::OutOfMemory;
             error.print(rt)?;
@@ -37,11 +35,31 @@ fn answer(rt: &HostRuntime) -> io::Result<u8> {
             });
         }
     };
-    let (mut reader, mut writer) = (rt.reader(), io::writer(rt));
-    match task {
-        Task::Document => run_document(alloc, &mut reader, &mut writer, Form::Lines),
-        Task::Json => run_document(alloc, &mut reader, &mut writer, Form::Json),
-        Task::JsonLines => run_lines(alloc, &mut reader, &mut writer),
+    if request.is_quiet {
+        run(rt, &mut io::sink(), &request)
+    } else {
+        run(rt, &mut io::writer(rt), &request)
+    }
+}
+
+/// Judges the files, or standard input, and answers the exit status. An Err is that of the reader or the writer.
+fn run<W: Write>(rt: &HostRuntime, writer: &mut W, request: &Request<'_>) -> io::Result<u8> {
+    if !request.files.is_empty() {
+        return Ok(run_files(rt, writer, request.output, request.files.as_slice()));
+    }
+    run_input(rt.alloc(), &mut rt.reader(), writer, request.output)
+}
+
+/// Judges what a reader gives, and answers the exit status. An Err is that of the reader or the writer.
+fn run_input<R: Read, W: Write>(
+    alloc: Global,
+    reader: &mut R,
+    writer: &mut W,
+    output: Output,
+) -> io::Result<u8> {
+    match output {
+        Output::Json => run_document(alloc, reader, writer, Form::Json),
+        output => run_reader(alloc, reader, writer, output, None),
     }
 }
 
@@ -51,8 +69,7 @@ fn main(rt: HostRuntime) -> ExitCode {
         Err(error) => {
             // Where this can't be written either, the status says it alone.
             let _ = eprintln!(rt; "naga_judge: {error}");
-            let is_wanting = error.kind() == io::ErrorKind::OutOfMemory;
-            ExitCode::from(if is_wanting { MEMORY } else { FAILED })
+            ExitCode::from(failure(&error))
         }
     }
 }

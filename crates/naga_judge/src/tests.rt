@@ -1,6 +1,7 @@
 //! What no clause says: whole runs, from a reader to a writer.
 
-use json_verdict::run::{Form, run_document, run_lines};
+use crate::run_input;
+use json_listing::run::Output;
 use std::alloc::Global;
 use std::io::{Read, Write};
 use std::process::Abort;
@@ -22,26 +23,16 @@ fn assert_at(rt: &impl Abort, place: usize, holds: bool) {
 }
 
 /// How many bytes there is room for: more than any run of these writes.
-const ROOM: usize = 256;
-
-/// What an input is: one document, whose verdict is written in a form, or a document in each line.
-#[derive(Clone, Copy)]
-enum Kind {
-    Document(Form),
-    Lines,
-}
+const ROOM: usize = 1024;
 
 /// The status of a run. None where it answers an Err.
 fn status_of<R: Read, W: Write>(
     alloc: Global,
     reader: &mut R,
     writer: &mut W,
-    kind: Kind,
+    output: Output,
 ) -> Option<u8> {
-    match kind {
-        Kind::Document(form) => run_document(alloc, reader, writer, form).ok(),
-        Kind::Lines => run_lines(alloc, reader, writer).ok(),
-    }
+    run_input(alloc, reader, writer, output).ok()
 }
 
 /// How a run ended.

@@ -12,7 +12,9 @@ pub mod worked;
 pub use crate::check::{Given, ModuleFault, check_module};
 pub use crate::laws::module_law;
 pub use crate::misfit::find_misfit;
-pub use crate::report::{Subject, write_fault, write_module_fault, write_refusal};
+pub use crate::report::{
+    Subject, Whereabouts, write_fault, write_module_fault, write_module_fault_lines, write_refusal,
+};
 pub use crate::short::{Shortage, find_short_fact};
 pub use ir_misfits::{
     EntryField, HandleOf, Misfit, Owner, Place, Problem, StatementField, TypeField, TypeOwner,

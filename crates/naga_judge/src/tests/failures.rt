@@ -1,7 +1,7 @@
 //! Readers and writers that fail.
 
-use crate::tests::{Ending, Kind, NO_OBJECT, ROOM, assert_at, status_of};
-use json_verdict::run::Form;
+use crate::tests::{Ending, NO_OBJECT, ROOM, assert_at, status_of};
+use json_listing::run::Output;
 use std::alloc::Global;
 use std::io;
 use std::io::{Read, Write};
@@ -71,13 +71,11 @@ const NO_LIMITS: Limits = Limits {
     flushes: true,
 };
 
-/// One document, or two.
-const DOCUMENT: Kind = Kind::Document(Form::Lines);
-
-const KINDS: [Kind; 2] = [DOCUMENT, Kind::Lines];
+/// One document, in two ways, or two.
+const OUTPUTS: [Output; 3] = [Output::Verdict, Output::Json, Output::JsonLines];
 
 /// A run over the two lines.
-fn run(alloc: Global, kind: Kind, limits: Limits) -> Ending {
+fn run(alloc: Global, output: Output, limits: Limits) -> Ending {
     let mut reader = FailingReader {
         bytes: LINES.as_bytes(),
         reads_left: limits.reads,
@@ -88,7 +86,7 @@ fn run(alloc: Global, kind: Kind, limits: Limits) -> Ending {
         room: &mut room[..size],
         flushes: limits.flushes,
     };
-    let status = status_of(alloc, &mut reader, &mut writer, kind);
+    let status = status_of(alloc, &mut reader, &mut writer, output);
     let written = size.saturating_sub(writer.room.len());
     Ending {
         status,
@@ -98,10 +96,10 @@ fn run(alloc: Global, kind: Kind, limits: Limits) -> Ending {
 }
 
 /// The same. Where memory is refused, the run is made again.
-fn ended(alloc: Global, kind: Kind, limits: Limits) -> Ending {
-    let first = run(alloc, kind, limits);
+fn ended(alloc: Global, output: Output, limits: Limits) -> Ending {
+    let first = run(alloc, output, limits);
     if first.is_wanting() {
-        run(alloc, kind, limits)
+        run(alloc, output, limits)
     } else {
         first
     }
@@ -110,11 +108,11 @@ fn ended(alloc: Global, kind: Kind, limits: Limits) -> Ending {
 #[test]
 fn each_read_of_a_document_fails(rt: HostRuntime) {
     for reads in 0..READS {
-        let ending = ended(rt.alloc(), DOCUMENT, Limits { reads, ..NO_LIMITS });
+        let ending = ended(rt.alloc(), Output::Verdict, Limits { reads, ..NO_LIMITS });
         assert_at(&rt, reads as usize, ending.status.is_none());
         assert_at(&rt, reads as usize, ending.written == 0);
     }
-    let ending = ended(rt.alloc(), DOCUMENT, NO_LIMITS);
+    let ending = ended(rt.alloc(), Output::Verdict, NO_LIMITS);
     holds!(&rt; ending.status == Some(2));
     holds!(&rt; ending.text().starts_with(NO_JSON.as_bytes()));
 }
@@ -123,12 +121,12 @@ fn each_read_of_a_document_fails(rt: HostRuntime) {
 #[test]
 fn each_read_of_lines_fails(rt: HostRuntime) {
     for reads in 0..READS {
-        let ending = ended(rt.alloc(), Kind::Lines, Limits { reads, ..NO_LIMITS });
+        let ending = ended(rt.alloc(), Output::JsonLines, Limits { reads, ..NO_LIMITS });
         let told = if reads < 2 { "" } else { NO_OBJECT };
         assert_at(&rt, reads as usize, ending.status.is_none());
         assert_at(&rt, reads as usize, ending.text() == told.as_bytes());
     }
-    let ending = ended(rt.alloc(), Kind::Lines, NO_LIMITS);
+    let ending = ended(rt.alloc(), Output::JsonLines, NO_LIMITS);
     holds!(&rt; ending.status == Some(2));
     holds!(&rt; ending.written == 2 * NO_OBJECT.len());
     holds!(&rt; ending.text().ends_with(NO_OBJECT.as_bytes()));
@@ -136,16 +134,16 @@ fn each_read_of_lines_fails(rt: HostRuntime) {
 
 #[test]
 fn each_room_is_short(rt: HostRuntime) {
-    for kind in KINDS {
-        let needed = ended(rt.alloc(), kind, NO_LIMITS).written;
+    for output in OUTPUTS {
+        let needed = ended(rt.alloc(), output, NO_LIMITS).written;
         holds!(&rt; 0 < needed);
         holds!(&rt; needed < ROOM);
         for room in 0..needed {
-            let ending = ended(rt.alloc(), kind, Limits { room, ..NO_LIMITS });
+            let ending = ended(rt.alloc(), output, Limits { room, ..NO_LIMITS });
             assert_at(&rt, room, ending.status.is_none());
         }
         let room = needed;
-        let ending = ended(rt.alloc(), kind, Limits { room, ..NO_LIMITS });
+        let ending = ended(rt.alloc(), output, Limits { room, ..NO_LIMITS });
         holds!(&rt; ending.status == Some(2));
         holds!(&rt; ending.written == needed);
     }
@@ -154,10 +152,10 @@ fn each_room_is_short(rt: HostRuntime) {
 #[test]
 fn a_flush_fails(rt: HostRuntime) {
     let flushes = false;
-    for kind in KINDS {
+    for output in OUTPUTS {
         let ending = ended(
             rt.alloc(),
-            kind,
+            output,
             Limits {
                 flushes,
                 ..NO_LIMITS

@@ -1,7 +1,7 @@
 //! Whole runs, from a reader to a writer.
 
-use crate::tests::{Ending, Kind, NO_OBJECT, ROOM, status_of};
-use json_verdict::run::Form;
+use crate::tests::{Ending, NO_OBJECT, ROOM, status_of};
+use json_listing::run::Output;
 use std::alloc::Global;
 use std::io;
 use std::process::Abort;
@@ -14,15 +14,15 @@ enum Input {
 }
 
 /// A run over an input.
-fn run_once(alloc: Global, input: Input, kind: Kind) -> Ending {
+fn run_once(alloc: Global, input: Input, output: Output) -> Ending {
     let mut room = [0u8; ROOM];
     let mut writer = room.as_mut_slice();
     let status = match input {
         Input::Text(text) => {
             let mut reader = text.as_bytes();
-            status_of(alloc, &mut reader, &mut writer, kind)
+            status_of(alloc, &mut reader, &mut writer, output)
         }
-        Input::Spaces => status_of(alloc, &mut io::repeat(b' '), &mut writer, kind),
+        Input::Spaces => status_of(alloc, &mut io::repeat(b' '), &mut writer, output),
     };
     let left = writer.len();
     Ending {
@@ -33,25 +33,31 @@ fn run_once(alloc: Global, input: Input, kind: Kind) -> Ending {
 }
 
 /// The same. Where memory is refused, the run is made again.
-fn run(alloc: Global, input: Input, kind: Kind) -> Ending {
-    let first = run_once(alloc, input, kind);
+fn run(alloc: Global, input: Input, output: Output) -> Ending {
+    let first = run_once(alloc, input, output);
     if first.is_wanting() {
-        run_once(alloc, input, kind)
+        run_once(alloc, input, output)
     } else {
         first
     }
 }
 
 /// This is written of an input, and the run has this status.
-fn expect(rt: &(impl Abort + AllocGlobal), input: Input, kind: Kind, expected: &str, status: u8) {
-    let ending = run(rt.alloc(), input, kind);
+fn expect(
+    rt: &(impl Abort + AllocGlobal),
+    input: Input,
+    output: Output,
+    expected: &str,
+    status: u8,
+) {
+    let ending = run(rt.alloc(), input, output);
     holds!(rt; ending.text() == expected.as_bytes());
     holds!(rt; ending.status == Some(status));
 }
 
-const JSON: Kind = Kind::Document(Form::Json);
+const JSON: Output = Output::Json;
 
-const FOR_A_PERSON: Kind = Kind::Document(Form::Lines);
+const FOR_A_PERSON: Output = Output::Verdict;
 
 #[test]
 fn an_unreadable_document(rt: HostRuntime) {
@@ -76,9 +82,9 @@ fn is_twice(text: &[u8], line: &str) -> bool {
 
 #[test]
 fn no_line_and_lines_without_an_end(rt: HostRuntime) {
-    expect(&rt, Input::Text(""), Kind::Lines, "", 0);
-    expect(&rt, Input::Text("7"), Kind::Lines, NO_OBJECT, 2);
-    let ending = run(rt.alloc(), Input::Text("7\n{}\r\n"), Kind::Lines);
+    expect(&rt, Input::Text(""), Output::JsonLines, "", 0);
+    expect(&rt, Input::Text("7"), Output::JsonLines, NO_OBJECT, 2);
+    let ending = run(rt.alloc(), Input::Text("7\n{}\r\n"), Output::JsonLines);
     holds!(&rt; is_twice(ending.text(), NO_OBJECT));
     holds!(&rt; ending.status == Some(2));
 }
@@ -167,7 +173,36 @@ entry point 0 (FRAGMENT): accepted; its body could run in: FRAGMENT
         r#"refused
 entry point 0: Function: Expression { handle: [1], source: NotInScope }
   at 50..64
+  place: /module/entry_points/0/function/body/0
   the function is invalid: an expression, or an operand of a statement, is invalid: the expression is not in scope where it is used
+"#,
+        1,
+    );
+}
+
+/// The listing of what is refused, and why it is.
+#[test]
+fn a_listing(rt: HostRuntime) {
+    expect(
+        &rt,
+        Input::Text(REFUSED),
+        Output::Listing,
+        r#"refused
+entry point 0: Function: Expression { handle: [1], source: NotInScope }
+  at 50..64
+  place: /module/entry_points/0/function/body/0
+  the function is invalid: an expression, or an operand of a statement, is invalid: the expression is not in scope where it is used
+
+entry point 0:
+  stage: Fragment
+  workgroup_size: [0, 0, 0]
+expressions:
+  [0] Literal(Literal { scalar: Scalar { kind: Bool, width: 1 }, bits: 1 })
+  [1] Unary { operands: [[0]], detail: 0 }
+body:
+> #0 If { condition: [1] }
+Why: no statement of the body emits [1].
+Cure: emit [1] before #0, in the same list or in one around it.
 "#,
         1,
     );

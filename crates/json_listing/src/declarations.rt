@@ -1,0 +1,239 @@
+//! What a function, an entry point or a global declares, a line each.
+
+use crate::marks::Marks;
+use crate::words::write_type;
+use bitflags::Flags;
+use json_places::parts::members_of;
+use json_places::{EntryField, Spot};
+use naga_below::{
+    Binding, EntryPoint, Function, FunctionArgument, GlobalVariable, Handle, LocalVariable, Module,
+    Name, tag,
+};
+use std::fmt;
+
+/// What is at the beginning of a line: a mark where the fault is.
+fn mark(is_marked: bool) -> &'static str {
+    if is_marked { "\n> " } else { "\n  " }
+}
+
+/// Writes a name, if there is one.
+fn write_name<W: fmt::Write>(out: &mut W, name: &Option<Name>) -> fmt::Result {
+    match name {
+        Some(name) => write!(out, " {name:?}"),
+        None => Ok(()),
+    }
+}
+
+/// Writes a binding, if there is one.
+fn write_binding<W: fmt::Write>(out: &mut W, binding: &Option<Binding>) -> fmt::Result {
+    match binding {
+        Some(binding) => write!(out, ", {binding:?}"),
+        None => Ok(()),
+    }
+}
+
+/// Writes the arguments, the result and the locals of a function.
+pub fn write_declarations<W: fmt::Write>(
+    out: &mut W,
+    module: &Module,
+    function: &Function,
+    spot: Spot,
+) -> fmt::Result {
+    for (index, argument) in function.arguments.as_slice().iter().enumerate() {
+        out.write_str(mark(is_argument(spot, index)))?;
+        write_argument(out, module, index, argument)?;
+        write_members(out, module, argument.ty, spot)?;
+    }
+    if let Some(returned) = &function.result {
+        out.write_str(mark(matches!(spot, Spot::Returned)))?;
+        out.write_str("result: ")?;
+        write_type(out, module, returned.ty)?;
+        write_binding(out, &returned.binding)?;
+        write_members(out, module, returned.ty, spot)?;
+    }
+    for (index, local) in function.local_variables.as_slice().iter().enumerate() {
+        out.write_str(mark(is_local(spot, index)))?;
+        write_local(out, module, index, local)?;
+    }
+    Ok(())
+}
+
+fn is_argument(spot: Spot, index: usize) -> bool {
+    match spot {
+        Spot::Argument(at) => at == index,
+        _ => false,
+    }
+}
+
+fn is_field(spot: Spot, field: EntryField) -> bool {
+    match spot {
+        Spot::Field(at) => at == field,
+        _ => false,
+    }
+}
+
+fn is_local(spot: Spot, index: usize) -> bool {
+    match spot {
+        Spot::Local(local) => local.index() == index,
+        _ => false,
+    }
+}
+
+fn write_argument<W: fmt::Write>(
+    out: &mut W,
+    module: &Module,
+    index: usize,
+    argument: &FunctionArgument,
+) -> fmt::Result {
+    write!(out, "argument {index}")?;
+    write_name(out, &argument.name)?;
+    out.write_str(": ")?;
+    write_type(out, module, argument.ty)?;
+    write_binding(out, &argument.binding)
+}
+
+fn write_local<W: fmt::Write>(
+    out: &mut W,
+    module: &Module,
+    index: usize,
+    local: &LocalVariable,
+) -> fmt::Result {
+    write!(out, "local [{index}]")?;
+    write_name(out, &local.name)?;
+    out.write_str(": ")?;
+    write_type(out, module, local.ty)?;
+    match local.init {
+        Some(init) => write!(out, ", init {init:?}"),
+        None => Ok(()),
+    }
+}
+
+/// Writes the members of a struct, if one of them has the fault.
+fn write_members<W: fmt::Write>(
+    out: &mut W,
+    module: &Module,
+    ty: Handle<tag::Type>,
+    spot: Spot,
+) -> fmt::Result {
+    let Spot::Member {
+        ty: marked,
+        index: at,
+    } = spot
+    else {
+        return Ok(());
+    };
+    if marked != ty {
+        return Ok(());
+    }
+    for (index, member) in members_of(module, ty).iter().enumerate() {
+        out.write_str(mark(index == at))?;
+        write!(out, "  member {index}")?;
+        write_name(out, &member.name)?;
+        out.write_str(": ")?;
+        write_type(out, module, member.ty)?;
+        write_binding(out, &member.binding)?;
+    }
+    Ok(())
+}
+
+/// Writes the stage of an entry point and what else it declares beside its function.
+pub fn write_entry<W: fmt::Write>(
+    out: &mut W,
+    module: &Module,
+    ep: &EntryPoint,
+    spot: Spot,
+) -> fmt::Result {
+    let (stage, size) = (ep.stage, ep.workgroup_size);
+    out.write_str(mark(is_field(spot, EntryField::Stage)))?;
+    write!(out, "stage: {stage:?}")?;
+    out.write_str(mark(is_field(spot, EntryField::WorkgroupSize)))?;
+    write!(out, "workgroup_size: {size:?}")?;
+    let is_early = is_field(spot, EntryField::EarlyDepthTest);
+    if ep.early_depth_test.is_some() || is_early {
+        let early = ep.early_depth_test;
+        out.write_str(mark(is_early))?;
+        write!(out, "early_depth_test: {early:?}")?;
+    }
+    let is_payload = is_field(spot, EntryField::TaskPayload);
+    if ep.task_payload.is_some() || is_payload {
+        let payload = ep.task_payload;
+        out.write_str(mark(is_payload))?;
+        write!(out, "task_payload: {payload:?}")?;
+    }
+    write_mesh(out, module, ep, spot)
+}
+
+/// Writes what an entry point declares of a mesh.
+fn write_mesh<W: fmt::Write>(
+    out: &mut W,
+    module: &Module,
+    ep: &EntryPoint,
+    spot: Spot,
+) -> fmt::Result {
+    let is_marked = is_field(spot, EntryField::MeshInfo) || matches!(spot, Spot::MeshField(_));
+    let Some(mesh) = &ep.mesh_info else {
+        if is_marked {
+            out.write_str("\n> mesh_info: None")?;
+        }
+        return Ok(());
+    };
+    out.write_str(mark(is_marked))?;
+    write!(out, "mesh_info: {mesh:?}")?;
+    write_members(out, module, mesh.vertex_output_type, spot)?;
+    write_members(out, module, mesh.primitive_output_type, spot)
+}
+
+/// Writes the expressions that are marked, if there are some.
+pub fn write_expressions<W: fmt::Write>(
+    out: &mut W,
+    function: &Function,
+    marks: &Marks,
+    spot: Spot,
+) -> fmt::Result {
+    let mut before = "\nexpressions:";
+    for (index, expression) in function.expressions.as_slice().iter().enumerate() {
+        if marks.has(index) {
+            out.write_str(before)?;
+            before = "";
+            let is_marked = match spot {
+                Spot::Expression(handle) => handle.index() == index,
+                _ => false,
+            };
+            out.write_str(mark(is_marked))?;
+            write!(out, "[{index}] {expression:?}")?;
+        }
+    }
+    Ok(())
+}
+
+/// Writes a global.
+pub fn write_global<W: fmt::Write>(
+    out: &mut W,
+    module: &Module,
+    handle: Handle<tag::GlobalVariable>,
+) -> fmt::Result {
+    let Some(global) = module.global_variables.as_slice().get(handle.index()) else {
+        return Ok(());
+    };
+    let GlobalVariable {
+        space,
+        binding,
+        ty,
+        init,
+        memory_decorations,
+    } = *global;
+    write!(out, "\n> global {handle:?}: space {space:?}, ")?;
+    write_type(out, module, ty)?;
+    if let Some(binding) = binding {
+        let (group, number) = (binding.group, binding.binding);
+        write!(out, ", group {group}, binding {number}")?;
+    }
+    if let Some(init) = init {
+        write!(out, ", init {init:?}")?;
+    }
+    if memory_decorations.is_empty() {
+        Ok(())
+    } else {
+        write!(out, ", {memory_decorations:?}")
+    }
+}

@@ -1,0 +1,188 @@
+//! The listing of what was refused: its declarations, the expressions that the fault is about, its body, and why.
+
+use crate::body::{Shown, write_body};
+use crate::declarations::{write_declarations, write_entry, write_expressions, write_global};
+use crate::marks::Marks;
+use crate::why::{Earlier, earlier_of, write_cases, write_earlier, write_reason, write_twin};
+use json_places::find::unseen;
+use json_places::{Found, Node, Position, Reason, Spot, nodes_of};
+use naga_below::{Function, Module, Statement};
+use naga_module::ModuleFault;
+use naga_rules::FunctionError;
+use naga_valid::EntryPointError;
+use std::alloc::{AllocError, Global};
+use std::fmt;
+
+/// Writes the listing of a refused module, without a newline at the end: of a global its declaration, of a function or an
+/// entry point its declarations, the expressions that the faulty statement names and all that they are made from, and its
+/// body. The fault has a mark, and why it is there follows, where the listing shows it.
+///
+/// An Err is that of the writer, or out of memory.
+pub fn write_listing<W: fmt::Write>(
+    alloc: Global,
+    out: &mut W,
+    module: &Module,
+    fault: &ModuleFault,
+    found: &Found,
+) -> fmt::Result {
+    match fault {
+        ModuleFault::Global(global, _) => write_global(out, module, *global),
+        ModuleFault::Function(handle, error) => {
+            let Some(function) = module.functions.as_slice().get(handle.index()) else {
+                return Ok(());
+            };
+            let index = handle.index();
+            out.write_str(head_mark(found.spot))?;
+            write!(out, "function {index}:")?;
+            write_function(alloc, out, module, function, Some(error.as_inner()), found)
+        }
+        ModuleFault::EntryPoint(index, error) => {
+            let Some(ep) = module.entry_points.as_slice().get(*index) else {
+                return Ok(());
+            };
+            out.write_str(head_mark(found.spot))?;
+            write!(out, "entry point {index}:")?;
+            write_entry(out, module, ep, found.spot)?;
+            let inner = error.as_inner();
+            let own = match inner {
+                EntryPointError::Function(error) => Some(error),
+                _ => None,
+            };
+            write_function(alloc, out, module, &ep.function, own, found)?;
+            write_twin(alloc, out, module, ep, inner)
+        }
+        ModuleFault::NotFit | ModuleFault::Memory => Ok(()),
+    }
+}
+
+/// What is at the beginning of the first line: a mark where the fault is one of the whole.
+fn head_mark(spot: Spot) -> &'static str {
+    match spot {
+        Spot::Whole => "\n> ",
+        _ => "\n",
+    }
+}
+
+/// The position in the body that has the fault, if one has.
+fn position_of(spot: Spot) -> Option<Position> {
+    match spot {
+        Spot::At(position) => Some(position),
+        _ => None,
+    }
+}
+
+/// Writes the declarations, the expressions and the body of a function, and why a statement of it is refused.
+fn write_function<W: fmt::Write>(
+    alloc: Global,
+    out: &mut W,
+    module: &Module,
+    function: &Function,
+    fault: Option<&FunctionError>,
+    found: &Found,
+) -> fmt::Result {
+    let nodes = nodes_of(alloc, &function.body)?;
+    let nodes = nodes.as_slice();
+    let position = position_of(found.spot);
+    write_declarations(out, module, function, found.spot)?;
+    let marks = marks_of(alloc, function, nodes, fault, found)?;
+    write_expressions(out, function, &marks, found.spot)?;
+    let earlier = match (fault, position) {
+        (Some(fault), Some(position)) => earlier_of(alloc, function, nodes, fault, position)?,
+        _ => Earlier::None,
+    };
+    let named = named_by(alloc, found.reason, earlier)?;
+    let shown = Shown::new(alloc, nodes, position, named.as_slice())?;
+    write_body(out, nodes, &shown, position)?;
+    match (fault, position) {
+        (Some(fault), Some(position)) => {
+            write_earlier(out, earlier)?;
+            write_why(out, nodes, fault, position, found)
+        }
+        _ => Ok(()),
+    }
+}
+
+/// The expressions that the fault is about, with all that they are made from.
+fn marks_of(
+    alloc: Global,
+    function: &Function,
+    nodes: &[Node<'_>],
+    fault: Option<&FunctionError>,
+    found: &Found,
+) -> Result<Marks, AllocError> {
+    let mut marks = Marks::new(alloc, function.expressions.len())?;
+    if let Spot::Expression(handle) = found.spot {
+        marks.add(handle);
+    }
+    if let Some(position) = position_of(found.spot) {
+        if let Some(node) = nodes.get(position.number()) {
+            let statement = &node.located.statement;
+            marks.add_statement(statement);
+            add_unseen(&mut marks, function, nodes, statement, fault, found.spot);
+        }
+    }
+    marks.close(function);
+    Ok(marks)
+}
+
+/// Marks the expression that isn't in scope, and of an Emit those that are made from it.
+fn add_unseen(
+    marks: &mut Marks,
+    function: &Function,
+    nodes: &[Node<'_>],
+    statement: &Statement,
+    fault: Option<&FunctionError>,
+    spot: Spot,
+) {
+    let handle = match fault {
+        Some(FunctionError::ExpressionAlreadyInScope(handle) | FunctionError::EmitResult(handle)) =>
+            { Some(*handle) }
+        Some(fault) => unseen(fault, nodes, &spot),
+        None => None,
+    };
+    if let Some(handle) = handle {
+        marks.add(handle);
+        if let Statement::Emit(range) = statement {
+            marks.add_users(function, range.start, range.end, handle);
+        }
+    }
+}
+
+/// The statements that a reason names.
+fn named_by(
+    alloc: Global,
+    reason: Option<Reason>,
+    earlier: Earlier,
+) -> Result<Vec<usize>, AllocError> {
+    let mut named = Vec::new(alloc);
+    match reason {
+        Some(Reason::Ended { emitted, .. } | Reason::Later { emitted }) => named.push(emitted)?,
+        Some(Reason::Skipped { emitted, jump, .. }) => {
+            named.push(emitted)?;
+            named.push(jump)?;
+        }
+        Some(Reason::Never) | None => {}
+    }
+    match earlier {
+        Earlier::Emits(number) | Earlier::Fills(number) => named.push(number)?,
+        Earlier::FromStart | Earlier::None => {}
+    }
+    Ok(named)
+}
+
+/// Writes why a statement is refused, where the body shows it.
+fn write_why<W: fmt::Write>(
+    out: &mut W,
+    nodes: &[Node<'_>],
+    fault: &FunctionError,
+    position: Position,
+    found: &Found,
+) -> fmt::Result {
+    if let (Some(reason), Some(handle)) = (found.reason, unseen(fault, nodes, &found.spot)) {
+        return write_reason(out, position, handle, reason);
+    }
+    match nodes.get(position.number()) {
+        Some(node) => write_cases(out, &node.located.statement, fault),
+        None => Ok(()),
+    }
+}

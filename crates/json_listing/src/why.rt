@@ -1,0 +1,300 @@
+//! Why a statement or a declaration is refused, where the body or the declarations show it.
+
+use json_places::nodes::result_of;
+use json_places::parts::{Bound, Group, bounds_of, first_of};
+use json_places::scope::first_emission;
+use json_places::{Inside, Node, Part, Position, Reason, Spot};
+use naga_below::{EntryPoint, Function, Handle, Module, Statement, SwitchCase, SwitchValue, tag};
+use naga_rules::{AtomicError, CallError, FunctionError, VaryingError};
+use naga_valid::EntryPointError;
+use std::alloc::{AllocError, Global};
+use std::fmt;
+
+/// What an earlier statement has to do with a fault.
+#[derive(Clone, Copy)]
+pub enum Earlier {
+    /// It emits the expression, which is in scope still.
+    Emits(usize),
+    /// It has the same result.
+    Fills(usize),
+    /// The expression is in scope from the start of the body on.
+    FromStart,
+    /// There is none.
+    None,
+}
+
+/// What an earlier statement has to do with a fault. An Err is out of memory.
+pub fn earlier_of(
+    alloc: Global,
+    function: &Function,
+    nodes: &[Node<'_>],
+    fault: &FunctionError,
+    position: Position,
+) -> Result<Earlier, AllocError> {
+    match fault {
+        FunctionError::ExpressionAlreadyInScope(handle)
+        | FunctionError::InvalidCall {
+            error: CallError::ResultAlreadyInScope(handle),
+            ..
+        } => {
+            if is_pre_emitted(function, *handle) {
+                return Ok(Earlier::FromStart);
+            }
+            Ok(match first_emission(alloc, nodes, position, *handle)? {
+                Some(number) => Earlier::Emits(number),
+                None => Earlier::None,
+            })
+        }
+        FunctionError::InvalidCall {
+            error: CallError::ResultAlreadyPopulated(handle),
+            ..
+        }
+        | FunctionError::InvalidAtomic(AtomicError::ResultAlreadyPopulated(handle)) => {
+            Ok(first_result(nodes, position.number(), *handle))
+        }
+        _ => Ok(Earlier::None),
+    }
+}
+
+fn is_pre_emitted(function: &Function, handle: Handle<tag::Expression>) -> bool {
+    match function.expressions.as_slice().get(handle.index()) {
+        Some(expression) => expression.needs_pre_emit(),
+        None => false,
+    }
+}
+
+/// The first statement before this one that has a result.
+fn first_result(nodes: &[Node<'_>], at: usize, handle: Handle<tag::Expression>) -> Earlier {
+    for (number, node) in nodes.iter().enumerate() {
+        if number < at && result_of(&node.located.statement) == Some(handle) {
+            return Earlier::Fills(number);
+        }
+    }
+    Earlier::None
+}
+
+/// Writes a position.
+fn write_position<W: fmt::Write>(out: &mut W, position: Position) -> fmt::Result {
+    match position {
+        Position::Statement(number) => write!(out, "#{number}"),
+        Position::BreakIf(number) => write!(out, "the break condition of #{number}"),
+    }
+}
+
+/// Writes why an expression isn't in scope at a position, and what to do.
+pub fn write_reason<W: fmt::Write>(
+    out: &mut W,
+    position: Position,
+    handle: Handle<tag::Expression>,
+    reason: Reason,
+) -> fmt::Result {
+    match reason {
+        Reason::Never => {
+            write!(out, "\nWhy: no statement of the body emits {handle:?}.")?;
+            write_cure(out, position, handle)
+        }
+        Reason::Ended { emitted, list } => {
+            write!(out, "\nWhy: #{emitted} emits {handle:?}, in ")?;
+            write_list_name(out, list)?;
+            out.write_str(", which has ended before ")?;
+            write_position(out, position)?;
+            out.write_str(".")?;
+            write_cure(out, position, handle)
+        }
+        Reason::Later { emitted } if position == Position::Statement(emitted) => {
+            write!(
+                out,
+                "\nWhy: #{emitted} itself emits {handle:?}, after it has used it."
+            )?;
+            write_cure(out, position, handle)
+        }
+        Reason::Later { emitted } => {
+            write!(out, "\nWhy: #{emitted} emits {handle:?}, and comes after ")?;
+            write_position(out, position)?;
+            out.write_str(".")?;
+            write_cure(out, position, handle)
+        }
+        Reason::Skipped {
+            emitted,
+            holder,
+            jump,
+        } => {
+            write!(
+                out,
+                "\nWhy: #{emitted} emits {handle:?} in the body of the Loop #{holder}, "
+            )?;
+            write!(out, "and the Continue #{jump} may skip it.")?;
+            write_cure_of_skipped(out, position, handle)
+        }
+    }
+}
+
+/// Writes where an expression is to be emitted so that no Continue skips it.
+fn write_cure_of_skipped<W: fmt::Write>(
+    out: &mut W,
+    position: Position,
+    handle: Handle<tag::Expression>,
+) -> fmt::Result {
+    write!(
+        out,
+        "\nCure: emit {handle:?} in that body before the first statement that "
+    )?;
+    out.write_str("holds a Continue, or in the continuing part before ")?;
+    write_position(out, position)?;
+    out.write_str(".")
+}
+
+/// Writes where an expression is to be emitted.
+fn write_cure<W: fmt::Write>(
+    out: &mut W,
+    position: Position,
+    handle: Handle<tag::Expression>,
+) -> fmt::Result {
+    write!(out, "\nCure: emit {handle:?} before ")?;
+    write_position(out, position)?;
+    out.write_str(", in the same list or in one around it.")
+}
+
+/// Writes which list of statements a part of a statement is.
+fn write_list_name<W: fmt::Write>(out: &mut W, list: Inside) -> fmt::Result {
+    let number = list.number;
+    match list.part {
+        Part::Block => write!(out, "the Block #{number}"),
+        Part::Accept => write!(out, "the accept list of the If #{number}"),
+        Part::Reject => write!(out, "the reject list of the If #{number}"),
+        Part::Case(index) => write!(out, "case {index} of the Switch #{number}"),
+        Part::Body => write!(out, "the body of the Loop #{number}"),
+        Part::Continuing => write!(out, "the continuing part of the Loop #{number}"),
+        Part::BreakIf => write!(out, "the break condition of #{number}"),
+    }
+}
+
+/// Writes what an earlier statement has to do with a fault.
+pub fn write_earlier<W: fmt::Write>(out: &mut W, earlier: Earlier) -> fmt::Result {
+    match earlier {
+        Earlier::Emits(number) => write!(
+            out,
+            "\nWhy: #{number} emits it first, and its list has not ended.\nCure: leave out one of the two."
+        ),
+        Earlier::Fills(number) => write!(
+            out,
+            "\nWhy: #{number} has this result already.\nCure: give each of the two a result of its own."
+        ),
+        Earlier::FromStart => out.write_str(
+            "\nWhy: it is in scope from the start of the body, and is never emitted.\nCure: leave it out.",
+        ),
+        Earlier::None => Ok(()),
+    }
+}
+
+/// Writes which cases of a Switch have one value.
+pub fn write_cases<W: fmt::Write>(
+    out: &mut W,
+    statement: &Statement,
+    fault: &FunctionError,
+) -> fmt::Result {
+    let value = match fault {
+        FunctionError::ConflictingSwitchCase(value) => *value,
+        FunctionError::MultipleDefaultCases => SwitchValue::Default,
+        _ => return Ok(()),
+    };
+    match statement {
+        Statement::Switch { cases, .. } => match two_cases(cases.as_slice(), value) {
+            Some((first, second)) => write!(
+                out,
+                "\nWhy: case {second} has the value of case {first}."
+            ),
+            None => Ok(()),
+        },
+        _ => Ok(()),
+    }
+}
+
+/// The first two cases of a value.
+fn two_cases(cases: &[SwitchCase], value: SwitchValue) -> Option<(usize, usize)> {
+    let mut first = None;
+    for (index, case) in cases.iter().enumerate() {
+        if case.value == value {
+            match first {
+                Some(first) => return Some((first, index)),
+                None => first = Some(index),
+            }
+        }
+    }
+    None
+}
+
+/// Writes what else has the binding, the location or the built-in of a fault of an entry point.
+pub fn write_twin<W: fmt::Write>(
+    alloc: Global,
+    out: &mut W,
+    module: &Module,
+    ep: &EntryPoint,
+    fault: &EntryPointError,
+) -> fmt::Result {
+    match fault {
+        EntryPointError::BindingCollision(global) => write_global_twins(out, module, *global),
+        EntryPointError::Argument(index, error) => {
+            let group = Group::Arguments(*index as usize);
+            let bounds = bounds_of(alloc, module, ep, group)?;
+            write_bound_twin(out, bounds.as_slice(), error)
+        }
+        EntryPointError::Result(error) => {
+            let group = if ep.mesh_info.is_some() {
+                Group::Mesh
+            } else {
+                Group::Returned
+            };
+            let bounds = bounds_of(alloc, module, ep, group)?;
+            write_bound_twin(out, bounds.as_slice(), error)
+        }
+        _ => Ok(()),
+    }
+}
+
+/// Writes the first of two inputs or outputs that have one location or are one built-in.
+fn write_bound_twin<W: fmt::Write>(
+    out: &mut W,
+    bounds: &[Bound],
+    fault: &VaryingError,
+) -> fmt::Result {
+    match fault {
+        VaryingError::BindingCollision { .. } | VaryingError::DuplicateBuiltIn(_) => {}
+        _ => return Ok(()),
+    }
+    match first_of(bounds, fault) {
+        Some(Spot::Argument(index)) => write!(out, "\nWhy: argument {index} has it first."),
+        Some(Spot::Member { ty, index }) => {
+            write!(out, "\nWhy: member {index} of type {ty:?} has it first.")
+        }
+        _ => Ok(()),
+    }
+}
+
+/// Writes the earlier globals that have the binding of this one.
+fn write_global_twins<W: fmt::Write>(
+    out: &mut W,
+    module: &Module,
+    global: Handle<tag::GlobalVariable>,
+) -> fmt::Result {
+    let globals = module.global_variables.as_slice();
+    let Some(own) = globals.get(global.index()) else {
+        return Ok(());
+    };
+    let mut count = 0usize;
+    for (index, other) in globals.iter().enumerate() {
+        if index < global.index() && other.binding == own.binding {
+            let before = if count == 0 {
+                "\nWhy: earlier globals with its binding: "
+            } else {
+                ", "
+            };
+            write!(out, "{before}[{index}]")?;
+            count = count.saturating_add(1);
+        }
+    }
+    if count == 0 {
+        return Ok(());
+    }
+    out.write_str(".")
+}

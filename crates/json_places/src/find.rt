@@ -1,0 +1,213 @@
+//! Finds what has a fault, and where it stands.
+
+use crate::gaps::gap_of;
+use crate::lent::Lent;
+use crate::nodes::{Node, nodes_of};
+use crate::numbered::numbered_module;
+use crate::place::{Place, place_of};
+use crate::scope::{Reason, reason_of};
+use crate::spot::{Spot, number_in, spot_in_entry, spot_in_function};
+use naga_below::{EntryPoint, ExpressionError, Handle, Module, Settings, Span, Statement, tag};
+use naga_layers::Recorded;
+use naga_module::{Given, ModuleFault, Subject, check_module};
+use naga_rules::{CallError, FunctionError};
+use naga_valid::EntryPointError;
+use std::alloc::{AllocError, Global};
+
+/// Where the fault of a refused module stands.
+#[derive(Drop)]
+pub struct Found {
+    /// What has the fault.
+    pub spot: Spot,
+    /// Where in the document that stands.
+    pub place: Place,
+    /// Why an expression isn't in scope there, if that is the fault.
+    pub reason: Option<Reason>,
+}
+
+/// Finds where the fault of a module stands. None of `NotFit` and `Memory`, which name nothing, and out of memory.
+///
+/// The module is judged once more, over the same facts, with spans that number its statements: so its own spans need not
+/// distinguish them. `given` is what it was judged with.
+pub fn locate(
+    alloc: Global,
+    layer: &Recorded,
+    settings: Settings,
+    given: Given,
+    module: &Module,
+    fault: &ModuleFault,
+) -> Option<Found> {
+    let number = number_of(alloc, layer, settings, given, module, fault);
+    if number.is_none() && !spans_of(fault).is_empty() {
+        return None;
+    }
+    match found_in(alloc, layer, module, fault, number) {
+        Ok(found) => found,
+        Err(_) => None,
+    }
+}
+
+/// The spans of a fault.
+fn spans_of(fault: &ModuleFault) -> &[Span] {
+    match fault {
+        ModuleFault::Function(_, error) => error.spans(),
+        ModuleFault::EntryPoint(_, error) => error.spans(),
+        ModuleFault::NotFit | ModuleFault::Global(_, _) | ModuleFault::Memory => &[],
+    }
+}
+
+/// The number of the statement that has a fault. None where no statement has it, and out of memory.
+fn number_of(
+    alloc: Global,
+    layer: &Recorded,
+    settings: Settings,
+    given: Given,
+    module: &Module,
+    fault: &ModuleFault,
+) -> Option<usize> {
+    if spans_of(fault).is_empty() {
+        return None;
+    }
+    let Ok(numbered) = numbered_module(alloc, module) else {
+        return None;
+    };
+    match check_module(alloc, Lent { layer }, settings, given, &numbered) {
+        Ok(_) => None,
+        Err(again) => number_in(spans_of(&again)),
+    }
+}
+
+/// What has a fault, with the number of its statement, if it has one.
+fn found_in(
+    alloc: Global,
+    layer: &Recorded,
+    module: &Module,
+    fault: &ModuleFault,
+    number: Option<usize>,
+) -> Result<Option<Found>, AllocError> {
+    match fault {
+        ModuleFault::Global(global, _) => Ok(Some(Found {
+            spot: Spot::Global(*global),
+            place: place_of(
+                alloc,
+                Subject::GlobalVariable(*global),
+                Spot::Global(*global),
+                &[],
+            )?,
+            reason: None,
+        })),
+        ModuleFault::Function(handle, error) => {
+            let Some(function) = module.functions.as_slice().get(handle.index()) else {
+                return Ok(None);
+            };
+            let error = error.as_inner();
+            let nodes = nodes_of(alloc, &function.body)?;
+            let nodes = nodes.as_slice();
+            let subject = Subject::Function(*handle);
+            let spot = match gap_of(layer, module, &subject, function, error) {
+                Some(gap) => Spot::Facts(gap),
+                None => spot_in_function(function, nodes, error, number),
+            };
+            let used = unseen(error, nodes, &spot);
+            Ok(Some(found_at(alloc, subject, spot, nodes, used)?))
+        }
+        ModuleFault::EntryPoint(index, error) => {
+            let Some(ep) = module.entry_points.as_slice().get(*index) else {
+                return Ok(None);
+            };
+            Ok(Some(found_in_entry(alloc, layer, module, *index, ep, error.as_inner(), number)?))
+        }
+        ModuleFault::NotFit | ModuleFault::Memory => Ok(None),
+    }
+}
+
+/// What of an entry point has a fault.
+fn found_in_entry(
+    alloc: Global,
+    layer: &Recorded,
+    module: &Module,
+    index: usize,
+    ep: &EntryPoint,
+    fault: &EntryPointError,
+    number: Option<usize>,
+) -> Result<Found, AllocError> {
+    let nodes = nodes_of(alloc, &ep.function.body)?;
+    let nodes = nodes.as_slice();
+    let EntryPointError::Function(error) = fault else {
+        let spot = spot_in_entry(alloc, module, ep, fault)?;
+        return found_at(alloc, Subject::EntryPoint(index), spot, nodes, None);
+    };
+    let subject = Subject::EntryPoint(index);
+    let spot = match gap_of(layer, module, &subject, &ep.function, error) {
+        Some(gap) => Spot::Facts(gap),
+        None => spot_in_function(&ep.function, nodes, error, number),
+    };
+    let used = unseen(error, nodes, &spot);
+    found_at(alloc, subject, spot, nodes, used)
+}
+
+/// Where a spot stands, and why the expression that can't be used there can't, if that is the fault.
+fn found_at(
+    alloc: Global,
+    subject: Subject,
+    spot: Spot,
+    nodes: &[Node<'_>],
+    used: Option<Handle<tag::Expression>>,
+) -> Result<Found, AllocError> {
+    let reason = match used {
+        Some(handle) => reason_at(alloc, nodes, spot, handle)?,
+        None => None,
+    };
+    Ok(Found {
+        spot,
+        place: place_of(alloc, subject, spot, nodes)?,
+        reason,
+    })
+}
+
+/// Why an expression can't be used at a spot, if that is in the body.
+fn reason_at(
+    alloc: Global,
+    nodes: &[Node<'_>],
+    spot: Spot,
+    handle: Handle<tag::Expression>,
+) -> Result<Option<Reason>, AllocError> {
+    match spot {
+        Spot::At(position) => Ok(Some(reason_of(alloc, nodes, position, handle)?)),
+        _ => Ok(None),
+    }
+}
+
+/// The expression that isn't in scope where it is used, if that is the fault.
+pub fn unseen(
+    fault: &FunctionError,
+    nodes: &[Node<'_>],
+    spot: &Spot,
+) -> Option<Handle<tag::Expression>> {
+    match fault {
+        FunctionError::Expression {
+            handle,
+            source: ExpressionError::NotInScope,
+        } => Some(*handle),
+        FunctionError::InvalidCall {
+            error: CallError::Argument {
+                index,
+                source: ExpressionError::NotInScope,
+            },
+            ..
+        } => argument_of(nodes, spot, *index),
+        _ => None,
+    }
+}
+
+/// An argument of the Call at a spot.
+fn argument_of(nodes: &[Node<'_>], spot: &Spot, index: usize) -> Option<Handle<tag::Expression>> {
+    let Spot::At(position) = *spot else {
+        return None;
+    };
+    let node = nodes.get(position.number())?;
+    match &node.located.statement {
+        Statement::Call { arguments, .. } => arguments.as_slice().get(index).copied(),
+        _ => None,
+    }
+}

@@ -1,0 +1,21 @@
+//! Finds where in a document the thing stands that has a fault, and why a statement can't use an expression.
+//! Part of `naga_judge`; no promise to users.
+#![tactic(auto)]
+
+pub mod find;
+pub mod gaps;
+pub mod lent;
+pub mod nodes;
+pub mod numbered;
+pub mod parts;
+pub mod place;
+pub mod scope;
+pub mod spot;
+
+pub use crate::find::{Found, locate};
+pub use crate::gaps::Gap;
+pub use crate::lent::Lent;
+pub use crate::nodes::{Inside, Node, Part, Position, nodes_of};
+pub use crate::place::Place;
+pub use crate::scope::{Reason, reason_of};
+pub use crate::spot::{EntryField, MeshField, Spot};

@@ -1,0 +1,212 @@
+//! The statements of a body as a list, in the order in which they are visited.
+
+use naga_below::{Block, Handle, Located, RayQueryFunction, Statement, SwitchCase, tag};
+use std::alloc::{AllocError, Global};
+
+/// A part of a statement: one of its lists of statements, or the break condition of a Loop. Cases count from 0.
+#[derive(Clone, Copy, PartialEq, Eq, Debug)]
+pub enum Part {
+    Block,
+    Accept,
+    Reject,
+    Case(usize),
+    Body,
+    Continuing,
+    BreakIf,
+}
+
+/// A part of the statement with this number.
+#[derive(Clone, Copy, PartialEq, Eq, Debug)]
+pub struct Inside {
+    pub number: usize,
+    pub part: Part,
+}
+
+/// A statement of a body. Its number is its place in the list that [`nodes_of`] makes.
+#[derive(Clone, Copy)]
+pub struct Node<'a> {
+    pub located: &'a Located,
+    /// The part whose list it stands in. None in the list of the body itself.
+    pub inside: Option<Inside>,
+    /// Its place in that list, counted from 0.
+    pub index: usize,
+    /// How many statements hold it.
+    pub depth: usize,
+}
+
+/// Where in a body something is used: at a statement, or at the break condition of a Loop.
+#[derive(Clone, Copy, PartialEq, Eq, Debug)]
+pub enum Position {
+    Statement(usize),
+    BreakIf(usize),
+}
+
+impl Position {
+    /// The number of the statement.
+    pub fn number(self) -> usize {
+        match self {
+            Position::Statement(number) | Position::BreakIf(number) => number,
+        }
+    }
+}
+
+/// The statements of a body in the order of visits: each before those that it holds. An Err is out of memory.
+pub fn nodes_of<'a>(alloc: Global, body: &'a Block) -> Result<Vec<Node<'a>>, AllocError> {
+    let mut nodes = Vec::new(alloc);
+    add_block(&mut nodes, None, 0, body)?;
+    Ok(nodes)
+}
+
+/// Adds the statements of a list, which so many statements hold.
+#[cycle(nodes)]
+fn add_block<'a>(
+    nodes: &mut Vec<Node<'a>>,
+    inside: Option<Inside>,
+    depth: usize,
+    block: &'a Block,
+) -> Result<(), AllocError> {
+    for (index, located) in block.list.as_slice().iter().enumerate() {
+        let number = nodes.len();
+        nodes.push(Node {
+            located,
+            inside,
+            index,
+            depth,
+        })?;
+        add_parts(nodes, number, depth.saturating_add(1), located)?;
+    }
+    Ok(())
+}
+
+/// Adds the statements that the statement with this number holds.
+#[cycle(nodes)]
+fn add_parts<'a>(
+    nodes: &mut Vec<Node<'a>>,
+    number: usize,
+    depth: usize,
+    located: &'a Located,
+) -> Result<(), AllocError> {
+    match &located.statement {
+        Statement::Block(block) => add_block(nodes, list_of(number, Part::Block), depth, block),
+        Statement::If { accept, reject, .. } => {
+            add_block(nodes, list_of(number, Part::Accept), depth, accept)?;
+            add_block(nodes, list_of(number, Part::Reject), depth, reject)
+        }
+        Statement::Switch { cases, .. } => add_cases(nodes, number, depth, cases.as_slice()),
+        Statement::Loop {
+            body,
+            continuing,
+            ..
+        } => {
+            add_block(nodes, list_of(number, Part::Body), depth, body)?;
+            add_block(nodes, list_of(number, Part::Continuing), depth, continuing)
+        }
+        _ => Ok(()),
+    }
+}
+
+/// Adds the statements of cases.
+#[cycle(nodes)]
+fn add_cases<'a>(
+    nodes: &mut Vec<Node<'a>>,
+    number: usize,
+    depth: usize,
+    cases: &'a [SwitchCase],
+) -> Result<(), AllocError> {
+    for (index, case) in cases.iter().enumerate() {
+        add_block(nodes, list_of(number, Part::Case(index)), depth, &case.body)?;
+    }
+    Ok(())
+}
+
+/// The list of a statement.
+fn list_of(number: usize, part: Part) -> Option<Inside> {
+    Some(Inside { number, part })
+}
+
+/// The parts that hold a statement, the outermost first. An Err is out of memory.
+pub fn parts_around(
+    alloc: Global,
+    nodes: &[Node<'_>],
+    number: usize,
+) -> Result<Vec<Inside>, AllocError> {
+    let mut around = Vec::new(alloc);
+    let mut at = number;
+    for _ in 0..nodes.len() {
+        let Some(inside) = inside_of(nodes, at) else {
+            break;
+        };
+        around.push(inside)?;
+        at = inside.number;
+    }
+    around.reverse();
+    Ok(around)
+}
+
+/// The parts that hold a position, the outermost first. An Err is out of memory.
+pub fn way_to(
+    alloc: Global,
+    nodes: &[Node<'_>],
+    position: Position,
+) -> Result<Vec<Inside>, AllocError> {
+    let mut way = parts_around(alloc, nodes, position.number())?;
+    if let Position::BreakIf(number) = position {
+        way.push(Inside {
+            number,
+            part: Part::BreakIf,
+        })?;
+    }
+    Ok(way)
+}
+
+/// The part whose list a statement stands in.
+fn inside_of(nodes: &[Node<'_>], number: usize) -> Option<Inside> {
+    match nodes.get(number) {
+        Some(node) => node.inside,
+        None => None,
+    }
+}
+
+/// The part of a Loop that a statement stands in, at any depth within it: that of the innermost Loop.
+pub fn loop_part(nodes: &[Node<'_>], number: usize) -> Option<Inside> {
+    let mut at = number;
+    for _ in 0..nodes.len() {
+        match inside_of(nodes, at) {
+            Some(inside) if matches!(inside.part, Part::Body | Part::Continuing) => {
+                return Some(inside);
+            }
+            Some(inside) => at = inside.number,
+            None => return None,
+        }
+    }
+    None
+}
+
+/// The result that a statement brings into scope, if it has one.
+pub fn result_of(statement: &Statement) -> Option<Handle<tag::Expression>> {
+    match statement {
+        Statement::Atomic { result: answer, .. } | Statement::Call { result: answer, .. } => {
+            *answer
+        }
+        Statement::WorkGroupUniformLoad { result: answer, .. }
+        | Statement::SubgroupBallot { result: answer, .. }
+        | Statement::SubgroupCollectiveOperation { result: answer, .. }
+        | Statement::SubgroupGather { result: answer, .. }
+        | Statement::RayQuery {
+            fun: RayQueryFunction::Proceed { result: answer },
+            ..
+        } => Some(*answer),
+        _ => None,
+    }
+}
+
+/// Whether a statement brings an expression into scope.
+pub fn emits(statement: &Statement, handle: Handle<tag::Expression>) -> bool {
+    match statement {
+        Statement::Emit(range) => {
+            let index = handle.index();
+            range.start as usize <= index && index < range.end as usize
+        }
+        _ => result_of(statement) == Some(handle),
+    }
+}

@@ -1,0 +1,122 @@
+//! Judges a text, and finds where its fault stands.
+
+ghost use Rattle.std.specs.Prelude.{◌≡◌, ◌×◌, IfOk};
+ghost use Rattle.json_verdict.specs.Judges.{Judges, IsJudged};
+
+use crate::judge::Verdict;
+use json_document::{Document, Known, ReadError, read_document};
+use json_places::{Found, Lent, locate};
+use naga_below::{Module, ModuleInfo, Sequence, Settings, TypeInfo, TypeResolution};
+use naga_module::{Given, ModuleFault, Recorded, check_module};
+use std::alloc::{AllocError, Global};
+
+/// A text that was judged.
+#[derive(Drop)]
+pub struct Examined {
+    pub verdict: Verdict,
+    /// Of a module that was judged and refused.
+    pub refused: Option<Refused>,
+}
+
+/// A refused module, and where its fault stands.
+#[derive(Drop)]
+pub struct Refused {
+    pub module: Module,
+    /// None where the fault names nothing, and where it couldn't be found, out of memory.
+    pub found: Option<Found>,
+}
+
+/// What `check_module` is given beside a module: copies of these lists.
+fn given_of(
+    alloc: Global,
+    type_infos: &Sequence<TypeInfo>,
+    global_types: &Sequence<TypeResolution>,
+) -> Result<Given, AllocError>
+    ensures types { IfOk result (λ given. given.types.items ≡ type_infos.now) }
+    ensures globals { IfOk result (λ given. given.global_types.items ≡ global_types.now) }
+{
+    let types = type_infos.as_slice().to_vec(alloc)?;
+    let global_types = clone_types(alloc, global_types.as_slice())?;
+    Ok(Given {
+        types,
+        global_types,
+    })
+}
+
+/// Equal types.
+fn clone_types(alloc: Global, types: &[TypeResolution]) -> Result<Vec<TypeResolution>, AllocError>
+    ensures { IfOk result (λ made. made.items ≡ types.now) }
+{
+    let mut made = Vec::new(alloc);
+    for resolution in types {
+        made.push(resolution.clone(alloc)?)?;
+    }
+    Ok(made)
+}
+
+/// Judges the module of a document over facts that are lent.
+fn judge_lent(
+    alloc: Global,
+    settings: Settings,
+    module: &Module,
+    type_infos: &Sequence<TypeInfo>,
+    global_types: &Sequence<TypeResolution>,
+    layer: &Recorded,
+) -> Result<ModuleInfo, ModuleFault>
+    ensures { IsJudged (record {
+      settings = settings;
+      «module» = «module».now;
+      known = record { type_infos = type_infos.now; global_types = global_types.now; facts = layer.now.facts };
+    }) result }
+{
+    let given = given_of(alloc, type_infos, global_types)?;
+    check_module(alloc, Lent { layer }, settings, given, module)
+}
+
+/// Judges a text as [`judge`](crate::judge::judge) does, and finds where the fault of a refused module stands.
+pub fn examine(alloc: Global, text: &[u8]) -> Examined
+    ensures { Judges text.now result.verdict }
+{
+    let document = match read_document(alloc, text) {
+        Ok(document) => document,
+        Err(ReadError::Unreadable(unreadable)) => {
+            return Examined {
+                verdict: Verdict::Unreadable(unreadable),
+                refused: None,
+            };
+        }
+        Err(ReadError::Memory) => {
+            return Examined {
+                verdict: Verdict::Refused(ModuleFault::Memory),
+                refused: None,
+            };
+        }
+    };
+    let Document {
+        settings,
+        module,
+        known,
+    } = document;
+    let Known {
+        type_infos,
+        global_types,
+        facts,
+    } = known;
+    let layer = Recorded { facts };
+    match judge_lent(alloc, settings, &module, &type_infos, &global_types, &layer) {
+        Ok(infos) => Examined {
+            verdict: Verdict::Accepted { module, infos },
+            refused: None,
+        },
+        Err(fault) => {
+            let found = match given_of(alloc, &type_infos, &global_types) {
+                Ok(given) => locate(alloc, &layer, settings, given, &module, &fault),
+                Err(_) => None,
+            };
+            Examined {
+                verdict: Verdict::Refused(fault),
+                refused: Some(Refused { module, found }),
+            }
+        }
+    }
+}
