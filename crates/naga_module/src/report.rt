@@ -144,8 +144,7 @@ pub fn write_module_fault_lines<W: fmt::Write>(
 }
 
 /// The sentence of `NotFit`.
-const NOT_FIT: &str =
-    "a handle or a range is out of bounds or out of order, or a fact is missing";
+const NOT_FIT: &str = "a handle or a range is out of bounds or out of order, or a fact is missing";
 
 /// The sentence of `NotInScope` where a Continue is why.
 const SKIPPED: &str =
