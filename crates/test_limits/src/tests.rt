@@ -20,7 +20,9 @@ macro_rules! holds {
 
 mod expressions;
 mod handles;
+mod misfits;
 mod module;
 mod places;
+mod shortages;
 mod statements;
 mod switch;

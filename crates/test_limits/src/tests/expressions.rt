@@ -3,11 +3,13 @@
 
 use crate::tests::handles::{FIRST, GREATEST, SECOND};
 use crate::tests::module::{
-    expect_function, expect_unfit, expressions_of, global_types_of, locals_of, made, module,
+    SECOND_FUNCTION, expect_function, expect_unfit, expressions_of, global_types_of, locals_of,
+    made, module, named,
 };
 use naga_below::{
     Expression, Function, Handle, Module, ModuleInfo, Operands, Sequence, fits_globals,
 };
+use naga_module::{HandleOf, Misfit, Owner, Place};
 use std::process::Abort;
 
 /// A kind that names something else than operands, of which it has none.
@@ -132,12 +134,16 @@ fn operands_of(rt: &(impl Abort + AllocGlobal), handles: [u32; 2]) -> Operands {
     operands
 }
 
-/// A function with a local and this expression behind another one, in the module behind its own: it fits where this is so.
-fn expect_in_function(rt: &(impl Abort + AllocGlobal), expression: Expression, fits: bool) {
+/// A function with a local and this expression behind another one, in the module behind its own: it has this misfit, if any.
+fn expect_in_function(
+    rt: &(impl Abort + AllocGlobal),
+    expression: Expression,
+    misfit: Option<Misfit>,
+) {
     let mut fun = Function::new(rt.alloc());
     fun.local_variables = locals_of(rt, 0, 0);
     fun.expressions = expressions_of(rt, 0, Some(expression));
-    expect_function(rt, fun, fits);
+    expect_function(rt, fun, misfit);
 }
 
 /// The globals of a module fit where this is so.
@@ -148,36 +154,67 @@ fn expect_globals(rt: &(impl Abort + AllocGlobal), module: &Module, fits: bool) 
     drop(known);
 }
 
-/// The module with this expression as its second: its globals fit where this is so.
-fn expect_in_module(rt: &(impl Abort + AllocGlobal), expression: Expression, fits: bool) {
+/// The module with this expression as its second: its globals have this misfit, if any.
+fn expect_in_module(
+    rt: &(impl Abort + AllocGlobal),
+    expression: Expression,
+    misfit: Option<Misfit>,
+) {
     let mut module = module(rt, &FIRST, None);
     module.global_expressions = expressions_of(rt, 0, Some(expression));
-    expect_globals(rt, &module, fits);
-    expect_unfit(rt, &FIRST, &module, !fits);
+    expect_globals(rt, &module, misfit.is_none());
+    expect_unfit(rt, &FIRST, &module, misfit);
     drop(module);
 }
 
+/// The second expression has this handle as the operand with this index.
+fn of_operand(index: usize, handle: u32) -> Option<Misfit> {
+    let place = Place::Operand(SECOND_FUNCTION, 1, index);
+    Some(named(place, HandleOf::Expressions, handle as usize, 1))
+}
+
+/// The same of the second global expression.
+fn of_global_operand(index: usize, handle: u32) -> Option<Misfit> {
+    let place = Place::Operand(Owner::Module, 1, index);
+    Some(named(place, HandleOf::GlobalExpressions, handle as usize, 1))
+}
+
+/// The second expression names the greatest handle of so many of these.
+fn of_reference(of: HandleOf, below: usize) -> Option<Misfit> {
+    let place = Place::Reference(SECOND_FUNCTION, 1);
+    Some(named(place, of, GREATEST as usize, below))
+}
+
+/// Each kind that names something, what it names, and how many of these there are.
+const NAMING: [(NamingKind, HandleOf, usize); 9] = [
+    (NamingKind::Constant, HandleOf::Constants, 1),
+    (NamingKind::Override, HandleOf::Overrides, 1),
+    (NamingKind::ZeroValue, HandleOf::Types, 5),
+    (NamingKind::GlobalVariable, HandleOf::GlobalVariables, 1),
+    (NamingKind::LocalVariable, HandleOf::LocalVariables, 1),
+    (NamingKind::CallResult, HandleOf::Functions, 2),
+    (NamingKind::AtomicResult, HandleOf::Types, 5),
+    (NamingKind::WorkGroupUniformLoadResult, HandleOf::Types, 5),
+    (NamingKind::SubgroupOperationResult, HandleOf::Types, 5),
+];
+
 #[test]
 fn what_is_named_besides_operands(rt: HostRuntime) {
-    for kind in [
-        NamingKind::Constant,
-        NamingKind::Override,
-        NamingKind::ZeroValue,
-        NamingKind::GlobalVariable,
-        NamingKind::LocalVariable,
-        NamingKind::CallResult,
-        NamingKind::AtomicResult,
-        NamingKind::WorkGroupUniformLoadResult,
-        NamingKind::SubgroupOperationResult,
-    ] {
-        expect_in_function(&rt, naming(kind, 0), true);
-        expect_in_function(&rt, naming(kind, GREATEST), false);
-        expect_in_module(&rt, naming(kind, GREATEST), true);
+    for (kind, of, below) in NAMING {
+        expect_in_function(&rt, naming(kind, 0), None);
+        expect_in_function(&rt, naming(kind, GREATEST), of_reference(of, below));
+        expect_in_module(&rt, naming(kind, GREATEST), None);
     }
 }
 
-/// An expression of two operands has one that isn't there, or is the expression itself, be it the first or the second.
-const OPERANDS: [[u32; 2]; 4] = [[GREATEST, 0], [0, GREATEST], [SECOND, 0], [0, SECOND]];
+/// An expression of two operands has one that isn't there, or is the expression itself, be it the first or the second: which
+/// it is, and both.
+const OPERANDS: [(usize, u32, [u32; 2]); 4] = [
+    (0, GREATEST, [GREATEST, 0]),
+    (1, GREATEST, [0, GREATEST]),
+    (0, SECOND, [SECOND, 0]),
+    (1, SECOND, [0, SECOND]),
+];
 
 #[test]
 fn operands_that_are_fields(rt: HostRuntime) {
@@ -186,15 +223,17 @@ fn operands_that_are_fields(rt: HostRuntime) {
         DirectKind::AccessIndex,
         DirectKind::Load,
     ] {
-        expect_in_function(&rt, direct(kind, [0, 0]), true);
+        expect_in_function(&rt, direct(kind, [0, 0]), None);
         for handle in [SECOND, GREATEST] {
-            expect_in_function(&rt, direct(kind, [handle, 0]), false);
-            expect_in_module(&rt, direct(kind, [handle, 0]), false);
+            expect_in_function(&rt, direct(kind, [handle, 0]), of_operand(0, handle));
+            expect_in_module(&rt, direct(kind, [handle, 0]), of_global_operand(0, handle));
         }
     }
     for handle in [SECOND, GREATEST] {
-        expect_in_function(&rt, direct(DirectKind::Access, [0, handle]), false);
-        expect_in_module(&rt, direct(DirectKind::Access, [0, handle]), false);
+        let access = direct(DirectKind::Access, [0, handle]);
+        expect_in_function(&rt, access, of_operand(1, handle));
+        let access = direct(DirectKind::Access, [0, handle]);
+        expect_in_module(&rt, access, of_global_operand(1, handle));
     }
 }
 
@@ -230,12 +269,14 @@ fn operands_that_are_listed(rt: HostRuntime) {
         ListedKind::CooperativeLoad,
         ListedKind::CooperativeMultiplyAdd,
     ] {
-        expect_in_function(&rt, of_operands(&rt, kind, 0, [0, 0]), true);
-        for operands in OPERANDS {
-            expect_in_function(&rt, of_operands(&rt, kind, 0, operands), false);
-            expect_in_module(&rt, of_operands(&rt, kind, 0, operands), false);
+        expect_in_function(&rt, of_operands(&rt, kind, 0, [0, 0]), None);
+        for (index, handle, operands) in OPERANDS {
+            let expression = of_operands(&rt, kind, 0, operands);
+            expect_in_function(&rt, expression, of_operand(index, handle));
+            let expression = of_operands(&rt, kind, 0, operands);
+            expect_in_module(&rt, expression, of_global_operand(index, handle));
         }
     }
     let untyped = of_operands(&rt, ListedKind::Compose, GREATEST, [0, 0]);
-    expect_in_function(&rt, untyped, false);
+    expect_in_function(&rt, untyped, of_reference(HandleOf::Types, 5));
 }

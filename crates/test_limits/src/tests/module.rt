@@ -13,6 +13,7 @@ use naga_below::{
 };
 use naga_layers::plain::Plain;
 use naga_module::check::{Given, ModuleFault, check_module};
+use naga_module::{HandleOf, Misfit, Owner, Place, Problem, find_misfit};
 use std::process::Abort;
 
 /// Where everything is.
@@ -303,10 +304,7 @@ fn told_of(
     handles: &Handles,
     module: &Module,
 ) -> Option<ModuleFault> {
-    let given = Given {
-        types: infos_of_types(rt, handles),
-        global_types: global_types_of(rt, handles),
-    };
+    let given = given_of(rt, handles);
     let below = Plain::without_mesh_shaders();
     match check_module(rt.alloc(), below, SETTINGS, given, module) {
         Ok(_) => None,
@@ -314,14 +312,43 @@ fn told_of(
     }
 }
 
-/// The module is found not to fit exactly where this is so.
+/// What is given of the module of these handles.
+pub fn given_of(rt: &(impl Abort + AllocGlobal), handles: &Handles) -> Given {
+    Given {
+        types: infos_of_types(rt, handles),
+        global_types: global_types_of(rt, handles),
+    }
+}
+
+/// A misfit: this handle stands there, and only those below `below` may.
+pub fn named(place: Place, of: HandleOf, index: usize, below: usize) -> Misfit {
+    Misfit {
+        place,
+        problem: Problem::Handle { of, index, below },
+    }
+}
+
+/// The misfit of a module of which this is given, over the plain layer.
+pub fn misfit_of(given: &Given, module: &Module) -> Option<Misfit> {
+    find_misfit(&Plain::without_mesh_shaders(), given, module)
+}
+
+/// The misfit is this one.
+pub fn expect_misfit(rt: &impl Abort, found: Option<Misfit>, expected: Option<Misfit>) {
+    assert!(rt; found == expected, "{found:?}, not {expected:?}");
+}
+
+/// The module has this misfit, if any, and is found not to fit exactly where it has one.
 pub fn expect_unfit(
     rt: &(impl Abort + AllocGlobal),
     handles: &Handles,
     module: &Module,
-    is_unfit: bool,
+    misfit: Option<Misfit>,
 ) {
-    expect_not_fit(rt, fault_of(rt, handles, module), is_unfit);
+    let given = given_of(rt, handles);
+    expect_misfit(rt, misfit_of(&given, module), misfit);
+    drop(given);
+    expect_not_fit(rt, fault_of(rt, handles, module), misfit.is_some());
 }
 
 /// The last function of a module, which has one before it, fits where this is so.
@@ -332,12 +359,15 @@ fn expect_last(rt: &impl Abort, module: &Module, fits: bool) {
     holds!(rt; fits_function(last, module, 1) == fits);
 }
 
-/// The module of the first handles with this function behind its own: the function fits, and so does the module, where
-/// this is so.
-pub fn expect_function(rt: &(impl Abort + AllocGlobal), fun: Function, fits: bool) {
+/// The function that is judged behind the module's own.
+pub const SECOND_FUNCTION: Owner = Owner::Function(1);
+
+/// The module of the first handles with this function behind its own: the function has this misfit, if any, and so has
+/// the module.
+pub fn expect_function(rt: &(impl Abort + AllocGlobal), fun: Function, misfit: Option<Misfit>) {
     let module = module(rt, &FIRST, Some(fun));
-    expect_last(rt, &module, fits);
-    expect_unfit(rt, &FIRST, &module, !fits);
+    expect_last(rt, &module, misfit.is_none());
+    expect_unfit(rt, &FIRST, &module, misfit);
     drop(module);
 }
 

@@ -2,12 +2,15 @@
 //! conditions sees it, all others hold, and the module doesn't fit.
 
 use crate::tests::handles::{FIRST, GREATEST, Handles, LAST, SECOND, TYPES};
-use crate::tests::module::{expect_unfit, global_types_of, infos_of_types, made, module};
+use crate::tests::module::{expect_unfit, global_types_of, infos_of_types, made, module, named};
 use naga_below::{
     Capabilities, Module, ModuleInfo, Sequence, ValidationFlags, fits_entry, fits_function,
     fits_globals, fits_types,
 };
 use naga_layers::plain::Plain;
+use naga_module::{
+    EntryField, HandleOf, Misfit, Owner, Place, TypeField, TypeOwner, VariableField,
+};
 use naga_valid::validator::Validator;
 use std::process::Abort;
 
@@ -75,26 +78,158 @@ fn expect_tests(rt: &impl Abort, row: usize, found: &[bool], expected: &[bool]) 
     assert!(rt; found == expected, "row {row}: {found:?}");
 }
 
-/// Of the module of these handles this test doesn't hold, if any, and all others do; with one it doesn't fit.
-fn expect(rt: &(impl Abort + AllocGlobal), row: usize, handles: &Handles, seen_by: Option<usize>) {
+/// Of the module of these handles this test doesn't hold, if any, and all others do; with one it has this misfit.
+fn expect(
+    rt: &(impl Abort + AllocGlobal),
+    row: usize,
+    handles: &Handles,
+    seen: Option<(usize, Misfit)>,
+) {
     let module = module(rt, handles, None);
     let mut expected = [true; TESTS];
-    if let Some(test) = seen_by {
+    let mut misfit = None;
+    if let Some((test, told)) = seen {
         holds!(rt; test < TESTS);
         expected[test] = false;
+        misfit = Some(told);
     }
     let found = tests_of(rt, handles, &module);
     expect_tests(rt, row, &found, &expected);
-    expect_unfit(rt, handles, &module, seen_by.is_some());
+    expect_unfit(rt, handles, &module, misfit);
     drop(module);
 }
 
-/// Each module of these handles, in each of which one names nothing or too late a type, fails in this test alone.
-fn expect_seen(rt: &(impl Abort + AllocGlobal), rows: &[Handles], test: usize) {
+/// A place, what the handle there is of, and how many may be named there.
+#[derive(Clone, Copy)]
+struct Seen(Place, HandleOf, usize);
+
+/// Each module of these handles, in each of which one names nothing or too late a type, fails in this test alone. First each place
+/// has the greatest handle, and then each has the first that doesn't fit.
+fn expect_seen(rt: &(impl Abort + AllocGlobal), rows: &[Handles], places: &[Seen], test: usize) {
     for (row, handles) in rows.iter().enumerate() {
-        expect(rt, row, handles, Some(test));
+        let is_first = row >= places.len();
+        let index = if is_first { row - places.len() } else { row };
+        let Some(Seen(place, of, below)) = places.get(index) else {
+            panic!(rt; "no place");
+        };
+        let handle = if is_first { *below } else { GREATEST as usize };
+        let misfit = named(*place, *of, handle, *below);
+        expect(rt, row, handles, Some((test, misfit)));
     }
 }
+
+static TYPE_PLACES: [Seen; 7] = [
+    Seen(
+        Place::InType(TypeOwner::OfModule(1), TypeField::Base),
+        HandleOf::Types,
+        1,
+    ),
+    Seen(
+        Place::InType(TypeOwner::OfModule(2), TypeField::Base),
+        HandleOf::Types,
+        2,
+    ),
+    Seen(
+        Place::InType(TypeOwner::OfModule(3), TypeField::Base),
+        HandleOf::Types,
+        3,
+    ),
+    Seen(
+        Place::InType(TypeOwner::OfModule(4), TypeField::Member(0)),
+        HandleOf::Types,
+        4,
+    ),
+    Seen(Place::RayDesc, HandleOf::Types, 5),
+    Seen(Place::ConstantType(0), HandleOf::Types, 5),
+    Seen(Place::OverrideType(0), HandleOf::Types, 5),
+];
+
+static INFO_PLACES: [Seen; 2] = [
+    Seen(Place::StorageLayout(4), HandleOf::Types, 5),
+    Seen(Place::UniformLayout(4), HandleOf::Types, 5),
+];
+
+static GLOBAL_PLACES: [Seen; 5] = [
+    Seen(Place::InGlobal(0, VariableField::Ty), HandleOf::Types, 5),
+    Seen(
+        Place::InGlobal(0, VariableField::Init),
+        HandleOf::GlobalExpressions,
+        2,
+    ),
+    Seen(
+        Place::Operand(Owner::Module, 1, 0),
+        HandleOf::GlobalExpressions,
+        1,
+    ),
+    Seen(
+        Place::InType(TypeOwner::OfGlobalExpression(0), TypeField::Whole),
+        HandleOf::Types,
+        5,
+    ),
+    Seen(
+        Place::InType(TypeOwner::OfGlobalExpression(1), TypeField::Base),
+        HandleOf::Types,
+        5,
+    ),
+];
+
+static FUNCTION_PLACES: [Seen; 4] = [
+    Seen(
+        Place::ArgumentType(Owner::Function(0), 0),
+        HandleOf::Types,
+        5,
+    ),
+    Seen(Place::ResultType(Owner::Function(0)), HandleOf::Types, 5),
+    Seen(
+        Place::InLocal(Owner::Function(0), 0, VariableField::Ty),
+        HandleOf::Types,
+        5,
+    ),
+    Seen(
+        Place::InLocal(Owner::Function(0), 0, VariableField::Init),
+        HandleOf::Expressions,
+        1,
+    ),
+];
+
+static ENTRY_PLACES: [Seen; 6] = [
+    Seen(
+        Place::InEntryPoint(0, EntryField::TaskPayload),
+        HandleOf::GlobalVariables,
+        1,
+    ),
+    Seen(
+        Place::InEntryPoint(0, EntryField::MaxVerticesOverride),
+        HandleOf::GlobalExpressions,
+        2,
+    ),
+    Seen(
+        Place::InEntryPoint(0, EntryField::MaxPrimitivesOverride),
+        HandleOf::GlobalExpressions,
+        2,
+    ),
+    Seen(
+        Place::InEntryPoint(0, EntryField::VertexOutputType),
+        HandleOf::Types,
+        5,
+    ),
+    Seen(
+        Place::InEntryPoint(0, EntryField::PrimitiveOutputType),
+        HandleOf::Types,
+        5,
+    ),
+    Seen(
+        Place::InEntryPoint(0, EntryField::OutputVariable),
+        HandleOf::GlobalVariables,
+        1,
+    ),
+];
+
+static TAKEN_PLACES: [Seen; 1] = [Seen(
+    Place::ArgumentType(Owner::EntryPoint(0), 0),
+    HandleOf::Types,
+    5,
+)];
 
 /// Which override a size is of, and what a global expression names besides its operands, no test looks at. Last handles fit too.
 #[test]
@@ -129,7 +264,7 @@ fn handles_of_types(rt: HostRuntime) {
     rows[11].descriptor = TYPES;
     rows[12].constant = TYPES;
     rows[13].overridden = TYPES;
-    expect_seen(&rt, &rows, FITS_TYPES);
+    expect_seen(&rt, &rows, &TYPE_PLACES, FITS_TYPES);
 }
 
 #[test]
@@ -139,7 +274,7 @@ fn handles_of_infos_of_types(rt: HostRuntime) {
     rows[1].uniform = GREATEST;
     rows[2].storage = TYPES;
     rows[3].uniform = TYPES;
-    expect_seen(&rt, &rows, INFOS);
+    expect_seen(&rt, &rows, &INFO_PLACES, INFOS);
 }
 
 #[test]
@@ -155,7 +290,7 @@ fn handles_of_globals(rt: HostRuntime) {
     rows[7].operand = SECOND;
     rows[8].resolved = TYPES;
     rows[9].pointed = TYPES;
-    expect_seen(&rt, &rows, GLOBALS);
+    expect_seen(&rt, &rows, &GLOBAL_PLACES, GLOBALS);
 }
 
 #[test]
@@ -169,11 +304,11 @@ fn handles_of_functions(rt: HostRuntime) {
     rows[5].declared = TYPES;
     rows[6].local = TYPES;
     rows[7].beginning = SECOND;
-    expect_seen(&rt, &rows, FUNCTION);
+    expect_seen(&rt, &rows, &FUNCTION_PLACES, FUNCTION);
     let mut taken = [FIRST; 2];
     taken[0].taken = GREATEST;
     taken[1].taken = TYPES;
-    expect_seen(&rt, &taken, ENTRY_FUNCTION);
+    expect_seen(&rt, &taken, &TAKEN_PLACES, ENTRY_FUNCTION);
 }
 
 #[test]
@@ -191,5 +326,5 @@ fn handles_of_entry_points(rt: HostRuntime) {
     rows[9].vertex = TYPES;
     rows[10].primitive = TYPES;
     rows[11].output = SECOND;
-    expect_seen(&rt, &rows, ENTRY);
+    expect_seen(&rt, &rows, &ENTRY_PLACES, ENTRY);
 }

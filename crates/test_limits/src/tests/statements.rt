@@ -1,23 +1,32 @@
 //! The greatest handle, and the first that names nothing, in each place of each kind of statement.
 
 use crate::tests::handles::{GREATEST, SECOND};
-use crate::tests::module::{NOWHERE, expect_function, expressions_of, made};
+use crate::tests::module::{
+    NOWHERE, SECOND_FUNCTION, expect_function, expressions_of, made, named,
+};
 use naga_below::{
     AtomicFunction, Block, CollectiveOperation, CooperativeData, Function, GatherMode, Handle,
     Range, RayPipelineFunction, RayQueryFunction, Sequence, Statement, SubgroupOperation,
     SwitchCase, SwitchValue, tag,
 };
+use naga_module::{HandleOf, Misfit, Place, Problem, StatementField};
 use std::process::Abort;
 
 /// As many handles as a statement has at most.
 const HANDLES: usize = 5;
 
-/// A function of this statement behind one expression, in the module behind its own: it fits where this is so.
-fn expect(rt: &(impl Abort + AllocGlobal), statement: Statement, fits: bool) {
+/// A function of this statement behind one expression, in the module behind its own: it has this misfit, if any.
+fn expect(rt: &(impl Abort + AllocGlobal), statement: Statement, misfit: Option<Misfit>) {
     let mut fun = Function::new(rt.alloc());
     fun.expressions = expressions_of(rt, 0, None);
     fun.body = block_of(rt, statement);
-    expect_function(rt, fun, fits);
+    expect_function(rt, fun, misfit);
+}
+
+/// The statement with this number has this handle in this field, where only the first expression may stand.
+fn of_field(number: usize, field: StatementField, handle: u32) -> Misfit {
+    let place = Place::InStatement(SECOND_FUNCTION, number, field);
+    named(place, HandleOf::Expressions, handle as usize, 1)
 }
 
 fn block_of(rt: &(impl Abort + AllocGlobal), statement: Statement) -> Block {
@@ -42,19 +51,58 @@ enum LeafKind {
     TraceRay,
 }
 
-/// How many handles each has.
-const LEAVES: [(LeafKind, usize); 11] = [
-    (LeafKind::Return, 1),
-    (LeafKind::Store, 2),
-    (LeafKind::ImageStore, 4),
-    (LeafKind::Atomic, 4),
-    (LeafKind::ImageAtomic, 5),
-    (LeafKind::WorkGroupUniformLoad, 2),
-    (LeafKind::SubgroupBallot, 2),
-    (LeafKind::SubgroupCollectiveOperation, 2),
-    (LeafKind::SubgroupGather, 2),
-    (LeafKind::CooperativeStore, 2),
-    (LeafKind::TraceRay, 3),
+/// The field of each of its handles, in order.
+fn fields(kind: LeafKind) -> &'static [StatementField] {
+    match kind {
+        LeafKind::Return => &[StatementField::Value],
+        LeafKind::Store => &[StatementField::Pointer, StatementField::Value],
+        LeafKind::ImageStore => &[
+            StatementField::Image,
+            StatementField::Coordinate,
+            StatementField::ArrayIndex,
+            StatementField::Value,
+        ],
+        LeafKind::Atomic => &[
+            StatementField::Pointer,
+            StatementField::Compare,
+            StatementField::Value,
+            StatementField::Result,
+        ],
+        LeafKind::ImageAtomic => &[
+            StatementField::Image,
+            StatementField::Coordinate,
+            StatementField::ArrayIndex,
+            StatementField::Compare,
+            StatementField::Value,
+        ],
+        LeafKind::WorkGroupUniformLoad => &[StatementField::Pointer, StatementField::Result],
+        LeafKind::SubgroupBallot => &[StatementField::Result, StatementField::Predicate],
+        LeafKind::SubgroupCollectiveOperation => &[
+            StatementField::Argument,
+            StatementField::Result,
+        ],
+        LeafKind::SubgroupGather => &[StatementField::Argument, StatementField::Result],
+        LeafKind::CooperativeStore => &[StatementField::Target, StatementField::Source],
+        LeafKind::TraceRay => &[
+            StatementField::AccelerationStructure,
+            StatementField::Descriptor,
+            StatementField::Payload,
+        ],
+    }
+}
+
+const LEAVES: [LeafKind; 11] = [
+    LeafKind::Return,
+    LeafKind::Store,
+    LeafKind::ImageStore,
+    LeafKind::Atomic,
+    LeafKind::ImageAtomic,
+    LeafKind::WorkGroupUniformLoad,
+    LeafKind::SubgroupBallot,
+    LeafKind::SubgroupCollectiveOperation,
+    LeafKind::SubgroupGather,
+    LeafKind::CooperativeStore,
+    LeafKind::TraceRay,
 ];
 
 /// A handle of these as one of an expression.
@@ -173,34 +221,59 @@ fn only_at(rt: &impl Abort, place: usize, handle: u32) -> [u32; HANDLES] {
 /// Handles that name no expression, and not an earlier function.
 const MISSING: [u32; 2] = [SECOND, GREATEST];
 
+/// The first statement is an Emit, and this is wrong with its range.
+fn of_range(problem: Problem) -> Option<Misfit> {
+    let place = Place::InStatement(SECOND_FUNCTION, 0, StatementField::Range);
+    Some(Misfit { place, problem })
+}
+
 /// The ends of an Emit's range lie in order within the one expression.
 #[test]
 fn ranges_of_emits(rt: HostRuntime) {
-    for (start, end, fits) in [
-        (0, 0, true),
-        (0, 1, true),
-        (1, 1, true),
-        (1, 0, false),
-        (2, 1, false),
-        (0, 2, false),
-        (GREATEST, 0, false),
-        (0, GREATEST, false),
-    ] {
-        expect(&rt, Statement::Emit(Range { start, end }), fits);
+    for (start, end) in [(0, 0), (0, 1), (1, 1)] {
+        expect(&rt, Statement::Emit(Range { start, end }), None);
+    }
+    for (start, end) in [(1, 0), (2, 1), (GREATEST, 0)] {
+        let problem = Problem::Backwards {
+            start: start as usize,
+            end: end as usize,
+        };
+        let emit = Statement::Emit(Range { start, end });
+        expect(&rt, emit, of_range(problem));
+    }
+    for end in [2, GREATEST] {
+        let problem = Problem::PastEnd {
+            end: end as usize,
+            count: 1,
+        };
+        let emit = Statement::Emit(Range { start: 0, end });
+        expect(&rt, emit, of_range(problem));
     }
 }
 
 /// A place that a kind hasn't makes no difference.
 #[test]
 fn handles_of_leaves(rt: HostRuntime) {
-    for (kind, count) in LEAVES {
-        expect(&rt, leaf(kind, [0; HANDLES]), true);
+    for kind in LEAVES {
+        expect(&rt, leaf(kind, [0; HANDLES]), None);
         for place in 0..HANDLES {
             for handle in MISSING {
-                expect(&rt, leaf(kind, only_at(&rt, place, handle)), place >= count);
+                let misfit = match fields(kind).get(place) {
+                    Some(field) => Some(of_field(0, *field, handle)),
+                    None => None,
+                };
+                expect(&rt, leaf(kind, only_at(&rt, place, handle)), misfit);
             }
         }
     }
+}
+
+/// The first statement has this handle in this field: a misfit, if it isn't the first.
+fn if_missing(field: StatementField, handle: u32) -> Option<Misfit> {
+    if handle == 0 {
+        return None;
+    }
+    Some(of_field(0, field, handle))
 }
 
 /// What a gather and a ray query do with this expression.
@@ -233,13 +306,14 @@ fn queries_with(handle: Handle<tag::Expression>) -> [RayQueryFunction; 4] {
 
 #[test]
 fn handles_of_gathers(rt: HostRuntime) {
-    for (index, fits) in [(0, true), (SECOND, false), (GREATEST, false)] {
+    for index in [0, SECOND, GREATEST] {
         for mode in modes_with(Handle::new(index)) {
-            expect(&rt, gather(mode, Handle::new(0), Handle::new(0)), fits);
+            let statement = gather(mode, Handle::new(0), Handle::new(0));
+            expect(&rt, statement, if_missing(StatementField::Mode, index));
         }
     }
     let direction = GatherMode::QuadSwap(GREATEST);
-    expect(&rt, gather(direction, Handle::new(0), Handle::new(0)), true);
+    expect(&rt, gather(direction, Handle::new(0), Handle::new(0)), None);
 }
 
 fn query(query: u32, fun: RayQueryFunction) -> Statement {
@@ -249,18 +323,25 @@ fn query(query: u32, fun: RayQueryFunction) -> Statement {
     }
 }
 
+/// The field of each of `queries_with` that has the handle.
+const QUERY_FIELDS: [StatementField; 4] = [
+    StatementField::AccelerationStructure,
+    StatementField::Descriptor,
+    StatementField::Result,
+    StatementField::HitT,
+];
+
 #[test]
 fn handles_of_ray_queries(rt: HostRuntime) {
-    for (index, fits) in [(0, true), (SECOND, false), (GREATEST, false)] {
-        for fun in queries_with(Handle::new(index)) {
-            expect(&rt, query(0, fun), fits);
+    for index in [0, SECOND, GREATEST] {
+        for (place, fun) in queries_with(Handle::new(index)).into_iter().enumerate() {
+            holds!(&rt; place < QUERY_FIELDS.len());
+            expect(&rt, query(0, fun), if_missing(QUERY_FIELDS[place], index));
         }
-        expect(
-            &rt,
-            query(index, RayQueryFunction::ConfirmIntersection),
-            fits,
-        );
-        expect(&rt, query(index, RayQueryFunction::Terminate), fits);
+        let misfit = if_missing(StatementField::Query, index);
+        let confirm = query(index, RayQueryFunction::ConfirmIntersection);
+        expect(&rt, confirm, misfit);
+        expect(&rt, query(index, RayQueryFunction::Terminate), misfit);
     }
 }
 
@@ -275,13 +356,24 @@ fn call(rt: &(impl Abort + AllocGlobal), handles: [u32; HANDLES]) -> Statement {
     }
 }
 
+/// A call has this handle in this place. The one function before it may be called.
+fn of_call(place: usize, handle: u32) -> Option<Misfit> {
+    let function = Place::InStatement(SECOND_FUNCTION, 0, StatementField::Function);
+    match place {
+        0 => Some(named(function, HandleOf::Functions, handle as usize, 1)),
+        1 => Some(of_field(0, StatementField::CallArgument(0), handle)),
+        2 => Some(of_field(0, StatementField::Result, handle)),
+        _ => None,
+    }
+}
+
 #[test]
 fn handles_of_calls(rt: HostRuntime) {
-    expect(&rt, call(&rt, [0; HANDLES]), true);
+    expect(&rt, call(&rt, [0; HANDLES]), None);
     for place in 0..HANDLES {
         for handle in MISSING {
             let handles = only_at(&rt, place, handle);
-            expect(&rt, call(&rt, handles), place >= 3);
+            expect(&rt, call(&rt, handles), of_call(place, handle));
         }
     }
 }
@@ -336,20 +428,37 @@ fn cases_of(rt: &(impl Abort + AllocGlobal), body: Block) -> Sequence<SwitchCase
     cases
 }
 
+/// The number of the statement and its field that have the handle in this place. The statement itself has number 0, and those
+/// that it holds come after it.
+fn held(kind: HoldingKind, place: usize) -> Option<(usize, StatementField)> {
+    match (kind, place) {
+        (_, 0) => Some((1, StatementField::Value)),
+        (HoldingKind::If, 1) | (HoldingKind::Loop, 1) => Some((2, StatementField::Value)),
+        (HoldingKind::If, 2) => Some((0, StatementField::Condition)),
+        (HoldingKind::Loop, 2) => Some((0, StatementField::BreakIf)),
+        (HoldingKind::Switch, 1) => Some((0, StatementField::Selector)),
+        _ => None,
+    }
+}
+
 #[test]
 fn handles_of_statements_that_hold_others(rt: HostRuntime) {
-    for (kind, count) in [
-        (HoldingKind::Block, 1),
-        (HoldingKind::If, 3),
-        (HoldingKind::Switch, 2),
-        (HoldingKind::Loop, 3),
+    for kind in [
+        HoldingKind::Block,
+        HoldingKind::If,
+        HoldingKind::Switch,
+        HoldingKind::Loop,
     ] {
-        expect(&rt, holding(&rt, kind, [0; HANDLES]), true);
+        expect(&rt, holding(&rt, kind, [0; HANDLES]), None);
         for place in 0..HANDLES {
             for handle in MISSING {
                 let handles = only_at(&rt, place, handle);
+                let misfit = match held(kind, place) {
+                    Some((number, field)) => Some(of_field(number, field, handle)),
+                    None => None,
+                };
                 let statement = holding(&rt, kind, handles);
-                expect(&rt, statement, place >= count);
+                expect(&rt, statement, misfit);
             }
         }
     }
