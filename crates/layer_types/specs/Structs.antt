@@ -1,8 +1,11 @@
 -- Infos of structs.
 use Rattle.std.specs.Int.RustNames.{bit_and}
-use Rattle.std.specs.Prelude.{ℕ, Bool, false, not, ◌+◌, ◌*◌, ◌/◌, ◌==◌, ◌&&◌, ◌||◌, List, [], ◌∷◌, Option, None, Some, Result, Ok, Err, nat_le, max, slice_get, is_some, unwrap_or, if◌then◌else◌, option_and_then}
-use Rattle.ir_flags.specs.Bits.{contains, ALL_TYPE_FLAGS, SIZED}
+use Rattle.std.specs.Prelude.{ℕ, Bool, true, false, not, ◌+◌, ◌*◌, ◌/◌, ◌==◌, ◌&&◌, ◌||◌, List, [], ◌∷◌, Option, None, Some, Result, Ok, Err, nat_le, max, slice_get, is_some, unwrap_or, if◌then◌else◌, option_and_then, option_map}
+use Rattle.ir_flags.specs.Bits.{contains, ALL_TYPE_FLAGS, HOST_SHAREABLE, SIZED}
+use Rattle.ir_flags.specs.declared.valid.TypeFlags.{TypeFlags}
 use Rattle.ir_types.specs.Types.{inner_at}
+use Rattle.ir_types.specs.declared.types.Binding.{Binding}
+use Rattle.ir_types.specs.declared.types.Binding.TheVariants as binding
 use Rattle.ir_types.specs.declared.types.StructMember.{StructMember}
 use Rattle.ir_types.specs.declared.types.Type.{«Type» as IrType}
 use Rattle.ir_facts.specs.declared.valid.types.Disalignment.{Disalignment}
@@ -10,6 +13,7 @@ use Rattle.ir_facts.specs.declared.valid.types.ImmediateError.{ImmediateError}
 use Rattle.ir_facts.specs.declared.valid.types.TypeInfo.{TypeInfo}
 use Rattle.layer_types.specs.declared.parts.Part.{Part}
 use Rattle.layer_types.specs.declared.structs.Laid.{Laid}
+use Rattle.layer_types.specs.Leaves.{all_of, VALUE}
 use Rattle.layer_types.specs.Parts.{bad_offset, too_close, part_of}
 use Rattle.layer_types.specs.Sizes.{is_aligned}
 
@@ -91,6 +95,26 @@ laid_info span laid =
     })
     else None
 
+-- a source of a blend: what is bound to a location, as this or that source
+abbrev pub is_source : Option Binding → Bool
+is_source (Some (binding.Location at interpolation sampling blend_src per_primitive)) = is_some blend_src
+is_source (Some (binding.BuiltIn b)) = false
+is_source None = false
+
+unfoldable pub are_sources : List StructMember → Bool
+are_sources [] = true
+are_sources (m ∷ rest) = is_source m.binding && are_sources rest
+
+-- all flags but IO_SHAREABLE
+abbrev pub UNSHARED : TypeFlags
+UNSHARED = all_of (VALUE ∷ HOST_SHAREABLE ∷ [])
+
+-- a struct is shared between stages as the sources of a blend, and else member by member
+abbrev pub shared_as : Bool → TypeInfo → TypeInfo
+shared_as true info = info
+shared_as false info = record info { flags = record { 0 = bit_and info.flags.0 UNSHARED.0 } }
+
 -- a struct with these members and this span
 abbrev pub struct_info : List IrType → List TypeInfo → ℕ → List StructMember → ℕ → Option TypeInfo
-struct_info types infos own members span = option_and_then (laid_info span) (laid_from types infos own begun members)
+struct_info types infos own members span =
+    option_map (shared_as (are_sources members)) (option_and_then (laid_info span) (laid_from types infos own begun members))

@@ -1,7 +1,7 @@
 //! Infos of structs.
 
 ghost use Rattle.std.specs.Prelude.{◌≡◌, Some, option_and_then};
-ghost use Rattle.layer_types.specs.Structs.{begun, has_extent, fits_behind, uniform_member, first_error, uniform_end, with_member, laid_with, laid_from, laid_info, struct_info};
+ghost use Rattle.layer_types.specs.Structs.{are_sources, begun, is_source, shared_as, has_extent, fits_behind, uniform_member, first_error, uniform_end, with_member, laid_with, laid_from, laid_info, struct_info};
 
 use crate::parts::{BAD_OFFSET, Part, TOO_CLOSE, part_at};
 use crate::sizes::is_aligned;
@@ -10,7 +10,7 @@ use ir_arena::handle::Handle;
 use ir_arena::tag;
 use ir_facts::valid::types::{Disalignment, ImmediateError, TypeInfo};
 use ir_flags::valid::TypeFlags;
-use ir_types::types::{StructMember, Type};
+use ir_types::types::{Binding, StructMember, Type};
 
 /// What is known of a struct after some of its members.
 #[derive(Clone, Copy)]
@@ -186,6 +186,48 @@ fn laid_info(laid: &Laid, span: u32) -> Option<TypeInfo>
     })
 }
 
+/// All flags but IO_SHAREABLE.
+const UNSHARED: TypeFlags = TypeFlags(0xf7);
+
+/// Whether a member is a source of a blend.
+fn is_source(binding: &Option<Binding>) -> bool
+    ensures { result ≡ is_source binding.now }
+{
+    match binding {
+        Some(Binding::Location { blend_src, .. }) => blend_src.is_some(),
+        Some(Binding::BuiltIn(_)) | None => false,
+    }
+}
+
+/// Whether each member is one.
+#[tactic(auto, unfolding(crate::specs::Structs::are_sources))]
+fn are_sources(members: &[StructMember]) -> bool
+    ensures { result ≡ are_sources members.now }
+{
+    for member in members {
+        if !is_source(&member.binding) {
+            return false;
+        }
+    }
+    true
+}
+
+/// The info of a struct, whose members are sources of a blend or not: only where they are it is shared between stages.
+fn shared_as(are_sources: bool, info: TypeInfo) -> TypeInfo
+    ensures { result ≡ shared_as are_sources info }
+{
+    if are_sources {
+        info
+    } else {
+        TypeInfo {
+            flags: info.flags.intersection(UNSHARED),
+            storage_layout: info.storage_layout,
+            uniform_layout: info.uniform_layout,
+            immediates_compatibility: info.immediates_compatibility,
+        }
+    }
+}
+
 /// The info of a struct; `None` where it isn't well formed.
 pub fn struct_info(
     types: &[Type],
@@ -196,8 +238,7 @@ pub fn struct_info(
 ) -> Option<TypeInfo>
     ensures { result ≡ struct_info types.now earlier.now own members.now span }
 {
-    match laid_of(types, earlier, own, members) {
-        Some(laid) => laid_info(&laid, span),
-        None => None,
-    }
+    let laid = laid_of(types, earlier, own, members)?;
+    let info = laid_info(&laid, span)?;
+    Some(shared_as(are_sources(members), info))
 }

@@ -255,9 +255,9 @@ static ARRAYS: [OverRow; 12] = [
 ];
 
 static STRUCTS: [OverRow; 9] = [
-    OverRow(Over::One(0, 4), 0xff, 4, Ok(16)),
-    OverRow(Over::One(4, 8), 0xff, 4, Ok(16)),
-    OverRow(Over::Two(0, 4, 8), 0xff, 4, Ok(16)),
+    OverRow(Over::One(0, 4), 0xf7, 4, Ok(16)),
+    OverRow(Over::One(4, 8), 0xf7, 4, Ok(16)),
+    OverRow(Over::Two(0, 4, 8), 0xf7, 4, Ok(16)),
     OverRow(Over::Two(0, 2, 8), 0, 0, Err(0)),
     OverRow(Over::Two(4, 0, 8), 0, 0, Err(0)),
     OverRow(Over::Two(0, 4, 4), 0, 0, Err(0)),
