@@ -12,6 +12,7 @@ import pathlib
 import sys
 
 import capabilities
+import computed
 import entries
 import fits
 import forms
@@ -20,8 +21,10 @@ import modules
 import needs
 import program
 import rules
+import shaders
 import statements
 import table
+import typed
 import unshown
 
 # How many documents stand in front.
@@ -38,7 +41,8 @@ TABLES = [
     entries.faults, entries.order, entries.meshes, entries.stages, entries.worked, entries.kept,
     modules.modules, modules.recorded, modules.fault_table,
     rules.built_ins, rules.interpolations, rules.items, rules.globals_, capabilities.needing,
-    unshown.unshown, forms.forms, program.flags, fits.unfit, fits.switches,
+    unshown.unshown, forms.forms, program.flags, fits.unfit, fits.switches, shaders.shaders, shaders.mistakes,
+    typed.accesses, typed.functions, typed.cooperatives, computed.uses, computed.stages, computed.types, computed.meshes,
 ]
 
 

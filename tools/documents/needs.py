@@ -99,11 +99,19 @@ def visited(body):
             yield from visited(part)
 
 
+def pointer_of(module, function, fact, handle):
+    """What an expression that is a pointer points to, and its space: by the facts, or, without any, of a global."""
+    if fact is not None:
+        return fact["info"]["types"][handle]["Value"]["Pointer"]
+    var = module["global_variables"][function["expressions"][handle]["GlobalVariable"]]
+    return {"base": var["ty"], "space": var["space"]}
+
+
 def atomic_needs(module, function, fact, held):
     """What an atomic operation needs, by the scalar of the atomic that it is on. Where all operations on wide integers are
     missing, some need the weaker capability alone, which the target then has; and where the weaker one is missing nothing asks
     for it."""
-    pointer = fact["info"]["types"][held["pointer"]]["Value"]["Pointer"]
+    pointer = pointer_of(module, function, fact, held["pointer"])
     of = module["types"][pointer["base"]]["inner"]["Atomic"]
     is_weak = held["fun"] in ("Min", "Max") and "Storage" in pointer["space"] and held["result"] is None
     if of["width"] == 8 and of["kind"] in ("Sint", "Uint") and not is_weak:
@@ -201,7 +209,8 @@ def entry_needs(document, entry, fact):
 
 def needs_of(document):
     """All that an accepted document needs, in the order of the judgement, each with the verdict where it is missing."""
-    module, facts = document["module"], document["facts"]
+    module = document["module"]
+    facts = document["facts"] or {name: [None] * len(module[name]) for name in ("functions", "entry_points")}
     for index, var in enumerate(module["global_variables"]):
         for needed, fault in global_needs(module, var):
             yield needed, verdicts.in_global(index, fault)

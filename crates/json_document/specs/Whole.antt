@@ -27,7 +27,7 @@ known_of d = made_of_six
     (codes "sizes") (list_of (optional u32_of)) (codes "mesh_analyses") (list_of (optional mesh_analysis_fact_of))
     (codes "functions") (list_of function_fact_of) (codes "entry_points") (list_of function_fact_of) d)
 
--- a document
+-- a document; its facts may be null
 abbrev pub document_of : Data → Option Document
 document_of d = made_of_six
     (λ flags capabilities subgroup_stages subgroup_operations m known. record {
@@ -42,4 +42,4 @@ document_of d = made_of_six
     })
     (six_fields (codes "flags") validation_flags_of (codes "capabilities") capabilities_of
     (codes "subgroup_stages") stages_of (codes "subgroup_operations") subgroup_operations_of
-    (codes "module") module_of (codes "facts") known_of d)
+    (codes "module") module_of (codes "facts") (optional known_of) d)

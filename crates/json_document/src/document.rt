@@ -1,4 +1,4 @@
-//! Documents: the settings of a validator, a module, and what is known of it.
+//! Documents: the settings of a validator, a module, and what is known of it, where it says so.
 
 ghost use Rattle.json_document.specs.Whole.{known_of, document_of};
 
@@ -21,12 +21,12 @@ pub struct Known {
     pub facts: Facts,
 }
 
-/// A document: settings, a module, and its facts.
+/// A document: settings, a module, and its facts. Without facts, what is known of the module is computed.
 #[derive(Drop)]
 pub struct Document {
     pub settings: Settings,
     pub module: Module,
-    pub known: Known,
+    pub known: Option<Known>,
 }
 
 impl FromJson for Known {

@@ -1,8 +1,9 @@
--- Objects with one member, and lists of two and of three items.
+-- Objects with one member, and lists of two, of three and of four items.
 use Rattle.std.proofs.Common.{◌≡◌, List, [], ◌∷◌, length, slice_get, Option, Some, None, string_bytes, nat_eq, false, refl, arith, rules}
 use Rattle.serde_json.proofs.Views.{Entry}
 use Rattle.serde_json.specs.View.{view, members_view}
 use Rattle.json_values.specs.Form.{only_member, holding, two_items, three_items}
+use Rattle.json_values.specs.Document.Forms.{four_components}
 use Rattle.serde_json.specs.Data.{Data}
 use Rattle.serde_json.specs.View.{items_view}
 use Rattle.serde_json.specs.declared.value.Value.{Value}
@@ -33,3 +34,12 @@ not_three f g h (x ∷ []) n = refl
 not_three f g h (x ∷ y ∷ []) n = refl
 not_three f g h (x ∷ y ∷ z ∷ []) n = absurd (n refl)
 not_three f g h (x ∷ y ∷ z ∷ w ∷ vs) n = refl
+
+-- a list that is not of four items is no pattern
+pub not_four : (vs : List Value) → (length vs ≡ 4 → ⊥) → four_components (items_view vs) ≡ None
+not_four [] n = refl
+not_four (x ∷ []) n = refl
+not_four (x ∷ y ∷ []) n = refl
+not_four (x ∷ y ∷ z ∷ []) n = refl
+not_four (x ∷ y ∷ z ∷ w ∷ []) n = absurd (n refl)
+not_four (x ∷ y ∷ z ∷ w ∷ v ∷ vs) n = refl

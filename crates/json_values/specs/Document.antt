@@ -4,6 +4,9 @@ pub mod Images
 pub mod Spaces
 pub mod Bindings
 pub mod Types
+pub mod FormNames
+pub mod Forms
+pub mod Literals
 pub mod Expressions
 pub mod Operations
 pub mod Leaves

@@ -1,12 +1,13 @@
 //! Judges a text: the verdict of a document.
 
-ghost use Rattle.std.specs.Prelude.{◌≡◌};
-ghost use Rattle.json_verdict.specs.Judges.{Judges, IsJudged, status_of};
+ghost use Rattle.std.specs.Prelude.{◌≡◌, IfOk};
+ghost use Rattle.json_verdict.specs.Judges.{Judges, IsGivenOf, IsJudgedAlone, IsJudgedBy, IsJudgedOver, status_of};
 
 use json_document::{Document, Known, ReadError, Unreadable, read_document};
-use naga_below::{Module, ModuleInfo, Settings};
+use naga_below::{Module, ModuleInfo, Sequence, Settings};
+use naga_layers::{Typed, global_types, type_infos};
 use naga_module::{Given, ModuleFault, Recorded, check_module};
-use std::alloc::Global;
+use std::alloc::{AllocError, Global};
 
 /// The verdict of a text.
 #[derive(Drop)]
@@ -34,14 +35,14 @@ impl Verdict {
     }
 }
 
-/// Judges the module of a document, over its facts, with its settings.
-fn judge_module(
+/// Judges a module with these settings, over these facts.
+fn judge_over(
     alloc: Global,
     settings: Settings,
     module: &Module,
     known: Known,
 ) -> Result<ModuleInfo, ModuleFault>
-    ensures { IsJudged (record { settings = settings; «module» = «module».now; known = known }) result }
+    ensures { IsJudgedOver known settings «module».now result }
 {
     let Known {
         type_infos,
@@ -55,7 +56,55 @@ fn judge_module(
     check_module(alloc, Recorded { facts }, settings, given, module)
 }
 
-/// Judges a text: reads a document, and judges its module with `check_module` over its facts.
+/// What is computed of a module: infos of its types, and types of its global expressions. Where one of these has no type,
+/// none is given, so that the module doesn't fit.
+fn computed(alloc: Global, module: &Module) -> Result<Given, AllocError>
+    ensures { IfOk result (IsGivenOf «module».now) }
+{
+    let types = type_infos(alloc, module)?;
+    let found = global_types(alloc, module)?;
+    let global_types = match found {
+        Ok(types) => types,
+        Err(_) => Sequence::new(alloc),
+    };
+    Ok(Given {
+        types: types.into_vec(),
+        global_types: global_types.into_vec(),
+    })
+}
+
+/// Judges a module with these settings, over what is computed of it.
+fn judge_alone(
+    alloc: Global,
+    settings: Settings,
+    module: &Module,
+) -> Result<ModuleInfo, ModuleFault>
+    ensures { IsJudgedAlone settings «module».now result }
+{
+    let given = match computed(alloc, module) {
+        Ok(given) => given,
+        Err(_) => return Err(ModuleFault::Memory),
+    };
+    check_module(alloc, Typed, settings, given, module)
+}
+
+/// Judges a module with these settings, over the facts where there are any.
+fn judge_module(
+    alloc: Global,
+    settings: Settings,
+    module: &Module,
+    known: Option<Known>,
+) -> Result<ModuleInfo, ModuleFault>
+    ensures { IsJudgedBy known settings «module».now result }
+{
+    match known {
+        Some(known) => judge_over(alloc, settings, module, known),
+        None => judge_alone(alloc, settings, module),
+    }
+}
+
+/// Judges a text: reads a document, and judges its module with `check_module` over its facts. Where these are null, that is
+/// over `Typed`, with the infos and types that are computed from the module.
 ///
 /// The text is JSON in UTF-8, of at most 16777216 bytes. docs/MODULES.md has its form.
 pub fn judge(alloc: Global, text: &[u8]) -> Verdict

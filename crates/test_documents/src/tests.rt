@@ -3,6 +3,7 @@
 mod expressions;
 mod leaves;
 mod limits;
+mod named;
 mod statements;
 mod types;
 mod whole;

@@ -1,5 +1,5 @@
 -- Expressions.
-use Rattle.std.specs.Prelude.{ℕ, List, [], ◌∷◌, codes, Option, Some, option_map}
+use Rattle.std.specs.Prelude.{ℕ, List, [], ◌∷◌, codes, Option, Some, option_map, if◌then◌else◌}
 use Rattle.serde_json.specs.Data.{Data}
 use Rattle.serde_json.specs.Find.{as_bool}
 use Rattle.ir_module.specs.declared.expressions.Literal.{Literal}
@@ -14,20 +14,30 @@ use Rattle.ir_module.specs.declared.expressions.Expression.{Expression}
 use Rattle.ir_module.specs.declared.expressions.Expression.TheVariants as expression
 use Rattle.json_values.specs.declared.read.expressions.ExpressionName.{ExpressionName}
 use Rattle.json_values.specs.declared.read.expressions.ExpressionName.TheVariants as expression_name
-use Rattle.json_values.specs.Form.{given, list_of, made_of_two, one_field, two_fields}
+use Rattle.json_values.specs.Form.{given, has_field, list_of, made_of_two, one_field, two_fields}
 use Rattle.json_values.specs.Numbers.{u32_of, u64_of}
 use Rattle.json_values.specs.Variants.{Variant, plain, holding, variant_of}
+use Rattle.json_values.specs.Document.Forms.{named_parts}
+use Rattle.json_values.specs.Document.Literals.{literal_by_value}
 use Rattle.json_values.specs.Document.Scalars.{scalar_of}
 
--- a literal
+-- a literal by its bits
 abbrev pub literal_of : Data → Option Literal
 literal_of d = made_of_two (λ scalar bits. record { scalar = scalar; bits = bits })
     (two_fields (codes "scalar") scalar_of (codes "bits") u64_of d)
+
+-- a literal by its bits, or by its value
+abbrev pub any_literal_of : Data → Option Literal
+any_literal_of d = if has_field (codes "scalar") d then literal_of d else literal_by_value d
 
 -- the expressions that one is made from, and a number for the rest
 abbrev pub parts_of : Data → Option Parts
 parts_of d = made_of_two (λ operands detail. record { operands = operands; detail = detail })
     (two_fields (codes "operands") (list_of u32_of) (codes "detail") u32_of d)
+
+-- these as they are, or by the named form of a kind
+abbrev pub any_parts_of : PartsName → Data → Option Parts
+any_parts_of kind d = if has_field (codes "operands") d then parts_of d else named_parts kind d
 
 -- an expression that is said by its parts
 abbrev pub with_parts : PartsName → Parts → Expression
@@ -120,9 +130,9 @@ subgroup_operation_result_of d = option_map expression.SubgroupOperationResult (
 abbrev pub expression_from : Variant BareName ExpressionName → Option Expression
 expression_from (plain bare.RayQueryProceedResult) = Some expression.RayQueryProceedResult
 expression_from (plain bare.SubgroupBallotResult) = Some expression.SubgroupBallotResult
-expression_from (holding (expression_name.Parts kind) d) = option_map (with_parts kind) (parts_of d)
+expression_from (holding (expression_name.Parts kind) d) = option_map (with_parts kind) (any_parts_of kind d)
 expression_from (holding (expression_name.Index kind) d) = option_map (with_index kind) (u32_of d)
-expression_from (holding expression_name.Literal d) = option_map expression.Literal (literal_of d)
+expression_from (holding expression_name.Literal d) = option_map expression.Literal (any_literal_of d)
 expression_from (holding expression_name.Compose d) = compose_of d
 expression_from (holding expression_name.Access d) = access_of d
 expression_from (holding expression_name.AccessIndex d) = access_index_of d

@@ -4,37 +4,50 @@ ghost use Rattle.std.specs.Prelude.{◌≡◌};
 ghost use Rattle.serde_json.specs.View.{view};
 ghost use Rattle.json_values.specs.Reads.{ReadsMeaning};
 ghost use Rattle.json_values.specs.Variants.{holding};
-ghost use Rattle.json_values.specs.Document.Expressions.{access_index_of, access_of, atomic_result_of, compose_of, expression_from, expression_of, literal_of, load_of, parts_of, subgroup_operation_result_of, with_index, with_parts, work_group_uniform_load_result_of};
+ghost use Rattle.json_values.specs.Document.Expressions.{access_index_of, access_of, any_literal_of, any_parts_of, atomic_result_of, compose_of, expression_from, expression_of, literal_of, load_of, parts_of, subgroup_operation_result_of, with_index, with_parts, work_group_uniform_load_result_of};
 
 use crate::read::error::ReadError;
-use crate::read::from_json::{FromJson, Held};
+use crate::read::from_json::{FromJson, Held, has_field};
+use crate::read::literals::read_literal_by_value;
+use crate::read::named::read_named_parts;
 use crate::read::variant::{Variant, read_variant};
 use ir_arena::Handle;
 use ir_module::{Expression, Literal, Operands};
 use serde_json::Value;
 use std::alloc::Global;
 
+/// A literal by its bits.
+fn read_literal_by_bits(alloc: Global, value: &Value) -> Result<Literal, ReadError>
+    ensures { ReadsMeaning (literal_of (view value.now)) result }
+{
+    let held = Held {
+        alloc,
+        value,
+        variant: None,
+    };
+    match held.two(&("scalar", "bits")) {
+        Ok((scalar, bits)) => Ok(Literal { scalar, bits }),
+        Err(error) => Err(error),
+    }
+}
+
 impl FromJson for Literal {
-    ghost stands_for = { literal_of };
+    ghost stands_for = { any_literal_of };
 
     fn from_json(alloc: Global, value: &Value) -> Result<Self, ReadError> {
-        let held = Held {
-            alloc,
-            value,
-            variant: None,
-        };
-        match held.two(&("scalar", "bits")) {
-            Ok((scalar, bits)) => Ok(Literal { scalar, bits }),
-            Err(error) => Err(error),
+        if has_field(value, "scalar") {
+            read_literal_by_bits(alloc, value)
+        } else {
+            read_literal_by_value(alloc, value)
         }
     }
 }
 
 /// The expressions that an expression is made from, and a number for the rest.
 #[derive(Drop)]
-struct Parts {
-    operands: Operands,
-    detail: u32,
+pub struct Parts {
+    pub operands: Operands,
+    pub detail: u32,
 }
 
 impl FromJson for Parts {
@@ -55,7 +68,7 @@ impl FromJson for Parts {
 
 /// The kinds of expressions that are said by their parts.
 #[derive(Clone, Copy)]
-enum PartsName {
+pub enum PartsName {
     Splat,
     Swizzle,
     ImageSample,
@@ -106,6 +119,17 @@ fn with_parts(kind: PartsName, parts: Parts) -> Expression
             operands,
             detail,
         },
+    }
+}
+
+/// The parts of an expression of a kind, as they are or by its named form.
+fn read_parts(kind: PartsName, held: Held) -> Result<Parts, ReadError>
+    ensures { ReadsMeaning (any_parts_of kind (view held.entry.value.now)) result }
+{
+    if has_field(held.value, "operands") {
+        held.read()
+    } else {
+        read_named_parts(kind, held)
     }
 }
 
@@ -293,7 +317,7 @@ fn read_held_expression(name: ExpressionName, held: Held) -> Result<Expression, 
     ensures { ReadsMeaning (expression_from (holding name (view held.entry.value.now))) result }
 {
     match name {
-        ExpressionName::Parts(kind) => match held.read() {
+        ExpressionName::Parts(kind) => match read_parts(kind, held) {
             Ok(parts) => Ok(with_parts(kind, parts)),
             Err(error) => Err(error),
         },

@@ -55,7 +55,7 @@ fn has_each(value: &Value, names: &[&'static str]) -> bool
 }
 
 /// Whether it is an object with so many fields.
-fn has_count(value: &Value, count: usize) -> bool
+pub fn has_count(value: &Value, count: usize) -> bool
     ensures { result ≡ has_count count (view value.now) }
 {
     match value.as_object() {

@@ -173,7 +173,7 @@ fn facts(rt: HostRuntime) {
         [
             r#"{"flags":[],"capabilities":[],"subgroup_stages":[],"module":{"types":[],"special_types":{"ray_desc":null},"constants":[],"overrides":[],"global_variables":[],"global_expressions":[],"functions":[],"entry_points":[]},"facts":{"type_infos":[],"global_types":[],"sizes":[],"mesh_analyses":[],"functions":[],"entry_points":[]}}"#,
             r#"{"settings":{"flags":[],"capabilities":[],"subgroup_stages":[],"subgroup_operations":[]},"module":{"types":[],"special_types":{"ray_desc":null},"constants":[],"overrides":[],"global_variables":[],"global_expressions":[],"functions":[],"entry_points":[]},"facts":{"type_infos":[],"global_types":[],"sizes":[],"mesh_analyses":[],"functions":[],"entry_points":[]}}"#,
-            r#"{"flags":[],"capabilities":[],"subgroup_stages":[],"subgroup_operations":[],"module":{"types":[],"special_types":{"ray_desc":null},"constants":[],"overrides":[],"global_variables":[],"global_expressions":[],"functions":[],"entry_points":[]},"facts":null}"#,
+            r#"{"flags":[],"capabilities":[],"subgroup_stages":[],"subgroup_operations":[],"module":{"types":[],"special_types":{"ray_desc":null},"constants":[],"overrides":[],"global_variables":[],"global_expressions":[],"functions":[],"entry_points":[]},"facts":[]}"#,
         ],
     );
 }
