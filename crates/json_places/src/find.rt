@@ -1,14 +1,17 @@
 //! Finds what has a fault, and where it stands.
 
-use crate::gaps::gap_of;
+use crate::gaps::{Gap, gap_of};
 use crate::lent::Lent;
 use crate::nodes::{Node, nodes_of};
 use crate::numbered::numbered_module;
 use crate::place::{Place, place_of};
 use crate::scope::{Reason, reason_of};
 use crate::spot::{Spot, number_in, spot_in_entry, spot_in_function};
-use naga_below::{EntryPoint, ExpressionError, Handle, Module, Settings, Span, Statement, tag};
-use naga_layers::Recorded;
+use naga_below::{
+    EntryPoint, ExpressionError, Function, Handle, Module, ModuleInfo, Settings, Span, Statement,
+    tag,
+};
+use naga_layers::{Recorded, Typed};
 use naga_module::{Given, ModuleFault, Subject, check_module};
 use naga_rules::{CallError, FunctionError};
 use naga_valid::EntryPointError;
@@ -28,10 +31,10 @@ pub struct Found {
 /// Finds where the fault of a module stands. None of `NotFit` and `Memory`, which name nothing, and out of memory.
 ///
 /// The module is judged once more, over the same facts, with spans that number its statements: so its own spans need not
-/// distinguish them. `given` is what it was judged with.
+/// distinguish them. `given` is what it was judged with. Without a layer the facts are computed.
 pub fn locate(
     alloc: Global,
-    layer: &Recorded,
+    layer: Option<&Recorded>,
     settings: Settings,
     given: Given,
     module: &Module,
@@ -59,7 +62,7 @@ fn spans_of(fault: &ModuleFault) -> &[Span] {
 /// The number of the statement that has a fault. None where no statement has it, and out of memory.
 fn number_of(
     alloc: Global,
-    layer: &Recorded,
+    layer: Option<&Recorded>,
     settings: Settings,
     given: Given,
     module: &Module,
@@ -71,16 +74,30 @@ fn number_of(
     let Ok(numbered) = numbered_module(alloc, module) else {
         return None;
     };
-    match check_module(alloc, Lent { layer }, settings, given, &numbered) {
+    match judge_again(alloc, layer, settings, given, &numbered) {
         Ok(_) => None,
         Err(again) => number_in(spans_of(&again)),
+    }
+}
+
+/// Judges a module over these facts, or over computed ones.
+fn judge_again(
+    alloc: Global,
+    layer: Option<&Recorded>,
+    settings: Settings,
+    given: Given,
+    module: &Module,
+) -> Result<ModuleInfo, ModuleFault> {
+    match layer {
+        Some(layer) => check_module(alloc, Lent { layer }, settings, given, module),
+        None => check_module(alloc, Typed, settings, given, module),
     }
 }
 
 /// What has a fault, with the number of its statement, if it has one.
 fn found_in(
     alloc: Global,
-    layer: &Recorded,
+    layer: Option<&Recorded>,
     module: &Module,
     fault: &ModuleFault,
     number: Option<usize>,
@@ -104,7 +121,7 @@ fn found_in(
             let nodes = nodes_of(alloc, &function.body)?;
             let nodes = nodes.as_slice();
             let subject = Subject::Function(*handle);
-            let spot = match gap_of(layer, module, &subject, function, error) {
+            let spot = match gap_in(layer, module, &subject, function, error) {
                 Some(gap) => Spot::Facts(gap),
                 None => spot_in_function(function, nodes, error, number),
             };
@@ -121,10 +138,24 @@ fn found_in(
     }
 }
 
+/// What is wrong with the facts of a function, if there are facts and its fault is that.
+fn gap_in(
+    layer: Option<&Recorded>,
+    module: &Module,
+    subject: &Subject,
+    function: &Function,
+    fault: &FunctionError,
+) -> Option<Gap> {
+    match layer {
+        Some(layer) => gap_of(layer, module, subject, function, fault),
+        None => None,
+    }
+}
+
 /// What of an entry point has a fault.
 fn found_in_entry(
     alloc: Global,
-    layer: &Recorded,
+    layer: Option<&Recorded>,
     module: &Module,
     index: usize,
     ep: &EntryPoint,
@@ -138,7 +169,7 @@ fn found_in_entry(
         return found_at(alloc, Subject::EntryPoint(index), spot, nodes, None);
     };
     let subject = Subject::EntryPoint(index);
-    let spot = match gap_of(layer, module, &subject, &ep.function, error) {
+    let spot = match gap_in(layer, module, &subject, &ep.function, error) {
         Some(gap) => Spot::Facts(gap),
         None => spot_in_function(&ep.function, nodes, error, number),
     };

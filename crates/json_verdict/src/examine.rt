@@ -1,9 +1,10 @@
 //! Judges a text, and finds where its fault stands.
 
-ghost use Rattle.std.specs.Prelude.{◌≡◌, ◌×◌, IfOk};
-ghost use Rattle.json_verdict.specs.Judges.{Judges, IsJudged};
+ghost use Rattle.std.specs.Prelude.{◌≡◌, IfOk};
+ghost use Rattle.json_verdict.specs.Judges.{Judges, IsJudgedBy, IsJudgedOver};
+ghost use Rattle.json_verdict.specs.Lends.{known_by, known_of};
 
-use crate::judge::Verdict;
+use crate::judge::{Verdict, computed, judge_alone};
 use json_document::{Document, Known, ReadError, read_document};
 use json_places::{Found, Lent, locate};
 use naga_below::{Module, ModuleInfo, Sequence, Settings, TypeInfo, TypeResolution};
@@ -24,6 +25,34 @@ pub struct Refused {
     pub module: Module,
     /// None where the fault names nothing, and where it couldn't be found, out of memory.
     pub found: Option<Found>,
+}
+
+/// What a document says is known of its module, with the layer that answers the facts: so these can be lent.
+#[derive(Drop)]
+struct Lendable {
+    type_infos: Sequence<TypeInfo>,
+    global_types: Sequence<TypeResolution>,
+    layer: Recorded,
+}
+
+/// The same, if there is anything.
+fn lend(known: Option<Known>) -> Option<Lendable>
+    ensures { known_by result ≡ known }
+{
+    match known {
+        Some(
+            Known {
+                type_infos,
+                global_types,
+                facts,
+            },
+        ) => Some(Lendable {
+            type_infos,
+            global_types,
+            layer: Recorded { facts },
+        }),
+        None => None,
+    }
 }
 
 /// What `check_module` is given beside a module: copies of these lists.
@@ -54,23 +83,53 @@ fn clone_types(alloc: Global, types: &[TypeResolution]) -> Result<Vec<TypeResolu
     Ok(made)
 }
 
-/// Judges the module of a document over facts that are lent.
+/// Judges a module over facts that are lent.
+fn judge_over_lent(
+    alloc: Global,
+    settings: Settings,
+    module: &Module,
+    known: &Lendable,
+) -> Result<ModuleInfo, ModuleFault>
+    ensures { IsJudgedOver (known_of known.now) settings «module».now result }
+{
+    let given = given_of(alloc, &known.type_infos, &known.global_types)?;
+    let layer = &known.layer;
+    check_module(alloc, Lent { layer }, settings, given, module)
+}
+
+/// Judges a module over facts that are lent, or else over computed ones.
 fn judge_lent(
     alloc: Global,
     settings: Settings,
     module: &Module,
-    type_infos: &Sequence<TypeInfo>,
-    global_types: &Sequence<TypeResolution>,
-    layer: &Recorded,
+    known: &Option<Lendable>,
 ) -> Result<ModuleInfo, ModuleFault>
-    ensures { IsJudged (record {
-      settings = settings;
-      «module» = «module».now;
-      known = record { type_infos = type_infos.now; global_types = global_types.now; facts = layer.now.facts };
-    }) result }
+    ensures { IsJudgedBy (known_by known.now) settings «module».now result }
 {
-    let given = given_of(alloc, type_infos, global_types)?;
-    check_module(alloc, Lent { layer }, settings, given, module)
+    match known {
+        Some(known) => judge_over_lent(alloc, settings, module, known),
+        None => judge_alone(alloc, settings, module),
+    }
+}
+
+/// Finds where a fault stands. None out of memory too.
+fn find(
+    alloc: Global,
+    settings: Settings,
+    module: &Module,
+    known: &Option<Lendable>,
+    fault: &ModuleFault,
+) -> Option<Found> {
+    match known {
+        Some(known) => match given_of(alloc, &known.type_infos, &known.global_types) {
+            Ok(given) => locate(alloc, Some(&known.layer), settings, given, module, fault),
+            Err(_) => None,
+        },
+        None => match computed(alloc, module) {
+            Ok(given) => locate(alloc, None, settings, given, module, fault),
+            Err(_) => None,
+        },
+    }
 }
 
 /// Judges a text as [`judge`](crate::judge::judge) does, and finds where the fault of a refused module stands.
@@ -97,22 +156,14 @@ pub fn examine(alloc: Global, text: &[u8]) -> Examined
         module,
         known,
     } = document;
-    let Known {
-        type_infos,
-        global_types,
-        facts,
-    } = known;
-    let layer = Recorded { facts };
-    match judge_lent(alloc, settings, &module, &type_infos, &global_types, &layer) {
+    let known = lend(known);
+    match judge_lent(alloc, settings, &module, &known) {
         Ok(infos) => Examined {
             verdict: Verdict::Accepted { module, infos },
             refused: None,
         },
         Err(fault) => {
-            let found = match given_of(alloc, &type_infos, &global_types) {
-                Ok(given) => locate(alloc, &layer, settings, given, &module, &fault),
-                Err(_) => None,
-            };
+            let found = find(alloc, settings, &module, &known, &fault);
             Examined {
                 verdict: Verdict::Refused(fault),
                 refused: Some(Refused { module, found }),

@@ -58,7 +58,7 @@ fn judge_over(
 
 /// What is computed of a module: infos of its types, and types of its global expressions. Where one of these has no type,
 /// none is given, so that the module doesn't fit.
-fn computed(alloc: Global, module: &Module) -> Result<Given, AllocError>
+pub(crate) fn computed(alloc: Global, module: &Module) -> Result<Given, AllocError>
     ensures { IfOk result (IsGivenOf «module».now) }
 {
     let types = type_infos(alloc, module)?;
@@ -74,7 +74,7 @@ fn computed(alloc: Global, module: &Module) -> Result<Given, AllocError>
 }
 
 /// Judges a module with these settings, over what is computed of it.
-fn judge_alone(
+pub(crate) fn judge_alone(
     alloc: Global,
     settings: Settings,
     module: &Module,
