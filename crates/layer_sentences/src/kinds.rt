@@ -1,0 +1,172 @@
+//! What kinds of expressions are called.
+
+use ir_module::expressions::Expression;
+
+const UNARY_OPERATORS: [&str; 3] = ["Negate", "LogicalNot", "BitwiseNot"];
+
+const BINARY_OPERATORS: [&str; 18] = [
+    "Add",
+    "Subtract",
+    "Multiply",
+    "Divide",
+    "Modulo",
+    "Equal",
+    "NotEqual",
+    "Less",
+    "LessEqual",
+    "Greater",
+    "GreaterEqual",
+    "And",
+    "ExclusiveOr",
+    "InclusiveOr",
+    "LogicalAnd",
+    "LogicalOr",
+    "ShiftLeft",
+    "ShiftRight",
+];
+
+const RELATIONAL_FUNCTIONS: [&str; 4] = ["All", "Any", "IsNan", "IsInf"];
+
+/// The functions of WGSL, by what `detail` says (docs/TYPES.md).
+const MATH_FUNCTIONS: [&str; 77] = [
+    "Abs",
+    "Min",
+    "Max",
+    "Clamp",
+    "Saturate",
+    "Cos",
+    "Cosh",
+    "Sin",
+    "Sinh",
+    "Tan",
+    "Tanh",
+    "Acos",
+    "Asin",
+    "Atan",
+    "Atan2",
+    "Asinh",
+    "Acosh",
+    "Atanh",
+    "Radians",
+    "Degrees",
+    "Ceil",
+    "Floor",
+    "Round",
+    "Fract",
+    "Trunc",
+    "Modf",
+    "Frexp",
+    "Ldexp",
+    "Exp",
+    "Exp2",
+    "Log",
+    "Log2",
+    "Pow",
+    "Dot",
+    "Dot4I8Packed",
+    "Dot4U8Packed",
+    "Cross",
+    "Distance",
+    "Length",
+    "Normalize",
+    "FaceForward",
+    "Reflect",
+    "Refract",
+    "Sign",
+    "Fma",
+    "Mix",
+    "Step",
+    "SmoothStep",
+    "Sqrt",
+    "InverseSqrt",
+    "Transpose",
+    "Determinant",
+    "QuantizeToF16",
+    "CountTrailingZeros",
+    "CountLeadingZeros",
+    "CountOneBits",
+    "ReverseBits",
+    "ExtractBits",
+    "InsertBits",
+    "FirstTrailingBit",
+    "FirstLeadingBit",
+    "Pack4x8snorm",
+    "Pack4x8unorm",
+    "Pack2x16snorm",
+    "Pack2x16unorm",
+    "Pack2x16float",
+    "Pack4xI8",
+    "Pack4xI8Clamp",
+    "Pack4xU8",
+    "Pack4xU8Clamp",
+    "Unpack4x8snorm",
+    "Unpack4x8unorm",
+    "Unpack2x16snorm",
+    "Unpack2x16unorm",
+    "Unpack2x16float",
+    "Unpack4xI8",
+    "Unpack4xU8",
+];
+
+/// The name at a place, or this one where there is none.
+fn name_at(names: &[&'static str], place: u32, none: &'static str) -> &'static str {
+    match names.get(place as usize) {
+        Some(name) => *name,
+        None => none,
+    }
+}
+
+/// What an expression is called: by its operator or function, where it has one, else by its kind.
+pub fn name_of(expression: &Expression) -> &'static str {
+    match expression {
+        Expression::Unary { detail, .. } => name_at(&UNARY_OPERATORS, *detail, "Unary"),
+        Expression::Binary { detail, .. } => name_at(&BINARY_OPERATORS, *detail, "Binary"),
+        Expression::Relational { detail, .. } => name_at(
+            &RELATIONAL_FUNCTIONS,
+            *detail,
+            "Relational",
+        ),
+        Expression::Math { detail, .. } => name_at(&MATH_FUNCTIONS, *detail, "Math"),
+        _ => kind_of(expression),
+    }
+}
+
+/// The name of the kind of an expression.
+fn kind_of(expression: &Expression) -> &'static str {
+    match expression {
+        Expression::Literal(_) => "Literal",
+        Expression::Constant(_) => "Constant",
+        Expression::Override(_) => "Override",
+        Expression::ZeroValue(_) => "ZeroValue",
+        Expression::Compose { .. } => "Compose",
+        Expression::Access { .. } => "Access",
+        Expression::AccessIndex { .. } => "AccessIndex",
+        Expression::FunctionArgument(_) => "FunctionArgument",
+        Expression::GlobalVariable(_) => "GlobalVariable",
+        Expression::LocalVariable(_) => "LocalVariable",
+        Expression::Load { .. } => "Load",
+        Expression::CallResult(_) => "CallResult",
+        Expression::AtomicResult { .. } => "AtomicResult",
+        Expression::WorkGroupUniformLoadResult { .. } => "WorkGroupUniformLoadResult",
+        Expression::RayQueryProceedResult => "RayQueryProceedResult",
+        Expression::SubgroupBallotResult => "SubgroupBallotResult",
+        Expression::SubgroupOperationResult { .. } => "SubgroupOperationResult",
+        Expression::Splat { .. } => "Splat",
+        Expression::Swizzle { .. } => "Swizzle",
+        Expression::ImageSample { .. } => "ImageSample",
+        Expression::ImageLoad { .. } => "ImageLoad",
+        Expression::ImageQuery { .. } => "ImageQuery",
+        Expression::Unary { .. } => "Unary",
+        Expression::Binary { .. } => "Binary",
+        Expression::Select { .. } => "Select",
+        Expression::Derivative { .. } => "Derivative",
+        Expression::Relational { .. } => "Relational",
+        Expression::Math { .. } => "Math",
+        Expression::As { .. } => "As",
+        Expression::ArrayLength { .. } => "ArrayLength",
+        Expression::RayQueryGetIntersection { .. } => "RayQueryGetIntersection",
+        Expression::RayQueryVertexPositions { .. } => "RayQueryVertexPositions",
+        Expression::CooperativeLoad { .. } => "CooperativeLoad",
+        Expression::CooperativeMultiplyAdd { .. } => "CooperativeMultiplyAdd",
+    }
+}

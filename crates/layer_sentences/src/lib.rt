@@ -1,0 +1,10 @@
+//! Why an expression has no type, in words for people ([`write_untyped`]).
+#![tactic(auto)]
+
+pub mod kinds;
+pub mod rules;
+pub mod types;
+pub mod untyped;
+
+pub use crate::rules::sentence_of;
+pub use crate::untyped::write_untyped;
