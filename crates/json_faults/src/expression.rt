@@ -1,26 +1,51 @@
 //! Faults of expressions.
 
-use crate::json::{ToJson, holding, pair};
-use crate::types::write_name;
+ghost use Rattle.json_faults.specs.Faults.{expression_error_form};
+
+use crate::parts::{holding, holding_pair};
+use crate::to_json::ToJson;
+use crate::writer::JsonWriter;
 use ir_facts::ExpressionError;
-use std::fmt;
+use std::alloc::AllocError;
 
 impl ToJson for ExpressionError {
-    fn write_json<W: fmt::Write>(&self, out: &mut W) -> fmt::Result {
+    ghost form = { expression_error_form };
+
+    #[tactic(auto, unfolding(crate::specs::Faults::expression_error_form))]
+    fn write_json(&self, out: &mut JsonWriter) -> Result<(), AllocError> {
         match self {
-            ExpressionError::ExpectedBindingArrayType(ty)
-            | ExpressionError::ExpectedImageType(ty) => holding(out, self, ty),
-            ExpressionError::InvalidImageClass(class) => holding(out, self, class),
-            ExpressionError::InvalidImageCoordinateType(dimension, coordinate) => {
-                pair(out, self, dimension, coordinate)
-            }
-            ExpressionError::InvalidImageArrayIndexType(index) => holding(out, self, index),
-            ExpressionError::InvalidImageStorageAccess(access) => holding(out, self, access),
-            ExpressionError::InvalidImageFormat(format) => holding(out, self, format),
-            ExpressionError::Lower(reason) => holding(out, self, reason),
-            ExpressionError::NotInScope
-            | ExpressionError::ExpectedGlobalVariable
-            | ExpressionError::InvalidImageArrayIndex => write_name(out, self),
+            ExpressionError::NotInScope => out.string("NotInScope"),
+            ExpressionError::ExpectedGlobalVariable => out.string("ExpectedGlobalVariable"),
+            ExpressionError::ExpectedBindingArrayType(ty) => holding(
+                out,
+                "ExpectedBindingArrayType",
+                ty,
+            ),
+            ExpressionError::ExpectedImageType(ty) => holding(out, "ExpectedImageType", ty),
+            ExpressionError::InvalidImageClass(class) => holding(out, "InvalidImageClass", class),
+            ExpressionError::InvalidImageCoordinateType(dimension, coordinate) => holding_pair(
+                out,
+                "InvalidImageCoordinateType",
+                dimension,
+                coordinate,
+            ),
+            ExpressionError::InvalidImageArrayIndex => out.string("InvalidImageArrayIndex"),
+            ExpressionError::InvalidImageArrayIndexType(index) => holding(
+                out,
+                "InvalidImageArrayIndexType",
+                index,
+            ),
+            ExpressionError::InvalidImageStorageAccess(access) => holding(
+                out,
+                "InvalidImageStorageAccess",
+                access,
+            ),
+            ExpressionError::InvalidImageFormat(format) => holding(
+                out,
+                "InvalidImageFormat",
+                format,
+            ),
+            ExpressionError::Lower(reason) => holding(out, "Lower", reason),
         }
     }
 }

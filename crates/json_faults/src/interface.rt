@@ -1,140 +1,253 @@
 //! Faults of globals, of inputs and outputs, and of entry points.
 
-use crate::json::{ToJson, holding, one_field, pair, triple, two_fields};
-use crate::types::write_name;
+ghost use Rattle.json_faults.specs.Interfaces.{global_error_form, varying_error_form, entry_error_form};
+
+use crate::parts::{holding, holding_field, holding_pair, holding_triple, holding_two};
+use crate::to_json::ToJson;
+use crate::writer::JsonWriter;
 use check_entry::error::EntryPointError;
 use check_errors::{GlobalVariableError, VaryingError};
-use std::fmt;
+use std::alloc::AllocError;
 
 impl ToJson for GlobalVariableError {
-    fn write_json<W: fmt::Write>(&self, out: &mut W) -> fmt::Result {
+    ghost form = { global_error_form };
+
+    #[tactic(auto, unfolding(crate::specs::Interfaces::global_error_form))]
+    fn write_json(&self, out: &mut JsonWriter) -> Result<(), AllocError> {
         match self {
-            GlobalVariableError::InvalidUsage(space)
-            | GlobalVariableError::InvalidType(space)
-            | GlobalVariableError::InitializerNotAllowed(space) => holding(out, self, space),
-            GlobalVariableError::InvalidBindingArray(ty) => holding(out, self, ty),
-            GlobalVariableError::MissingTypeFlags { required, seen } => {
-                two_fields(out, self, ("required", required), ("seen", seen))
-            }
-            GlobalVariableError::UnsupportedCapability(capabilities) => {
-                holding(out, self, capabilities)
-            }
-            GlobalVariableError::Alignment(space, ty, disalignment) => {
-                triple(out, self, space, ty, disalignment)
-            }
-            GlobalVariableError::InvalidImmediateType(error) => holding(out, self, error),
-            GlobalVariableError::InvalidBinding
-            | GlobalVariableError::InitializerExprType
-            | GlobalVariableError::InitializerType
-            | GlobalVariableError::StorageAddressSpaceWriteOnlyNotSupported
-            | GlobalVariableError::ZeroSizedTaskPayload
-            | GlobalVariableError::InvalidMemoryDecorationsAddressSpace
-            | GlobalVariableError::CoherentNotSupported
-            | GlobalVariableError::VolatileNotSupported => write_name(out, self),
+            GlobalVariableError::InvalidUsage(space) => holding(out, "InvalidUsage", space),
+            GlobalVariableError::InvalidType(space) => holding(out, "InvalidType", space),
+            GlobalVariableError::InvalidBindingArray(ty) => holding(out, "InvalidBindingArray", ty),
+            GlobalVariableError::MissingTypeFlags { required, seen } => holding_two(
+                out,
+                &("MissingTypeFlags", "required", "seen"),
+                required,
+                seen,
+            ),
+            GlobalVariableError::UnsupportedCapability(capabilities) => holding(
+                out,
+                "UnsupportedCapability",
+                capabilities,
+            ),
+            GlobalVariableError::InvalidBinding => out.string("InvalidBinding"),
+            GlobalVariableError::Alignment(space, ty, disalignment) => holding_triple(
+                out,
+                "Alignment",
+                space,
+                ty,
+                disalignment,
+            ),
+            GlobalVariableError::InitializerExprType => out.string("InitializerExprType"),
+            GlobalVariableError::InitializerType => out.string("InitializerType"),
+            GlobalVariableError::InitializerNotAllowed(space) => holding(
+                out,
+                "InitializerNotAllowed",
+                space,
+            ),
+            GlobalVariableError::StorageAddressSpaceWriteOnlyNotSupported => out.string(
+                "StorageAddressSpaceWriteOnlyNotSupported",
+            ),
+            GlobalVariableError::InvalidImmediateType(error) => holding(
+                out,
+                "InvalidImmediateType",
+                error,
+            ),
+            GlobalVariableError::ZeroSizedTaskPayload => out.string("ZeroSizedTaskPayload"),
+            GlobalVariableError::InvalidMemoryDecorationsAddressSpace => out.string(
+                "InvalidMemoryDecorationsAddressSpace",
+            ),
+            GlobalVariableError::CoherentNotSupported => out.string("CoherentNotSupported"),
+            GlobalVariableError::VolatileNotSupported => out.string("VolatileNotSupported"),
         }
     }
 }
 
 impl ToJson for VaryingError {
-    fn write_json<W: fmt::Write>(&self, out: &mut W) -> fmt::Result {
+    ghost form = { varying_error_form };
+
+    #[tactic(auto, unfolding(crate::specs::Interfaces::varying_error_form))]
+    fn write_json(&self, out: &mut JsonWriter) -> Result<(), AllocError> {
         match self {
-            VaryingError::InvalidType(ty) | VaryingError::NotIOShareableType(ty) => {
-                holding(out, self, ty)
-            }
-            VaryingError::InvalidInterpolationInStage(interpolation, stage) => {
-                pair(out, self, interpolation, stage)
-            }
+            VaryingError::InvalidType(ty) => holding(out, "InvalidType", ty),
+            VaryingError::NotIOShareableType(ty) => holding(out, "NotIOShareableType", ty),
+            VaryingError::InvalidInterpolationInStage(interpolation, stage) => holding_pair(
+                out,
+                "InvalidInterpolationInStage",
+                interpolation,
+                stage,
+            ),
             VaryingError::InvalidInterpolationSamplingCombination {
                 interpolation,
                 sampling,
-            } => two_fields(
+            } => holding_two(
                 out,
-                self,
-                ("interpolation", interpolation),
-                ("sampling", sampling),
+                &(
+                    "InvalidInterpolationSamplingCombination",
+                    "interpolation",
+                    "sampling",
+                ),
+                interpolation,
+                sampling,
             ),
-            VaryingError::InvalidBuiltInStage(built_in)
-            | VaryingError::DuplicateBuiltIn(built_in) => holding(out, self, built_in),
-            VaryingError::InvalidBuiltInType(built_in, ty) => pair(out, self, built_in, ty),
-            VaryingError::MemberMissingBinding(index) => holding(out, self, index),
-            VaryingError::BindingCollision { location }
-            | VaryingError::InvalidBlendSrcWithOtherBindings { location } => {
-                one_field(out, self, "location", location)
-            }
-            VaryingError::BindingCollisionBlendSrc { blend_src } => {
-                one_field(out, self, "blend_src", blend_src)
-            }
-            VaryingError::UnsupportedCapability(capabilities) => holding(out, self, capabilities),
-            VaryingError::InvalidInputAttributeInStage(attribute, stage)
-            | VaryingError::InvalidAttributeInStage(attribute, stage) => {
-                pair(out, self, attribute, stage)
-            }
+            VaryingError::InvalidInterpolationForInteger => out.string(
+                "InvalidInterpolationForInteger",
+            ),
+            VaryingError::MissingInterpolation => out.string("MissingInterpolation"),
+            VaryingError::InvalidBuiltInStage(built_in) => holding(
+                out,
+                "InvalidBuiltInStage",
+                built_in,
+            ),
+            VaryingError::InvalidBuiltInType(built_in, ty) => holding_pair(
+                out,
+                "InvalidBuiltInType",
+                built_in,
+                ty,
+            ),
+            VaryingError::MissingBinding => out.string("MissingBinding"),
+            VaryingError::MemberMissingBinding(index) => holding(
+                out,
+                "MemberMissingBinding",
+                index,
+            ),
+            VaryingError::BindingCollision { location } => holding_field(
+                out,
+                &("BindingCollision", "location"),
+                location,
+            ),
+            VaryingError::BindingCollisionBlendSrc { blend_src } => holding_field(
+                out,
+                &("BindingCollisionBlendSrc", "blend_src"),
+                blend_src,
+            ),
+            VaryingError::DuplicateBuiltIn(built_in) => holding(out, "DuplicateBuiltIn", built_in),
+            VaryingError::UnsupportedCapability(capabilities) => holding(
+                out,
+                "UnsupportedCapability",
+                capabilities,
+            ),
+            VaryingError::InvalidInputAttributeInStage(attribute, stage) => holding_pair(
+                out,
+                "InvalidInputAttributeInStage",
+                attribute,
+                stage,
+            ),
+            VaryingError::InvalidAttributeInStage(attribute, stage) => holding_pair(
+                out,
+                "InvalidAttributeInStage",
+                attribute,
+                stage,
+            ),
             VaryingError::InvalidBlendSrcIndex {
                 location,
                 blend_src,
-            } => two_fields(out, self, ("location", location), ("blend_src", blend_src)),
-            VaryingError::IncompleteBlendSrcUsage { present_blend_src } => {
-                one_field(out, self, "present_blend_src", present_blend_src)
-            }
+            } => holding_two(
+                out,
+                &("InvalidBlendSrcIndex", "location", "blend_src"),
+                location,
+                blend_src,
+            ),
+            VaryingError::IncompleteBlendSrcUsage { present_blend_src } => holding_field(
+                out,
+                &("IncompleteBlendSrcUsage", "present_blend_src"),
+                present_blend_src,
+            ),
+            VaryingError::InvalidBlendSrcWithOtherBindings { location } => holding_field(
+                out,
+                &("InvalidBlendSrcWithOtherBindings", "location"),
+                location,
+            ),
             VaryingError::BlendSrcOutputTypeMismatch {
                 blend_src_0_type,
                 blend_src_1_type,
-            } => two_fields(
+            } => holding_two(
                 out,
-                self,
-                ("blend_src_0_type", blend_src_0_type),
-                ("blend_src_1_type", blend_src_1_type),
+                &(
+                    "BlendSrcOutputTypeMismatch",
+                    "blend_src_0_type",
+                    "blend_src_1_type",
+                ),
+                blend_src_0_type,
+                blend_src_1_type,
             ),
-            VaryingError::InvalidInterpolationForInteger
-            | VaryingError::MissingInterpolation
-            | VaryingError::MissingBinding
-            | VaryingError::BlendSrcNotOnStructMember
-            | VaryingError::InvalidMultiDimensionalSubgroupBuiltIn
-            | VaryingError::InvalidPerPrimitive
-            | VaryingError::MissingPerPrimitive
-            | VaryingError::PerVertexNotArrayOfThree
-            | VaryingError::InvalidPerVertexSampling => write_name(out, self),
+            VaryingError::BlendSrcNotOnStructMember => out.string("BlendSrcNotOnStructMember"),
+            VaryingError::InvalidMultiDimensionalSubgroupBuiltIn => out.string(
+                "InvalidMultiDimensionalSubgroupBuiltIn",
+            ),
+            VaryingError::InvalidPerPrimitive => out.string("InvalidPerPrimitive"),
+            VaryingError::MissingPerPrimitive => out.string("MissingPerPrimitive"),
+            VaryingError::PerVertexNotArrayOfThree => out.string("PerVertexNotArrayOfThree"),
+            VaryingError::InvalidPerVertexSampling => out.string("InvalidPerVertexSampling"),
         }
     }
 }
 
 impl ToJson for EntryPointError {
-    fn write_json<W: fmt::Write>(&self, out: &mut W) -> fmt::Result {
+    ghost form = { entry_error_form };
+
+    #[tactic(auto, unfolding(crate::specs::Interfaces::entry_error_form))]
+    fn write_json(&self, out: &mut JsonWriter) -> Result<(), AllocError> {
         match self {
-            EntryPointError::InvalidGlobalUsage(global, used) => pair(out, self, global, used),
-            EntryPointError::BindingCollision(global) => holding(out, self, global),
-            EntryPointError::Argument(index, error) => pair(out, self, index, error),
-            EntryPointError::Result(error) => holding(out, self, error),
-            EntryPointError::Function(error) => holding(out, self, error),
-            EntryPointError::UnsupportedCapability(capabilities) => {
-                holding(out, self, capabilities)
-            }
-            EntryPointError::TaskPayloadTooSmall(size) => holding(out, self, size),
-            // its `Display` is a sentence, and not its name
-            EntryPointError::RayPayloadInInvalidStage(stage) => {
-                holding(out, "RayPayloadInInvalidStage", stage)
-            }
-            EntryPointError::IncomingRayPayloadInInvalidStage(stage) => holding(out, self, stage),
-            EntryPointError::Conflict
-            | EntryPointError::MissingVertexOutputPosition
-            | EntryPointError::UnexpectedEarlyDepthTest
-            | EntryPointError::UnexpectedWorkgroupSize
-            | EntryPointError::OutOfRangeWorkgroupSize
-            | EntryPointError::ForbiddenStageOperations
-            | EntryPointError::MoreThanOneImmediateUsed
-            | EntryPointError::ExpectedMeshShaderAttributes
-            | EntryPointError::UnexpectedMeshShaderAttributes
-            | EntryPointError::UnexpectedTaskPayload
-            | EntryPointError::TaskPayloadWrongAddressSpace
-            | EntryPointError::WrongTaskPayloadUsed
-            | EntryPointError::WrongTaskShaderEntryResult
-            | EntryPointError::ExpectedTaskPayload
-            | EntryPointError::BadMeshOutputVariableType
-            | EntryPointError::BadMeshOutputVariableField
-            | EntryPointError::UnexpectedMeshShaderEntryResult
-            | EntryPointError::InvalidMeshOutputType
-            | EntryPointError::InvalidMeshPrimitiveOutputType
-            | EntryPointError::WrongMeshOutputAddressSpace => write_name(out, self),
+            EntryPointError::Conflict => out.string("Conflict"),
+            EntryPointError::MissingVertexOutputPosition => out.string(
+                "MissingVertexOutputPosition",
+            ),
+            EntryPointError::UnexpectedEarlyDepthTest => out.string("UnexpectedEarlyDepthTest"),
+            EntryPointError::UnexpectedWorkgroupSize => out.string("UnexpectedWorkgroupSize"),
+            EntryPointError::OutOfRangeWorkgroupSize => out.string("OutOfRangeWorkgroupSize"),
+            EntryPointError::ForbiddenStageOperations => out.string("ForbiddenStageOperations"),
+            EntryPointError::InvalidGlobalUsage(global, used) => holding_pair(
+                out,
+                "InvalidGlobalUsage",
+                global,
+                used,
+            ),
+            EntryPointError::MoreThanOneImmediateUsed => out.string("MoreThanOneImmediateUsed"),
+            EntryPointError::BindingCollision(global) => holding(out, "BindingCollision", global),
+            EntryPointError::Argument(index, error) => holding_pair(out, "Argument", index, error),
+            EntryPointError::Result(error) => holding(out, "Result", error),
+            EntryPointError::Function(error) => holding(out, "Function", error),
+            EntryPointError::UnsupportedCapability(capabilities) => holding(
+                out,
+                "UnsupportedCapability",
+                capabilities,
+            ),
+            EntryPointError::ExpectedMeshShaderAttributes => out.string(
+                "ExpectedMeshShaderAttributes",
+            ),
+            EntryPointError::UnexpectedMeshShaderAttributes => out.string(
+                "UnexpectedMeshShaderAttributes",
+            ),
+            EntryPointError::UnexpectedTaskPayload => out.string("UnexpectedTaskPayload"),
+            EntryPointError::TaskPayloadWrongAddressSpace => out.string(
+                "TaskPayloadWrongAddressSpace",
+            ),
+            EntryPointError::WrongTaskPayloadUsed => out.string("WrongTaskPayloadUsed"),
+            EntryPointError::WrongTaskShaderEntryResult => out.string("WrongTaskShaderEntryResult"),
+            EntryPointError::ExpectedTaskPayload => out.string("ExpectedTaskPayload"),
+            EntryPointError::BadMeshOutputVariableType => out.string("BadMeshOutputVariableType"),
+            EntryPointError::BadMeshOutputVariableField => out.string("BadMeshOutputVariableField"),
+            EntryPointError::UnexpectedMeshShaderEntryResult => out.string(
+                "UnexpectedMeshShaderEntryResult",
+            ),
+            EntryPointError::InvalidMeshOutputType => out.string("InvalidMeshOutputType"),
+            EntryPointError::InvalidMeshPrimitiveOutputType => out.string(
+                "InvalidMeshPrimitiveOutputType",
+            ),
+            EntryPointError::WrongMeshOutputAddressSpace => out.string(
+                "WrongMeshOutputAddressSpace",
+            ),
+            EntryPointError::TaskPayloadTooSmall(size) => holding(out, "TaskPayloadTooSmall", size),
+            EntryPointError::RayPayloadInInvalidStage(stage) => holding(
+                out,
+                "RayPayloadInInvalidStage",
+                stage,
+            ),
+            EntryPointError::IncomingRayPayloadInInvalidStage(stage) => holding(
+                out,
+                "IncomingRayPayloadInInvalidStage",
+                stage,
+            ),
         }
     }
 }

@@ -1,247 +1,122 @@
 //! Types, and what they are made from.
 
-use crate::json::{ToJson, field, holding, one_field, three_fields, two_fields, write_set};
-use ir_facts::{Disalignment, ImmediateError};
-use ir_flags::{
-    Capabilities, GlobalUse, ShaderStages, StorageAccess, SubgroupOperationSet, TypeFlags,
+ghost use Rattle.json_faults.specs.Types.{scalar_form, member_form, space_form, image_class_form, array_size_form, atomic_function_form, switch_value_form, binding_form, type_form};
+
+use crate::parts::{
+    four_fields, holding, holding_field, holding_five, holding_three, holding_two, two_fields,
 };
-use ir_module::{AtomicFunction, ShaderStage, SwitchValue};
-use ir_types::{
-    AddressSpace, ArraySize, Binding, BuiltIn, ImageClass, ImageDimension, Interpolation, Sampling,
-    Scalar, ScalarKind, StorageFormat, StructMember, TypeInner, VectorSize,
-};
-use std::fmt;
-
-impl ToJson for StorageAccess {
-    fn write_json<W: fmt::Write>(&self, out: &mut W) -> fmt::Result {
-        write_set(out, self)
-    }
-}
-
-impl ToJson for GlobalUse {
-    fn write_json<W: fmt::Write>(&self, out: &mut W) -> fmt::Result {
-        write_set(out, self)
-    }
-}
-
-impl ToJson for Capabilities {
-    fn write_json<W: fmt::Write>(&self, out: &mut W) -> fmt::Result {
-        write_set(out, self)
-    }
-}
-
-impl ToJson for TypeFlags {
-    fn write_json<W: fmt::Write>(&self, out: &mut W) -> fmt::Result {
-        write_set(out, self)
-    }
-}
-
-impl ToJson for SubgroupOperationSet {
-    fn write_json<W: fmt::Write>(&self, out: &mut W) -> fmt::Result {
-        write_set(out, self)
-    }
-}
-
-impl ToJson for ShaderStages {
-    fn write_json<W: fmt::Write>(&self, out: &mut W) -> fmt::Result {
-        write_set(out, self)
-    }
-}
-
-/// A value whose `Debug` is its name, in quotes.
-pub fn write_name<T: fmt::Debug, W: fmt::Write>(out: &mut W, named: &T) -> fmt::Result {
-    write!(out, "\"{named:?}\"")
-}
-
-impl ToJson for ScalarKind {
-    fn write_json<W: fmt::Write>(&self, out: &mut W) -> fmt::Result {
-        write_name(out, self)
-    }
-}
-
-impl ToJson for VectorSize {
-    fn write_json<W: fmt::Write>(&self, out: &mut W) -> fmt::Result {
-        write_name(out, self)
-    }
-}
-
-impl ToJson for ImageDimension {
-    fn write_json<W: fmt::Write>(&self, out: &mut W) -> fmt::Result {
-        write_name(out, self)
-    }
-}
-
-impl ToJson for StorageFormat {
-    fn write_json<W: fmt::Write>(&self, out: &mut W) -> fmt::Result {
-        write_name(out, self)
-    }
-}
-
-impl ToJson for Interpolation {
-    fn write_json<W: fmt::Write>(&self, out: &mut W) -> fmt::Result {
-        write_name(out, self)
-    }
-}
-
-impl ToJson for Sampling {
-    fn write_json<W: fmt::Write>(&self, out: &mut W) -> fmt::Result {
-        write_name(out, self)
-    }
-}
-
-impl ToJson for ShaderStage {
-    fn write_json<W: fmt::Write>(&self, out: &mut W) -> fmt::Result {
-        write_name(out, self)
-    }
-}
-
-impl ToJson for Disalignment {
-    fn write_json<W: fmt::Write>(&self, out: &mut W) -> fmt::Result {
-        self.0.write_json(out)
-    }
-}
-
-impl ToJson for ImmediateError {
-    fn write_json<W: fmt::Write>(&self, out: &mut W) -> fmt::Result {
-        self.0.write_json(out)
-    }
-}
+use crate::to_json::ToJson;
+use crate::writer::JsonWriter;
+use ir_module::{AtomicFunction, SwitchValue};
+use ir_types::{AddressSpace, ArraySize, Binding, ImageClass, Scalar, StructMember, TypeInner};
+use std::alloc::AllocError;
 
 impl ToJson for Scalar {
-    fn write_json<W: fmt::Write>(&self, out: &mut W) -> fmt::Result {
-        field(out, "{", "kind", &self.kind)?;
-        field(out, ",", "width", &self.width)?;
-        out.write_char('}')
+    ghost form = { scalar_form };
+
+    #[tactic(auto, unfolding(crate::specs::Types::scalar_form))]
+    fn write_json(&self, out: &mut JsonWriter) -> Result<(), AllocError> {
+        two_fields(out, &("kind", "width"), &self.kind, &self.width)
     }
 }
 
 impl ToJson for AddressSpace {
-    fn write_json<W: fmt::Write>(&self, out: &mut W) -> fmt::Result {
+    ghost form = { space_form };
+
+    #[tactic(auto, unfolding(crate::specs::Types::space_form))]
+    fn write_json(&self, out: &mut JsonWriter) -> Result<(), AllocError> {
         match self {
-            AddressSpace::Function
-            | AddressSpace::Private
-            | AddressSpace::WorkGroup
-            | AddressSpace::Uniform
-            | AddressSpace::Handle
-            | AddressSpace::Immediate
-            | AddressSpace::TaskPayload
-            | AddressSpace::RayPayload
-            | AddressSpace::IncomingRayPayload => write_name(out, self),
-            AddressSpace::Storage { access } => one_field(out, "Storage", "access", access),
+            AddressSpace::Function => out.string("Function"),
+            AddressSpace::Private => out.string("Private"),
+            AddressSpace::WorkGroup => out.string("WorkGroup"),
+            AddressSpace::Uniform => out.string("Uniform"),
+            AddressSpace::Storage { access } => holding_field(out, &("Storage", "access"), access),
+            AddressSpace::Handle => out.string("Handle"),
+            AddressSpace::Immediate => out.string("Immediate"),
+            AddressSpace::TaskPayload => out.string("TaskPayload"),
+            AddressSpace::RayPayload => out.string("RayPayload"),
+            AddressSpace::IncomingRayPayload => out.string("IncomingRayPayload"),
         }
     }
 }
 
 impl ToJson for ImageClass {
-    fn write_json<W: fmt::Write>(&self, out: &mut W) -> fmt::Result {
+    ghost form = { image_class_form };
+
+    #[tactic(auto, unfolding(crate::specs::Types::image_class_form))]
+    fn write_json(&self, out: &mut JsonWriter) -> Result<(), AllocError> {
         match self {
-            ImageClass::Sampled { kind, multi } => {
-                two_fields(out, "Sampled", ("kind", kind), ("multi", multi))
-            }
-            ImageClass::Depth { multi } => one_field(out, "Depth", "multi", multi),
-            ImageClass::External => write_name(out, self),
-            ImageClass::Storage { format, access } => {
-                two_fields(out, "Storage", ("format", format), ("access", access))
-            }
+            ImageClass::Sampled { kind, multi } => holding_two(
+                out,
+                &("Sampled", "kind", "multi"),
+                kind,
+                multi,
+            ),
+            ImageClass::Depth { multi } => holding_field(out, &("Depth", "multi"), multi),
+            ImageClass::External => out.string("External"),
+            ImageClass::Storage { format, access } => holding_two(
+                out,
+                &("Storage", "format", "access"),
+                format,
+                access,
+            ),
         }
     }
 }
 
 impl ToJson for ArraySize {
-    fn write_json<W: fmt::Write>(&self, out: &mut W) -> fmt::Result {
+    ghost form = { array_size_form };
+
+    #[tactic(auto, unfolding(crate::specs::Types::array_size_form))]
+    fn write_json(&self, out: &mut JsonWriter) -> Result<(), AllocError> {
         match self {
             ArraySize::Constant(count) => holding(out, "Constant", &count.get()),
             ArraySize::Pending(size) => holding(out, "Pending", size),
-            ArraySize::Dynamic => write_name(out, self),
+            ArraySize::Dynamic => out.string("Dynamic"),
         }
     }
 }
 
 impl ToJson for AtomicFunction {
-    fn write_json<W: fmt::Write>(&self, out: &mut W) -> fmt::Result {
+    ghost form = { atomic_function_form };
+
+    #[tactic(auto, unfolding(crate::specs::Types::atomic_function_form))]
+    fn write_json(&self, out: &mut JsonWriter) -> Result<(), AllocError> {
         match self {
-            AtomicFunction::Add
-            | AtomicFunction::Subtract
-            | AtomicFunction::And
-            | AtomicFunction::ExclusiveOr
-            | AtomicFunction::InclusiveOr
-            | AtomicFunction::Min
-            | AtomicFunction::Max => write_name(out, self),
-            AtomicFunction::Exchange { compare } => one_field(out, "Exchange", "compare", compare),
+            AtomicFunction::Add => out.string("Add"),
+            AtomicFunction::Subtract => out.string("Subtract"),
+            AtomicFunction::And => out.string("And"),
+            AtomicFunction::ExclusiveOr => out.string("ExclusiveOr"),
+            AtomicFunction::InclusiveOr => out.string("InclusiveOr"),
+            AtomicFunction::Min => out.string("Min"),
+            AtomicFunction::Max => out.string("Max"),
+            AtomicFunction::Exchange { compare } => holding_field(
+                out,
+                &("Exchange", "compare"),
+                compare,
+            ),
         }
     }
 }
 
 impl ToJson for SwitchValue {
-    fn write_json<W: fmt::Write>(&self, out: &mut W) -> fmt::Result {
+    ghost form = { switch_value_form };
+
+    #[tactic(auto, unfolding(crate::specs::Types::switch_value_form))]
+    fn write_json(&self, out: &mut JsonWriter) -> Result<(), AllocError> {
         match self {
             SwitchValue::I32(value) => holding(out, "I32", value),
             SwitchValue::U32(value) => holding(out, "U32", value),
-            SwitchValue::Default => write_name(out, self),
-        }
-    }
-}
-
-impl ToJson for BuiltIn {
-    fn write_json<W: fmt::Write>(&self, out: &mut W) -> fmt::Result {
-        match self {
-            BuiltIn::Position { invariant } => one_field(out, "Position", "invariant", invariant),
-            BuiltIn::Barycentric { perspective } => {
-                one_field(out, "Barycentric", "perspective", perspective)
-            }
-            BuiltIn::BaseInstance
-            | BuiltIn::BaseVertex
-            | BuiltIn::VertexIndex
-            | BuiltIn::InstanceIndex
-            | BuiltIn::DrawIndex
-            | BuiltIn::ClipDistances
-            | BuiltIn::CullDistance
-            | BuiltIn::PointSize
-            | BuiltIn::PointCoord
-            | BuiltIn::ViewIndex
-            | BuiltIn::FragDepth
-            | BuiltIn::FrontFacing
-            | BuiltIn::PrimitiveIndex
-            | BuiltIn::SampleIndex
-            | BuiltIn::SampleMask
-            | BuiltIn::LocalInvocationIndex
-            | BuiltIn::GlobalInvocationId
-            | BuiltIn::LocalInvocationId
-            | BuiltIn::WorkGroupId
-            | BuiltIn::WorkGroupSize
-            | BuiltIn::NumWorkGroups
-            | BuiltIn::NumSubgroups
-            | BuiltIn::SubgroupId
-            | BuiltIn::SubgroupSize
-            | BuiltIn::SubgroupInvocationId
-            | BuiltIn::CullPrimitive
-            | BuiltIn::PointIndex
-            | BuiltIn::LineIndices
-            | BuiltIn::TriangleIndices
-            | BuiltIn::MeshTaskSize
-            | BuiltIn::RayInvocationId
-            | BuiltIn::NumRayInvocations
-            | BuiltIn::InstanceCustomData
-            | BuiltIn::GeometryIndex
-            | BuiltIn::HitKind
-            | BuiltIn::WorldRayOrigin
-            | BuiltIn::WorldRayDirection
-            | BuiltIn::ObjectRayOrigin
-            | BuiltIn::ObjectRayDirection
-            | BuiltIn::RayTmin
-            | BuiltIn::RayTCurrentMax
-            | BuiltIn::ObjectToWorld
-            | BuiltIn::WorldToObject
-            | BuiltIn::VertexCount
-            | BuiltIn::PrimitiveCount
-            | BuiltIn::Vertices
-            | BuiltIn::Primitives => write_name(out, self),
+            SwitchValue::Default => out.string("Default"),
         }
     }
 }
 
 impl ToJson for Binding {
-    fn write_json<W: fmt::Write>(&self, out: &mut W) -> fmt::Result {
+    ghost form = { binding_form };
+
+    #[tactic(auto, unfolding(crate::specs::Types::binding_form))]
+    fn write_json(&self, out: &mut JsonWriter) -> Result<(), AllocError> {
         match self {
             Binding::BuiltIn(built_in) => holding(out, "BuiltIn", built_in),
             Binding::Location {
@@ -250,104 +125,135 @@ impl ToJson for Binding {
                 sampling,
                 blend_src,
                 per_primitive,
-            } => {
-                field(out, "{\"Location\":{", "location", location)?;
-                field(out, ",", "interpolation", interpolation)?;
-                field(out, ",", "sampling", sampling)?;
-                field(out, ",", "blend_src", blend_src)?;
-                field(out, ",", "per_primitive", per_primitive)?;
-                out.write_str("}}")
-            }
+            } => holding_five(
+                out,
+                &(
+                    "Location",
+                    "location",
+                    "interpolation",
+                    "sampling",
+                    "blend_src",
+                    "per_primitive",
+                ),
+                location,
+                interpolation,
+                sampling,
+                blend_src,
+                per_primitive,
+            ),
         }
     }
 }
 
 impl ToJson for StructMember {
-    fn write_json<W: fmt::Write>(&self, out: &mut W) -> fmt::Result {
-        field(out, "{", "name", &self.name)?;
-        field(out, ",", "ty", &self.ty)?;
-        field(out, ",", "binding", &self.binding)?;
-        field(out, ",", "offset", &self.offset)?;
-        out.write_char('}')
+    ghost form = { member_form };
+
+    #[tactic(auto, unfolding(crate::specs::Types::member_form))]
+    fn write_json(&self, out: &mut JsonWriter) -> Result<(), AllocError> {
+        four_fields(
+            out,
+            &("name", "ty", "binding", "offset"),
+            &self.name,
+            &self.ty,
+            &self.binding,
+            &self.offset,
+        )
     }
 }
 
 impl ToJson for TypeInner {
-    fn write_json<W: fmt::Write>(&self, out: &mut W) -> fmt::Result {
+    ghost form = { type_form };
+
+    #[tactic(auto, unfolding(crate::specs::Types::type_form))]
+    fn write_json(&self, out: &mut JsonWriter) -> Result<(), AllocError> {
         match self {
             TypeInner::Scalar(scalar) => holding(out, "Scalar", scalar),
-            TypeInner::Vector { size, scalar } => {
-                two_fields(out, "Vector", ("size", size), ("scalar", scalar))
-            }
+            TypeInner::Vector { size, scalar } => holding_two(
+                out,
+                &("Vector", "size", "scalar"),
+                size,
+                scalar,
+            ),
             TypeInner::Matrix {
                 columns,
                 rows,
                 scalar,
-            } => three_fields(
+            } => holding_three(
                 out,
-                "Matrix",
-                ("columns", columns),
-                ("rows", rows),
-                ("scalar", scalar),
+                &("Matrix", "columns", "rows", "scalar"),
+                columns,
+                rows,
+                scalar,
             ),
-            TypeInner::CooperativeMatrix { scalar, detail } => {
-                two_fields(
-                    out,
-                    "CooperativeMatrix",
-                    ("scalar", scalar),
-                    ("detail", detail),
-                )
-            }
+            TypeInner::CooperativeMatrix { scalar, detail } => holding_two(
+                out,
+                &("CooperativeMatrix", "scalar", "detail"),
+                scalar,
+                detail,
+            ),
             TypeInner::Atomic(scalar) => holding(out, "Atomic", scalar),
-            TypeInner::Pointer { base, space } => {
-                two_fields(out, "Pointer", ("base", base), ("space", space))
-            }
+            TypeInner::Pointer { base, space } => holding_two(
+                out,
+                &("Pointer", "base", "space"),
+                base,
+                space,
+            ),
             TypeInner::ValuePointer {
                 size,
                 scalar,
                 space,
-            } => three_fields(
+            } => holding_three(
                 out,
-                "ValuePointer",
-                ("size", size),
-                ("scalar", scalar),
-                ("space", space),
+                &("ValuePointer", "size", "scalar", "space"),
+                size,
+                scalar,
+                space,
             ),
-            TypeInner::Array { base, size, stride } => {
-                three_fields(
-                    out,
-                    "Array",
-                    ("base", base),
-                    ("size", size),
-                    ("stride", stride),
-                )
-            }
-            TypeInner::Struct { members, span } => {
-                two_fields(out, "Struct", ("members", members), ("span", span))
-            }
+            TypeInner::Array { base, size, stride } => holding_three(
+                out,
+                &("Array", "base", "size", "stride"),
+                base,
+                size,
+                stride,
+            ),
+            TypeInner::Struct { members, span } => holding_two(
+                out,
+                &("Struct", "members", "span"),
+                members,
+                span,
+            ),
             TypeInner::Image {
                 dim,
                 arrayed,
                 class,
-            } => three_fields(
+            } => holding_three(
                 out,
-                "Image",
-                ("dim", dim),
-                ("arrayed", arrayed),
-                ("class", class),
+                &("Image", "dim", "arrayed", "class"),
+                dim,
+                arrayed,
+                class,
             ),
-            TypeInner::Sampler { comparison } => {
-                one_field(out, "Sampler", "comparison", comparison)
-            }
-            TypeInner::AccelerationStructure { vertex_return } => {
-                one_field(out, "AccelerationStructure", "vertex_return", vertex_return)
-            }
-            TypeInner::RayQuery { vertex_return } => {
-                one_field(out, "RayQuery", "vertex_return", vertex_return)
-            }
-            TypeInner::BindingArray { base, size } => {
-                two_fields(out, "BindingArray", ("base", base), ("size", size))
-            }
+            TypeInner::Sampler { comparison } => holding_field(
+                out,
+                &("Sampler", "comparison"),
+                comparison,
+            ),
+            TypeInner::AccelerationStructure { vertex_return } => holding_field(
+                out,
+                &("AccelerationStructure", "vertex_return"),
+                vertex_return,
+            ),
+            TypeInner::RayQuery { vertex_return } => holding_field(
+                out,
+                &("RayQuery", "vertex_return"),
+                vertex_return,
+            ),
+            TypeInner::BindingArray { base, size } => holding_two(
+                out,
+                &("BindingArray", "base", "size"),
+                base,
+                size,
+            ),
         }
     }
 }

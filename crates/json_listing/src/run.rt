@@ -2,13 +2,13 @@
 
 use crate::text::write_examined;
 use json_document::MOST_BYTES;
-use json_faults::json::ToJson;
+use json_faults::writer::JsonWriter;
 use json_verdict::examine::examine;
 use json_verdict::judge::{Verdict, judge};
-use json_verdict::run::run_lines;
-use json_verdict::verdict::write_json;
+use json_verdict::line::{json_line, write_verdict};
+use json_verdict::run::{Form, run_document, run_lines};
 use naga_module::ModuleFault;
-use std::alloc::Global;
+use std::alloc::{AllocError, Global};
 use std::io::{Read, Write};
 use std::rt::Files;
 use std::{fmt, fs, io};
@@ -96,8 +96,10 @@ pub fn run_reader<R: Read, W: Write>(
     output: Output,
     name: Option<&str>,
 ) -> io::Result<u8> {
-    if output == Output::JsonLines {
-        return run_lines(alloc, reader, writer);
+    match (output, name) {
+        (Output::JsonLines, _) => return run_lines(alloc, reader, writer),
+        (Output::Json, None) => return run_document(alloc, reader, writer, Form::Json),
+        _ => (),
     }
     let bytes = read_bytes(alloc, reader)?;
     let mut text = String::new(alloc);
@@ -196,18 +198,25 @@ fn write_as_json(
         Some(bytes) => judge(alloc, bytes.as_slice()),
         None => Verdict::Refused(ModuleFault::Memory),
     };
-    match name {
-        Some(name) => {
-            text.push_str("{\"file\":")?;
-            name.write_json(text)?;
-            text.push_str(",\"verdict\":")?;
-            write_json(text, &verdict)?;
-            text.push_str("}\n")?;
-        }
-        None => {
-            write_json(text, &verdict)?;
-            text.push_str("\n")?;
-        }
+    let line = match name {
+        Some(name) => line_of_file(alloc, name, &verdict),
+        None => json_line(alloc, &verdict),
+    };
+    match line {
+        Ok(line) => text.push_str(line.as_str())?,
+        Err(_) => return Err(fmt::Error),
     }
+    text.push_str("\n")?;
     Ok(verdict.status())
+}
+
+/// A verdict as JSON, in an object after the name of its file.
+fn line_of_file(alloc: Global, name: &str, verdict: &Verdict) -> Result<String, AllocError> {
+    let mut out = JsonWriter::new(alloc);
+    out.open("file")?;
+    out.string(name)?;
+    out.key("verdict")?;
+    write_verdict(alloc, &mut out, verdict)?;
+    out.end_object()?;
+    Ok(out.into_text())
 }

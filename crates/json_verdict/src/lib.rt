@@ -4,5 +4,10 @@
 
 pub mod examine;
 pub mod judge;
+pub mod line;
+mod pointer;
+mod reply;
 pub mod run;
+mod stream;
+mod text;
 pub mod verdict;

@@ -8,6 +8,7 @@ mod reply;
 
 ghost use Rattle.std.specs.Prelude.{◌≡◌, length};
 ghost use Rattle.leafnurd.specs.Replies.{IsAnswered, laid, version_text};
+ghost use Rattle.leafnurd.specs.declared.reply.Form.TheVariants as forms;
 
 pub use crate::reply::Answer;
 use crate::reply::{Form, judge_into, lay};
@@ -20,7 +21,7 @@ const VERSION: &[u8] = b"0.1.0";
 /// the length of the verdict. Of a verdict that is longer than `out` the beginning is written.
 #[unsafe(no_mangle)]
 pub extern "C" fn leafnurd_judge(alloc: Global, text: &[u8], out: &mut [u8]) -> Answer
-    ensures { IsAnswered text.now result out.old out.new }
+    ensures { IsAnswered forms.Json text.now result out.old out.new }
 {
     judge_into(alloc, text, out, Form::Json)
 }
@@ -28,7 +29,7 @@ pub extern "C" fn leafnurd_judge(alloc: Global, text: &[u8], out: &mut [u8]) -> 
 /// The same with the text for people, on one or more lines.
 #[unsafe(no_mangle)]
 pub extern "C" fn leafnurd_explain(alloc: Global, text: &[u8], out: &mut [u8]) -> Answer
-    ensures { IsAnswered text.now result out.old out.new }
+    ensures { IsAnswered forms.Lines text.now result out.old out.new }
 {
     judge_into(alloc, text, out, Form::Lines)
 }

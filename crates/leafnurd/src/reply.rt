@@ -1,11 +1,13 @@
 //! What the exports answer, and how a text is written into the caller's memory.
 
-ghost use Rattle.std.specs.Prelude.{◌≡◌, length};
-ghost use Rattle.leafnurd.specs.Replies.{IsAnswered, IsTold, laid};
+ghost use Rattle.std.specs.Prelude.{◌≡◌, IfSome, length, string_bytes};
+ghost use Rattle.naga_module.specs.declared.check.ModuleFault.TheVariants as faults;
+ghost use Rattle.json_verdict.specs.declared.judge.Verdict.TheVariants as verdicts;
+ghost use Rattle.leafnurd.specs.Replies.{IsAnswered, IsTextOf, IsTold, laid};
 
 use json_verdict::judge::{Verdict, judge};
-use json_verdict::verdict::{write_json, write_lines};
-use naga_module::ModuleFault;
+use json_verdict::line::json_line;
+use json_verdict::verdict::write_lines;
 use std::alloc::Global;
 use std::fmt;
 
@@ -34,16 +36,27 @@ pub(crate) fn lay(text: &[u8], out: &mut [u8])
     out[..count].copy_from_slice(&text[..count]);
 }
 
-/// Writes the verdict in this form.
-fn write(text: &mut String, verdict: &Verdict, form: Form) -> fmt::Result {
+/// The verdict for a person.
+fn lines_text(alloc: Global, verdict: &Verdict) -> Result<String, fmt::Error> {
+    let mut text = String::new(alloc);
+    write_lines(&mut text, verdict)?;
+    Ok(text)
+}
+
+/// The text of the verdict in this form. None is out of memory.
+fn text_of(alloc: Global, verdict: &Verdict, form: Form) -> Option<String>
+    ensures { IfSome result (λ text. IsTextOf form verdict.now (string_bytes text)) }
+{
     match form {
-        Form::Json => write_json(text, verdict),
-        Form::Lines => write_lines(text, verdict),
+        Form::Json => json_line(alloc, verdict).ok(),
+        Form::Lines => lines_text(alloc, verdict).ok(),
     }
 }
 
 /// The text of out of memory.
-fn memory_text(form: Form) -> &'static [u8] {
+fn memory_text(form: Form) -> &'static [u8]
+    ensures { IsTextOf form (verdicts.Refused faults.Memory) result.now }
+{
     match form {
         Form::Json => b"\"memory\"",
         Form::Lines => b"memory",
@@ -65,24 +78,17 @@ fn told(status: u8, text: &[u8], out: &mut [u8]) -> Answer
 
 /// Writes the verdict, and answers its status. If there is no memory for its text, both are those of out of memory.
 fn tell(alloc: Global, verdict: &Verdict, out: &mut [u8], form: Form) -> Answer
-    ensures { IsTold verdict.now result out.old out.new }
+    ensures { IsTold form verdict.now result out.old out.new }
 {
-    let mut text = String::new(alloc);
-    let is_whole = write(&mut text, verdict, form).is_ok();
-    if is_whole {
-        told(verdict.status(), text.as_str().as_bytes(), out)
-    } else {
-        told(
-            Verdict::Refused(ModuleFault::Memory).status(),
-            memory_text(form),
-            out,
-        )
+    match text_of(alloc, verdict, form) {
+        Some(text) => told(verdict.status(), text.as_str().as_bytes(), out),
+        None => told(3, memory_text(form), out),
     }
 }
 
 /// Judges the document that `text` is, and writes its verdict.
 pub(crate) fn judge_into(alloc: Global, text: &[u8], out: &mut [u8], form: Form) -> Answer
-    ensures { IsAnswered text.now result out.old out.new }
+    ensures { IsAnswered form text.now result out.old out.new }
 {
     let verdict = judge(alloc, text);
     tell(alloc, &verdict, out, form)

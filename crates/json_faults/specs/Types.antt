@@ -1,0 +1,119 @@
+-- Types, and what they are made from.
+use Rattle.std.specs.Prelude.{codes}
+use Rattle.json.specs.Json.{Json, boolean, string}
+use Rattle.ir_types.specs.declared.types.Scalar.{Scalar}
+use Rattle.ir_types.specs.declared.types.StructMember.{StructMember}
+use Rattle.ir_types.specs.declared.types.AddressSpace.{AddressSpace}
+use Rattle.ir_types.specs.declared.types.AddressSpace.TheVariants as spaces
+use Rattle.ir_types.specs.declared.types.ImageClass.{ImageClass}
+use Rattle.ir_types.specs.declared.types.ImageClass.TheVariants as classes
+use Rattle.ir_types.specs.declared.types.ArraySize.{ArraySize}
+use Rattle.ir_types.specs.declared.types.ArraySize.TheVariants as array_sizes
+use Rattle.ir_module.specs.declared.operations.AtomicFunction.{AtomicFunction}
+use Rattle.ir_module.specs.declared.operations.AtomicFunction.TheVariants as atomic_functions
+use Rattle.ir_module.specs.declared.statements.SwitchValue.{SwitchValue}
+use Rattle.ir_module.specs.declared.statements.SwitchValue.TheVariants as switch_values
+use Rattle.ir_types.specs.declared.types.Binding.{Binding}
+use Rattle.ir_types.specs.declared.types.Binding.TheVariants as bindings
+use Rattle.ir_types.specs.declared.types.TypeInner.{TypeInner}
+use Rattle.ir_types.specs.declared.types.TypeInner.TheVariants as types
+use Rattle.json_faults.specs.BuiltIns.{built_in_form}
+use Rattle.json_faults.specs.Form.{five_fields, four_fields, holding, list_form, number_form, one_field, optional, signed_form, three_fields, two_fields}
+use Rattle.json_faults.specs.Names.{image_dimension_form, interpolation_form, sampling_form, scalar_kind_form, storage_format_form, vector_size_form}
+use Rattle.json_faults.specs.Sets.{storage_access_form}
+
+-- a scalar: its kind, and its width in bytes
+unfoldable pub scalar_form : Scalar → Json
+scalar_form scalar = two_fields (codes "kind") (scalar_kind_form scalar.kind) (codes "width") (number_form scalar.width)
+
+-- where a variable lies
+unfoldable pub space_form : AddressSpace → Json
+space_form spaces.Function = string (codes "Function")
+space_form spaces.Private = string (codes "Private")
+space_form spaces.WorkGroup = string (codes "WorkGroup")
+space_form spaces.Uniform = string (codes "Uniform")
+space_form (spaces.Storage access) = holding (codes "Storage") (one_field (codes "access") (storage_access_form access))
+space_form spaces.Handle = string (codes "Handle")
+space_form spaces.Immediate = string (codes "Immediate")
+space_form spaces.TaskPayload = string (codes "TaskPayload")
+space_form spaces.RayPayload = string (codes "RayPayload")
+space_form spaces.IncomingRayPayload = string (codes "IncomingRayPayload")
+
+-- the class of an image
+unfoldable pub image_class_form : ImageClass → Json
+image_class_form (classes.Sampled kind multi) =
+    holding (codes "Sampled") (two_fields (codes "kind") (scalar_kind_form kind) (codes "multi") (boolean multi))
+image_class_form (classes.Depth multi) = holding (codes "Depth") (one_field (codes "multi") (boolean multi))
+image_class_form classes.External = string (codes "External")
+image_class_form (classes.Storage format access) =
+    holding (codes "Storage") (two_fields (codes "format") (storage_format_form format)
+    (codes "access") (storage_access_form access))
+
+-- how many items an array has
+unfoldable pub array_size_form : ArraySize → Json
+array_size_form (array_sizes.Constant count) = holding (codes "Constant") (number_form count.value)
+array_size_form (array_sizes.Pending size) = holding (codes "Pending") (number_form size)
+array_size_form array_sizes.Dynamic = string (codes "Dynamic")
+
+-- what an atomic operation does
+unfoldable pub atomic_function_form : AtomicFunction → Json
+atomic_function_form atomic_functions.Add = string (codes "Add")
+atomic_function_form atomic_functions.Subtract = string (codes "Subtract")
+atomic_function_form atomic_functions.And = string (codes "And")
+atomic_function_form atomic_functions.ExclusiveOr = string (codes "ExclusiveOr")
+atomic_function_form atomic_functions.InclusiveOr = string (codes "InclusiveOr")
+atomic_function_form atomic_functions.Min = string (codes "Min")
+atomic_function_form atomic_functions.Max = string (codes "Max")
+atomic_function_form (atomic_functions.Exchange compare) =
+    holding (codes "Exchange") (one_field (codes "compare") (optional number_form compare))
+
+-- the value of a case
+unfoldable pub switch_value_form : SwitchValue → Json
+switch_value_form (switch_values.I32 value) = holding (codes "I32") (signed_form value)
+switch_value_form (switch_values.U32 value) = holding (codes "U32") (number_form value)
+switch_value_form switch_values.Default = string (codes "Default")
+
+-- what an input or output is bound to
+unfoldable pub binding_form : Binding → Json
+binding_form (bindings.BuiltIn built_in) = holding (codes "BuiltIn") (built_in_form built_in)
+binding_form (bindings.Location location interpolation sampling blend_src per_primitive) =
+    holding (codes "Location") (five_fields (codes "location") (number_form location)
+    (codes "interpolation") (optional interpolation_form interpolation) (codes "sampling") (optional sampling_form sampling)
+    (codes "blend_src") (optional number_form blend_src) (codes "per_primitive") (boolean per_primitive))
+
+-- a member of a struct
+unfoldable pub member_form : StructMember → Json
+member_form member =
+    four_fields (codes "name") (optional string member.name) (codes "ty") (number_form member.ty)
+    (codes "binding") (optional binding_form member.binding) (codes "offset") (number_form member.offset)
+
+-- a type without its name
+unfoldable pub type_form : TypeInner → Json
+type_form (types.Scalar scalar) = holding (codes "Scalar") (scalar_form scalar)
+type_form (types.Vector size scalar) =
+    holding (codes "Vector") (two_fields (codes "size") (vector_size_form size) (codes "scalar") (scalar_form scalar))
+type_form (types.Matrix columns rows scalar) =
+    holding (codes "Matrix") (three_fields (codes "columns") (vector_size_form columns) (codes "rows") (vector_size_form rows)
+    (codes "scalar") (scalar_form scalar))
+type_form (types.CooperativeMatrix scalar detail) =
+    holding (codes "CooperativeMatrix") (two_fields (codes "scalar") (scalar_form scalar) (codes "detail") (number_form detail))
+type_form (types.Atomic scalar) = holding (codes "Atomic") (scalar_form scalar)
+type_form (types.Pointer base space) =
+    holding (codes "Pointer") (two_fields (codes "base") (number_form base) (codes "space") (space_form space))
+type_form (types.ValuePointer size scalar space) =
+    holding (codes "ValuePointer") (three_fields (codes "size") (optional vector_size_form size)
+    (codes "scalar") (scalar_form scalar) (codes "space") (space_form space))
+type_form (types.Array base size stride) =
+    holding (codes "Array") (three_fields (codes "base") (number_form base) (codes "size") (array_size_form size)
+    (codes "stride") (number_form stride))
+type_form (types.Struct members span) =
+    holding (codes "Struct") (two_fields (codes "members") (list_form member_form members) (codes "span") (number_form span))
+type_form (types.Image dim arrayed class) =
+    holding (codes "Image") (three_fields (codes "dim") (image_dimension_form dim) (codes "arrayed") (boolean arrayed)
+    (codes "class") (image_class_form class))
+type_form (types.Sampler comparison) = holding (codes "Sampler") (one_field (codes "comparison") (boolean comparison))
+type_form (types.AccelerationStructure vertex_return) =
+    holding (codes "AccelerationStructure") (one_field (codes "vertex_return") (boolean vertex_return))
+type_form (types.RayQuery vertex_return) = holding (codes "RayQuery") (one_field (codes "vertex_return") (boolean vertex_return))
+type_form (types.BindingArray base size) =
+    holding (codes "BindingArray") (two_fields (codes "base") (number_form base) (codes "size") (array_size_form size))

@@ -1,0 +1,137 @@
+-- How a stream of lines goes on.
+use Rattle.std.proofs.Common.{◌≡◌, ℕ, true, false, cond, List, [], ◌∷◌, ◌++◌, Option, max, refl, sym, ap, ◌∙◌, subst, arith}
+use Rattle.std.proofs.lemmas.List.{append-nil, append_assoc}
+use Rattle.std.proofs.KnownBytes.{Appends-kept, Appends-nil, Appends-trans}
+use Rattle.std.specs.Prelude.{◌==◌}
+use Rattle.std.specs.Io.KnownBytes.{Keeps}
+use Rattle.json_verdict.specs.Runs.{with_byte, lines_of, IsReply, Replies, AreReplies, RepliesToLines}
+use Rattle.json_verdict.specs.declared.reply.Form.TheVariants as forms
+use Rattle.json_verdict.specs.declared.stream.Stream.{Stream}
+use Rattle.json_verdict.specs.walk.Lines.{IsPlain, is_begun, Follows}
+use Rattle.json_verdict.specs.walk.Stream.{Holds}
+
+plain_push : (line : List ℕ) (b : ℕ) → IsPlain line → (b == 10) ≡ false → IsPlain (line ++ b ∷ [])
+plain_push [] b plain other = (other, tt)
+plain_push (x ∷ xs) b plain other = (plain.0, plain_push xs b plain.1 other)
+
+begun_push : (line : List ℕ) (b : ℕ) → is_begun (line ++ b ∷ []) ≡ true
+begun_push [] b = refl
+begun_push (x ∷ xs) b = refl
+
+plain_byte : (b : ℕ) (bs : List ℕ) → (b == 10) ≡ false → lines_of (b ∷ bs) ≡ with_byte b (lines_of bs)
+plain_byte b bs other = ap (λ t. cond t ([] ∷ lines_of bs) (with_byte b (lines_of bs))) other
+
+-- a newline ends a line
+plain_end : (line more : List ℕ) → IsPlain line → lines_of (line ++ 10 ∷ more) ≡ line ∷ lines_of more
+plain_end [] more plain = refl
+plain_end (b ∷ bs) more plain = plain_byte b (bs ++ 10 ∷ more) plain.0 ∙ ap (with_byte b) (plain_end bs more plain.1)
+
+-- the last line needs none
+plain_last : (line : List ℕ) → IsPlain line → is_begun line ≡ true → lines_of line ≡ line ∷ []
+plain_last [] plain begun = cc
+plain_last (b ∷ []) plain begun = plain_byte b [] plain.0
+plain_last (b ∷ x ∷ xs) plain begun = plain_byte b (x ∷ xs) plain.0 ∙ ap (with_byte b) (plain_last (x ∷ xs) plain.1 refl)
+
+not_begun : (line : List ℕ) → is_begun line ≡ false → line ≡ []
+not_begun [] none = refl
+not_begun (b ∷ bs) none = cc
+
+-- one reply more
+replies_push : (texts : List (List ℕ)) (out : List ℕ) (status : ℕ) (text line : List ℕ) (this : ℕ) → AreReplies texts out status
+    → IsReply forms.Json text line this → AreReplies (texts ++ text ∷ []) (out ++ line) (max status this)
+unfolding AreReplies
+replies_push [] out status text line this (none, zero) reply =
+    (line, [], this, 0, reply, (refl, refl), ap (λ l. l ++ line) none ∙ sym (append-nil line), omega (arith, zero))
+replies_push (t ∷ ts) out status text line this (first, rest, a, others, is, more, joined, greatest) reply = (
+  first,
+  rest ++ line,
+  a,
+  max others this,
+  is,
+  replies_push ts rest others text line this more reply,
+  ap (λ l. l ++ line) joined ∙ append_assoc first rest line,
+  omega (arith, greatest),
+)
+
+-- nothing has come in
+pub follows_none : (s : Stream) (start : Option (List ℕ)) → Holds s.bytes [] → s.is_begun ≡ false → s.status ≡ 0 → Follows s [] start start
+unfolding AreReplies
+follows_none s start kept begun status = record {
+  done = [];
+  line = [];
+  out = [];
+  lines = λ more. refl;
+  replies = (refl, status);
+  written = Appends-nil start;
+  kept = kept;
+  plain = tt;
+  begun = begun;
+}
+
+-- a byte that is no newline
+pub follows_byte : (s t : Stream) (input : List ℕ) (b : ℕ) (old new : Option (List ℕ)) → (b == 10) ≡ false → Follows s input old new
+    → ((text : List ℕ) → Holds s.bytes text → Holds t.bytes (text ++ b ∷ [])) → t.is_begun ≡ true → t.status ≡ s.status → Follows t (input ++ b ∷ []) old new
+follows_byte s t input b old new other f kept begun status = record {
+  done = f.done;
+  line = f.line ++ b ∷ [];
+  out = f.out;
+  lines = λ more. ap lines_of (append_assoc input (b ∷ []) more) ∙ f.lines (b ∷ more) ∙ ap (λ l. f.done ++ lines_of l) (sym (append_assoc f.line (b ∷ []) more));
+  replies = subst (AreReplies f.done f.out) (sym status) f.replies;
+  written = f.written;
+  kept = kept f.line f.kept;
+  plain = plain_push f.line b f.plain other;
+  begun = begun ∙ sym (begun_push f.line b);
+}
+
+-- a newline
+pub follows_end : (s t : Stream) (input : List ℕ) (old mid new : Option (List ℕ)) (this : ℕ) → Follows s input old mid
+    → ((text : List ℕ) → Holds s.bytes text → Replies forms.Json text mid new this) → Holds t.bytes [] → t.is_begun ≡ false → t.status ≡ max s.status this
+    → Follows t (input ++ 10 ∷ []) old new
+follows_end s t input old mid new this f told kept begun status =
+    let (line, reply, written) = told f.line f.kept in record {
+      done = f.done ++ f.line ∷ [];
+      line = [];
+      out = f.out ++ line;
+      lines = λ more. ap lines_of (append_assoc input (10 ∷ []) more) ∙ f.lines (10 ∷ more) ∙ ap (λ l. f.done ++ l) (plain_end f.line more f.plain)
+          ∙ sym (append_assoc f.done (f.line ∷ []) (lines_of more));
+      replies = subst (AreReplies (f.done ++ f.line ∷ []) (f.out ++ line)) (sym status) (replies_push f.done f.out s.status f.line line this f.replies reply);
+      written = Appends-trans old mid new f.out line f.written written;
+      kept = kept;
+      plain = tt;
+      begun = begun;
+    }
+
+-- the input is the lines that have ended, and the one that is being read
+all_lines : (s : Stream) (input : List ℕ) (old new : Option (List ℕ)) (f : Follows s input old new) → lines_of input ≡ f.done ++ lines_of f.line
+all_lines s input old new f = ap lines_of (sym (append-nil input)) ∙ f.lines [] ∙ ap (λ l. f.done ++ lines_of l) (append-nil f.line)
+
+-- the input has ended in a line
+pub follows_last : (s : Stream) (input : List ℕ) (old mid new : Option (List ℕ)) (this : ℕ) → Follows s input old mid → s.is_begun ≡ true
+    → ((text : List ℕ) → Holds s.bytes text → Replies forms.Json text mid new this) → RepliesToLines input old new (max s.status this)
+follows_last s input old mid new this f begun told =
+    let (line, reply, written) = told f.line f.kept in
+    let last : lines_of input ≡ f.done ++ f.line ∷ [] = all_lines s input old mid f ∙ ap (λ l. f.done ++ l) (plain_last f.line f.plain (sym f.begun ∙ begun)) in (
+      f.out ++ line,
+      subst (λ ls. AreReplies ls (f.out ++ line) (max s.status this)) (sym last) (replies_push f.done f.out s.status f.line line this f.replies reply),
+      Appends-trans old mid new f.out line f.written written,
+    )
+
+-- the input has ended with a newline, or is empty
+pub follows_no_more : (s : Stream) (input : List ℕ) (old new : Option (List ℕ)) → Follows s input old new → s.is_begun ≡ false → RepliesToLines input old new s.status
+follows_no_more s input old new f begun =
+    let none : lines_of input ≡ f.done = all_lines s input old new f ∙ ap (λ l. f.done ++ lines_of l) (not_begun f.line (sym f.begun ∙ begun)) ∙ append-nil f.done in
+    (f.out, subst (λ ls. AreReplies ls f.out s.status) (sym none) f.replies, f.written)
+
+-- after a flush
+pub follows_kept : (s : Stream) (input : List ℕ) (old mid new : Option (List ℕ)) → Follows s input old mid → Keeps mid new → Follows s input old new
+follows_kept s input old mid new f kept = record {
+  done = f.done;
+  line = f.line;
+  out = f.out;
+  lines = f.lines;
+  replies = f.replies;
+  written = Appends-kept old mid new f.out f.written kept;
+  kept = f.kept;
+  plain = f.plain;
+  begun = f.begun;
+}

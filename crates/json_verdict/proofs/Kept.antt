@@ -1,0 +1,58 @@
+-- What is kept of a text says its verdict.
+use Rattle.std.proofs.Common.{◌≡◌, ◌≤◌, ◌<◌, ℕ, true, List, [], ◌∷◌, ◌++◌, length, take, sym, ap, ◌∙◌, subst, inl, inr, arith}
+use Rattle.std.proofs.lemmas.List.{length-take, length-append, take_all, take-append-le}
+use Rattle.naga_module.specs.declared.check.ModuleFault.{ModuleFault}
+use Rattle.json_document.specs.declared.document.Document.{Document}
+use Rattle.json_document.specs.ReadsDocument.{IsDocument}
+use Rattle.json_verdict.specs.Judges.{Judges, Refuses}
+use Rattle.json_verdict.specs.declared.judge.Verdict as judge
+use Rattle.json_verdict.specs.declared.text.Bytes.{Bytes}
+use Rattle.json_verdict.specs.walk.Stream.{Holds, most}
+use Rattle.json_verdict.specs.declared.judge.Verdict.TheVariants as verdicts
+
+-- nothing has come in
+pub kept_none : (n : ℕ) (kept : List ℕ) → kept ≡ [] → kept ≡ take n []
+kept_none n kept is = is ∙ sym (take_all n [] (omega arith))
+
+-- there is room for one byte more
+pub kept_push : (n : ℕ) (kept text : List ℕ) (b : ℕ) → length kept < n → kept ≡ take n text → kept ++ b ∷ [] ≡ take n (text ++ b ∷ [])
+kept_push n kept text b lt is =
+    let sized : length kept ≡ length (take n text) = ap length is in
+    let all : take n text ≡ text = take_all n text (omega (arith, length-take n text)) in
+    let grown : take n (text ++ b ∷ []) ≡ text ++ b ∷ [] = take_all n (text ++ b ∷ []) (omega (arith, length-take n text, length-append text (b ∷ []))) in
+    ap (λ l. l ++ b ∷ []) (is ∙ all) ∙ sym grown
+
+-- there is no room, whatever comes
+pub kept_full : (n : ℕ) (kept text more : List ℕ) → n ≤ length kept → kept ≡ take n text → kept ≡ take n (text ++ more)
+kept_full n kept text more le is =
+    let sized : length kept ≡ length (take n text) = ap length is in
+    is ∙ sym (take-append-le n text more (omega (arith, length-take n text)))
+
+-- bytes are lost, whatever comes
+pub settled_lost : (bytes : Bytes) → bytes.is_lost ≡ true → (text more : List ℕ) → Holds bytes text → Holds bytes (text ++ more)
+unfolding Holds
+settled_lost bytes lost text more held = λ known. cc
+
+pub settled_full : (bytes : Bytes) → most ≤ length bytes.kept.items → (text more : List ℕ) → Holds bytes text → Holds bytes (text ++ more)
+unfolding Holds
+settled_full bytes full text more held = λ known. kept_full most bytes.kept.items text more full (held known)
+
+whole : (n : ℕ) (text : List ℕ) (d : Document) → 16777216 < n → IsDocument (take n text) d → IsDocument text d
+whole n text d lt is =
+    let bounded = is.1 in
+    subst (λ t. IsDocument t d) (take_all n text (omega (arith, bounded, length-take n text))) is
+
+part : (n : ℕ) (text : List ℕ) (d : Document) → 16777216 < n → IsDocument text d → IsDocument (take n text) d
+part n text d lt is =
+    let bounded = is.1 in
+    subst (λ t. IsDocument t d) (sym (take_all n text (omega (arith, bounded)))) is
+
+refused : (n : ℕ) (text : List ℕ) (e : ModuleFault) → 16777216 < n → Refuses (take n text) e → Refuses text e
+refused n text e lt (inl memory) = inl memory
+refused n text e lt (inr (d, is, judged)) = inr (d, whole n text d lt is, judged)
+
+-- the verdict of a part that is longer than any document is the verdict of all
+pub kept_judges : (n : ℕ) (text : List ℕ) (v : judge.Verdict) → 16777216 < n → Judges (take n text) v → Judges text v
+kept_judges n text (verdicts.Accepted m infos) lt (d, is, same, judged) = (d, whole n text d lt is, same, judged)
+kept_judges n text (verdicts.Refused e) lt h = refused n text e lt h
+kept_judges n text (verdicts.Unreadable unreadable) lt none = λ d is. none d (part n text d lt is)

@@ -1,0 +1,5 @@
+pub mod Ended
+pub mod Kept
+pub mod Memory
+pub mod Pointers
+pub mod Told

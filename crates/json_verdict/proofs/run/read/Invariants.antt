@@ -1,0 +1,8 @@
+use Rattle.std.proofs.Common.{◌<◌, ℕ, List, length}
+use Rattle.std.specs.Io.KnownBytes.{Consumes}
+use Rattle.json_verdict.specs.walk.Stream.{Holds}
+use Rattle.json_verdict.proofs.run.read.Given as goal
+
+abbrev pub invariant-reads : goal.invariant-reads
+invariant-reads g l =
+    (0 < length l.chunk) × (input : List ℕ) × Consumes (g.R.Read.remaining l.fn.reader) (g.R.Read.remaining l.reader) input × Holds l.bytes input

@@ -1,0 +1,26 @@
+-- What is kept of a text while it is read, and what is written of its verdict.
+use Rattle.std.specs.Prelude.{◌≡◌, ◌⊎◌, ℕ, false, List, Option, take}
+use Rattle.std.specs.Io.KnownBytes.{Appends}
+use Rattle.naga_module.specs.declared.check.ModuleFault.TheVariants as faults
+use Rattle.json_verdict.specs.Judges.{status_of}
+use Rattle.json_verdict.specs.Runs.{IsLineOf}
+use Rattle.json_verdict.specs.declared.text.Bytes.{Bytes}
+use Rattle.json_verdict.specs.declared.judge.Verdict as judge
+use Rattle.json_verdict.specs.declared.judge.Verdict.TheVariants as verdicts
+use Rattle.json_verdict.specs.declared.reply.Form.{Form}
+
+-- how much of a text is kept: one byte more than a document may have
+abbrev pub most : ℕ
+most = 16777217
+
+-- the bytes are those of the text, as many as are kept; or some are lost
+unfoldable pub Holds : Bytes → List ℕ → Type 0
+Holds bytes text = bytes.is_lost ≡ false → bytes.kept.items ≡ take most text
+
+-- the line of this verdict was written
+abbrev pub TellsOf : Form → judge.Verdict → Option (List ℕ) → Option (List ℕ) → ℕ → Type 0
+TellsOf form v old new status = (line : List ℕ) × IsLineOf form v line × Appends old new line × (status ≡ status_of v)
+
+-- the line of the verdict was written, or that there was no memory
+abbrev pub Tells : Form → judge.Verdict → Option (List ℕ) → Option (List ℕ) → ℕ → Type 0
+Tells form v old new status = TellsOf form v old new status ⊎ TellsOf form (verdicts.Refused faults.Memory) old new status

@@ -1,0 +1,92 @@
+//! A stream of documents, one a line.
+
+ghost use Rattle.std.specs.Prelude.{◌≡◌, max, ◌++◌, ◌∷◌, ℕ, List, [], Option, IfOk, OnOk};
+ghost use Rattle.json_verdict.specs.Runs.{RepliesToLines};
+ghost use Rattle.json_verdict.specs.walk.Lines.{Follows};
+
+use crate::reply::{Form, reply_to};
+use crate::text::Bytes;
+use std::alloc::Global;
+use std::io;
+use std::io::Write;
+
+/// The greater of two numbers.
+fn greater(a: u8, b: u8) -> u8
+    ensures { result ≡ max a b }
+{
+    if a < b { b } else { a }
+}
+
+/// A stream of lines: the line that is being read, whether it has a byte, and the greatest exit status so far.
+#[derive(Drop)]
+pub struct Stream {
+    bytes: Bytes,
+    is_begun: bool,
+    status: u8,
+}
+
+impl Stream {
+    /// Nothing has come in.
+    pub fn new(alloc: Global) -> Self
+        ensures { (start : Option (List ℕ)) → Follows result [] start start }
+    {
+        Stream {
+            bytes: Bytes::new(alloc),
+            is_begun: false,
+            status: 0,
+        }
+    }
+
+    /// Replies to the line.
+    fn end_line<W: Write>(&mut self, alloc: Global, writer: &mut W) -> io::Result<()>
+        ensures { OnOk result ((input : List ℕ) (start : Option (List ℕ)) → Follows self.old input start (W.contents writer.old) →
+            Follows self.new (input ++ 10 ∷ []) start (W.contents writer.new)) }
+    {
+        let status = reply_to(alloc, writer, &self.bytes, Form::Json)?;
+        self.status = greater(self.status, status);
+        self.bytes.clear();
+        self.is_begun = false;
+        Ok(())
+    }
+
+    /// Takes one byte more.
+    fn take<W: Write>(&mut self, alloc: Global, writer: &mut W, byte: u8) -> io::Result<()>
+        ensures { OnOk result ((input : List ℕ) (start : Option (List ℕ)) → Follows self.old input start (W.contents writer.old) →
+            Follows self.new (input ++ byte ∷ []) start (W.contents writer.new)) }
+    {
+        if byte == b'\n' {
+            return self.end_line(alloc, writer);
+        }
+        self.bytes.push(byte);
+        self.is_begun = true;
+        Ok(())
+    }
+
+    /// Takes these bytes, and writes the verdict of each line that ends in them.
+    pub fn take_all<W: Write>(
+        &mut self,
+        alloc: Global,
+        writer: &mut W,
+        bytes: &[u8],
+    ) -> io::Result<()>
+        ensures { OnOk result ((input : List ℕ) (start : Option (List ℕ)) → Follows self.old input start (W.contents writer.old) →
+            Follows self.new (input ++ bytes.now) start (W.contents writer.new)) }
+    {
+        for byte in bytes {
+            self.take(alloc, writer, *byte)?;
+        }
+        Ok(())
+    }
+
+    /// Writes the verdict of the last line, if it has a byte, and answers the greatest exit status.
+    pub fn finish<W: Write>(&mut self, alloc: Global, writer: &mut W) -> io::Result<u8>
+        ensures { IfOk result (λ status. (input : List ℕ) (start : Option (List ℕ)) → Follows self.old input start (W.contents writer.old) →
+            RepliesToLines input start (W.contents writer.new) status) }
+    {
+        if self.is_begun {
+            let status = reply_to(alloc, writer, &self.bytes, Form::Json)?;
+            return Ok(greater(self.status, status));
+        }
+        Ok(self.status)
+    }
+}

@@ -1,0 +1,84 @@
+//! A text as its bytes come in.
+
+ghost use Rattle.std.specs.Prelude.{◌≡◌, ◌++◌, ◌∷◌, [], ℕ, List, true, false};
+ghost use Rattle.std.specs.Bool.{OnTrue};
+ghost use Rattle.json_verdict.specs.Judges.{Judges};
+ghost use Rattle.json_verdict.specs.walk.Stream.{Holds};
+
+use crate::judge::{Verdict, judge};
+use json_document::MOST_BYTES;
+use naga_module::ModuleFault;
+use std::alloc::Global;
+
+/// A text as its bytes come in. Of one that is too long one byte more is kept than a document may have.
+#[derive(Drop)]
+pub struct Bytes {
+    kept: Vec<u8>,
+    is_lost: bool,
+}
+
+impl Bytes {
+    /// Nothing has come in.
+    pub fn new(alloc: Global) -> Self
+        ensures { Holds result [] }
+    {
+        Bytes {
+            kept: Vec::new(alloc),
+            is_lost: false,
+        }
+    }
+
+    /// Takes one byte more.
+    pub fn push(&mut self, byte: u8)
+        ensures { (text : List ℕ) → Holds self.old text → Holds self.new (text ++ byte ∷ []) }
+    {
+        if self.kept.as_slice().len() > MOST_BYTES {
+            return;
+        }
+        match self.kept.push(byte) {
+            Ok(()) => {}
+            Err(_) => self.is_lost = true,
+        }
+    }
+
+    /// Takes these bytes.
+    pub fn push_all(&mut self, bytes: &[u8])
+        ensures { (text : List ℕ) → Holds self.old text → Holds self.new (text ++ bytes.now) }
+    {
+        for byte in bytes {
+            self.push(*byte);
+        }
+    }
+
+    /// Begins the next text.
+    pub fn clear(&mut self)
+        ensures { Holds self.new [] }
+    {
+        self.kept.clear();
+        self.is_lost = false;
+    }
+
+    /// Whether the verdict is known, whatever comes after these bytes.
+    pub fn is_settled(&self) -> bool
+        ensures { OnTrue result ((text more : List ℕ) → Holds self.now text → Holds self.now (text ++ more)) }
+    {
+        if self.is_lost {
+            return true;
+        }
+        if self.kept.as_slice().len() > MOST_BYTES {
+            return true;
+        }
+        false
+    }
+
+    /// The verdict of the text.
+    pub fn judge(&self, alloc: Global) -> Verdict
+        ensures { (text : List ℕ) → Holds self.now text → Judges text result }
+    {
+        if self.is_lost {
+            Verdict::Refused(ModuleFault::Memory)
+        } else {
+            judge(alloc, self.kept.as_slice())
+        }
+    }
+}

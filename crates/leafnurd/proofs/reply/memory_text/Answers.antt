@@ -1,0 +1,11 @@
+use Rattle.json_verdict.proofs.Memory.{memory_json}
+use Rattle.leafnurd.specs.Replies.{IsTextOf}
+use Rattle.leafnurd.proofs.reply.memory_text.Goals as goal
+
+pub returns-in-Lines : goal.returns-in-Lines
+unfolding IsTextOf
+returns-in-Lines c = rw c.in-Lines.is tt
+
+pub returns-in-Json : goal.returns-in-Json
+unfolding IsTextOf
+returns-in-Json c = rw c.in-Json.is memory_json
