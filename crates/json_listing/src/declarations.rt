@@ -40,7 +40,7 @@ pub fn write_declarations<W: fmt::Write>(
     spot: Spot,
 ) -> fmt::Result {
     for (index, argument) in function.arguments.as_slice().iter().enumerate() {
-        out.write_str(mark(is_argument(spot, index)))?;
+        out.write_str(mark(is_argument(&spot, index)))?;
         write_argument(out, module, index, argument)?;
         write_members(out, module, argument.ty, spot)?;
     }
@@ -52,27 +52,31 @@ pub fn write_declarations<W: fmt::Write>(
         write_members(out, module, returned.ty, spot)?;
     }
     for (index, local) in function.local_variables.as_slice().iter().enumerate() {
-        out.write_str(mark(is_local(spot, index)))?;
+        out.write_str(mark(is_local(&spot, index)))?;
         write_local(out, module, index, local)?;
     }
     Ok(())
 }
 
-fn is_argument(spot: Spot, index: usize) -> bool {
+fn is_argument(spot: &Spot, index: usize) -> bool {
     match spot {
-        Spot::Argument(at) => at == index,
+        Spot::Argument(at) => *at == index,
         _ => false,
     }
 }
 
-fn is_field(spot: Spot, field: EntryField) -> bool {
+fn is_field(spot: &Spot, field: EntryField) -> bool {
     match spot {
-        Spot::Field(at) => at == field,
+        Spot::Field(at) => *at == field,
         _ => false,
     }
 }
 
-fn is_local(spot: Spot, index: usize) -> bool {
+fn is_mesh_field(spot: &Spot) -> bool {
+    matches!(spot, Spot::MeshField(_))
+}
+
+fn is_local(spot: &Spot, index: usize) -> bool {
     match spot {
         Spot::Local(local) => local.index() == index,
         _ => false,
@@ -144,17 +148,17 @@ pub fn write_entry<W: fmt::Write>(
     spot: Spot,
 ) -> fmt::Result {
     let (stage, size) = (ep.stage, ep.workgroup_size);
-    out.write_str(mark(is_field(spot, EntryField::Stage)))?;
+    out.write_str(mark(is_field(&spot, EntryField::Stage)))?;
     write!(out, "stage: {stage:?}")?;
-    out.write_str(mark(is_field(spot, EntryField::WorkgroupSize)))?;
+    out.write_str(mark(is_field(&spot, EntryField::WorkgroupSize)))?;
     write!(out, "workgroup_size: {size:?}")?;
-    let is_early = is_field(spot, EntryField::EarlyDepthTest);
+    let is_early = is_field(&spot, EntryField::EarlyDepthTest);
     if ep.early_depth_test.is_some() || is_early {
         let early = ep.early_depth_test;
         out.write_str(mark(is_early))?;
         write!(out, "early_depth_test: {early:?}")?;
     }
-    let is_payload = is_field(spot, EntryField::TaskPayload);
+    let is_payload = is_field(&spot, EntryField::TaskPayload);
     if ep.task_payload.is_some() || is_payload {
         let payload = ep.task_payload;
         out.write_str(mark(is_payload))?;
@@ -170,7 +174,7 @@ fn write_mesh<W: fmt::Write>(
     ep: &EntryPoint,
     spot: Spot,
 ) -> fmt::Result {
-    let is_marked = is_field(spot, EntryField::MeshInfo) || matches!(spot, Spot::MeshField(_));
+    let is_marked = is_field(&spot, EntryField::MeshInfo) || is_mesh_field(&spot);
     let Some(mesh) = &ep.mesh_info else {
         if is_marked {
             out.write_str("\n> mesh_info: None")?;
