@@ -194,20 +194,40 @@ fn write_as_json(
     name: Option<&str>,
     bytes: &Option<Vec<u8>>,
 ) -> Result<u8, fmt::Error> {
+    let (status, line) = answered(alloc, name, bytes);
+    match line {
+        Ok(line) => write_line(text, line.as_str())?,
+        Err(_) => return Err(fmt::Error),
+    }
+    Ok(status)
+}
+
+/// Writes a line, with its end.
+fn write_line(text: &mut String, line: &str) -> fmt::Result {
+    text.push_str(line)?;
+    text.push_str("\n")?;
+    Ok(())
+}
+
+/// The exit status and the line of a verdict.
+fn answered(
+    alloc: Global,
+    name: Option<&str>,
+    bytes: &Option<Vec<u8>>,
+) -> (u8, Result<String, AllocError>) {
     let verdict = match bytes {
         Some(bytes) => judge(alloc, bytes.as_slice()),
         None => Verdict::Refused(ModuleFault::Memory),
     };
-    let line = match name {
-        Some(name) => line_of_file(alloc, name, &verdict),
-        None => json_line(alloc, &verdict),
-    };
-    match line {
-        Ok(line) => text.push_str(line.as_str())?,
-        Err(_) => return Err(fmt::Error),
+    (verdict.status(), line_of(alloc, name, &verdict))
+}
+
+/// The line of a verdict: as JSON, or in an object after the name of its file.
+fn line_of(alloc: Global, name: Option<&str>, verdict: &Verdict) -> Result<String, AllocError> {
+    match name {
+        Some(name) => line_of_file(alloc, name, verdict),
+        None => json_line(alloc, verdict),
     }
-    text.push_str("\n")?;
-    Ok(verdict.status())
 }
 
 /// A verdict as JSON, in an object after the name of its file.
