@@ -169,15 +169,10 @@ fn write_for_person(
     bytes: &Option<Vec<u8>>,
 ) -> Result<u8, fmt::Error> {
     if let Some(name) = name {
-        text.push_str(name)?;
-        text.push_str(": ")?;
+        write_name(text, name)?;
     }
     let status = match bytes {
-        Some(bytes) => {
-            let examined = examine(alloc, bytes.as_slice());
-            write_examined(alloc, text, &examined, is_listed)?;
-            examined.verdict.status()
-        }
+        Some(bytes) => write_examination(alloc, text, is_listed, bytes.as_slice())?,
         None => {
             text.push_str("memory")?;
             MEMORY
@@ -185,6 +180,30 @@ fn write_for_person(
     };
     text.push_str("\n")?;
     Ok(status)
+}
+
+/// Writes the name of a file, before its verdict.
+fn write_name(text: &mut String, name: &str) -> fmt::Result {
+    text.push_str(name)?;
+    text.push_str(": ")?;
+    Ok(())
+}
+
+/// Judges a text, writes its verdict for a person, and answers the exit status.
+fn write_examination(
+    alloc: Global,
+    text: &mut String,
+    is_listed: bool,
+    bytes: &[u8],
+) -> Result<u8, fmt::Error> {
+    let examined = examine(alloc, bytes);
+    let written = write_examined(alloc, text, &examined, is_listed);
+    let status = examined.verdict.status();
+    drop(examined);
+    match written {
+        Ok(()) => Ok(status),
+        Err(_) => Err(fmt::Error),
+    }
 }
 
 /// Writes a verdict as JSON, in an object after the name of its file.

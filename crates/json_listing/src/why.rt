@@ -258,11 +258,24 @@ fn write_bound_twin<W: fmt::Write>(
     bounds: &[Bound],
     fault: &VaryingError,
 ) -> fmt::Result {
-    match fault {
-        VaryingError::BindingCollision { .. } | VaryingError::DuplicateBuiltIn(_) => {}
-        _ => return Ok(()),
+    if !is_of_twins(fault) {
+        return Ok(());
     }
-    match first_of(bounds, fault) {
+    let first = first_of(bounds, fault);
+    write_first(out, &first)
+}
+
+/// Whether the fault is that there are two with one location or built-in.
+fn is_of_twins(fault: &VaryingError) -> bool {
+    matches!(
+        fault,
+        VaryingError::BindingCollision { .. } | VaryingError::DuplicateBuiltIn(_)
+    )
+}
+
+/// Writes which of them is the first.
+fn write_first<W: fmt::Write>(out: &mut W, first: &Option<Spot>) -> fmt::Result {
+    match first {
         Some(Spot::Argument(index)) => write!(out, "\nWhy: argument {index} has it first."),
         Some(Spot::Member { ty, index }) => {
             write!(out, "\nWhy: member {index} of type {ty:?} has it first.")
