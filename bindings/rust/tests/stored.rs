@@ -75,6 +75,10 @@ fn examples_are_told_as_the_documents_say() {
     let mut count = 0;
     for file in fs::read_dir(root.join("examples")).expect("the repository's examples") {
         let text = fs::read_to_string(file.expect("an example").path()).expect("an example");
+        // (the shaders without facts are judged in the stored run alone)
+        if text.contains("\"facts\": null") {
+            continue;
+        }
         for line in explain(&text).lines() {
             assert!(said.lines().any(|it| it == line), "{line}");
             count += 1;
