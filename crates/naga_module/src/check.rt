@@ -147,9 +147,10 @@ fn validate_parts<B: Below>(
 /// from each function and entry point to the next. In naga this is the order of the module's validator,
 /// `Validator::validate`.
 ///
-/// With BLOCKS, `NotInScope` of a body without dead code, for a use or an argument of a call, says that
-/// some run uses what isn't live; a refused jump, that some run is stuck by it: `witnessed` and `stuck` of
-/// `function_law` in `naga_valid`.
+/// With BLOCKS, and if the steps before the body pass, `NotInScope` of a body without dead code, for a use or an
+/// argument of a call, says that some run uses what isn't live; a refused jump, that some run is stuck by it:
+/// `witnessed` and `stuck` of `function_law` in `naga_valid`. A lower layer may answer `NotInScope` itself, of which
+/// nothing is said.
 pub fn check_module<B: Below + Drop>(
     alloc: Global,
     below: B,

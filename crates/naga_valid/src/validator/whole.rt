@@ -33,9 +33,9 @@ impl<B: Below> Validator<B> {
     /// whose arguments and result may have bindings. The info has the stages that the lower layer, the expressions and
     /// all statements leave. The validator keeps what ray traces leave for later functions.
     ///
-    /// With BLOCKS, `NotInScope` of a body without dead code, for a use or an argument of a call, says
-    /// that some run uses what isn't live; a refused jump, that some run is stuck by it: `witnessed` and `stuck` of
-    /// `function_law`.
+    /// With BLOCKS, and if the steps before the body pass, `NotInScope` of a body without dead code, for a use or an
+    /// argument of a call, says that some run uses what isn't live; a refused jump, that some run is stuck by it:
+    /// `witnessed` and `stuck` of `function_law`. A lower layer may answer `NotInScope` itself, of which nothing is said.
     pub fn validate_function(
         &mut self,
         alloc: Global,
