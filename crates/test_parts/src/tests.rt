@@ -16,6 +16,7 @@ mod errors;
 mod holding;
 mod ir;
 mod layers;
+mod typed;
 mod varyings;
 
 /// What there was memory for.

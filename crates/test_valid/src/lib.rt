@@ -1,4 +1,4 @@
-//! Tests of ray traces, settings, globals and messages, through `Validator` and `check_module`.
+//! Tests of functions, globals, entry points, modules and messages, through `Validator` and `check_module`; malicious modules.
 #![tactic(auto)]
 
 #[cfg(test)]

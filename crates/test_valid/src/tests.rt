@@ -19,8 +19,11 @@ macro_rules! holds {
 }
 
 mod bodies;
+mod entry;
 mod entry_errors;
 mod globals;
+mod limits;
+mod parts;
 mod rays;
 mod report;
 mod settings;

@@ -1,31 +1,14 @@
-//! What the tests of statements share: places, targets, and what the validator answers over the plain layer.
+//! What the tests of statements share: targets, and what the validator answers over the plain layer.
 
+use crate::tests::parts::{ALL_CHECKS, GOOD, made};
 use naga_below::{
     Capabilities, Function, FunctionInfo, Module, ModuleInfo, Refusal, ShaderStages, Span,
-    SubgroupOperationSet, Type, TypeFlags, TypeInfo, TypeInner, UniqueArena, ValidationFlags,
-    WithSpan, fits_function, fits_types,
+    SubgroupOperationSet, WithSpan, fits_function, fits_types,
 };
 use naga_layers::plain::Plain;
 use naga_rules::FunctionError;
 use naga_valid::validator::Validator;
 use std::process::Abort;
-
-/// Where nothing is.
-pub const NOWHERE: Span = Span::UNDEFINED;
-
-/// Where statements are.
-pub const HERE: Span = Span { start: 3, end: 7 };
-
-/// What is known of a type that can be used for everything, and whose layouts are good.
-pub const GOOD: TypeInfo = TypeInfo {
-    flags: TypeFlags::ALL,
-    storage_layout: Ok(4),
-    uniform_layout: Ok(4),
-    immediates_compatibility: Ok(()),
-};
-
-/// Every check.
-pub const ALL_CHECKS: ValidationFlags = ValidationFlags::ALL;
 
 /// All capabilities, all stages and all groups of operations.
 pub const EVERYTHING: Target = Target {
@@ -40,20 +23,6 @@ pub struct Target {
     pub capabilities: Capabilities,
     pub stages: ShaderStages,
     pub operations: SubgroupOperationSet,
-}
-
-/// What there was memory for.
-pub fn made<T, E>(rt: &impl Abort, answer: Result<T, E>) -> T {
-    match answer {
-        Ok(value) => value,
-        Err(_) => panic!(rt; "no memory"),
-    }
-}
-
-/// Puts a type without a name last.
-pub fn add_type(rt: &impl Abort, types: &mut UniqueArena<Type>, inner: TypeInner) {
-    holds!(rt; !types.is_full());
-    made(rt, types.insert(Type { name: None, inner }, NOWHERE));
 }
 
 /// A validator with all flags for this target, and with a good info for each type of a module.

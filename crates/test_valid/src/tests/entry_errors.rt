@@ -1,6 +1,7 @@
 //! What the errors of entry points print: the name of the variant, but for one; and their sentences.
 
-use crate::tests::bodies::{expect_text, made};
+use crate::tests::bodies::expect_text;
+use crate::tests::parts::made;
 use naga_below::{Capabilities, GlobalUse, Handle, Refusal, ShaderStage, Span, WithSpan};
 use naga_module::report::{Subject, write_refusal};
 use naga_rules::{Explain, FunctionError, VaryingError};

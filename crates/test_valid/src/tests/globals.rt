@@ -1,6 +1,6 @@
 //! Global variables, judged over the plain layer.
 
-use crate::tests::bodies::{ALL_CHECKS, GOOD, NOWHERE, add_type, made};
+use crate::tests::parts::{ALL_CHECKS, GOOD, NOWHERE, add_type, made};
 use bitflags::Flags;
 use naga_below::{
     AddressSpace, Arena, ArraySize, Capabilities, Disalignment, Expression, ExpressionKindTracker,

@@ -1,8 +1,7 @@
 //! What ray traces leave, judged over the plain layer.
 
-use crate::tests::bodies::{
-    Answer, EVERYTHING, NOWHERE, add_type, expect, judge, made, validator_for,
-};
+use crate::tests::bodies::{Answer, EVERYTHING, expect, judge, validator_for};
+use crate::tests::parts::{NOWHERE, add_type, made};
 use bitflags::Flags;
 use naga_below::{
     AddressSpace, Arena, Block, Expression, Function, GlobalVariable, Handle, MemoryDecorations,

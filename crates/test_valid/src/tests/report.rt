@@ -1,6 +1,7 @@
 //! The texts of refusals, and that refusals pass into `anyhow`.
 
-use crate::tests::bodies::{EVERYTHING, HERE, expect_text, made, validator_for};
+use crate::tests::bodies::{EVERYTHING, expect_text, validator_for};
+use crate::tests::parts::{HERE, made};
 use naga_below::{
     AddressSpace, Capabilities, Expression, ExpressionError, Function, FunctionInfo, Handle,
     Literal, Module, ModuleInfo, Name, Refusal, Scalar, Span, Statement, TypeInner, WithSpan,

@@ -1,8 +1,7 @@
 //! What a validator is set to, and the type infos that it is given.
 
-use crate::tests::bodies::{
-    ALL_CHECKS, Answer, EVERYTHING, HERE, expect, judge, made, validator_for,
-};
+use crate::tests::bodies::{Answer, EVERYTHING, expect, judge, validator_for};
+use crate::tests::parts::{ALL_CHECKS, HERE, made};
 use naga_below::{
     Barrier, Function, Module, ModuleInfo, ShaderStages, Span, Statement, SubgroupOperationSet,
     TypeFlags, TypeInfo,

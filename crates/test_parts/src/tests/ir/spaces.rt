@@ -1,4 +1,4 @@
-//! What the tests of conditions on globals and entry points ask of spaces; what they ask of handles is in `test_limits`.
+//! What the tests of conditions on globals and entry points ask of spaces; what they ask of handles is in `test_valid`.
 
 use crate::tests::ir::{arena_of, unnamed};
 use crate::tests::made;

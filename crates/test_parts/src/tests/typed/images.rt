@@ -1,8 +1,9 @@
 //! Types of image samples, image loads and image queries.
 
-use crate::tests::expressions::{add, last_type, operands_of};
-use crate::tests::leaves::{Leaf, inner_of};
-use crate::tests::{HERE, made, put};
+use crate::tests::made;
+use crate::tests::typed::expressions::{add, last_type, operands_of};
+use crate::tests::typed::leaves::{Leaf, inner_of};
+use crate::tests::typed::{HERE, put};
 use bitflags::Flags;
 use naga_below::{
     AddressSpace, Arena, Expression, GlobalVariable, Handle, ImageClass, ImageDimension,

@@ -1,7 +1,8 @@
 //! A Switch of ten thousand cases.
 
-use crate::tests::handles::FIRST;
-use crate::tests::module::{NOWHERE, expressions_of, fault_of, made, module};
+use crate::tests::limits::handles::FIRST;
+use crate::tests::limits::module::{expressions_of, fault_of, module};
+use crate::tests::parts::{NOWHERE, made};
 use naga_below::{Block, Function, Handle, Sequence, Statement, SwitchCase, SwitchValue, WithSpan};
 use naga_module::check::ModuleFault;
 use naga_rules::FunctionError;

@@ -1,12 +1,12 @@
 //! Whole modules, judged over the plain layer.
 
-use crate::tests::bench::{COLOR, KILLS, infos_of, infos_of_types, made, make_bench, types_of};
-use crate::tests::judged::{entry_point, function, info_of};
-use crate::tests::parts::{ALL_CHECKS, HERE, NOWHERE};
-use crate::tests::shape::{Case, Step, at_compute, at_fragment};
+use crate::tests::entry::bench::{COLOR, KILLS, infos_of, infos_of_types, make_bench, types_of};
+use crate::tests::entry::judged::{entry_point, function, info_of};
+use crate::tests::entry::shape::{Case, Step, at_compute, at_fragment};
+use crate::tests::parts::{ALL_CHECKS, HERE, NOWHERE, made};
 use naga_below::{
-    Arena, Capabilities, EntryPoint, Function, Handle, Module, ModuleInfo, Sequence, Settings,
-    ShaderStages, SpecialTypes, SubgroupOperationSet, WithSpan,
+    Arena, Capabilities, EntryPoint, Function, Handle, Module, Sequence, Settings, ShaderStages,
+    SpecialTypes, SubgroupOperationSet, WithSpan,
 };
 use naga_layers::plain::Plain;
 use naga_module::check::{Given, ModuleFault, check_module};

@@ -1,8 +1,8 @@
 //! The greatest handle, and the first that names nothing, in each place of a module but inside a body: one test of
 //! conditions sees it, all others hold, and the module doesn't fit.
 
-use crate::tests::handles::{FIRST, GREATEST, Handles, LAST, SECOND, TYPES};
-use crate::tests::module::{expect_unfit, global_types_of, infos_of_types, made, module, named};
+use crate::tests::limits::handles::{FIRST, GREATEST, Handles, LAST, SECOND, TYPES};
+use crate::tests::limits::module::{expect_unfit, global_types_of, infos_of_types, module, named};
 use naga_below::{
     Capabilities, Module, ModuleInfo, Sequence, ValidationFlags, fits_entry, fits_function,
     fits_globals, fits_types,

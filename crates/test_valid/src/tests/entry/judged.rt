@@ -1,8 +1,8 @@
 //! An entry point from what it is like, and what is answered of it over the plain layer.
 
-use crate::tests::bench::{Bench, COLOR, FACE, OUTPUT, VERTEX, made};
-use crate::tests::parts::{HERE, NOWHERE};
-use crate::tests::shape::{Case, Part, Step};
+use crate::tests::entry::bench::{Bench, COLOR, FACE, OUTPUT, VERTEX};
+use crate::tests::entry::shape::{Case, Part, Step};
+use crate::tests::parts::{HERE, NOWHERE, made};
 use naga_below::{
     Arena, Block, EntryPoint, Expression, Function, FunctionArgument, FunctionInfo, FunctionResult,
     Handle, MeshOutputTopology, MeshStageInfo, RayPipelineFunction, Refusal, Sequence, Statement,

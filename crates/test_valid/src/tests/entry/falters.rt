@@ -1,13 +1,13 @@
 //! Each call of the lower layer in turn finds no memory: the answer is the row's own or want of memory, which leaves nothing.
 
-use crate::tests::bench::{
+use crate::tests::entry::bench::{
     Bench, IMMEDIATE, OTHER_IMMEDIATE, PAYLOAD, RAY_PAYLOAD, RESTS, STRUCTURE, make_bench,
 };
-use crate::tests::faltering::Faltering;
-use crate::tests::judged::{layer, validator_over};
-use crate::tests::modules::{Parts, beside_a_kill, fault_over, in_entry_point};
-use crate::tests::rows::{Row, alone, assert_own, bad, expect_own, good, refusal_of};
-use crate::tests::shape::{Case, Step, at, at_compute, at_fragment, at_mesh};
+use crate::tests::entry::faltering::Faltering;
+use crate::tests::entry::judged::{layer, validator_over};
+use crate::tests::entry::modules::{Parts, beside_a_kill, fault_over, in_entry_point};
+use crate::tests::entry::rows::{Row, alone, assert_own, bad, expect_own, good, refusal_of};
+use crate::tests::entry::shape::{Case, Step, at, at_compute, at_fragment, at_mesh};
 use naga_below::{Refusal, ShaderStage};
 use naga_layers::plain::Plain;
 use naga_module::check::ModuleFault;

@@ -1,12 +1,14 @@
 //! Rows that were worked out by hand, over one list of types.
 
-use crate::tests::bench::{
+use crate::tests::entry::bench::{
     Bench, COLOR, CORNERS, KILLS, OTHER_RAY_PAYLOAD, RAY_PAYLOAD, STRUCTURE, TWIN, U32, UNIFORM,
     make_bench,
 };
-use crate::tests::judged::validator;
-use crate::tests::rows::{Row, alone, assert_own, bad, expect_answer, expect_own, good, settled};
-use crate::tests::shape::{
+use crate::tests::entry::judged::validator;
+use crate::tests::entry::rows::{
+    Row, alone, assert_own, bad, expect_answer, expect_own, good, settled,
+};
+use crate::tests::entry::shape::{
     Case, Part, Step, at, at_compute, at_fragment, at_vertex, built_in, smooth,
 };
 use bitflags::Flags;

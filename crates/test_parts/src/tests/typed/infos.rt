@@ -1,7 +1,8 @@
 //! Infos of types.
 
-use crate::tests::leaves::{Leaf, inner_of};
-use crate::tests::{made, put};
+use crate::tests::made;
+use crate::tests::typed::leaves::{Leaf, inner_of};
+use crate::tests::typed::put;
 use layer_types::{size_of, type_infos};
 use naga_below::{
     AddressSpace, ArraySize, Disalignment, Handle, Members, Module, Scalar, ScalarKind,

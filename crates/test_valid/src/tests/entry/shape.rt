@@ -1,6 +1,6 @@
 //! What an entry point of the rows is like: numbers for what it names in the module of `bench`.
 
-use crate::tests::bench::{COLOR, COUNTS, PAYLOAD};
+use crate::tests::entry::bench::{COLOR, COUNTS, PAYLOAD};
 use crate::tests::parts::ALL_CHECKS;
 use naga_below::{Binding, BuiltIn, Capabilities, Interpolation, ShaderStage, ValidationFlags};
 

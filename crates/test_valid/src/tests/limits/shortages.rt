@@ -1,7 +1,8 @@
 //! Which list of the recorded facts about a function is short, or which type breaks a law.
 
-use crate::tests::handles::FIRST;
-use crate::tests::module::{made, module};
+use crate::tests::limits::handles::FIRST;
+use crate::tests::limits::module::module;
+use crate::tests::parts::made;
 use bitflags::Flags;
 use naga_below::{
     AddressSpace, ExpressionError, GlobalUse, Handle, Sequence, ShaderStages, TypeInner,

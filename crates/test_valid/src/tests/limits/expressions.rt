@@ -1,11 +1,12 @@
 //! The greatest handle in each place of each kind of expression, of a function and of a module. Of a module's expressions the
 //! operands are looked at alone.
 
-use crate::tests::handles::{FIRST, GREATEST, SECOND};
-use crate::tests::module::{
+use crate::tests::limits::handles::{FIRST, GREATEST, SECOND};
+use crate::tests::limits::module::{
     SECOND_FUNCTION, expect_function, expect_unfit, expressions_of, global_types_of, locals_of,
-    made, module, named,
+    module, named,
 };
+use crate::tests::parts::made;
 use naga_below::{
     Expression, Function, Handle, Module, ModuleInfo, Operands, Sequence, fits_globals,
 };

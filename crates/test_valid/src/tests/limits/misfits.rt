@@ -1,15 +1,16 @@
 //! What doesn't fit besides handles: lengths, spaces, sizes and signatures; which of two misfits is told; the number of a statement
 //! behind others; and misfits in words.
 
-use crate::tests::handles::{FIRST, GREATEST, Handles};
-use crate::tests::module::{
-    NOWHERE, SECOND_FUNCTION, expect_function, expect_misfit, expressions_of, given_of, made,
-    misfit_of, module, named,
+use crate::tests::limits::handles::{FIRST, GREATEST, Handles};
+use crate::tests::limits::module::{
+    SECOND_FUNCTION, expect_function, expect_misfit, expressions_of, given_of, misfit_of, module,
+    named,
 };
+use crate::tests::parts::{NOWHERE, add_type, made};
 use bitflags::Flags;
 use naga_below::{
     AddressSpace, Arena, ArraySize, Block, Expression, Function, FunctionArgument, GlobalVariable,
-    Handle, MemoryDecorations, Module, Sequence, Statement, Type, TypeInner,
+    Handle, MemoryDecorations, Module, Statement, TypeInner,
 };
 use naga_module::{
     HandleOf, Misfit, Owner, Place, Problem, StatementField, TypeField, TypeOwner, VariableField,
@@ -96,26 +97,20 @@ fn spaces_and_sizes(rt: HostRuntime) {
     drop(module);
 }
 
-/// Adds a type without a name.
-fn add_type(rt: &(impl Abort + AllocGlobal), module: &mut Module, inner: TypeInner) {
-    holds!(rt; !module.types.is_full());
-    made(rt, module.types.insert(Type { name: None, inner }, NOWHERE));
-}
-
 /// A binding array of ray queries in Handle. Of its two types there are infos.
 #[test]
 fn binding_arrays_of_ray_queries(rt: HostRuntime) {
     let mut module = Module::new(rt.alloc());
     add_type(
         &rt,
-        &mut module,
+        &mut module.types,
         TypeInner::RayQuery {
             vertex_return: false,
         },
     );
     add_type(
         &rt,
-        &mut module,
+        &mut module.types,
         TypeInner::BindingArray {
             base: Handle::new(0),
             size: ArraySize::Dynamic,

@@ -1,9 +1,9 @@
 //! Rows: an entry point, or its function by itself, and what it is answered.
 
-use crate::tests::bench::{Bench, COLOR, made};
-use crate::tests::judged::{DESCRIPTOR, ask, function, validator};
-use crate::tests::parts::{HERE, NOWHERE};
-use crate::tests::shape::Case;
+use crate::tests::entry::bench::{Bench, COLOR};
+use crate::tests::entry::judged::{DESCRIPTOR, ask, function, validator};
+use crate::tests::entry::shape::Case;
+use crate::tests::parts::{HERE, NOWHERE, made};
 use naga_below::{
     Arena, Function, FunctionInfo, Handle, LocalVariable, Refusal, fits_function, fits_types,
 };

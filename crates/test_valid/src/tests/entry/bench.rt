@@ -1,7 +1,7 @@
 //! One module for all rows of entry points, and what is answered of an entry point of it over the plain layer.
 
-use crate::tests::parts::{GOOD, HERE, NOWHERE};
-use crate::tests::shape::{Part, built_in, position, smooth, unbound};
+use crate::tests::entry::shape::{Part, built_in, position, smooth, unbound};
+use crate::tests::parts::{GOOD, HERE, NOWHERE, add_type, made};
 use bitflags::Flags;
 use naga_below::{
     AddressSpace, Arena, ArraySize, BuiltIn, Function, FunctionInfo, GlobalVariable, Handle,
@@ -76,14 +76,6 @@ pub struct Bench {
     pub infos: ModuleInfo,
 }
 
-/// What there was memory for.
-pub fn made<T, E>(rt: &impl Abort, answer: Result<T, E>) -> T {
-    match answer {
-        Ok(value) => value,
-        Err(_) => panic!(rt; "no memory"),
-    }
-}
-
 /// The members of each struct.
 fn members() -> [[Option<Part>; 2]; 3] {
     [
@@ -143,12 +135,6 @@ fn plain_type(index: u32) -> TypeInner {
             vertex_return: true,
         },
     }
-}
-
-/// Puts a type without a name last.
-fn add_type(rt: &impl Abort, types: &mut UniqueArena<Type>, inner: TypeInner) {
-    holds!(rt; !types.is_full());
-    made(rt, types.insert(Type { name: None, inner }, NOWHERE));
 }
 
 /// The types of the module.

@@ -1,9 +1,8 @@
 //! The greatest handle, and the first that names nothing, in each place of each kind of statement.
 
-use crate::tests::handles::{GREATEST, SECOND};
-use crate::tests::module::{
-    NOWHERE, SECOND_FUNCTION, expect_function, expressions_of, made, named,
-};
+use crate::tests::limits::handles::{GREATEST, SECOND};
+use crate::tests::limits::module::{SECOND_FUNCTION, expect_function, expressions_of, named};
+use crate::tests::parts::{NOWHERE, made};
 use naga_below::{
     AtomicFunction, Block, CollectiveOperation, CooperativeData, Function, GatherMode, Handle,
     Range, RayPipelineFunction, RayQueryFunction, Sequence, Statement, SubgroupOperation,

@@ -1,7 +1,8 @@
 //! Types of expressions.
 
-use crate::tests::leaves::{Leaf, inner_of};
-use crate::tests::{HERE, made, put};
+use crate::tests::made;
+use crate::tests::typed::leaves::{Leaf, inner_of};
+use crate::tests::typed::{HERE, put};
 use layer_expressions::types_of;
 use naga_below::{
     Arena, Expression, Handle, Module, Operands, Scalar, TypeResolution, UniqueArena, VectorSize,

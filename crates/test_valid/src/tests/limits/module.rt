@@ -1,31 +1,20 @@
 //! One module with a handle in each place but inside a body, what is known of it, and what is answered of it over the plain
 //! layer.
 
-use crate::tests::handles::{FIRST, Handles, TYPES};
+use crate::tests::limits::handles::{FIRST, Handles, TYPES};
+use crate::tests::parts::{GOOD, NOWHERE, add_type, made};
 use bitflags::Flags;
 use naga_below::{
     AddressSpace, Arena, ArraySize, Capabilities, Constant, Disalignment, EntryPoint, Expression,
     Function, FunctionArgument, FunctionResult, GlobalVariable, Handle, LocalVariable,
     MemoryDecorations, MeshOutputTopology, MeshStageInfo, Module, Override, Scalar, Sequence,
-    Settings, ShaderStage, ShaderStages, Span, SpecialTypes, StructMember, SubgroupOperationSet,
-    Type, TypeFlags, TypeInfo, TypeInner, TypeResolution, UniqueArena, ValidationFlags,
-    fits_function,
+    Settings, ShaderStage, ShaderStages, SpecialTypes, StructMember, SubgroupOperationSet, Type,
+    TypeInfo, TypeInner, TypeResolution, UniqueArena, ValidationFlags, fits_function,
 };
 use naga_layers::plain::Plain;
 use naga_module::check::{Given, ModuleFault, check_module};
 use naga_module::{HandleOf, Misfit, Owner, Place, Problem, find_misfit};
 use std::process::Abort;
-
-/// Where everything is.
-pub const NOWHERE: Span = Span::UNDEFINED;
-
-/// What there was memory for.
-pub fn made<T, E>(rt: &impl Abort, answer: Result<T, E>) -> T {
-    match answer {
-        Ok(value) => value,
-        Err(_) => panic!(rt; "no memory"),
-    }
-}
 
 /// The type with this number, of those before the struct, which is last.
 fn flat_type(handles: &Handles, index: u32) -> TypeInner {
@@ -64,12 +53,6 @@ fn structure(rt: &(impl Abort + AllocGlobal), member: u32) -> TypeInner {
         }),
     );
     TypeInner::Struct { members, span: 4 }
-}
-
-/// Puts a type without a name last.
-fn add_type(rt: &(impl Abort + AllocGlobal), types: &mut UniqueArena<Type>, inner: TypeInner) {
-    holds!(rt; !types.is_full());
-    made(rt, types.insert(Type { name: None, inner }, NOWHERE));
 }
 
 fn types_of(rt: &(impl Abort + AllocGlobal), handles: &Handles) -> UniqueArena<Type> {
@@ -238,14 +221,6 @@ pub fn module(
     module.entry_points = entries_of(rt, entry_point(rt, handles));
     module
 }
-
-/// What is known of a type that can be used for everything, and whose layouts are good.
-const GOOD: TypeInfo = TypeInfo {
-    flags: TypeFlags::ALL,
-    storage_layout: Ok(4),
-    uniform_layout: Ok(4),
-    immediates_compatibility: Ok(()),
-};
 
 /// What is known of the types: the layouts of the last are bad.
 pub fn infos_of_types(rt: &(impl Abort + AllocGlobal), handles: &Handles) -> Vec<TypeInfo> {

@@ -1,11 +1,11 @@
 //! What is known of an accepted entry point, and what ray traces leave.
 
-use crate::tests::bench::{
+use crate::tests::entry::bench::{
     Bench, COLOR, OUTPUT, PAYLOAD, RAY_PAYLOAD, SOURCES, STRUCTURE, TWIN, U32, UNIFORM, make_bench,
 };
-use crate::tests::judged::{info_of, validator};
-use crate::tests::rows::{Row, bad, expect_answer, good};
-use crate::tests::shape::{
+use crate::tests::entry::judged::{info_of, validator};
+use crate::tests::entry::rows::{Row, bad, expect_answer, good};
+use crate::tests::entry::shape::{
     Case, Step, at, at_compute, at_fragment, at_mesh, at_task, smooth, unbound,
 };
 use bitflags::Flags;
