@@ -13,7 +13,8 @@ def place_of(document, verdict):
     if refused is None or refused["at"] == "NotFit":
         return None
     ((kind, index),) = refused["at"].items()
-    module, facts, fault = document["module"], document["facts"], refused["fault"]
+    module, facts, fault = document["module"], document["facts"] or {"functions": None, "entry_points": None}, refused["fault"]
+    refused = {**refused, "flags": document["flags"]}
     if kind == "Global":
         return f"/module/global_variables/{index}"
     if kind == "Function":
@@ -35,10 +36,10 @@ def in_function(module, facts, listed, index, function, step, refused):
     base, fault, name = f"/module/{listed}/{index}{step}", refused["fault"], name_of(refused["fault"])
     held = fault[name] if isinstance(fault, dict) else None
     if refused["spans"]:
-        found = statement_of(function, fault)
+        found = statement_of(function, fault, refused["flags"])
         assert found, fault
         return f"{base}/body{found}"
-    if name == "Expression" and held["source"] == {"Lower": 0}:
+    if name == "Expression" and held["source"] == {"Lower": 0} and facts is not None:
         gap = gap_of(module, facts, index, function, held["handle"])
         if gap is not None:
             return f"/facts/{listed}{gap}"
@@ -166,17 +167,37 @@ def emitted_by(name, held):
     return []
 
 
+# The operands of the forms with names, but for those that are no fields.
+NAMED = {
+    "Access": ["base", "index"], "AccessIndex": ["base"], "Load": ["pointer"], "Splat": ["value"], "Swizzle": ["vector"],
+    "Unary": ["expr"], "Binary": ["left", "right"], "Select": ["condition", "accept", "reject"], "Derivative": ["expr"],
+    "Relational": ["argument"], "Math": ["arg", "arg1", "arg2", "arg3"], "As": ["expr"],
+    "ImageSample": ["image", "sampler", "coordinate", "array_index", "offset", "depth_ref"],
+    "ImageLoad": ["image", "coordinate", "array_index", "sample", "level"], "ImageQuery": ["image"],
+    "RayQueryGetIntersection": ["query"], "RayQueryVertexPositions": ["query"], "CooperativeMultiplyAdd": ["a", "b", "c"],
+}
+
+
 def operands_of(expression):
-    ((name, held),) = expression.items() if isinstance(expression, dict) else ((expression, None),)
-    if name == "Access":
-        return [held["base"], held["index"]]
-    if name == "AccessIndex":
-        return [held["base"]]
-    if name == "Load":
-        return [held["pointer"]]
+    """The operands of an expression, in a form with names or without."""
+    name, held = name_of(expression), None if isinstance(expression, str) else next(iter(expression.values()))
+    if name == "ArrayLength" and not isinstance(held, dict):
+        return [held]
+    if not isinstance(held, dict):
+        return []
     if name == "Compose":
         return held["components"]
-    return held["operands"] if isinstance(held, dict) and "operands" in held else []
+    if "operands" in held:
+        return held["operands"]
+    found = [held[field] for field in NAMED.get(name, [])]
+    if name == "ImageSample" and isinstance(held["level"], dict):
+        level = next(iter(held["level"].values()))
+        found += [level["x"], level["y"]] if isinstance(level, dict) else [level]
+    if name == "ImageQuery" and isinstance(held["query"], dict):
+        found.append(held["query"]["Size"]["level"])
+    if name == "CooperativeLoad":
+        found += [held["data"]["pointer"], held["data"]["stride"]]
+    return [operand for operand in found if operand is not None]
 
 
 class Walk:
@@ -260,8 +281,9 @@ def all_statements(listed, pointer, allowed):
             yield from all_statements(below, at, inside[part])
 
 
-def statement_of(function, fault):
-    """The pointer, from the body on, to the first statement that can have a fault."""
+def statement_of(function, fault, flags):
+    """The pointer, from the body on, to the first statement that can have a fault. A result is filled already where a second one
+    names it; without EXPRESSIONS from the first on."""
     name = name_of(fault)
     held = fault[name] if isinstance(fault, dict) else None
     error = held["error"] if name == "InvalidCall" else None
@@ -278,7 +300,7 @@ def statement_of(function, fault):
         elif name_of(statement) in KINDS[name] and can_have(statement, name, held, error):
             found.append(f"{inner}/Loop/break_if" if name_of(statement) == "Loop" else own)
     if isinstance(error, dict) and "ResultAlreadyPopulated" in error or name == "InvalidAtomic" and "ResultAlreadyPopulated" in held:
-        return found[-1]
+        return found[-1 if "EXPRESSIONS" in flags else 0]
     return found[0]
 
 
@@ -300,10 +322,22 @@ def can_have(statement, name, held, error):
         }[name]
     if name == "InvalidStoreTypes":
         return [own["pointer"], own["value"]] == [held["pointer"], held["value"]]
+    if name == "InvalidStorePointer":
+        return own["pointer"] == held
+    if name == "InvalidStoreValue":
+        return own["value"] == held["actual"]
+    if name == "InvalidAtomic" and isinstance(held, dict) and "InvalidPointer" in held:
+        return own["pointer"] == held["InvalidPointer"]
+    if name == "InvalidSubgroup" and isinstance(held, dict) and "ResultTypeMismatch" in held:
+        return isinstance(own, dict) and own["result"] == held["ResultTypeMismatch"]
     if name == "EmitResult":
         return own["start"] <= held < own["end"]
     if isinstance(error, dict) and "ResultAlreadyPopulated" in error:
         return own["result"] == error["ResultAlreadyPopulated"]
+    if name == "InvalidCall" and own["function"] != held["function"]:
+        return False
+    if isinstance(error, dict) and "ArgumentCount" in error:
+        return len(own["arguments"]) == error["ArgumentCount"]["seen"]
     if isinstance(error, dict) and "ArgumentType" in error:
         return own["arguments"][error["ArgumentType"]["index"]] == error["ArgumentType"]["seen_expression"]
     return True
