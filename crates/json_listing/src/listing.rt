@@ -165,7 +165,7 @@ fn named_by(
     }
     match earlier {
         Earlier::Emits(number) | Earlier::Fills(number) => named.push(number)?,
-        Earlier::FromStart | Earlier::None => {}
+        Earlier::FromStart | Earlier::Unflagged | Earlier::None => {}
     }
     Ok(named)
 }

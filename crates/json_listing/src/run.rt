@@ -1,6 +1,6 @@
 //! Judges files and standard input, and writes what is asked for of each.
 
-use crate::text::write_examined;
+use crate::text::write_answered;
 use json_document::MOST_BYTES;
 use json_faults::writer::JsonWriter;
 use json_verdict::examine::examine;
@@ -197,7 +197,7 @@ fn write_examination(
     bytes: &[u8],
 ) -> Result<u8, fmt::Error> {
     let examined = examine(alloc, bytes);
-    let written = write_examined(alloc, text, &examined, is_listed);
+    let written = write_answered(alloc, text, &examined, is_listed);
     let status = examined.verdict.status();
     drop(examined);
     match written {

@@ -4,7 +4,7 @@ ghost use Rattle.std.specs.Prelude.{◌≡◌, IfOk};
 ghost use Rattle.json_verdict.specs.Judges.{Judges, IsJudgedBy, IsJudgedOver};
 ghost use Rattle.json_verdict.specs.Lends.{known_by, known_of};
 
-use crate::judge::{Verdict, computed, judge_alone};
+use crate::judge::{Verdict, computed, judge, judge_alone};
 use json_document::{Document, Known, ReadError, read_document};
 use json_places::{Found, Lent, locate};
 use naga_below::{Module, ModuleInfo, Sequence, Settings, TypeInfo, TypeResolution};
@@ -23,8 +23,17 @@ pub struct Examined {
 #[derive(Drop)]
 pub struct Refused {
     pub module: Module,
+    /// Whether its facts were computed.
+    pub is_computed: bool,
     /// None where the fault names nothing, and where it couldn't be found, out of memory.
     pub found: Option<Found>,
+}
+
+impl Examined {
+    /// What was found of the fault.
+    pub fn found(&self) -> Option<&Found> {
+        self.refused.as_ref()?.found.as_ref()
+    }
 }
 
 /// What a document says is known of its module, with the layer that answers the facts: so these can be lent.
@@ -166,8 +175,26 @@ pub fn examine(alloc: Global, text: &[u8]) -> Examined
             let found = find(alloc, settings, &module, &known, &fault);
             Examined {
                 verdict: Verdict::Refused(fault),
-                refused: Some(Refused { module, found }),
+                refused: Some(Refused {
+                    module,
+                    is_computed: known.is_none(),
+                    found,
+                }),
             }
+        }
+    }
+}
+
+/// Judges a text. Where its fault stands is found only if that `is_located`.
+pub fn judge_text(alloc: Global, text: &[u8], is_located: bool) -> Examined
+    ensures { Judges text.now result.verdict }
+{
+    if is_located {
+        examine(alloc, text)
+    } else {
+        Examined {
+            verdict: judge(alloc, text),
+            refused: None,
         }
     }
 }

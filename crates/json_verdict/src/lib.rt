@@ -10,4 +10,5 @@ mod reply;
 pub mod run;
 mod stream;
 mod text;
+mod untyped;
 pub mod verdict;

@@ -5,7 +5,8 @@ ghost use Rattle.std.specs.Bool.{OnTrue};
 ghost use Rattle.json_verdict.specs.Judges.{Judges};
 ghost use Rattle.json_verdict.specs.walk.Stream.{Holds};
 
-use crate::judge::{Verdict, judge};
+use crate::examine::{Examined, judge_text};
+use crate::judge::Verdict;
 use json_document::MOST_BYTES;
 use naga_module::ModuleFault;
 use std::alloc::Global;
@@ -71,14 +72,17 @@ impl Bytes {
         false
     }
 
-    /// The verdict of the text.
-    pub fn judge(&self, alloc: Global) -> Verdict
-        ensures { (text : List ℕ) → Holds self.now text → Judges text result }
+    /// The verdict of the text; and where it stands what is refused, if that `is_located`.
+    pub fn judge(&self, alloc: Global, is_located: bool) -> Examined
+        ensures { (text : List ℕ) → Holds self.now text → Judges text result.verdict }
     {
         if self.is_lost {
-            Verdict::Refused(ModuleFault::Memory)
+            Examined {
+                verdict: Verdict::Refused(ModuleFault::Memory),
+                refused: None,
+            }
         } else {
-            judge(alloc, self.kept.as_slice())
+            judge_text(alloc, self.kept.as_slice(), is_located)
         }
     }
 }

@@ -198,7 +198,7 @@ entry point 0:
   workgroup_size: [0, 0, 0]
 expressions:
   [0] Literal(Literal { scalar: Scalar { kind: Bool, width: 1 }, bits: 1 })
-  [1] Unary { operands: [[0]], detail: 0 }
+  [1] Negate { operands: [[0]] }
 body:
 > #0 If { condition: [1] }
 Why: no statement of the body emits [1].

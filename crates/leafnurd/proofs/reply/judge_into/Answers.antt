@@ -6,6 +6,6 @@ use Rattle.leafnurd.proofs.reply.judge_into.Goals as goal
 pub returns : goal.returns
 returns c =
     elim c.tell.ensures [
-      | inl told ↦ (c.judge-verdict.result, c.judge-verdict.ensures, told)
+      | inl told ↦ (c.judge_text.result.verdict, c.judge_text.ensures, told)
       | inr told ↦ (verdict.Refused fault.Memory, inl refl, told)
     ]

@@ -7,5 +7,5 @@ use Rattle.json_verdict.proofs.text.Bytes.judge.Goals as goal
 pub returns-else-self : goal.returns-else-self
 unfolding Holds
 returns-else-self c = λ text held.
-    kept_judges most text c.judge.result (omega arith)
-    (subst (λ t. Judges t c.judge.result) (c.as_slice.ensures.value ∙ held c.if-self.false) c.judge.ensures)
+    kept_judges most text c.judge_text.result.verdict (omega arith)
+    (subst (λ t. Judges t c.judge_text.result.verdict) (c.as_slice.ensures.value ∙ held c.if-self.false) c.judge_text.ensures)
