@@ -6,8 +6,8 @@ use bitflags::Flags;
 use json_places::parts::members_of;
 use json_places::{EntryField, Spot};
 use naga_below::{
-    Binding, EntryPoint, Function, FunctionArgument, GlobalVariable, Handle, LocalVariable, Module,
-    Name, tag,
+    Binding, EntryPoint, Expression, Function, FunctionArgument, GlobalVariable, Handle,
+    LocalVariable, Module, Name, tag,
 };
 use std::fmt;
 
@@ -214,9 +214,33 @@ pub fn write_expressions<W: fmt::Write>(
             out.write_str(mark(is_marked))?;
             write!(out, "[{index}] ")?;
             write_expression(out, expression)?;
+            write_variable_name(out, function, expression)?;
         }
     }
     Ok(())
+}
+
+/// Writes the name of the local or the argument that an expression is, if it has one.
+fn write_variable_name<W: fmt::Write>(
+    out: &mut W,
+    function: &Function,
+    expression: &Expression,
+) -> fmt::Result {
+    match expression {
+        Expression::LocalVariable(local) => {
+            match function.local_variables.as_slice().get(local.index()) {
+                Some(local) => write_name(out, &local.name),
+                None => Ok(()),
+            }
+        }
+        Expression::FunctionArgument(index) => {
+            match function.arguments.as_slice().get(*index as usize) {
+                Some(argument) => write_name(out, &argument.name),
+                None => Ok(()),
+            }
+        }
+        _ => Ok(()),
+    }
 }
 
 /// Writes a global.

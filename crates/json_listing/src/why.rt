@@ -101,7 +101,11 @@ pub fn write_reason<W: fmt::Write>(
             out.write_str(", which has ended before ")?;
             write_position(out, position)?;
             out.write_str(".")?;
-            write_cure(out, position, handle)
+            write_cure(out, position, handle)?;
+            write!(
+                out,
+                "\nOr: store it in a local after #{emitted}, and use a Load of that."
+            )
         }
         Reason::Later { emitted } if position == Position::Statement(emitted) => {
             write!(
