@@ -1,7 +1,7 @@
 //! What is written of a judged text for a person.
 
 use crate::listing::write_listing;
-use json_places::{Found, Gap, Reason, Spot};
+use json_places::{Found, Reason, Spot};
 use json_verdict::examine::Examined;
 use json_verdict::judge::Verdict;
 use json_verdict::verdict::write_lines;
@@ -57,36 +57,7 @@ fn write_fault<W: fmt::Write>(
     };
     write_module_fault_lines(out, fault, known)?;
     match found.spot {
-        Spot::Facts(gap) => write_gap(out, gap),
+        Spot::Facts(shortage) => write!(out, "\n  the facts can't be used: {shortage}"),
         _ => Ok(()),
-    }
-}
-
-/// Writes on a line what is wrong with the facts of a function.
-fn write_gap<W: fmt::Write>(out: &mut W, gap: Gap) -> fmt::Result {
-    out.write_str("\n  the facts can't be used: ")?;
-    match gap {
-        Gap::Function { found } => {
-            write!(
-                out,
-                "the list has {found} items, and none for this function"
-            )
-        }
-        Gap::Types { found, wanted } => {
-            write!(out, "there are {found} types, and {wanted} expressions")
-        }
-        Gap::Uses { found, wanted } => write!(out, "there are {found} uses, and {wanted} globals"),
-        Gap::Type(index) => {
-            write!(
-                out,
-                "type {index} names no type of the module, or is a struct as a value"
-            )
-        }
-        Gap::Expressions { found, wanted } => {
-            write!(
-                out,
-                "there are facts of {found} expressions, and {wanted} expressions"
-            )
-        }
     }
 }
