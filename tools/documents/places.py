@@ -52,7 +52,7 @@ def in_function(module, facts, listed, index, function, step, refused):
     base, fault, name = f"/module/{listed}/{index}{step}", refused["fault"], name_of(refused["fault"])
     held = fault[name] if isinstance(fault, dict) else None
     if refused["spans"]:
-        found = statement_of(function, fault)
+        found = statement_of(module, function, fault)
         assert found, fault
         return f"{base}/body{found}"
     if name == "Expression" and held["source"] == {"Lower": 0} and facts is not None:
@@ -281,7 +281,7 @@ KINDS = {
     "WorkgroupUniformLoadExpressionMismatch": ["WorkGroupUniformLoad"], "WorkgroupUniformLoadInvalidPointer": ["WorkGroupUniformLoad"],
     "InvalidCooperativeStoreTarget": ["CooperativeStore"], "InvalidCooperativeDataPointer": ["CooperativeStore"],
     "EmitResult": ["Emit"], "InvalidPayloadType": ["RayPipelineFunction"], "InvalidPayloadAddressSpace": ["RayPipelineFunction"],
-    "MismatchedPayloadType": ["RayPipelineFunction"], "PayloadPointerNotGlobal": ["RayPipelineFunction"],
+    "PayloadPointerNotGlobal": ["RayPipelineFunction"],
     "InvalidSubgroup": ["SubgroupBallot", "SubgroupCollectiveOperation", "SubgroupGather", "ControlBarrier", "MemoryBarrier"],
     "MissingCapability": ["ControlBarrier", "MemoryBarrier", "ImageAtomic", "SubgroupBallot", "SubgroupCollectiveOperation",
                           "SubgroupGather"],
@@ -297,7 +297,7 @@ def all_statements(listed, pointer, allowed):
             yield from all_statements(below, at, inside[part])
 
 
-def statement_of(function, fault):
+def statement_of(module, function, fault):
     """The pointer, from the body on, to the first statement that can have a fault."""
     name = name_of(fault)
     held = fault[name] if isinstance(fault, dict) else None
@@ -312,11 +312,20 @@ def statement_of(function, fault):
         if jump is not None:
             if name_of(statement) == jump and jump not in allowed:
                 found.append(own)
+        elif name == "MismatchedPayloadType":
+            if name_of(statement) == "RayPipelineFunction" and payload_type(module, function, statement) == held[0]:
+                found.append(own)
         elif name_of(statement) in KINDS[name] and can_have(statement, name, held, error):
             found.append(f"{inner}/Loop/break_if" if name_of(statement) == "Loop" else own)
     if isinstance(error, dict) and "ResultAlreadyPopulated" in error or name == "InvalidAtomic" and "ResultAlreadyPopulated" in held:
         return found[-1]
     return found[0]
+
+
+def payload_type(module, function, statement):
+    """The type of the global that is the payload of a ray."""
+    payload = function["expressions"][statement["RayPipelineFunction"]["TraceRay"]["payload"]]
+    return module["global_variables"][payload["GlobalVariable"]]["ty"]
 
 
 def can_have(statement, name, held, error):

@@ -1,4 +1,5 @@
 use Rattle.std.proofs.Common.{None, inl, inr, refl}
+use Rattle.json_verdict.proofs.Misfits.{memory_fits}
 use Rattle.json_verdict.specs.declared.judge.Verdict.TheVariants as verdict
 use Rattle.naga_module.specs.declared.check.ModuleFault.TheVariants as fault
 use Rattle.leafnurd.proofs.reply.judge_into.Goals as goal
@@ -8,5 +9,5 @@ returns c =
     let found = c.examine-examined.result in
     elim c.tell.ensures [
       | inl told ↦ (found.verdict, found.misfit, c.examine-examined.ensures.judged, c.examine-examined.ensures.misfit, told)
-      | inr told ↦ (verdict.Refused fault.Memory, None, inl refl, (λ same. cc), told)
+      | inr told ↦ (verdict.Refused fault.Memory, None, inl refl, memory_fits c.args.text.now _ None refl, told)
     ]
