@@ -21,6 +21,7 @@ def place_of(document, verdict):
         return misfits.misfit_of(document)[1]
     ((kind, index),) = refused["at"].items()
     module, facts, fault = document["module"], document["facts"] or {"functions": None, "entry_points": None}, refused["fault"]
+    refused = {**refused, "flags": document["flags"]}
     if kind == "Global":
         return f"/module/global_variables/{index}"
     if kind == "Function":
@@ -52,7 +53,7 @@ def in_function(module, facts, listed, index, function, step, refused):
     base, fault, name = f"/module/{listed}/{index}{step}", refused["fault"], name_of(refused["fault"])
     held = fault[name] if isinstance(fault, dict) else None
     if refused["spans"]:
-        found = statement_of(module, function, fault)
+        found = statement_of(module, function, fault, refused["flags"])
         assert found, fault
         return f"{base}/body{found}"
     if name == "Expression" and held["source"] == {"Lower": 0} and facts is not None:
@@ -297,8 +298,9 @@ def all_statements(listed, pointer, allowed):
             yield from all_statements(below, at, inside[part])
 
 
-def statement_of(module, function, fault):
-    """The pointer, from the body on, to the first statement that can have a fault."""
+def statement_of(module, function, fault, flags):
+    """The pointer, from the body on, to the first statement that can have a fault. A result is filled already where a second one
+    names it; without EXPRESSIONS from the first on."""
     name = name_of(fault)
     held = fault[name] if isinstance(fault, dict) else None
     error = held["error"] if name == "InvalidCall" else None
@@ -318,7 +320,7 @@ def statement_of(module, function, fault):
         elif name_of(statement) in KINDS[name] and can_have(statement, name, held, error):
             found.append(f"{inner}/Loop/break_if" if name_of(statement) == "Loop" else own)
     if isinstance(error, dict) and "ResultAlreadyPopulated" in error or name == "InvalidAtomic" and "ResultAlreadyPopulated" in held:
-        return found[-1]
+        return found[-1 if "EXPRESSIONS" in flags else 0]
     return found[0]
 
 
