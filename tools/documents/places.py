@@ -1,17 +1,24 @@
 """Where what a verdict refuses stands in its document, as a JSON pointer: by the rules, and not by what the program answers.
 
 A document needs no spans for it. Of a fault in a body the statement is the first that can have it: for what isn't in scope, or is
-so already, by what each statement uses and emits; for a jump by where it stands; for all others by kind and handles.
+so already, by what each statement uses and emits; for a jump by where it stands; for all others by kind and handles. Of NotFit it
+is where the first misfit stands.
 """
+
+import json
+
+import misfits
 
 PRE_EMITTED = ("Literal", "Constant", "Override", "ZeroValue", "FunctionArgument", "GlobalVariable", "LocalVariable")
 
 
 def place_of(document, verdict):
-    """The pointer to what has the fault. None where nothing is refused, and of NotFit."""
+    """The pointer to what has the fault. None where nothing is refused."""
     refused = verdict.get("refused") if isinstance(verdict, dict) else None
-    if refused is None or refused["at"] == "NotFit":
+    if refused is None:
         return None
+    if refused["at"] == "NotFit":
+        return misfits.misfit_of(document)[1]
     ((kind, index),) = refused["at"].items()
     module, facts, fault = document["module"], document["facts"] or {"functions": None, "entry_points": None}, refused["fault"]
     refused = {**refused, "flags": document["flags"]}
@@ -26,6 +33,16 @@ def place_of(document, verdict):
     return in_entry(module, f"/module/entry_points/{index}", ep, fault)
 
 
+def told(line, verdict):
+    """The verdict of a line as it is written: of a refusal with its place, and of NotFit with what doesn't fit as its fault."""
+    refused = verdict.get("refused") if isinstance(verdict, dict) else None
+    if refused is None:
+        return verdict
+    document = json.loads(line)
+    fault = misfits.misfit_of(document)[0] if refused["at"] == "NotFit" else refused["fault"]
+    return {"refused": {**refused, "fault": fault, "place": place_of(document, verdict)}}
+
+
 # Functions.
 
 def name_of(fault):
@@ -36,7 +53,7 @@ def in_function(module, facts, listed, index, function, step, refused):
     base, fault, name = f"/module/{listed}/{index}{step}", refused["fault"], name_of(refused["fault"])
     held = fault[name] if isinstance(fault, dict) else None
     if refused["spans"]:
-        found = statement_of(function, fault, refused["flags"])
+        found = statement_of(module, function, fault, refused["flags"])
         assert found, fault
         return f"{base}/body{found}"
     if name == "Expression" and held["source"] == {"Lower": 0} and facts is not None:
@@ -265,7 +282,7 @@ KINDS = {
     "WorkgroupUniformLoadExpressionMismatch": ["WorkGroupUniformLoad"], "WorkgroupUniformLoadInvalidPointer": ["WorkGroupUniformLoad"],
     "InvalidCooperativeStoreTarget": ["CooperativeStore"], "InvalidCooperativeDataPointer": ["CooperativeStore"],
     "EmitResult": ["Emit"], "InvalidPayloadType": ["RayPipelineFunction"], "InvalidPayloadAddressSpace": ["RayPipelineFunction"],
-    "MismatchedPayloadType": ["RayPipelineFunction"], "PayloadPointerNotGlobal": ["RayPipelineFunction"],
+    "PayloadPointerNotGlobal": ["RayPipelineFunction"],
     "InvalidSubgroup": ["SubgroupBallot", "SubgroupCollectiveOperation", "SubgroupGather", "ControlBarrier", "MemoryBarrier"],
     "MissingCapability": ["ControlBarrier", "MemoryBarrier", "ImageAtomic", "SubgroupBallot", "SubgroupCollectiveOperation",
                           "SubgroupGather"],
@@ -281,7 +298,7 @@ def all_statements(listed, pointer, allowed):
             yield from all_statements(below, at, inside[part])
 
 
-def statement_of(function, fault, flags):
+def statement_of(module, function, fault, flags):
     """The pointer, from the body on, to the first statement that can have a fault. A result is filled already where a second one
     names it; without EXPRESSIONS from the first on."""
     name = name_of(fault)
@@ -297,11 +314,20 @@ def statement_of(function, fault, flags):
         if jump is not None:
             if name_of(statement) == jump and jump not in allowed:
                 found.append(own)
+        elif name == "MismatchedPayloadType":
+            if name_of(statement) == "RayPipelineFunction" and payload_type(module, function, statement) == held[0]:
+                found.append(own)
         elif name_of(statement) in KINDS[name] and can_have(statement, name, held, error):
             found.append(f"{inner}/Loop/break_if" if name_of(statement) == "Loop" else own)
     if isinstance(error, dict) and "ResultAlreadyPopulated" in error or name == "InvalidAtomic" and "ResultAlreadyPopulated" in held:
         return found[-1 if "EXPRESSIONS" in flags else 0]
     return found[0]
+
+
+def payload_type(module, function, statement):
+    """The type of the global that is the payload of a ray."""
+    payload = function["expressions"][statement["RayPipelineFunction"]["TraceRay"]["payload"]]
+    return module["global_variables"][payload["GlobalVariable"]]["ty"]
 
 
 def can_have(statement, name, held, error):

@@ -1,6 +1,7 @@
 //! What is written of a judged text for a person.
 
 use crate::listing::write_listing;
+use json_places::Spot;
 use json_verdict::examine::Examined;
 use json_verdict::judge::Verdict;
 use json_verdict::verdict::write_examined;
@@ -19,7 +20,8 @@ pub fn write_answered<W: fmt::Write>(
 ) -> fmt::Result {
     write_examined(alloc, out, examined)?;
     match (&examined.verdict, &examined.refused, examined.found()) {
-        (Verdict::Refused(fault), Some(refused), Some(found)) if is_listed => {
+        (Verdict::Refused(fault), Some(refused), Some(found))
+            if is_listed && !matches!(found.spot, Spot::Misfit) => {
             out.write_str("\n")?;
             write_listing(alloc, out, &refused.module, fault, found)
         }

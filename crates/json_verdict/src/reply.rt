@@ -1,6 +1,6 @@
 //! The reply to a text: its verdict, written in a form.
 
-ghost use Rattle.std.specs.Prelude.{ℕ, List, IfOk, IfSome, string_bytes};
+ghost use Rattle.std.specs.Prelude.{ℕ, List, None, IfOk, IfSome, string_bytes};
 ghost use Rattle.naga_module.specs.declared.check.ModuleFault.TheVariants as faults;
 ghost use Rattle.json_verdict.specs.declared.judge.Verdict.TheVariants as verdicts;
 ghost use Rattle.json_verdict.specs.declared.reply.Form.TheVariants as forms;
@@ -8,7 +8,6 @@ ghost use Rattle.json_verdict.specs.Runs.{IsLineOf, Replies};
 ghost use Rattle.json_verdict.specs.walk.Stream.{Holds, Tells};
 
 use crate::examine::Examined;
-use crate::judge::Verdict;
 use crate::line::json_line;
 use crate::text::Bytes;
 use crate::verdict::write_examined;
@@ -24,10 +23,10 @@ pub enum Form {
 }
 
 /// The verdict as JSON, with a newline at the end.
-fn json_text(alloc: Global, verdict: &Verdict) -> Result<String, AllocError>
-    ensures { IfOk result (λ text. IsLineOf forms.Json verdict.now (string_bytes text)) }
+fn json_text(alloc: Global, examined: &Examined) -> Result<String, AllocError>
+    ensures { IfOk result (λ text. IsLineOf forms.Json examined.now.verdict examined.now.misfit (string_bytes text)) }
 {
-    let mut text = json_line(alloc, verdict)?;
+    let mut text = json_line(alloc, examined)?;
     text.push_str("\n")?;
     Ok(text)
 }
@@ -42,17 +41,17 @@ fn lines_text(alloc: Global, examined: &Examined) -> Result<String, fmt::Error> 
 
 /// The text of a verdict, with the end of its last line. None is out of memory.
 fn text_of(alloc: Global, examined: &Examined, form: Form) -> Option<String>
-    ensures { IfSome result (λ text. IsLineOf form examined.now.verdict (string_bytes text)) }
+    ensures { IfSome result (λ text. IsLineOf form examined.now.verdict examined.now.misfit (string_bytes text)) }
 {
     match form {
         Form::Lines => lines_text(alloc, examined).ok(),
-        Form::Json => json_text(alloc, &examined.verdict).ok(),
+        Form::Json => json_text(alloc, examined).ok(),
     }
 }
 
 /// The text of out of memory.
 fn memory_text(form: Form) -> &'static [u8]
-    ensures { IsLineOf form (verdicts.Refused faults.Memory) result.now }
+    ensures { IsLineOf form (verdicts.Refused faults.Memory) None result.now }
 {
     match form {
         Form::Lines => b"memory\n",
@@ -62,7 +61,7 @@ fn memory_text(form: Form) -> &'static [u8]
 
 /// Writes a verdict, and answers its exit status. If there is no memory for its text, both are those of out of memory.
 fn reply<W: Write>(alloc: Global, writer: &mut W, examined: &Examined, form: Form) -> io::Result<u8>
-    ensures { IfOk result (λ status. Tells form examined.now.verdict (W.contents writer.old) (W.contents writer.new) status) }
+    ensures { IfOk result (λ status. Tells form examined.now.verdict examined.now.misfit (W.contents writer.old) (W.contents writer.new) status) }
 {
     match text_of(alloc, examined, form) {
         Some(text) => {
@@ -76,7 +75,7 @@ fn reply<W: Write>(alloc: Global, writer: &mut W, examined: &Examined, form: For
     }
 }
 
-/// Judges a text, writes its verdict, for a person with the place of a fault, and answers the exit status.
+/// Judges a text, writes its verdict, and answers the exit status.
 pub fn reply_to<W: Write>(
     alloc: Global,
     writer: &mut W,
@@ -86,6 +85,6 @@ pub fn reply_to<W: Write>(
     ensures { IfOk result (λ status. (text : List ℕ) → Holds bytes.now text →
         Replies form text (W.contents writer.old) (W.contents writer.new) status) }
 {
-    let examined = bytes.judge(alloc, matches!(form, Form::Lines));
+    let examined = bytes.examine(alloc);
     reply(alloc, writer, &examined, form)
 }

@@ -2,10 +2,10 @@
 
 ghost use Rattle.std.specs.Prelude.{◌≡◌, ◌++◌, ◌∷◌, [], ℕ, List, true, false};
 ghost use Rattle.std.specs.Bool.{OnTrue};
-ghost use Rattle.json_verdict.specs.Judges.{Judges};
+ghost use Rattle.json_verdict.specs.Judges.{HasMisfit, Judges};
 ghost use Rattle.json_verdict.specs.walk.Stream.{Holds};
 
-use crate::examine::{Examined, judge_text};
+use crate::examine::{Examined, alone, examine};
 use crate::judge::Verdict;
 use json_document::MOST_BYTES;
 use naga_module::ModuleFault;
@@ -72,17 +72,15 @@ impl Bytes {
         false
     }
 
-    /// The verdict of the text; and where it stands what is refused, if that `is_located`.
-    pub fn judge(&self, alloc: Global, is_located: bool) -> Examined
-        ensures { (text : List ℕ) → Holds self.now text → Judges text result.verdict }
+    /// Judges the text.
+    pub fn examine(&self, alloc: Global) -> Examined
+        ensures judged { (text : List ℕ) → Holds self.now text → Judges text result.verdict }
+        ensures misfit { (text : List ℕ) → Holds self.now text → HasMisfit text result.verdict result.misfit }
     {
         if self.is_lost {
-            Examined {
-                verdict: Verdict::Refused(ModuleFault::Memory),
-                refused: None,
-            }
+            alone(Verdict::Refused(ModuleFault::Memory))
         } else {
-            judge_text(alloc, self.kept.as_slice(), is_located)
+            examine(alloc, self.kept.as_slice())
         }
     }
 }

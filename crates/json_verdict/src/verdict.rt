@@ -1,18 +1,18 @@
 //! Verdicts as text for a person.
 
-use crate::examine::{Examined, Refused};
+use crate::examine::Examined;
 use crate::judge::Verdict;
 use crate::untyped::tell_untyped;
 use json_document::Unreadable;
 use json_faults::sets::write_names;
-use json_places::{Found, Gap, Reason, Spot};
-use naga_below::{FunctionInfo, Module, ModuleInfo, ShaderStage, Span};
-use naga_module::{ModuleFault, Whereabouts, write_module_fault_lines};
+use json_places::{Found, Reason, Spot};
+use naga_below::{FunctionInfo, Module, ModuleInfo, ShaderStage};
+use naga_module::{Misfit, ModuleFault, Whereabouts, write_module_fault_lines};
 use std::alloc::Global;
 use std::fmt;
 
 /// Writes the verdict of a judged text for a person, as [`write_lines`] does, with the place of its fault; of an expression
-/// without a type why it has none; and of facts that can't be used what is wrong with them.
+/// without a type why it has none; of `NotFit` what doesn't fit, and of facts that are short or break a law which these are.
 ///
 /// An Err is that of the writer, or out of memory.
 pub fn write_examined<W: fmt::Write>(
@@ -20,16 +20,18 @@ pub fn write_examined<W: fmt::Write>(
     out: &mut W,
     examined: &Examined,
 ) -> fmt::Result {
-    match (&examined.verdict, &examined.refused) {
-        (Verdict::Refused(fault), Some(refused)) if !matches!(fault, ModuleFault::Memory) => {
-            out.write_str("refused\n")?;
-            match examined.found() {
-                Some(found) => tell_found(alloc, out, fault, found)?,
-                None => write_module_fault_lines(out, fault, Whereabouts::UNKNOWN)?,
-            }
-            tell_untyped(alloc, out, fault, refused)
-        }
-        (verdict, _) => write_lines(out, verdict),
+    let fault = match &examined.verdict {
+        Verdict::Refused(fault) if !matches!(fault, ModuleFault::Memory) => fault,
+        verdict => return write_lines(out, verdict),
+    };
+    out.write_str("refused\n")?;
+    match examined.found() {
+        Some(found) => tell_found(alloc, out, fault, &examined.misfit, found)?,
+        None => tell_fault(out, fault, &examined.misfit, Whereabouts::UNKNOWN)?,
+    }
+    match &examined.refused {
+        Some(refused) => tell_untyped(alloc, out, fault, refused),
+        None => Ok(()),
     }
 }
 
@@ -38,6 +40,7 @@ fn tell_found<W: fmt::Write>(
     alloc: Global,
     out: &mut W,
     fault: &ModuleFault,
+    misfit: &Option<Misfit>,
     found: &Found,
 ) -> fmt::Result {
     let place = &found.place;
@@ -46,40 +49,28 @@ fn tell_found<W: fmt::Write>(
         place: Some(text.as_str()),
         is_skipped: matches!(found.reason, Some(Reason::Skipped { .. })),
     };
-    write_module_fault_lines(out, fault, known)?;
+    tell_fault(out, fault, misfit, known)?;
     match found.spot {
-        Spot::Facts(gap) => write_gap(out, gap),
+        Spot::Facts(shortage) => write!(out, "\n  the facts can't be used: {shortage}"),
         _ => Ok(()),
     }
 }
 
-/// Writes on a line what is wrong with the facts of a function.
-fn write_gap<W: fmt::Write>(out: &mut W, gap: Gap) -> fmt::Result {
-    out.write_str("\n  the facts can't be used: ")?;
-    match gap {
-        Gap::Function { found } => {
-            write!(
-                out,
-                "the list has {found} items, and none for this function"
-            )
-        }
-        Gap::Types { found, wanted } => {
-            write!(out, "there are {found} types, and {wanted} expressions")
-        }
-        Gap::Uses { found, wanted } => write!(out, "there are {found} uses, and {wanted} globals"),
-        Gap::Type(index) => {
-            write!(
-                out,
-                "type {index} names no type of the module, or is a struct as a value"
-            )
-        }
-        Gap::Expressions { found, wanted } => {
-            write!(
-                out,
-                "there are facts of {found} expressions, and {wanted} expressions"
-            )
-        }
+/// A fault with what is known of where it stands.
+fn tell_fault<W: fmt::Write>(
+    out: &mut W,
+    fault: &ModuleFault,
+    misfit: &Option<Misfit>,
+    known: Whereabouts<'_>,
+) -> fmt::Result {
+    let Some(misfit) = misfit else {
+        return write_module_fault_lines(out, fault, known);
+    };
+    out.write_str("NotFit\n  ")?;
+    if let Some(place) = known.place {
+        write!(out, "place: {place}\n  ")?;
     }
+    write!(out, "{misfit}")
 }
 
 /// Writes the verdict for a person, on one or more lines, without a newline at the end. An Err is that of the writer.
