@@ -7,6 +7,7 @@ body:
 > #2 If { condition: [3] }
 Why: #1 emits [3], in the Block #0, which has ended before #2.
 Cure: emit [3] before #2, in the same list or in one around it.
+Or: store it in a local after #1, and use a Load of that.
 
 # P : loop { if t { continue } { } emit e1 } { } break_if e1
 /module/functions/0/body/0/Loop/break_if
@@ -48,6 +49,7 @@ body:
   #4         Continue
 Why: #2 emits [3], in the Block #1, which has ended before the break condition of #0.
 Cure: emit [3] before the break condition of #0, in the same list or in one around it.
+Or: store it in a local after #2, and use a Load of that.
 
 # P : loop { if t { emit e1 } { } } { } if e1 { } { }
 /module/functions/0/body/1
@@ -60,6 +62,7 @@ body:
 > #3 If { condition: [3] }
 Why: #2 emits [3], in the body of the Loop #0, which has ended before #3.
 Cure: emit [3] before #3, in the same list or in one around it.
+Or: store it in a local after #2, and use a Load of that.
 
 # P : if e1 { } { } emit e1
 /module/functions/0/body/0
@@ -155,6 +158,7 @@ body:
 > #2     If { condition: [3] }
 Why: #1 emits [3], in case 0 of the Switch #0, which has ended before #2.
 Cure: emit [3] before #2, in the same list or in one around it.
+Or: store it in a local after #1, and use a Load of that.
 
 # P : loop { } { return }
 /module/functions/0/body/0/Loop/continuing/0

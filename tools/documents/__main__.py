@@ -1,7 +1,8 @@
 """Writes rows of the check lists as documents: python3 tools/documents [--check]
 
 Each row is a document in crates/naga_judge/stdin, and the verdict that is expected of it stands at the same line of
-crates/naga_judge/stdout; what the rows are called stands in tools/documents/rows (docs/MODULES.md has which tests repeat them).
+crates/naga_judge/stdout: what the row expects, with the place that tools/documents/places.py gives (and of NotFit the misfit that
+tools/documents/misfits.py gives); what the rows are called stands in tools/documents/rows (docs/MODULES.md has which tests repeat them).
 The documents of rows of naga_check and of examples/, with an unreadable one behind them, stand in front and stay as they are.
 Which rows change where a capability is taken away stands in tools/settings.expected. With --check nothing is written, and the
 status is 1 where a file isn't what would be written.
@@ -19,6 +20,7 @@ import forms
 import functions
 import modules
 import needs
+import places
 import program
 import rules
 import shaders
@@ -64,9 +66,11 @@ def files():
     standing = [(JUDGE / name).read_text(encoding="utf-8").splitlines()[:first] for name in ("stdin", "stdout")]
     accepted = [(name, json.loads(line)) for name, line, verdict in zip(names, *standing) if verdict.startswith('{"ok"')]
     accepted += [(row.name, row.document) for row in rows if row.accepted_with_all]
+    documents = standing[0] + [line_of(row.document) for row in rows]
+    due = [json.loads(line) for line in standing[1]] + [row.verdict for row in rows]
     written = {
-        JUDGE / "stdin": standing[0] + [line_of(row.document) for row in rows],
-        JUDGE / "stdout": standing[1] + [line_of_verdict(row.verdict) for row in rows],
+        JUDGE / "stdin": documents,
+        JUDGE / "stdout": [line_of_verdict(places.told(*it)) for it in zip(documents, due)],
         HERE / "rows": [f"{number} {name}" for number, name in enumerate(names + [row.name for row in rows], 1)],
         HERE.parent / "settings.expected": table.table_of([(name, needs.changes_of(made)) for name, made in accepted]),
     }

@@ -1,19 +1,27 @@
 """Where what a verdict refuses stands in its document, as a JSON pointer: by the rules, and not by what the program answers.
 
 A document needs no spans for it. Of a fault in a body the statement is the first that can have it: for what isn't in scope, or is
-so already, by what each statement uses and emits; for a jump by where it stands; for all others by kind and handles.
+so already, by what each statement uses and emits; for a jump by where it stands; for all others by kind and handles. Of NotFit it
+is where the first misfit stands.
 """
+
+import json
+
+import misfits
 
 PRE_EMITTED = ("Literal", "Constant", "Override", "ZeroValue", "FunctionArgument", "GlobalVariable", "LocalVariable")
 
 
 def place_of(document, verdict):
-    """The pointer to what has the fault. None where nothing is refused, and of NotFit."""
+    """The pointer to what has the fault. None where nothing is refused."""
     refused = verdict.get("refused") if isinstance(verdict, dict) else None
-    if refused is None or refused["at"] == "NotFit":
+    if refused is None:
         return None
+    if refused["at"] == "NotFit":
+        return misfits.misfit_of(document)[1]
     ((kind, index),) = refused["at"].items()
-    module, facts, fault = document["module"], document["facts"], refused["fault"]
+    module, facts, fault = document["module"], document["facts"] or {"functions": None, "entry_points": None}, refused["fault"]
+    refused = {**refused, "flags": document["flags"]}
     if kind == "Global":
         return f"/module/global_variables/{index}"
     if kind == "Function":
@@ -23,6 +31,16 @@ def place_of(document, verdict):
         inner = {**refused, "fault": fault["Function"]}
         return in_function(module, facts["entry_points"], "entry_points", index, ep["function"], "/function", inner)
     return in_entry(module, f"/module/entry_points/{index}", ep, fault)
+
+
+def told(line, verdict):
+    """The verdict of a line as it is written: of a refusal with its place, and of NotFit with what doesn't fit as its fault."""
+    refused = verdict.get("refused") if isinstance(verdict, dict) else None
+    if refused is None:
+        return verdict
+    document = json.loads(line)
+    fault = misfits.misfit_of(document)[0] if refused["at"] == "NotFit" else refused["fault"]
+    return {"refused": {**refused, "fault": fault, "place": place_of(document, verdict)}}
 
 
 # Functions.
@@ -35,10 +53,10 @@ def in_function(module, facts, listed, index, function, step, refused):
     base, fault, name = f"/module/{listed}/{index}{step}", refused["fault"], name_of(refused["fault"])
     held = fault[name] if isinstance(fault, dict) else None
     if refused["spans"]:
-        found = statement_of(function, fault)
+        found = statement_of(module, function, fault, refused["flags"])
         assert found, fault
         return f"{base}/body{found}"
-    if name == "Expression" and held["source"] == {"Lower": 0}:
+    if name == "Expression" and held["source"] == {"Lower": 0} and facts is not None:
         gap = gap_of(module, facts, index, function, held["handle"])
         if gap is not None:
             return f"/facts/{listed}{gap}"
@@ -166,17 +184,37 @@ def emitted_by(name, held):
     return []
 
 
+# The operands of the forms with names, but for those that are no fields.
+NAMED = {
+    "Access": ["base", "index"], "AccessIndex": ["base"], "Load": ["pointer"], "Splat": ["value"], "Swizzle": ["vector"],
+    "Unary": ["expr"], "Binary": ["left", "right"], "Select": ["condition", "accept", "reject"], "Derivative": ["expr"],
+    "Relational": ["argument"], "Math": ["arg", "arg1", "arg2", "arg3"], "As": ["expr"],
+    "ImageSample": ["image", "sampler", "coordinate", "array_index", "offset", "depth_ref"],
+    "ImageLoad": ["image", "coordinate", "array_index", "sample", "level"], "ImageQuery": ["image"],
+    "RayQueryGetIntersection": ["query"], "RayQueryVertexPositions": ["query"], "CooperativeMultiplyAdd": ["a", "b", "c"],
+}
+
+
 def operands_of(expression):
-    ((name, held),) = expression.items() if isinstance(expression, dict) else ((expression, None),)
-    if name == "Access":
-        return [held["base"], held["index"]]
-    if name == "AccessIndex":
-        return [held["base"]]
-    if name == "Load":
-        return [held["pointer"]]
+    """The operands of an expression, in a form with names or without."""
+    name, held = name_of(expression), None if isinstance(expression, str) else next(iter(expression.values()))
+    if name == "ArrayLength" and not isinstance(held, dict):
+        return [held]
+    if not isinstance(held, dict):
+        return []
     if name == "Compose":
         return held["components"]
-    return held["operands"] if isinstance(held, dict) and "operands" in held else []
+    if "operands" in held:
+        return held["operands"]
+    found = [held[field] for field in NAMED.get(name, [])]
+    if name == "ImageSample" and isinstance(held["level"], dict):
+        level = next(iter(held["level"].values()))
+        found += [level["x"], level["y"]] if isinstance(level, dict) else [level]
+    if name == "ImageQuery" and isinstance(held["query"], dict):
+        found.append(held["query"]["Size"]["level"])
+    if name == "CooperativeLoad":
+        found += [held["data"]["pointer"], held["data"]["stride"]]
+    return [operand for operand in found if operand is not None]
 
 
 class Walk:
@@ -244,7 +282,7 @@ KINDS = {
     "WorkgroupUniformLoadExpressionMismatch": ["WorkGroupUniformLoad"], "WorkgroupUniformLoadInvalidPointer": ["WorkGroupUniformLoad"],
     "InvalidCooperativeStoreTarget": ["CooperativeStore"], "InvalidCooperativeDataPointer": ["CooperativeStore"],
     "EmitResult": ["Emit"], "InvalidPayloadType": ["RayPipelineFunction"], "InvalidPayloadAddressSpace": ["RayPipelineFunction"],
-    "MismatchedPayloadType": ["RayPipelineFunction"], "PayloadPointerNotGlobal": ["RayPipelineFunction"],
+    "PayloadPointerNotGlobal": ["RayPipelineFunction"],
     "InvalidSubgroup": ["SubgroupBallot", "SubgroupCollectiveOperation", "SubgroupGather", "ControlBarrier", "MemoryBarrier"],
     "MissingCapability": ["ControlBarrier", "MemoryBarrier", "ImageAtomic", "SubgroupBallot", "SubgroupCollectiveOperation",
                           "SubgroupGather"],
@@ -260,8 +298,9 @@ def all_statements(listed, pointer, allowed):
             yield from all_statements(below, at, inside[part])
 
 
-def statement_of(function, fault):
-    """The pointer, from the body on, to the first statement that can have a fault."""
+def statement_of(module, function, fault, flags):
+    """The pointer, from the body on, to the first statement that can have a fault. A result is filled already where a second one
+    names it; without EXPRESSIONS from the first on."""
     name = name_of(fault)
     held = fault[name] if isinstance(fault, dict) else None
     error = held["error"] if name == "InvalidCall" else None
@@ -275,11 +314,20 @@ def statement_of(function, fault):
         if jump is not None:
             if name_of(statement) == jump and jump not in allowed:
                 found.append(own)
+        elif name == "MismatchedPayloadType":
+            if name_of(statement) == "RayPipelineFunction" and payload_type(module, function, statement) == held[0]:
+                found.append(own)
         elif name_of(statement) in KINDS[name] and can_have(statement, name, held, error):
             found.append(f"{inner}/Loop/break_if" if name_of(statement) == "Loop" else own)
     if isinstance(error, dict) and "ResultAlreadyPopulated" in error or name == "InvalidAtomic" and "ResultAlreadyPopulated" in held:
-        return found[-1]
+        return found[-1 if "EXPRESSIONS" in flags else 0]
     return found[0]
+
+
+def payload_type(module, function, statement):
+    """The type of the global that is the payload of a ray."""
+    payload = function["expressions"][statement["RayPipelineFunction"]["TraceRay"]["payload"]]
+    return module["global_variables"][payload["GlobalVariable"]]["ty"]
 
 
 def can_have(statement, name, held, error):
@@ -300,10 +348,22 @@ def can_have(statement, name, held, error):
         }[name]
     if name == "InvalidStoreTypes":
         return [own["pointer"], own["value"]] == [held["pointer"], held["value"]]
+    if name == "InvalidStorePointer":
+        return own["pointer"] == held
+    if name == "InvalidStoreValue":
+        return own["value"] == held["actual"]
+    if name == "InvalidAtomic" and isinstance(held, dict) and "InvalidPointer" in held:
+        return own["pointer"] == held["InvalidPointer"]
+    if name == "InvalidSubgroup" and isinstance(held, dict) and "ResultTypeMismatch" in held:
+        return isinstance(own, dict) and own["result"] == held["ResultTypeMismatch"]
     if name == "EmitResult":
         return own["start"] <= held < own["end"]
     if isinstance(error, dict) and "ResultAlreadyPopulated" in error:
         return own["result"] == error["ResultAlreadyPopulated"]
+    if name == "InvalidCall" and own["function"] != held["function"]:
+        return False
+    if isinstance(error, dict) and "ArgumentCount" in error:
+        return len(own["arguments"]) == error["ArgumentCount"]["seen"]
     if isinstance(error, dict) and "ArgumentType" in error:
         return own["arguments"][error["ArgumentType"]["index"]] == error["ArgumentType"]["seen_expression"]
     return True

@@ -1,8 +1,8 @@
 /* Each request of a call for memory is refused in turn: memory DOCUMENTS VERDICTS EACH PART PARTS, for every EACHth
    document.
 
-   The three functions for memory are this file's. A call answers the document's own verdict or "memory", and gives
-   back each block that it got. */
+   The three functions for memory are this file's. A call answers the document's own verdict, or a refusal without its
+   place, or "memory", and gives back each block that it got. */
 #include "documents.h"
 
 /* The request that is refused, counted from 1; 0: none. */
@@ -35,10 +35,21 @@ void rattle_dealloc(unsigned char *at) {
 
 typedef leafnurd_answer call(const char *, size_t, char *, size_t);
 
+/* Whether a refusal is the document's own without the place of its fault, which stands behind `mark`: as JSON it is null,
+   and in the text for people the line isn't there, and a sentence may be that of the fault alone. */
+static int is_without_place(const char *out, size_t length, const char *verdict, const char *mark) {
+    const char *place = strstr(verdict, mark);
+    size_t kept = place ? (size_t)(place - verdict) : 0;
+    if (!place || length < kept || memcmp(out, verdict, kept)) return 0;
+    if (*mark != ',') return length > kept && out[kept] == '\n' && !strstr(out, mark);
+    return length == kept + 15 && !memcmp(out + kept, ",\"place\":null}}", 15);
+}
+
 /* Refuses the first request, the second, and so on up to the call that meets no refusal, and answers how many there
    were. */
-static size_t refuse_each(call *judge, text document, leafnurd_answer own, const char *verdict, text memory) {
+static size_t refuse_each(call *judge, text document, leafnurd_answer own, const char *verdict, text memory, const char *mark) {
     static char out[ROOM];
+    CHECK(own.length < ROOM, "the room for a verdict");
     for (refused = 1;; refused++) {
         leafnurd_answer answer;
         requests = blocks_made = blocks_freed = 0;
@@ -46,12 +57,14 @@ static size_t refuse_each(call *judge, text document, leafnurd_answer own, const
         CHECK(blocks_made == blocks_freed, "request %zu: %zu made, %zu freed", refused, blocks_made, blocks_freed);
         if (answer.status == LEAFNURD_MEMORY) {
             CHECK(answer.length == memory.length && !memcmp(out, memory.at, memory.length), "request %zu", refused);
-        } else {
-            CHECK(answer.status == own.status && answer.length == own.length, "request %zu", refused);
-            CHECK(!memcmp(out, verdict, own.length), "request %zu", refused);
+        } else if (answer.status != own.status || answer.length != own.length || memcmp(out, verdict, own.length)) {
+            CHECK(answer.status == LEAFNURD_REFUSED && own.status == LEAFNURD_REFUSED, "request %zu", refused);
+            CHECK(answer.length < ROOM, "request %zu", refused);
+            out[answer.length] = '\0';
+            CHECK(is_without_place(out, answer.length, verdict, mark), "request %zu", refused);
         }
         if (requests < refused) {
-            CHECK(answer.status == own.status, "the call without a refusal");
+            CHECK(answer.length == own.length && !memcmp(out, verdict, own.length), "the call without a refusal");
             return refused - 1;
         }
     }
@@ -75,11 +88,13 @@ int main(int count, char **words) {
         refused = 0;
         answer = leafnurd_judge(document.at, document.length, own, ROOM);
         CHECK(is_verdict(answer, own, verdicts.line[at]), "line %zu", at + 1);
-        calls += refuse_each(leafnurd_judge, document, answer, own, memory);
+        own[answer.length] = '\0';
+        calls += refuse_each(leafnurd_judge, document, answer, own, memory, ",\"place\":\"");
         refused = 0;
         answer = leafnurd_explain(document.at, document.length, own, ROOM);
         CHECK(answer.status == status_of(verdicts.line[at]), "line %zu", at + 1);
-        calls += refuse_each(leafnurd_explain, document, answer, own, told);
+        own[answer.length < ROOM ? answer.length : 0] = '\0';
+        calls += refuse_each(leafnurd_explain, document, answer, own, told, "\n  place: ");
     }
     printf("memory: %zu requests refused, of %zu documents\n", calls, tried);
     return 0;

@@ -47,12 +47,14 @@ pub enum Verdict {
         json: String,
         /// What has the fault.
         at: Part,
-        /// The fault's name, as `InvalidIfType`. None where the part is [`Part::NotFit`].
+        /// The fault's name, as `InvalidIfType`. None where the part is [`Part::NotFit`], whose fault has no name.
         fault: Option<String>,
         /// The name of the fault inside, where an entry point has the fault `Function`, `Argument` or `Result`.
         inner: Option<String>,
         /// The spans of the fault, as the document gives them.
         spans: Vec<Range<u32>>,
+        /// Where in the document the fault stands: a JSON pointer. None out of memory to find it.
+        place: Option<String>,
     },
     /// The text is not a document.
     #[non_exhaustive]
@@ -114,6 +116,7 @@ impl Verdict {
                     fault: fault.and_then(name),
                     inner: fault.filter(|_| matches!(at, Part::EntryPoint(_))).and_then(inner),
                     spans: refused.and_then(|it| it.field("spans")).map(spans).unwrap_or_default(),
+                    place: refused.and_then(|it| it.field("place")?.text()).map(str::to_owned),
                     json,
                 }
             }
@@ -177,36 +180,45 @@ fn spans(list: &Json) -> Vec<Range<u32>> {
 mod tests {
     use super::{Part, Verdict};
 
-    fn refused(json: &str) -> (Part, Option<String>, Option<String>, Vec<std::ops::Range<u32>>) {
+    /// What is read of a refusal: the part, the names of the fault and of that inside, the spans, and the place.
+    type Parts = (Part, Option<String>, Option<String>, Vec<std::ops::Range<u32>>, Option<String>);
+
+    fn refused(json: &str) -> Parts {
         match Verdict::read(1, json.to_owned()) {
-            Verdict::Refused { at, fault, inner, spans, .. } => (at, fault, inner, spans),
+            Verdict::Refused { at, fault, inner, spans, place, .. } => (at, fault, inner, spans, place),
             other => panic!("{other}"),
         }
     }
 
     #[test]
     fn the_parts_of_a_refusal() {
-        let (at, fault, inner, spans) =
-            refused(r#"{"refused":{"at":{"Function":2},"fault":{"InvalidImageStore":"X"},"spans":[[3,7],[8,9]]}}"#);
+        let (at, fault, inner, spans, place) = refused(
+            r#"{"refused":{"at":{"Function":2},"fault":{"InvalidImageStore":"X"},"spans":[[3,7],[8,9]],"place":"/module/functions/2/body/1"}}"#,
+        );
         assert_eq!((at, fault.as_deref(), inner), (Part::Function(2), Some("InvalidImageStore"), None));
         assert_eq!(spans, [3..7, 8..9]);
+        assert_eq!(place.as_deref(), Some("/module/functions/2/body/1"));
     }
 
     #[test]
     fn faults_inside_those_of_entry_points() {
-        let (at, fault, inner, _) = refused(
-            r#"{"refused":{"at":{"EntryPoint":0},"fault":{"Argument":[1,{"NotIOShareableType":3}]},"spans":[]}}"#,
+        let (at, fault, inner, _, place) = refused(
+            r#"{"refused":{"at":{"EntryPoint":0},"fault":{"Argument":[1,{"NotIOShareableType":3}]},"spans":[],"place":null}}"#,
         );
         assert_eq!((at, fault.as_deref()), (Part::EntryPoint(0), Some("Argument")));
         assert_eq!(inner.as_deref(), Some("NotIOShareableType"));
-        let (_, fault, inner, _) =
-            refused(r#"{"refused":{"at":{"EntryPoint":0},"fault":{"Function":"MissingDefaultCase"},"spans":[]}}"#);
+        assert_eq!(place, None);
+        let (_, fault, inner, _, _) = refused(
+            r#"{"refused":{"at":{"EntryPoint":0},"fault":{"Function":"MissingDefaultCase"},"spans":[],"place":null}}"#,
+        );
         assert_eq!((fault.as_deref(), inner.as_deref()), (Some("Function"), Some("MissingDefaultCase")));
     }
 
     #[test]
     fn no_part_is_judged() {
-        let told = refused(r#"{"refused":{"at":"NotFit","fault":null,"spans":[]}}"#);
-        assert_eq!(told, (Part::NotFit, None, None, Vec::new()));
+        let told = refused(
+            r#"{"refused":{"at":"NotFit","fault":{"place":{"ConstantType":0},"problem":{"Handle":{"of":"Types","index":1,"below":1}}},"spans":[],"place":"/module/constants/0"}}"#,
+        );
+        assert_eq!(told, (Part::NotFit, None, None, Vec::new(), Some("/module/constants/0".to_owned())));
     }
 }

@@ -22,11 +22,12 @@ fn each_document_has_its_line() {
         // Which field of the line a verdict's variant is, and what is read from it.
         match &verdict {
             Verdict::Accepted { .. } => assert!(line.starts_with("{\"ok\":")),
-            Verdict::Refused { at, fault, spans, .. } => {
+            Verdict::Refused { at, fault, spans, place, .. } => {
                 assert!(line.starts_with("{\"refused\":"));
                 assert_eq!(fault.is_none(), *at == Part::NotFit);
                 let written: Vec<String> = spans.iter().map(|it| format!("[{},{}]", it.start, it.end)).collect();
-                assert!(line.ends_with(&format!("\"spans\":[{}]}}}}", written.join(","))));
+                let place = place.as_deref().expect("the place of a stored document's fault");
+                assert!(line.ends_with(&format!("\"spans\":[{}],\"place\":\"{place}\"}}}}", written.join(","))));
                 if let Some(name) = fault {
                     assert!(
                         line.contains(&format!("\"fault\":\"{name}\""))

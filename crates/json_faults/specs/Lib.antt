@@ -6,3 +6,4 @@ pub mod Types
 pub mod Faults
 pub mod Interfaces
 pub mod Infos
+pub mod Misfits

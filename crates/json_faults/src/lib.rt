@@ -7,6 +7,7 @@ pub mod expression;
 pub mod function;
 pub mod infos;
 pub mod interface;
+pub mod misfits;
 pub mod names;
 pub mod parts;
 pub mod sets;

@@ -1,13 +1,13 @@
 //! What a function, an entry point or a global declares, a line each.
 
 use crate::marks::Marks;
-use crate::words::write_type;
+use crate::words::{write_expression, write_type};
 use bitflags::Flags;
 use json_places::parts::members_of;
 use json_places::{EntryField, Spot};
 use naga_below::{
-    Binding, EntryPoint, Function, FunctionArgument, GlobalVariable, Handle, LocalVariable, Module,
-    Name, tag,
+    Binding, EntryPoint, Expression, Function, FunctionArgument, GlobalVariable, Handle,
+    LocalVariable, Module, Name, tag,
 };
 use std::fmt;
 
@@ -39,17 +39,22 @@ pub fn write_declarations<W: fmt::Write>(
     function: &Function,
     spot: Spot,
 ) -> fmt::Result {
+    let mut is_told = false;
     for (index, argument) in function.arguments.as_slice().iter().enumerate() {
         out.write_str(mark(is_argument(&spot, index)))?;
         write_argument(out, module, index, argument)?;
-        write_members(out, module, argument.ty, spot)?;
+        if !is_told {
+            is_told = write_members(out, module, argument.ty, spot)?;
+        }
     }
     if let Some(returned) = &function.result {
         out.write_str(mark(matches!(spot, Spot::Returned)))?;
         out.write_str("result: ")?;
         write_type(out, module, returned.ty)?;
         write_binding(out, &returned.binding)?;
-        write_members(out, module, returned.ty, spot)?;
+        if !is_told {
+            write_members(out, module, returned.ty, spot)?;
+        }
     }
     for (index, local) in function.local_variables.as_slice().iter().enumerate() {
         out.write_str(mark(is_local(&spot, index)))?;
@@ -112,22 +117,23 @@ fn write_local<W: fmt::Write>(
     }
 }
 
-/// Writes the members of a struct, if one of them has the fault.
+/// Writes the members of a struct, if one of them has the fault, and answers whether it did. They are written once, since many
+/// arguments may be of one struct.
 fn write_members<W: fmt::Write>(
     out: &mut W,
     module: &Module,
     ty: Handle<tag::Type>,
     spot: Spot,
-) -> fmt::Result {
+) -> Result<bool, fmt::Error> {
     let Spot::Member {
         ty: marked,
         index: at,
     } = spot
     else {
-        return Ok(());
+        return Ok(false);
     };
     if marked != ty {
-        return Ok(());
+        return Ok(false);
     }
     for (index, member) in members_of(module, ty).iter().enumerate() {
         out.write_str(mark(index == at))?;
@@ -137,7 +143,7 @@ fn write_members<W: fmt::Write>(
         write_type(out, module, member.ty)?;
         write_binding(out, &member.binding)?;
     }
-    Ok(())
+    Ok(true)
 }
 
 /// Writes the stage of an entry point and what else it declares beside its function.
@@ -183,8 +189,10 @@ fn write_mesh<W: fmt::Write>(
     };
     out.write_str(mark(is_marked))?;
     write!(out, "mesh_info: {mesh:?}")?;
-    write_members(out, module, mesh.vertex_output_type, spot)?;
-    write_members(out, module, mesh.primitive_output_type, spot)
+    if !write_members(out, module, mesh.vertex_output_type, spot)? {
+        write_members(out, module, mesh.primitive_output_type, spot)?;
+    }
+    Ok(())
 }
 
 /// Writes the expressions that are marked, if there are some.
@@ -204,10 +212,35 @@ pub fn write_expressions<W: fmt::Write>(
                 _ => false,
             };
             out.write_str(mark(is_marked))?;
-            write!(out, "[{index}] {expression:?}")?;
+            write!(out, "[{index}] ")?;
+            write_expression(out, expression)?;
+            write_variable_name(out, function, expression)?;
         }
     }
     Ok(())
+}
+
+/// Writes the name of the local or the argument that an expression is, if it has one.
+fn write_variable_name<W: fmt::Write>(
+    out: &mut W,
+    function: &Function,
+    expression: &Expression,
+) -> fmt::Result {
+    match expression {
+        Expression::LocalVariable(local) => {
+            match function.local_variables.as_slice().get(local.index()) {
+                Some(local) => write_name(out, &local.name),
+                None => Ok(()),
+            }
+        }
+        Expression::FunctionArgument(index) => {
+            match function.arguments.as_slice().get(*index as usize) {
+                Some(argument) => write_name(out, &argument.name),
+                None => Ok(()),
+            }
+        }
+        _ => Ok(()),
+    }
 }
 
 /// Writes a global.

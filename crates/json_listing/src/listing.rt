@@ -2,11 +2,11 @@
 
 use crate::body::{Shown, write_body};
 use crate::declarations::{write_declarations, write_entry, write_expressions, write_global};
-use crate::marks::Marks;
+use crate::marks::{Marks, user_in};
 use crate::why::{Earlier, earlier_of, write_cases, write_earlier, write_reason, write_twin};
 use json_places::find::unseen;
 use json_places::{Found, Node, Position, Reason, Spot, nodes_of};
-use naga_below::{Function, Module, Statement};
+use naga_below::{Function, Handle, Module, Statement, tag};
 use naga_module::ModuleFault;
 use naga_rules::FunctionError;
 use naga_valid::EntryPointError;
@@ -96,7 +96,7 @@ fn write_function<W: fmt::Write>(
     match (fault, position) {
         (Some(fault), Some(position)) => {
             write_earlier(out, earlier)?;
-            write_why(out, nodes, fault, position, found)
+            write_why(out, function, nodes, fault, position, found)
         }
         _ => Ok(()),
     }
@@ -165,7 +165,7 @@ fn named_by(
     }
     match earlier {
         Earlier::Emits(number) | Earlier::Fills(number) => named.push(number)?,
-        Earlier::FromStart | Earlier::None => {}
+        Earlier::FromStart | Earlier::Unflagged | Earlier::None => {}
     }
     Ok(named)
 }
@@ -173,16 +173,44 @@ fn named_by(
 /// Writes why a statement is refused, where the body shows it.
 fn write_why<W: fmt::Write>(
     out: &mut W,
+    function: &Function,
     nodes: &[Node<'_>],
     fault: &FunctionError,
     position: Position,
     found: &Found,
 ) -> fmt::Result {
     if let (Some(reason), Some(handle)) = (found.reason, unseen(fault, nodes, &found.spot)) {
+        write_user(out, function, nodes, position.number(), handle)?;
         return write_reason(out, position, handle, reason);
     }
     match nodes.get(position.number()) {
         Some(node) => write_cases(out, &node.located.statement, fault),
+        None => Ok(()),
+    }
+}
+
+/// Writes which expression of an Emit of several is made from one that isn't in scope.
+fn write_user<W: fmt::Write>(
+    out: &mut W,
+    function: &Function,
+    nodes: &[Node<'_>],
+    number: usize,
+    handle: Handle<tag::Expression>,
+) -> fmt::Result {
+    let Some(node) = nodes.get(number) else {
+        return Ok(());
+    };
+    let Statement::Emit(range) = &node.located.statement else {
+        return Ok(());
+    };
+    if range.end.saturating_sub(range.start) < 2 {
+        return Ok(());
+    }
+    match user_in(function, range.start, range.end, handle) {
+        Some(user) => write!(
+            out,
+            "\nWhere: #{number} emits {user:?}, which is made from {handle:?}."
+        ),
         None => Ok(()),
     }
 }

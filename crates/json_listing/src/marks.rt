@@ -258,6 +258,24 @@ impl Marks {
     }
 }
 
+/// The first expression of a range that is made from another one, in one step.
+pub fn user_in(
+    function: &Function,
+    start: u32,
+    end: u32,
+    handle: Handle<tag::Expression>,
+) -> Option<Handle<tag::Expression>> {
+    for index in start..end {
+        let user = Handle::new(index);
+        if let Some(expression) = function.expressions.as_slice().get(user.index()) {
+            if has_operand(expression, handle) {
+                return Some(user);
+            }
+        }
+    }
+    None
+}
+
 /// Whether an expression is made from another one, in one step.
 fn has_operand(expression: &Expression, handle: Handle<tag::Expression>) -> bool {
     for place in 0..operand_count(expression) {

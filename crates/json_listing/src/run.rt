@@ -1,10 +1,10 @@
 //! Judges files and standard input, and writes what is asked for of each.
 
-use crate::text::write_examined;
+use crate::text::write_answered;
 use json_document::MOST_BYTES;
 use json_faults::writer::JsonWriter;
-use json_verdict::examine::examine;
-use json_verdict::judge::{Verdict, judge};
+use json_verdict::examine::{Examined, alone, examine};
+use json_verdict::judge::Verdict;
 use json_verdict::line::{json_line, write_verdict};
 use json_verdict::run::{Form, run_document, run_lines};
 use naga_module::ModuleFault;
@@ -197,7 +197,7 @@ fn write_examination(
     bytes: &[u8],
 ) -> Result<u8, fmt::Error> {
     let examined = examine(alloc, bytes);
-    let written = write_examined(alloc, text, &examined, is_listed);
+    let written = write_answered(alloc, text, &examined, is_listed);
     let status = examined.verdict.status();
     drop(examined);
     match written {
@@ -234,28 +234,28 @@ fn answered(
     name: Option<&str>,
     bytes: &Option<Vec<u8>>,
 ) -> (u8, Result<String, AllocError>) {
-    let verdict = match bytes {
-        Some(bytes) => judge(alloc, bytes.as_slice()),
-        None => Verdict::Refused(ModuleFault::Memory),
+    let examined = match bytes {
+        Some(bytes) => examine(alloc, bytes.as_slice()),
+        None => alone(Verdict::Refused(ModuleFault::Memory)),
     };
-    (verdict.status(), line_of(alloc, name, &verdict))
+    (examined.verdict.status(), line_of(alloc, name, &examined))
 }
 
 /// The line of a verdict: as JSON, or in an object after the name of its file.
-fn line_of(alloc: Global, name: Option<&str>, verdict: &Verdict) -> Result<String, AllocError> {
+fn line_of(alloc: Global, name: Option<&str>, examined: &Examined) -> Result<String, AllocError> {
     match name {
-        Some(name) => line_of_file(alloc, name, verdict),
-        None => json_line(alloc, verdict),
+        Some(name) => line_of_file(alloc, name, examined),
+        None => json_line(alloc, examined),
     }
 }
 
 /// A verdict as JSON, in an object after the name of its file.
-fn line_of_file(alloc: Global, name: &str, verdict: &Verdict) -> Result<String, AllocError> {
+fn line_of_file(alloc: Global, name: &str, examined: &Examined) -> Result<String, AllocError> {
     let mut out = JsonWriter::new(alloc);
     out.open("file")?;
     out.string(name)?;
     out.key("verdict")?;
-    write_verdict(alloc, &mut out, verdict)?;
+    write_verdict(alloc, &mut out, examined)?;
     out.end_object()?;
     Ok(out.into_text())
 }

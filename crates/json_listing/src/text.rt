@@ -1,11 +1,10 @@
 //! What is written of a judged text for a person.
 
 use crate::listing::write_listing;
-use json_places::{Found, Gap, Reason, Spot};
+use json_places::Spot;
 use json_verdict::examine::Examined;
 use json_verdict::judge::Verdict;
-use json_verdict::verdict::write_lines;
-use naga_module::{ModuleFault, Whereabouts, write_module_fault_lines};
+use json_verdict::verdict::write_examined;
 use std::alloc::Global;
 use std::fmt;
 
@@ -13,80 +12,19 @@ use std::fmt;
 /// refused. There is no newline at the end.
 ///
 /// An Err is that of the writer, or out of memory.
-pub fn write_examined<W: fmt::Write>(
+pub fn write_answered<W: fmt::Write>(
     alloc: Global,
     out: &mut W,
     examined: &Examined,
     is_listed: bool,
 ) -> fmt::Result {
-    let fault = match &examined.verdict {
-        Verdict::Refused(ModuleFault::Memory) => return out.write_str("memory"),
-        Verdict::Refused(fault) => fault,
-        verdict => return write_lines(out, verdict),
-    };
-    let found = match &examined.refused {
-        Some(refused) => refused.found.as_ref(),
-        None => None,
-    };
-    out.write_str("refused\n")?;
-    write_fault(alloc, out, fault, found)?;
-    match (&examined.refused, found) {
-        (Some(refused), Some(found)) if is_listed => {
+    write_examined(alloc, out, examined)?;
+    match (&examined.verdict, &examined.refused, examined.found()) {
+        (Verdict::Refused(fault), Some(refused), Some(found))
+            if is_listed && !matches!(found.spot, Spot::Misfit) => {
             out.write_str("\n")?;
             write_listing(alloc, out, &refused.module, fault, found)
         }
         _ => Ok(()),
-    }
-}
-
-/// Writes a fault with its place.
-fn write_fault<W: fmt::Write>(
-    alloc: Global,
-    out: &mut W,
-    fault: &ModuleFault,
-    found: Option<&Found>,
-) -> fmt::Result {
-    let Some(found) = found else {
-        return write_module_fault_lines(out, fault, Whereabouts::UNKNOWN);
-    };
-    let place = &found.place;
-    let text = format!(in alloc; "{place}")?;
-    let known = Whereabouts {
-        place: Some(text.as_str()),
-        is_skipped: matches!(found.reason, Some(Reason::Skipped { .. })),
-    };
-    write_module_fault_lines(out, fault, known)?;
-    match found.spot {
-        Spot::Facts(gap) => write_gap(out, gap),
-        _ => Ok(()),
-    }
-}
-
-/// Writes on a line what is wrong with the facts of a function.
-fn write_gap<W: fmt::Write>(out: &mut W, gap: Gap) -> fmt::Result {
-    out.write_str("\n  the facts can't be used: ")?;
-    match gap {
-        Gap::Function { found } => {
-            write!(
-                out,
-                "the list has {found} items, and none for this function"
-            )
-        }
-        Gap::Types { found, wanted } => {
-            write!(out, "there are {found} types, and {wanted} expressions")
-        }
-        Gap::Uses { found, wanted } => write!(out, "there are {found} uses, and {wanted} globals"),
-        Gap::Type(index) => {
-            write!(
-                out,
-                "type {index} names no type of the module, or is a struct as a value"
-            )
-        }
-        Gap::Expressions { found, wanted } => {
-            write!(
-                out,
-                "there are facts of {found} expressions, and {wanted} expressions"
-            )
-        }
     }
 }

@@ -19,6 +19,8 @@ pub enum Earlier {
     Fills(usize),
     /// The expression is in scope from the start of the body on.
     FromStart,
+    /// No statement has the result, and the flag EXPRESSIONS is off.
+    Unflagged,
     /// There is none.
     None,
 }
@@ -63,14 +65,14 @@ fn is_pre_emitted(function: &Function, handle: Handle<tag::Expression>) -> bool 
     }
 }
 
-/// The first statement before this one that has a result.
+/// The first statement before this one that has a result. If none has it, no statement could: EXPRESSIONS is off.
 fn first_result(nodes: &[Node<'_>], at: usize, handle: Handle<tag::Expression>) -> Earlier {
     for (number, node) in nodes.iter().enumerate() {
         if number < at && result_of(&node.located.statement) == Some(handle) {
             return Earlier::Fills(number);
         }
     }
-    Earlier::None
+    Earlier::Unflagged
 }
 
 /// Writes a position.
@@ -99,7 +101,11 @@ pub fn write_reason<W: fmt::Write>(
             out.write_str(", which has ended before ")?;
             write_position(out, position)?;
             out.write_str(".")?;
-            write_cure(out, position, handle)
+            write_cure(out, position, handle)?;
+            write!(
+                out,
+                "\nOr: store it in a local after #{emitted}, and use a Load of that."
+            )
         }
         Reason::Later { emitted } if position == Position::Statement(emitted) => {
             write!(
@@ -182,6 +188,9 @@ pub fn write_earlier<W: fmt::Write>(out: &mut W, earlier: Earlier) -> fmt::Resul
         ),
         Earlier::FromStart => out.write_str(
             "\nWhy: it is in scope from the start of the body, and is never emitted.\nCure: leave it out.",
+        ),
+        Earlier::Unflagged => out.write_str(
+            "\nWhy: the flag EXPRESSIONS is off, and then no result counts as one to be filled.\nCure: turn EXPRESSIONS on.",
         ),
         Earlier::None => Ok(()),
     }

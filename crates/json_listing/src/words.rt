@@ -1,7 +1,8 @@
 //! Statements, parts of statements and types in the words of the IR.
 
 use json_places::Part;
-use naga_below::{Handle, Module, Range, Statement, SwitchCase, TypeInner, tag};
+use layer_sentences::kinds::name_of;
+use naga_below::{Expression, Handle, Module, Range, Statement, SwitchCase, TypeInner, tag};
 use std::fmt;
 
 /// Writes spaces.
@@ -39,6 +40,24 @@ fn write_emit<W: fmt::Write>(out: &mut W, range: &Range) -> fmt::Result {
     } else {
         write!(out, "Emit [{start}] to [{last}]")
     }
+}
+
+/// Writes an expression: an operator or a function by its name, all others as the IR has them.
+pub fn write_expression<W: fmt::Write>(out: &mut W, expression: &Expression) -> fmt::Result {
+    let name = name_of(expression);
+    match expression {
+        Expression::Unary { operands, .. }
+        | Expression::Binary { operands, .. }
+        | Expression::Relational { operands, .. }
+        | Expression::Math { operands, .. }
+            if !is_kind(name) => { write!(out, "{name} {{ operands: {operands:?} }}") }
+        _ => write!(out, "{expression:?}"),
+    }
+}
+
+/// Whether a name is that of a kind of expressions, since their operator or function has none.
+fn is_kind(name: &str) -> bool {
+    matches!(name, "Unary" | "Binary" | "Relational" | "Math")
 }
 
 /// Writes what a part of a statement is called.

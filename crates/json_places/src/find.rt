@@ -1,6 +1,5 @@
 //! Finds what has a fault, and where it stands.
 
-use crate::gaps::{Gap, gap_of};
 use crate::lent::Lent;
 use crate::nodes::{Node, nodes_of};
 use crate::numbered::numbered_module;
@@ -8,11 +7,10 @@ use crate::place::{Place, place_of};
 use crate::scope::{Reason, reason_of};
 use crate::spot::{Spot, number_in, spot_in_entry, spot_in_function};
 use naga_below::{
-    EntryPoint, ExpressionError, Function, Handle, Module, ModuleInfo, Settings, Span, Statement,
-    tag,
+    EntryPoint, ExpressionError, Handle, Module, ModuleInfo, Settings, Span, Statement, tag,
 };
 use naga_layers::{Recorded, Typed};
-use naga_module::{Given, ModuleFault, Subject, check_module};
+use naga_module::{Given, ModuleFault, Owner, Shortage, Subject, check_module, find_short_fact};
 use naga_rules::{CallError, FunctionError};
 use naga_valid::EntryPointError;
 use std::alloc::{AllocError, Global};
@@ -29,6 +27,7 @@ pub struct Found {
 }
 
 /// Finds where the fault of a module stands. None of `NotFit` and `Memory`, which name nothing, and out of memory.
+/// [`locate_misfit`](crate::misfits::locate_misfit) is for what doesn't fit.
 ///
 /// The module is judged once more, over the same facts, with spans that number its statements: so its own spans need not
 /// distinguish them. `given` is what it was judged with. Without a layer the facts are computed.
@@ -121,8 +120,9 @@ fn found_in(
             let nodes = nodes_of(alloc, &function.body)?;
             let nodes = nodes.as_slice();
             let subject = Subject::Function(*handle);
-            let spot = match gap_in(layer, module, &subject, function, error) {
-                Some(gap) => Spot::Facts(gap),
+            let owner = Owner::Function(handle.index());
+            let spot = match shortage_in(layer, module, owner, error) {
+                Some(shortage) => Spot::Facts(shortage),
                 None => spot_in_function(function, nodes, error, number),
             };
             let used = unseen(error, nodes, &spot);
@@ -138,17 +138,24 @@ fn found_in(
     }
 }
 
-/// What is wrong with the facts of a function, if there are facts and its fault is that.
-fn gap_in(
+/// What is short in the facts about a function, or breaks a law, if there are facts and its fault is that.
+fn shortage_in(
     layer: Option<&Recorded>,
     module: &Module,
-    subject: &Subject,
-    function: &Function,
+    owner: Owner,
     fault: &FunctionError,
-) -> Option<Gap> {
-    match layer {
-        Some(layer) => gap_of(layer, module, subject, function, fault),
-        None => None,
+) -> Option<Shortage> {
+    let FunctionError::Expression {
+        handle,
+        source: ExpressionError::Lower(0),
+    } = fault
+    else {
+        return None;
+    };
+    match find_short_fact(&layer?.facts, module, owner) {
+        // A fact may say the same of an expression before those that have none.
+        Some(Shortage::Expressions { found, .. }) if handle.index() < found => None,
+        shortage => shortage,
     }
 }
 
@@ -169,8 +176,8 @@ fn found_in_entry(
         return found_at(alloc, Subject::EntryPoint(index), spot, nodes, None);
     };
     let subject = Subject::EntryPoint(index);
-    let spot = match gap_in(layer, module, &subject, &ep.function, error) {
-        Some(gap) => Spot::Facts(gap),
+    let spot = match shortage_in(layer, module, Owner::EntryPoint(index), error) {
+        Some(shortage) => Spot::Facts(shortage),
         None => spot_in_function(&ep.function, nodes, error, number),
     };
     let used = unseen(error, nodes, &spot);

@@ -3,8 +3,8 @@
 #![tactic(auto)]
 
 pub mod find;
-pub mod gaps;
 pub mod lent;
+pub mod misfits;
 pub mod nodes;
 pub mod numbered;
 pub mod parts;
@@ -13,8 +13,8 @@ pub mod scope;
 pub mod spot;
 
 pub use crate::find::{Found, locate};
-pub use crate::gaps::Gap;
 pub use crate::lent::Lent;
+pub use crate::misfits::locate_misfit;
 pub use crate::nodes::{Inside, Node, Part, Position, nodes_of};
 pub use crate::place::Place;
 pub use crate::scope::{Reason, reason_of};

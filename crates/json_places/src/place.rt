@@ -1,11 +1,10 @@
 //! Where in a document something stands, as a JSON pointer.
 
-use crate::gaps::Gap;
 use crate::nodes::{Inside, Node, Part, Position, way_to};
 use crate::spot::Spot;
 use json_document::Step;
 use naga_below::Span;
-use naga_module::Subject;
+use naga_module::{Shortage, Subject};
 use std::alloc::{AllocError, Global};
 use std::fmt;
 
@@ -32,7 +31,7 @@ impl fmt::Display for Place {
 }
 
 /// Adds steps.
-fn add(steps: &mut Vec<Step>, added: &[Step]) -> Result<(), AllocError> {
+pub(crate) fn add(steps: &mut Vec<Step>, added: &[Step]) -> Result<(), AllocError> {
     for step in added {
         steps.push(*step)?;
     }
@@ -47,9 +46,9 @@ pub fn place_of(
     nodes: &[Node<'_>],
 ) -> Result<Place, AllocError> {
     let mut steps = Vec::new(alloc);
-    if let Spot::Facts(gap) = spot {
+    if let Spot::Facts(shortage) = spot {
         steps.push(Step::Name("facts"))?;
-        add_gap(&mut steps, &subject, gap)?;
+        add_shortage(&mut steps, &subject, shortage)?;
         return Ok(Place { steps });
     }
     steps.push(Step::Name("module"))?;
@@ -77,9 +76,13 @@ pub fn place_of(
     Ok(Place { steps })
 }
 
-/// Adds the way from the facts to what is wrong with those of a function.
-fn add_gap(steps: &mut Vec<Step>, subject: &Subject, gap: Gap) -> Result<(), AllocError> {
-    if let Gap::Function { .. } = gap {
+/// Adds the way from the facts to what is short or breaks a law in those of a function.
+fn add_shortage(
+    steps: &mut Vec<Step>,
+    subject: &Subject,
+    shortage: Shortage,
+) -> Result<(), AllocError> {
+    if let Shortage::NoFact { .. } = shortage {
         let list = match subject {
             Subject::EntryPoint(_) => "entry_points",
             Subject::Function(_) | Subject::GlobalVariable(_) => "functions",
@@ -88,12 +91,14 @@ fn add_gap(steps: &mut Vec<Step>, subject: &Subject, gap: Gap) -> Result<(), All
     }
     add_subject(steps, subject)?;
     steps.push(Step::Name("info"))?;
-    match gap {
-        Gap::Types { .. } => add(steps, &[Step::Name("types")]),
-        Gap::Type(index) => add(steps, &[Step::Name("types"), Step::Index(index)]),
-        Gap::Uses { .. } => add(steps, &[Step::Name("uses")]),
-        Gap::Expressions { .. } => add(steps, &[Step::Name("expressions")]),
-        Gap::Function { .. } => Ok(()),
+    match shortage {
+        Shortage::Types { .. } => add(steps, &[Step::Name("types")]),
+        Shortage::UnknownType { expression, .. } | Shortage::StructValue { expression } => {
+            add(steps, &[Step::Name("types"), Step::Index(expression)])
+        }
+        Shortage::Uses { .. } => add(steps, &[Step::Name("uses")]),
+        Shortage::Expressions { .. } => add(steps, &[Step::Name("expressions")]),
+        Shortage::NoFact { .. } => Ok(()),
     }
 }
 
@@ -130,7 +135,8 @@ fn add_inner(
             steps,
             &[Step::Name("mesh_info"), Step::Name(field.name())],
         ),
-        Spot::Whole | Spot::Global(_) | Spot::Member { .. } | Spot::Facts(_) => return Ok(()),
+        Spot::Whole | Spot::Global(_) | Spot::Member { .. } | Spot::Facts(_) | Spot::Misfit =>
+            return Ok(()),
         _ => {}
     }
     if let Subject::EntryPoint(_) = subject {
@@ -152,7 +158,7 @@ fn add_inner(
 }
 
 /// Adds the way from a function to a statement, or to a break condition.
-fn add_position(
+pub(crate) fn add_position(
     alloc: Global,
     steps: &mut Vec<Step>,
     position: Position,

@@ -1,12 +1,12 @@
 //! What of a function or of an entry point has a fault.
 
-use crate::gaps::Gap;
 use crate::nodes::{Node, Position};
 use crate::parts::{Bound, Group, bounds_of, first_of, members_of, second_of};
 use naga_below::{
     Capabilities, EntryPoint, Function, Handle, MeshStageInfo, Module, ShaderStage, Span,
     Statement, TypeInner, tag,
 };
+use naga_module::Shortage;
 use naga_rules::{FunctionError, VaryingError};
 use naga_valid::EntryPointError;
 use std::alloc::{AllocError, Global};
@@ -74,7 +74,9 @@ pub enum Spot {
     /// A field of the entry point's `mesh_info`.
     MeshField(MeshField),
     /// The facts about the function.
-    Facts(Gap),
+    Facts(Shortage),
+    /// What doesn't fit.
+    Misfit,
     /// The function or the entry point as a whole.
     Whole,
 }

@@ -1,10 +1,11 @@
 -- What is kept of a text says its verdict.
-use Rattle.std.proofs.Common.{◌≡◌, ◌≤◌, ◌<◌, ℕ, true, List, [], ◌∷◌, ◌++◌, length, take, sym, ap, ◌∙◌, subst, inl, inr, arith}
+use Rattle.std.proofs.Common.{◌≡◌, ◌≤◌, ◌<◌, ℕ, true, List, [], ◌∷◌, ◌++◌, length, take, Option, sym, ap, ◌∙◌, subst, inl, inr, arith}
 use Rattle.std.proofs.lemmas.List.{length-take, length-append, take_all, take-append-le}
+use Rattle.ir_misfits.specs.declared.misfit.Misfit.{Misfit}
 use Rattle.naga_module.specs.declared.check.ModuleFault.{ModuleFault}
 use Rattle.json_document.specs.declared.document.Document.{Document}
 use Rattle.json_document.specs.ReadsDocument.{IsDocument}
-use Rattle.json_verdict.specs.Judges.{Judges, Refuses}
+use Rattle.json_verdict.specs.Judges.{HasMisfit, Judges, Refuses}
 use Rattle.json_verdict.specs.declared.judge.Verdict as judge
 use Rattle.json_verdict.specs.declared.text.Bytes.{Bytes}
 use Rattle.json_verdict.specs.walk.Stream.{Holds, most}
@@ -56,3 +57,10 @@ pub kept_judges : (n : ℕ) (text : List ℕ) (v : judge.Verdict) → 16777216 <
 kept_judges n text (verdicts.Accepted m infos) lt (d, is, same, judged) = (d, whole n text d lt is, same, judged)
 kept_judges n text (verdicts.Refused e) lt h = refused n text e lt h
 kept_judges n text (verdicts.Unreadable unreadable) lt none = λ d is. none d (part n text d lt is)
+
+-- so is what doesn't fit
+pub kept_misfit : (n : ℕ) (text : List ℕ) (v : judge.Verdict) (misfit : Option Misfit) → 16777216 < n → HasMisfit (take n text) v misfit
+    → HasMisfit text v misfit
+kept_misfit n text v misfit lt has = λ same.
+    let (d, is, judged, first) = has same in
+    (d, whole n text d lt is, judged, first)

@@ -1,5 +1,6 @@
 pub mod Ended
 pub mod Kept
 pub mod Memory
+pub mod Misfits
 pub mod Pointers
 pub mod Told

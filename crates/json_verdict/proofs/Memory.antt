@@ -1,11 +1,11 @@
 -- The JSON of out of memory.
-use Rattle.std.proofs.Common.{[], ◌∷◌, refl}
+use Rattle.std.proofs.Common.{[], ◌∷◌, None, refl}
 use Rattle.json.specs.Print.{escape_byte, print_from}
 use Rattle.naga_module.specs.declared.check.ModuleFault.TheVariants as faults
 use Rattle.json_verdict.specs.VerdictJson.{IsJsonOf, refused_form, verdict_form}
 use Rattle.json_verdict.specs.declared.judge.Verdict.TheVariants as verdicts
 
 -- "memory", in quotes
-pub memory_json : IsJsonOf (verdicts.Refused faults.Memory) (34 ∷ 109 ∷ 101 ∷ 109 ∷ 111 ∷ 114 ∷ 121 ∷ 34 ∷ [])
+pub memory_json : IsJsonOf (verdicts.Refused faults.Memory) None (34 ∷ 109 ∷ 101 ∷ 109 ∷ 111 ∷ 114 ∷ 121 ∷ 34 ∷ [])
 unfolding verdict_form refused_form print_from escape_byte
-memory_json = ([], refl)
+memory_json = ([], None, refl)

@@ -5,13 +5,16 @@ use Rattle.ir_facts.specs.declared.valid.settings.Settings.{Settings}
 use Rattle.ir_facts.specs.declared.valid.types.TypeInfo.{TypeInfo}
 use Rattle.ir_module.specs.declared.module.Module.{Module}
 use Rattle.ir_types.specs.declared.typifier.TypeResolution.{TypeResolution}
+use Rattle.ir_facts.specs.Points.{first_fault}
+use Rattle.ir_misfits.specs.declared.misfit.Misfit.{Misfit}
+use Rattle.check_errors.specs.Meaning.{Meaning}
 use Rattle.layer_types.specs.Infos.{infos_from}
 use Rattle.layer_expressions.specs.Types.{global_types}
 use Rattle.layer_expressions.specs.declared.types.Untyped.{Untyped}
 use Rattle.layer_typed.specs.Meaning.{typed_meaning}
+use Rattle.naga_module.specs.Misfits.{module_points}
 use Rattle.naga_module.specs.ModuleJudgement.{IsJudgementOrMemory}
 use Rattle.naga_layers.specs.Recorded.Meaning.{recorded_meaning}
-use Rattle.naga_module.specs.declared.check.Given.{Given}
 use Rattle.naga_module.specs.declared.check.ModuleFault.{ModuleFault}
 use Rattle.naga_module.specs.declared.check.ModuleFault.TheVariants as fault
 use Rattle.naga_layers.specs.declared.recorded.Recorded.{Recorded}
@@ -25,11 +28,6 @@ use Rattle.json_document.specs.ReadsDocument.{IsDocument}
 abbrev pub recorded_of : Known → Recorded
 recorded_of known = record { facts = known.facts }
 
--- it is the judgement of the module with these settings over these facts, or there was no memory
-abbrev pub IsJudgedOver : Known → Settings → Module → Result ModuleInfo ModuleFault → Type 0
-IsJudgedOver known settings m r =
-    IsJudgementOrMemory (recorded_meaning (recorded_of known)) settings known.type_infos m known.global_types r
-
 -- the infos of a module's types, computed
 abbrev pub computed_infos : Module → List TypeInfo
 computed_infos m = infos_from m.types [] m.types
@@ -42,21 +40,30 @@ typed_or_none (Err untyped) = []
 abbrev pub computed_types : Module → List TypeResolution
 computed_types m = typed_or_none (global_types m)
 
--- these are what is given of a module
-abbrev pub IsGivenOf : Module → Given → Type 0
-IsGivenOf m given = (given.types.items ≡ computed_infos m) × (given.global_types.items ≡ computed_types m)
+-- what the lower layer answers that a module is judged over: the facts, where there are any; else what it computes
+abbrev pub meaning_over : Option Known → Meaning
+meaning_over None = typed_meaning
+meaning_over (Some known) = recorded_meaning (recorded_of known)
 
--- it is the judgement of the module with these settings over what is computed from it, or there was no memory
-abbrev pub IsJudgedAlone : Settings → Module → Result ModuleInfo ModuleFault → Type 0
-IsJudgedAlone settings m r = IsJudgementOrMemory typed_meaning settings (computed_infos m) m (computed_types m) r
+-- the infos of a module's types, by the facts or computed
+abbrev pub infos_over : Option Known → Module → List TypeInfo
+infos_over None m = computed_infos m
+infos_over (Some known) m = known.type_infos
 
--- over the facts, where there are any
-abbrev pub IsJudgedBy : Option Known → Settings → Module → Result ModuleInfo ModuleFault → Type 0
-IsJudgedBy (Some known) settings m r = IsJudgedOver known settings m r
-IsJudgedBy None settings m r = IsJudgedAlone settings m r
+-- the types of its global expressions, by the facts or computed
+abbrev pub types_over : Option Known → Module → List TypeResolution
+types_over None m = computed_types m
+types_over (Some known) m = known.global_types
 
+-- it is the judgement of the document's module with its settings, or there was no memory
 abbrev pub IsJudged : Document → Result ModuleInfo ModuleFault → Type 0
-IsJudged d r = IsJudgedBy d.known d.settings d.module r
+IsJudged d r =
+    IsJudgementOrMemory (meaning_over d.known) d.settings (infos_over d.known d.module) d.module (types_over d.known d.module) r
+
+-- the first thing in the document's module that doesn't fit
+abbrev pub first_misfit : Document → Option Misfit
+first_misfit d =
+    first_fault (module_points (meaning_over d.known) (infos_over d.known d.module) d.module (types_over d.known d.module))
 
 -- there was no memory, or the text is a document and its module has this fault
 abbrev pub Refuses : List ℕ → ModuleFault → Type 0
@@ -68,6 +75,11 @@ abbrev pub Judges : List ℕ → judge.Verdict → Type 0
 Judges text (verdict.Accepted m infos) = (d : Document) × IsDocument text d × (d.module ≡ m) × IsJudged d (Ok infos)
 Judges text (verdict.Refused e) = Refuses text e
 Judges text (verdict.Unreadable unreadable) = (d : Document) → IsDocument text d → ⊥
+
+-- Where the verdict is that the module doesn't fit, the text is a document that is judged so, and this is its first misfit.
+abbrev pub HasMisfit : List ℕ → judge.Verdict → Option Misfit → Type 0
+HasMisfit text v misfit =
+    v ≡ verdict.Refused fault.NotFit → (d : Document) × IsDocument text d × IsJudged d (Err fault.NotFit) × (misfit ≡ first_misfit d)
 
 -- the exit status that says a verdict
 abbrev pub status_of : judge.Verdict → ℕ

@@ -1,5 +1,5 @@
+pub mod Basis
 pub mod Judges
-pub mod Lends
 pub mod Runs
 pub mod VerdictJson
 pub mod walk

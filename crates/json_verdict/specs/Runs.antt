@@ -1,20 +1,23 @@
 -- What a run writes, and the status that it ends with.
 use Rattle.std.specs.Prelude.{◌≡◌, ℕ, ◌==◌, List, [], ◌∷◌, ◌++◌, Option, codes, max, if◌then◌else◌, ⊤}
 use Rattle.std.specs.Io.KnownBytes.{Appends}
-use Rattle.json_verdict.specs.Judges.{Judges, status_of}
+use Rattle.ir_misfits.specs.declared.misfit.Misfit.{Misfit}
+use Rattle.json_verdict.specs.Judges.{HasMisfit, Judges, status_of}
 use Rattle.json_verdict.specs.VerdictJson.{IsJsonOf}
 use Rattle.json_verdict.specs.declared.judge.Verdict as judge
 use Rattle.json_verdict.specs.declared.reply.Form.{Form}
 use Rattle.json_verdict.specs.declared.reply.Form.TheVariants as forms
 
--- the line of a verdict: its JSON and a newline; of the text for a person no more is said than that there is one
-unfoldable pub IsLineOf : Form → judge.Verdict → List ℕ → Type 0
-IsLineOf forms.Json v line = (text : List ℕ) × IsJsonOf v text × (line ≡ text ++ codes "\n")
-IsLineOf forms.Lines v line = ⊤
+-- the line of a verdict with its misfit: its JSON and a newline; of the text for a person no more is said than that there is one
+unfoldable pub IsLineOf : Form → judge.Verdict → Option Misfit → List ℕ → Type 0
+IsLineOf forms.Json v misfit line = (text : List ℕ) × IsJsonOf v misfit text × (line ≡ text ++ codes "\n")
+IsLineOf forms.Lines v misfit line = ⊤
 
 -- The line and the status of a verdict of this text. That there was no memory is a verdict of each text (`Judges`).
 unfoldable pub IsReply : Form → List ℕ → List ℕ → ℕ → Type 0
-IsReply form text line status = (v : judge.Verdict) × Judges text v × IsLineOf form v line × (status ≡ status_of v)
+IsReply form text line status =
+    (v : judge.Verdict) × (misfit : Option Misfit) × Judges text v × HasMisfit text v misfit × IsLineOf form v misfit line
+    × (status ≡ status_of v)
 
 -- the reply to the text was written, and nothing else
 abbrev pub Replies : Form → List ℕ → Option (List ℕ) → Option (List ℕ) → ℕ → Type 0

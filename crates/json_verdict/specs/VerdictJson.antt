@@ -1,19 +1,21 @@
 -- The JSON of a verdict.
-use Rattle.std.specs.Prelude.{◌≡◌, ℕ, List, [], ◌∷◌, ◌++◌, Result, codes, decimal}
-use Rattle.json.specs.Json.{Json, null, string}
+use Rattle.std.specs.Prelude.{◌≡◌, ℕ, List, [], ◌∷◌, ◌++◌, Option, Result, codes, decimal}
+use Rattle.json.specs.Json.{Json, string}
 use Rattle.json.specs.Token.{Token}
 use Rattle.ir_arena.specs.declared.span.Span.{Span}
 use Rattle.ir_facts.specs.declared.valid.info.FunctionInfo.{FunctionInfo}
 use Rattle.ir_facts.specs.declared.valid.info.ModuleInfo.{ModuleInfo}
+use Rattle.ir_misfits.specs.declared.misfit.Misfit.{Misfit}
 use Rattle.naga_module.specs.declared.check.ModuleFault.{ModuleFault}
 use Rattle.naga_module.specs.declared.check.ModuleFault.TheVariants as faults
 use Rattle.json_values.specs.declared.read.error.Step.{Step}
 use Rattle.json_values.specs.declared.read.error.Step.TheVariants as steps
 use Rattle.json_values.specs.declared.read.error.Unreadable.{Unreadable}
 use Rattle.json_faults.specs.Faults.{function_error_form}
-use Rattle.json_faults.specs.Form.{Writes, holding, json_text, list_form, number_form, span_form, three_fields, two_fields}
+use Rattle.json_faults.specs.Form.{Writes, four_fields, holding, json_text, list_form, number_form, optional, span_form, two_fields}
 use Rattle.json_faults.specs.Infos.{info_form}
 use Rattle.json_faults.specs.Interfaces.{entry_error_form, global_error_form}
+use Rattle.json_faults.specs.Misfits.{misfit_form}
 use Rattle.json_faults.specs.Sets.{stages_form}
 use Rattle.json_verdict.specs.declared.judge.Verdict as judge
 use Rattle.json_verdict.specs.declared.judge.Verdict.TheVariants as verdict
@@ -32,20 +34,26 @@ infos_form infos =
 unfoldable pub part_form : List ℕ → ℕ → Json
 part_form kind index = holding kind (number_form index)
 
--- what has the fault, the fault, and its spans
-unfoldable pub fault_form : Json → Json → List Span → Json
-fault_form at fault spans =
-    holding (codes "refused") (three_fields (codes "at") at (codes "fault") fault
-    (codes "spans") (list_form span_form spans))
+-- what has the fault, the fault, its spans, and its place
+unfoldable pub placed_form : Json → Json → List Span → Json → Json
+placed_form at fault spans place =
+    holding (codes "refused") (four_fields (codes "at") at (codes "fault") fault
+    (codes "spans") (list_form span_form spans) (codes "place") place)
 
--- a fault of a module, with these spans; or that there was no memory
-unfoldable pub refused_form : List Span → ModuleFault → Json
-refused_form spans faults.NotFit = fault_form (string (codes "NotFit")) null []
-refused_form spans (faults.Global global error) = fault_form (part_form (codes "Global") global) (global_error_form error) []
-refused_form spans (faults.Function f error) = fault_form (part_form (codes "Function") f) (function_error_form error) spans
-refused_form spans (faults.EntryPoint index error) =
-    fault_form (part_form (codes "EntryPoint") index) (entry_error_form error) spans
-refused_form spans faults.Memory = string (codes "memory")
+-- the same with a pointer as the place, or null
+abbrev pub fault_form : Json → Json → List Span → Option (List ℕ) → Json
+fault_form at fault spans place = placed_form at fault spans (optional string place)
+
+-- a fault of a module, with these spans and this place, or what doesn't fit; or that there was no memory
+unfoldable pub refused_form : List Span → Option (List ℕ) → Option Misfit → ModuleFault → Json
+refused_form spans place misfit faults.NotFit = fault_form (string (codes "NotFit")) (optional misfit_form misfit) [] place
+refused_form spans place misfit (faults.Global global error) =
+    fault_form (part_form (codes "Global") global) (global_error_form error) [] place
+refused_form spans place misfit (faults.Function f error) =
+    fault_form (part_form (codes "Function") f) (function_error_form error) spans place
+refused_form spans place misfit (faults.EntryPoint index error) =
+    fault_form (part_form (codes "EntryPoint") index) (entry_error_form error) spans place
+refused_form spans place misfit faults.Memory = string (codes "memory")
 
 -- a step of a JSON pointer: a slash, and the name of a field or a place in a list
 unfoldable pub step_text : Step → List ℕ
@@ -65,19 +73,26 @@ unreadable_at pointer expected =
 abbrev pub unreadable_form : Unreadable → Json
 unreadable_form unreadable = unreadable_at (pointer_text unreadable.steps.items) unreadable.expected.now
 
--- a verdict, whose fault has these spans
-unfoldable pub verdict_form : List Span → judge.Verdict → Json
-verdict_form spans (verdict.Accepted m infos) = infos_form infos
-verdict_form spans (verdict.Refused fault) = refused_form spans fault
-verdict_form spans (verdict.Unreadable unreadable) = unreadable_form unreadable
+-- a verdict, whose fault has these spans, this place and this misfit
+unfoldable pub verdict_form : List Span → Option (List ℕ) → Option Misfit → judge.Verdict → Json
+verdict_form spans place misfit (verdict.Accepted m infos) = infos_form infos
+verdict_form spans place misfit (verdict.Refused fault) = refused_form spans place misfit fault
+verdict_form spans place misfit (verdict.Unreadable unreadable) = unreadable_form unreadable
 
--- The text is the JSON of the verdict. Contracts don't see the spans of a fault: there are some with which it is.
-abbrev pub IsJsonOf : judge.Verdict → List ℕ → Type 0
-IsJsonOf v text = (spans : List Span) × (text ≡ json_text (verdict_form spans v))
+-- The text is the JSON of the verdict, with this misfit. Contracts see neither the spans nor the place of a fault: there are
+-- some with which it is.
+abbrev pub IsJsonOf : judge.Verdict → Option Misfit → List ℕ → Type 0
+IsJsonOf v misfit text =
+    (spans : List Span) × (place : Option (List ℕ)) × (text ≡ json_text (verdict_form spans place misfit v))
 
 -- the same as tokens that were written after others; or there was no memory
-abbrev pub WritesFault : {E : Type 0} → Result (Unit {0}) E → List Token → List Token → ModuleFault → Type 0
-WritesFault r old new fault = (spans : List Span) × Writes r old new (refused_form spans fault)
+abbrev pub WritesPlaced : {E : Type 0} → Result (Unit {0}) E → List Token → List Token → Json → Json → List Span → Type 0
+WritesPlaced r old new at fault spans = (place : Option (List ℕ)) × Writes r old new (fault_form at fault spans place)
 
-abbrev pub WritesVerdict : {E : Type 0} → Result (Unit {0}) E → List Token → List Token → judge.Verdict → Type 0
-WritesVerdict r old new v = (spans : List Span) × Writes r old new (verdict_form spans v)
+abbrev pub WritesFault : {E : Type 0} → Result (Unit {0}) E → List Token → List Token → Option Misfit → ModuleFault → Type 0
+WritesFault r old new misfit fault =
+    (spans : List Span) × (place : Option (List ℕ)) × Writes r old new (refused_form spans place misfit fault)
+
+abbrev pub WritesVerdict : {E : Type 0} → Result (Unit {0}) E → List Token → List Token → judge.Verdict → Option Misfit → Type 0
+WritesVerdict r old new v misfit =
+    (spans : List Span) × (place : Option (List ℕ)) × Writes r old new (verdict_form spans place misfit v)

@@ -1,20 +1,27 @@
 //! Judges a text, and finds where its fault stands.
 
-ghost use Rattle.std.specs.Prelude.{◌≡◌, IfOk};
-ghost use Rattle.json_verdict.specs.Judges.{Judges, IsJudgedBy, IsJudgedOver};
-ghost use Rattle.json_verdict.specs.Lends.{known_by, known_of};
+ghost use Rattle.std.specs.Prelude.{◌≡◌, None};
+ghost use Rattle.ir_facts.specs.Points.{first_fault};
+ghost use Rattle.naga_module.specs.Misfits.{module_points};
+ghost use Rattle.naga_module.specs.declared.check.ModuleFault.TheVariants as faults;
+ghost use Rattle.json_verdict.specs.Basis.{meaning_of};
+ghost use Rattle.json_verdict.specs.Judges.{HasMisfit, Judges};
+ghost use Rattle.json_verdict.specs.declared.judge.Verdict.TheVariants as verdicts;
 
-use crate::judge::{Verdict, computed, judge_alone};
-use json_document::{Document, Known, ReadError, read_document};
-use json_places::{Found, Lent, locate};
-use naga_below::{Module, ModuleInfo, Sequence, Settings, TypeInfo, TypeResolution};
-use naga_module::{Given, ModuleFault, Recorded, check_module};
-use std::alloc::{AllocError, Global};
+use crate::basis::{Basis, copy_of};
+use crate::judge::Verdict;
+use json_document::{Document, ReadError, read_document};
+use json_places::{Found, locate, locate_misfit};
+use naga_below::{Module, Settings};
+use naga_module::{Misfit, ModuleFault};
+use std::alloc::Global;
 
 /// A text that was judged.
 #[derive(Drop)]
 pub struct Examined {
     pub verdict: Verdict,
+    /// Where the verdict is `NotFit`, the first thing that doesn't fit.
+    pub misfit: Option<Misfit>,
     /// Of a module that was judged and refused.
     pub refused: Option<Refused>,
 }
@@ -23,92 +30,39 @@ pub struct Examined {
 #[derive(Drop)]
 pub struct Refused {
     pub module: Module,
-    /// None where the fault names nothing, and where it couldn't be found, out of memory.
+    /// Whether its facts were computed.
+    pub is_computed: bool,
+    /// None where it couldn't be found, out of memory.
     pub found: Option<Found>,
 }
 
-/// What a document says is known of its module, with the layer that answers the facts: so these can be lent.
-#[derive(Drop)]
-struct Lendable {
-    type_infos: Sequence<TypeInfo>,
-    global_types: Sequence<TypeResolution>,
-    layer: Recorded,
-}
-
-/// The same, if there is anything.
-fn lend(known: Option<Known>) -> Option<Lendable>
-    ensures { known_by result ≡ known }
-{
-    match known {
-        Some(
-            Known {
-                type_infos,
-                global_types,
-                facts,
-            },
-        ) => Some(Lendable {
-            type_infos,
-            global_types,
-            layer: Recorded { facts },
-        }),
-        None => None,
+impl Examined {
+    /// What was found of the fault.
+    pub fn found(&self) -> Option<&Found> {
+        self.refused.as_ref()?.found.as_ref()
     }
 }
 
-/// What `check_module` is given beside a module: copies of these lists.
-fn given_of(
-    alloc: Global,
-    type_infos: &Sequence<TypeInfo>,
-    global_types: &Sequence<TypeResolution>,
-) -> Result<Given, AllocError>
-    ensures types { IfOk result (λ given. given.types.items ≡ type_infos.now) }
-    ensures globals { IfOk result (λ given. given.global_types.items ≡ global_types.now) }
+/// A verdict of which there is no more to tell.
+pub fn alone(verdict: Verdict) -> Examined
+    ensures verdict { result.verdict ≡ verdict }
+    ensures misfit { result.misfit ≡ None }
 {
-    let types = type_infos.as_slice().to_vec(alloc)?;
-    let global_types = clone_types(alloc, global_types.as_slice())?;
-    Ok(Given {
-        types,
-        global_types,
-    })
-}
-
-/// Equal types.
-fn clone_types(alloc: Global, types: &[TypeResolution]) -> Result<Vec<TypeResolution>, AllocError>
-    ensures { IfOk result (λ made. made.items ≡ types.now) }
-{
-    let mut made = Vec::new(alloc);
-    for resolution in types {
-        made.push(resolution.clone(alloc)?)?;
+    Examined {
+        verdict,
+        misfit: None,
+        refused: None,
     }
-    Ok(made)
 }
 
-/// Judges a module over facts that are lent.
-fn judge_over_lent(
-    alloc: Global,
-    settings: Settings,
-    module: &Module,
-    known: &Lendable,
-) -> Result<ModuleInfo, ModuleFault>
-    ensures { IsJudgedOver (known_of known.now) settings «module».now result }
+/// The first thing that doesn't fit in a module, if that is the fault.
+fn misfit_of(module: &Module, basis: &Basis, fault: &ModuleFault) -> Option<Misfit>
+    ensures { fault.now ≡ faults.NotFit → result ≡ first_fault (module_points (meaning_of basis.now.layer)
+        basis.now.given.types.items «module».now basis.now.given.global_types.items) }
 {
-    let given = given_of(alloc, &known.type_infos, &known.global_types)?;
-    let layer = &known.layer;
-    check_module(alloc, Lent { layer }, settings, given, module)
-}
-
-/// Judges a module over facts that are lent, or else over computed ones.
-fn judge_lent(
-    alloc: Global,
-    settings: Settings,
-    module: &Module,
-    known: &Option<Lendable>,
-) -> Result<ModuleInfo, ModuleFault>
-    ensures { IsJudgedBy (known_by known.now) settings «module».now result }
-{
-    match known {
-        Some(known) => judge_over_lent(alloc, settings, module, known),
-        None => judge_alone(alloc, settings, module),
+    match fault {
+        ModuleFault::NotFit => basis.misfit(module),
+        _ => None,
     }
 }
 
@@ -117,57 +71,69 @@ fn find(
     alloc: Global,
     settings: Settings,
     module: &Module,
-    known: &Option<Lendable>,
+    basis: &Basis,
     fault: &ModuleFault,
+    misfit: &Option<Misfit>,
 ) -> Option<Found> {
-    match known {
-        Some(known) => match given_of(alloc, &known.type_infos, &known.global_types) {
-            Ok(given) => locate(alloc, Some(&known.layer), settings, given, module, fault),
-            Err(_) => None,
-        },
-        None => match computed(alloc, module) {
-            Ok(given) => locate(alloc, None, settings, given, module, fault),
-            Err(_) => None,
-        },
+    if let Some(misfit) = misfit {
+        return locate_misfit(alloc, basis.layer.is_some(), module, misfit);
+    }
+    match copy_of(alloc, &basis.given) {
+        Ok(given) => locate(alloc, basis.layer.as_ref(), settings, given, module, fault),
+        Err(_) => None,
     }
 }
 
-/// Judges a text as [`judge`](crate::judge::judge) does, and finds where the fault of a refused module stands.
+/// A module that is refused with this fault.
+fn refusal(
+    alloc: Global,
+    settings: Settings,
+    module: Module,
+    basis: &Basis,
+    fault: ModuleFault,
+) -> Examined
+    ensures verdict { result.verdict ≡ verdicts.Refused fault }
+    ensures misfit { fault ≡ faults.NotFit → result.misfit ≡ first_fault (module_points (meaning_of basis.now.layer)
+        basis.now.given.types.items «module» basis.now.given.global_types.items) }
+{
+    let misfit = misfit_of(&module, basis, &fault);
+    let found = find(alloc, settings, &module, basis, &fault, &misfit);
+    Examined {
+        verdict: Verdict::Refused(fault),
+        misfit,
+        refused: Some(Refused {
+            module,
+            is_computed: basis.layer.is_none(),
+            found,
+        }),
+    }
+}
+
+/// Judges a text as [`judge`](crate::judge::judge) does, and finds where the fault of a refused module stands, and what
+/// doesn't fit.
 pub fn examine(alloc: Global, text: &[u8]) -> Examined
-    ensures { Judges text.now result.verdict }
+    // The verdict is that of the text.
+    ensures judged { Judges text.now result.verdict }
+
+    // What is told not to fit is the first misfit of the document's module.
+    ensures misfit { HasMisfit text.now result.verdict result.misfit }
 {
     let document = match read_document(alloc, text) {
         Ok(document) => document,
-        Err(ReadError::Unreadable(unreadable)) => {
-            return Examined {
-                verdict: Verdict::Unreadable(unreadable),
-                refused: None,
-            };
-        }
-        Err(ReadError::Memory) => {
-            return Examined {
-                verdict: Verdict::Refused(ModuleFault::Memory),
-                refused: None,
-            };
-        }
+        Err(ReadError::Unreadable(unreadable)) => return alone(Verdict::Unreadable(unreadable)),
+        Err(ReadError::Memory) => return alone(Verdict::Refused(ModuleFault::Memory)),
     };
     let Document {
         settings,
         module,
         known,
     } = document;
-    let known = lend(known);
-    match judge_lent(alloc, settings, &module, &known) {
-        Ok(infos) => Examined {
-            verdict: Verdict::Accepted { module, infos },
-            refused: None,
-        },
-        Err(fault) => {
-            let found = find(alloc, settings, &module, &known, &fault);
-            Examined {
-                verdict: Verdict::Refused(fault),
-                refused: Some(Refused { module, found }),
-            }
-        }
+    let basis = match Basis::new(alloc, &module, known) {
+        Ok(basis) => basis,
+        Err(_) => return alone(Verdict::Refused(ModuleFault::Memory)),
+    };
+    match basis.judge(alloc, settings, &module) {
+        Ok(infos) => alone(Verdict::Accepted { module, infos }),
+        Err(fault) => refusal(alloc, settings, module, &basis, fault),
     }
 }

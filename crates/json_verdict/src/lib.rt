@@ -2,6 +2,7 @@
 //! The verdict of a document is what `check_module` answers for its module, over its facts, with its settings.
 #![tactic(auto)]
 
+mod basis;
 pub mod examine;
 pub mod judge;
 pub mod line;
@@ -10,4 +11,5 @@ mod reply;
 pub mod run;
 mod stream;
 mod text;
+mod untyped;
 pub mod verdict;

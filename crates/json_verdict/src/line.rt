@@ -2,24 +2,26 @@
 
 ghost use Rattle.std.specs.Prelude.{IfOk, string_bytes};
 ghost use Rattle.json_faults.specs.Form.{Writes, list_form, span_form};
-ghost use Rattle.json_verdict.specs.VerdictJson.{IsJsonOf, WritesFault, WritesVerdict, fault_form, function_form, infos_form, part_form, unreadable_at, unreadable_form};
+ghost use Rattle.json_verdict.specs.VerdictJson.{IsJsonOf, WritesFault, WritesPlaced, WritesVerdict, function_form, infos_form, part_form, placed_form, unreadable_at, unreadable_form};
 
+use crate::examine::Examined;
 use crate::judge::Verdict;
-use crate::pointer::pointer_text;
+use crate::pointer::{pointer_text, push_step};
 use json_document::Unreadable;
-use json_faults::parts::{holding, holding_two, three_fields, two_fields};
+use json_faults::parts::{four_fields, holding, holding_two, two_fields};
 use json_faults::to_json::{ToJson, write_list};
 use json_faults::writer::JsonWriter;
+use json_places::Found;
 use naga_below::{FunctionInfo, ModuleInfo, Span};
-use naga_module::ModuleFault;
+use naga_module::{Misfit, ModuleFault};
 use std::alloc::{AllocError, Global};
 
 /// The verdict as JSON, on one line, without white space and without a newline at the end. An Err is out of memory.
-pub fn json_line(alloc: Global, verdict: &Verdict) -> Result<String, AllocError>
-    ensures { IfOk result (λ text. IsJsonOf verdict.now (string_bytes text)) }
+pub fn json_line(alloc: Global, examined: &Examined) -> Result<String, AllocError>
+    ensures { IfOk result (λ text. IsJsonOf examined.now.verdict examined.now.misfit (string_bytes text)) }
 {
     let mut out = JsonWriter::new(alloc);
-    write_verdict(alloc, &mut out, verdict)?;
+    write_verdict(alloc, &mut out, examined)?;
     Ok(out.into_text())
 }
 
@@ -27,15 +29,30 @@ pub fn json_line(alloc: Global, verdict: &Verdict) -> Result<String, AllocError>
 pub fn write_verdict(
     alloc: Global,
     out: &mut JsonWriter,
-    verdict: &Verdict,
+    examined: &Examined,
 ) -> Result<(), AllocError>
-    ensures { WritesVerdict result out.old out.new verdict.now }
+    ensures { WritesVerdict result out.old out.new examined.now.verdict examined.now.misfit }
 {
-    match verdict {
+    match &examined.verdict {
         Verdict::Accepted { infos, .. } => write_infos(out, infos),
-        Verdict::Refused(fault) => write_refused(out, fault),
+        Verdict::Refused(fault) => {
+            let place = place_text(alloc, examined.found())?;
+            write_refused(out, fault, &examined.misfit, &place)
+        }
         Verdict::Unreadable(unreadable) => write_unreadable(alloc, out, unreadable),
     }
+}
+
+/// The place of a fault, if it is known.
+fn place_text(alloc: Global, found: Option<&Found>) -> Result<Option<String>, AllocError> {
+    let Some(found) = found else {
+        return Ok(None);
+    };
+    let mut text = String::new(alloc);
+    for step in found.place.steps.as_slice() {
+        push_step(&mut text, *step)?;
+    }
+    Ok(Some(text))
 }
 
 /// What is known of functions: the stages that the body of each could run in.
@@ -99,52 +116,93 @@ impl ToJson for Spans<'_> {
     }
 }
 
-/// What has the fault, the fault, and its spans.
-#[tactic(auto, unfolding(crate::specs::VerdictJson::fault_form, json_faults::specs::Form::holding))]
+/// What has the fault, the fault, its spans, and its place, which may be null.
+#[tactic(auto, unfolding(crate::specs::VerdictJson::placed_form, json_faults::specs::Form::holding))]
+fn write_placed<P: ToJson, F: ToJson, L: ToJson>(
+    out: &mut JsonWriter,
+    at: &P,
+    fault: &F,
+    spans: &[Span],
+    place: &L,
+) -> Result<(), AllocError>
+    ensures { Writes result out.old out.new (placed_form (P.form at.now) (F.form fault.now) spans.now (L.form place.now)) }
+{
+    out.open("refused")?;
+    four_fields(
+        out,
+        &("at", "fault", "spans", "place"),
+        at,
+        fault,
+        &Spans(spans),
+        place,
+    )?;
+    out.end_object()
+}
+
+/// The same of a place that is known, or of none.
 fn write_fault<P: ToJson, F: ToJson>(
     out: &mut JsonWriter,
     at: &P,
     fault: &F,
     spans: &[Span],
+    place: &Option<String>,
 ) -> Result<(), AllocError>
-    ensures { Writes result out.old out.new (fault_form (P.form at.now) (F.form fault.now) spans.now) }
+    ensures { WritesPlaced result out.old out.new (P.form at.now) (F.form fault.now) spans.now }
 {
-    out.open("refused")?;
-    three_fields(out, &("at", "fault", "spans"), at, fault, &Spans(spans))?;
-    out.end_object()
+    match place {
+        Some(text) => write_placed(out, at, fault, spans, &text.as_str()),
+        None => {
+            let nothing: Option<usize> = None;
+            write_placed(out, at, fault, spans, &nothing)
+        }
+    }
+}
+
+/// A part of a module with this kind and index, its fault and its spans.
+fn write_part<F: ToJson>(
+    out: &mut JsonWriter,
+    kind: &'static str,
+    index: usize,
+    fault: &F,
+    spans: &[Span],
+    place: &Option<String>,
+) -> Result<(), AllocError>
+    ensures { WritesPlaced result out.old out.new (part_form kind.now index) (F.form fault.now) spans.now }
+{
+    write_fault(out, &Part { kind, index }, fault, spans, place)
 }
 
 /// The fault of a module, or out of memory.
 #[tactic(auto, unfolding(crate::specs::VerdictJson::refused_form))]
-fn write_refused(out: &mut JsonWriter, fault: &ModuleFault) -> Result<(), AllocError>
-    ensures { WritesFault result out.old out.new fault.now }
+fn write_refused(
+    out: &mut JsonWriter,
+    fault: &ModuleFault,
+    misfit: &Option<Misfit>,
+    place: &Option<String>,
+) -> Result<(), AllocError>
+    ensures { WritesFault result out.old out.new misfit.now fault.now }
 {
     match fault {
-        ModuleFault::NotFit => {
-            let nothing: Option<usize> = None;
-            write_fault(out, &"NotFit", &nothing, &[])
-        }
+        ModuleFault::NotFit => write_fault(out, &"NotFit", misfit, &[], place),
         ModuleFault::Global(global, error) => {
-            let part = Part {
-                kind: "Global",
-                index: global.index(),
-            };
-            write_fault(out, &part, error, &[])
+            write_part(out, "Global", global.index(), error, &[], place)
         }
-        ModuleFault::Function(function, error) => {
-            let part = Part {
-                kind: "Function",
-                index: function.index(),
-            };
-            write_fault(out, &part, error.as_inner(), error.spans())
-        }
-        ModuleFault::EntryPoint(index, error) => {
-            let part = Part {
-                kind: "EntryPoint",
-                index: *index,
-            };
-            write_fault(out, &part, error.as_inner(), error.spans())
-        }
+        ModuleFault::Function(function, error) => write_part(
+            out,
+            "Function",
+            function.index(),
+            error.as_inner(),
+            error.spans(),
+            place,
+        ),
+        ModuleFault::EntryPoint(index, error) => write_part(
+            out,
+            "EntryPoint",
+            *index,
+            error.as_inner(),
+            error.spans(),
+            place,
+        ),
         ModuleFault::Memory => out.string("memory"),
     }
 }

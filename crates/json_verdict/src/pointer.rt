@@ -8,7 +8,7 @@ use std::alloc::{AllocError, Global};
 
 /// Appends a slash, and the step.
 #[tactic(auto, unfolding(crate::specs::VerdictJson::step_text))]
-fn push_step(text: &mut String, step: Step) -> Result<(), AllocError>
+pub fn push_step(text: &mut String, step: Step) -> Result<(), AllocError>
     ensures { OnOk result (string_bytes text.new ≡ string_bytes text.old ++ step_text step) }
 {
     text.push_str("/")?;

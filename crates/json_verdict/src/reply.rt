@@ -1,16 +1,16 @@
 //! The reply to a text: its verdict, written in a form.
 
-ghost use Rattle.std.specs.Prelude.{ℕ, List, IfOk, IfSome, string_bytes};
+ghost use Rattle.std.specs.Prelude.{ℕ, List, None, IfOk, IfSome, string_bytes};
 ghost use Rattle.naga_module.specs.declared.check.ModuleFault.TheVariants as faults;
 ghost use Rattle.json_verdict.specs.declared.judge.Verdict.TheVariants as verdicts;
 ghost use Rattle.json_verdict.specs.declared.reply.Form.TheVariants as forms;
 ghost use Rattle.json_verdict.specs.Runs.{IsLineOf, Replies};
 ghost use Rattle.json_verdict.specs.walk.Stream.{Holds, Tells};
 
-use crate::judge::Verdict;
+use crate::examine::Examined;
 use crate::line::json_line;
 use crate::text::Bytes;
-use crate::verdict::write_lines;
+use crate::verdict::write_examined;
 use std::alloc::{AllocError, Global};
 use std::io::Write;
 use std::{fmt, io};
@@ -23,35 +23,35 @@ pub enum Form {
 }
 
 /// The verdict as JSON, with a newline at the end.
-fn json_text(alloc: Global, verdict: &Verdict) -> Result<String, AllocError>
-    ensures { IfOk result (λ text. IsLineOf forms.Json verdict.now (string_bytes text)) }
+fn json_text(alloc: Global, examined: &Examined) -> Result<String, AllocError>
+    ensures { IfOk result (λ text. IsLineOf forms.Json examined.now.verdict examined.now.misfit (string_bytes text)) }
 {
-    let mut text = json_line(alloc, verdict)?;
+    let mut text = json_line(alloc, examined)?;
     text.push_str("\n")?;
     Ok(text)
 }
 
 /// The verdict for a person, with the end of its last line.
-fn lines_text(alloc: Global, verdict: &Verdict) -> Result<String, fmt::Error> {
+fn lines_text(alloc: Global, examined: &Examined) -> Result<String, fmt::Error> {
     let mut text = String::new(alloc);
-    write_lines(&mut text, verdict)?;
+    write_examined(alloc, &mut text, examined)?;
     text.push_str("\n")?;
     Ok(text)
 }
 
 /// The text of a verdict, with the end of its last line. None is out of memory.
-fn text_of(alloc: Global, verdict: &Verdict, form: Form) -> Option<String>
-    ensures { IfSome result (λ text. IsLineOf form verdict.now (string_bytes text)) }
+fn text_of(alloc: Global, examined: &Examined, form: Form) -> Option<String>
+    ensures { IfSome result (λ text. IsLineOf form examined.now.verdict examined.now.misfit (string_bytes text)) }
 {
     match form {
-        Form::Lines => lines_text(alloc, verdict).ok(),
-        Form::Json => json_text(alloc, verdict).ok(),
+        Form::Lines => lines_text(alloc, examined).ok(),
+        Form::Json => json_text(alloc, examined).ok(),
     }
 }
 
 /// The text of out of memory.
 fn memory_text(form: Form) -> &'static [u8]
-    ensures { IsLineOf form (verdicts.Refused faults.Memory) result.now }
+    ensures { IsLineOf form (verdicts.Refused faults.Memory) None result.now }
 {
     match form {
         Form::Lines => b"memory\n",
@@ -60,13 +60,13 @@ fn memory_text(form: Form) -> &'static [u8]
 }
 
 /// Writes a verdict, and answers its exit status. If there is no memory for its text, both are those of out of memory.
-fn reply<W: Write>(alloc: Global, writer: &mut W, verdict: &Verdict, form: Form) -> io::Result<u8>
-    ensures { IfOk result (λ status. Tells form verdict.now (W.contents writer.old) (W.contents writer.new) status) }
+fn reply<W: Write>(alloc: Global, writer: &mut W, examined: &Examined, form: Form) -> io::Result<u8>
+    ensures { IfOk result (λ status. Tells form examined.now.verdict examined.now.misfit (W.contents writer.old) (W.contents writer.new) status) }
 {
-    match text_of(alloc, verdict, form) {
+    match text_of(alloc, examined, form) {
         Some(text) => {
             writer.write_all(text.as_str().as_bytes())?;
-            Ok(verdict.status())
+            Ok(examined.verdict.status())
         }
         None => {
             writer.write_all(memory_text(form))?;
@@ -85,6 +85,6 @@ pub fn reply_to<W: Write>(
     ensures { IfOk result (λ status. (text : List ℕ) → Holds bytes.now text →
         Replies form text (W.contents writer.old) (W.contents writer.new) status) }
 {
-    let verdict = bytes.judge(alloc);
-    reply(alloc, writer, &verdict, form)
+    let examined = bytes.examine(alloc);
+    reply(alloc, writer, &examined, form)
 }

@@ -2,10 +2,11 @@
 
 ghost use Rattle.std.specs.Prelude.{◌≡◌, ◌++◌, ◌∷◌, [], ℕ, List, true, false};
 ghost use Rattle.std.specs.Bool.{OnTrue};
-ghost use Rattle.json_verdict.specs.Judges.{Judges};
+ghost use Rattle.json_verdict.specs.Judges.{HasMisfit, Judges};
 ghost use Rattle.json_verdict.specs.walk.Stream.{Holds};
 
-use crate::judge::{Verdict, judge};
+use crate::examine::{Examined, alone, examine};
+use crate::judge::Verdict;
 use json_document::MOST_BYTES;
 use naga_module::ModuleFault;
 use std::alloc::Global;
@@ -71,14 +72,15 @@ impl Bytes {
         false
     }
 
-    /// The verdict of the text.
-    pub fn judge(&self, alloc: Global) -> Verdict
-        ensures { (text : List ℕ) → Holds self.now text → Judges text result }
+    /// Judges the text.
+    pub fn examine(&self, alloc: Global) -> Examined
+        ensures judged { (text : List ℕ) → Holds self.now text → Judges text result.verdict }
+        ensures misfit { (text : List ℕ) → Holds self.now text → HasMisfit text result.verdict result.misfit }
     {
         if self.is_lost {
-            Verdict::Refused(ModuleFault::Memory)
+            alone(Verdict::Refused(ModuleFault::Memory))
         } else {
-            judge(alloc, self.kept.as_slice())
+            examine(alloc, self.kept.as_slice())
         }
     }
 }

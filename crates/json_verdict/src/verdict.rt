@@ -1,11 +1,77 @@
 //! Verdicts as text for a person.
 
+use crate::examine::Examined;
 use crate::judge::Verdict;
+use crate::untyped::tell_untyped;
 use json_document::Unreadable;
 use json_faults::sets::write_names;
-use naga_below::{FunctionInfo, Module, ModuleInfo, ShaderStage, Span};
-use naga_module::{ModuleFault, Whereabouts, write_module_fault_lines};
+use json_places::{Found, Reason, Spot};
+use naga_below::{FunctionInfo, Module, ModuleInfo, ShaderStage};
+use naga_module::{Misfit, ModuleFault, Whereabouts, write_module_fault_lines};
+use std::alloc::Global;
 use std::fmt;
+
+/// Writes the verdict of a judged text for a person, as [`write_lines`] does, with the place of its fault; of an expression
+/// without a type why it has none; of `NotFit` what doesn't fit, and of facts that are short or break a law which these are.
+///
+/// An Err is that of the writer, or out of memory.
+pub fn write_examined<W: fmt::Write>(
+    alloc: Global,
+    out: &mut W,
+    examined: &Examined,
+) -> fmt::Result {
+    let fault = match &examined.verdict {
+        Verdict::Refused(fault) if !matches!(fault, ModuleFault::Memory) => fault,
+        verdict => return write_lines(out, verdict),
+    };
+    out.write_str("refused\n")?;
+    match examined.found() {
+        Some(found) => tell_found(alloc, out, fault, &examined.misfit, found)?,
+        None => tell_fault(out, fault, &examined.misfit, Whereabouts::UNKNOWN)?,
+    }
+    match &examined.refused {
+        Some(refused) => tell_untyped(alloc, out, fault, refused),
+        None => Ok(()),
+    }
+}
+
+/// A fault that was found.
+fn tell_found<W: fmt::Write>(
+    alloc: Global,
+    out: &mut W,
+    fault: &ModuleFault,
+    misfit: &Option<Misfit>,
+    found: &Found,
+) -> fmt::Result {
+    let place = &found.place;
+    let text = format!(in alloc; "{place}")?;
+    let known = Whereabouts {
+        place: Some(text.as_str()),
+        is_skipped: matches!(found.reason, Some(Reason::Skipped { .. })),
+    };
+    tell_fault(out, fault, misfit, known)?;
+    match found.spot {
+        Spot::Facts(shortage) => write!(out, "\n  the facts can't be used: {shortage}"),
+        _ => Ok(()),
+    }
+}
+
+/// A fault with what is known of where it stands.
+fn tell_fault<W: fmt::Write>(
+    out: &mut W,
+    fault: &ModuleFault,
+    misfit: &Option<Misfit>,
+    known: Whereabouts<'_>,
+) -> fmt::Result {
+    let Some(misfit) = misfit else {
+        return write_module_fault_lines(out, fault, known);
+    };
+    out.write_str("NotFit\n  ")?;
+    if let Some(place) = known.place {
+        write!(out, "place: {place}\n  ")?;
+    }
+    write!(out, "{misfit}")
+}
 
 /// Writes the verdict for a person, on one or more lines, without a newline at the end. An Err is that of the writer.
 pub fn write_lines<W: fmt::Write>(out: &mut W, verdict: &Verdict) -> fmt::Result {

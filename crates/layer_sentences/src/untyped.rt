@@ -1,5 +1,6 @@
 //! Why an expression of a function has no type.
 
+use crate::binary::write_binary;
 use crate::kinds::name_of;
 use crate::rules::sentence_of;
 use crate::types::write_type;
@@ -11,8 +12,12 @@ use ir_module::operands::{operand, operand_count};
 use ir_types::types::TypeInner;
 use ir_types::typifier::TypeResolution;
 use layer_expressions::types_of;
+use layer_forms::BinaryOperator;
 use std::alloc::{AllocError, Global};
 use std::fmt;
+
+/// The number of the rule of Binary.
+const BINARY: u32 = 11;
 
 /// The expressions before the one at an index.
 fn earlier(alloc: Global, fun: &Function, index: usize) -> Result<Arena<Expression>, AllocError> {
@@ -98,26 +103,86 @@ fn write_operands<W: fmt::Write>(
     Ok(())
 }
 
-/// Writes the kind of an expression, and the types of its operands.
-fn write_kind<W: fmt::Write>(
-    alloc: Global,
-    writer: &mut W,
-    module: &Module,
-    fun: &Function,
-    index: usize,
-) -> fmt::Result {
-    let Some(expression) = fun.expressions.as_slice().get(index) else {
-        return writer.write_str("an expression that isn't there");
+/// The operator of a Binary, with its operands.
+fn operator_of(
+    expression: &Expression,
+) -> Option<
+    (
+        BinaryOperator,
+        Handle<tag::Expression>,
+        Handle<tag::Expression>,
+    ),
+> {
+    let Expression::Binary { detail, .. } = expression else {
+        return None;
     };
-    writer.write_str(name_of(expression))?;
-    match types_before(alloc, module, fun, index) {
-        Ok(types) => write_operands(writer, module, types.as_slice(), expression),
-        Err(_) => Ok(()),
+    match BinaryOperator::from_detail(*detail) {
+        Some(operator) => match (operand(expression, 0), operand(expression, 1)) {
+            (Some(left), Some(right)) => Some((operator, left, right)),
+            _ => None,
+        },
+        None => None,
     }
 }
 
+/// Writes why an operator doesn't take its operands. The answer is whether their types are known, so that it was written.
+fn write_operator<W: fmt::Write>(
+    writer: &mut W,
+    module: &Module,
+    types: &[TypeResolution],
+    expression: &Expression,
+) -> Result<bool, fmt::Error> {
+    let Some((operator, left, right)) = operator_of(expression) else {
+        return Ok(false);
+    };
+    let (left, right) = (
+        inner_at(module, types, left),
+        inner_at(module, types, right),
+    );
+    match (left, right) {
+        (Some(left), Some(right)) => {
+            write_binary(
+                writer,
+                &module.types,
+                name_of(expression),
+                operator,
+                left,
+                right,
+            )?;
+            Ok(true)
+        }
+        _ => Ok(false),
+    }
+}
+
+/// Writes what is wrong with an expression that breaks a rule.
+fn write_rule<W: fmt::Write>(writer: &mut W, rule: u32) -> fmt::Result {
+    match sentence_of(rule) {
+        Some(sentence) => writer.write_str(sentence),
+        None => write!(writer, "it breaks a rule with the number {rule}"),
+    }
+}
+
+/// The same, where the types of earlier expressions are known.
+fn write_over_types<W: fmt::Write>(
+    writer: &mut W,
+    module: &Module,
+    types: &[TypeResolution],
+    expression: &Expression,
+    rule: u32,
+) -> fmt::Result {
+    if rule == BINARY && write_operator(writer, module, types, expression)? {
+        return Ok(());
+    }
+    writer.write_str(name_of(expression))?;
+    write_operands(writer, module, types, expression)?;
+    writer.write_str(": ")?;
+    write_rule(writer, rule)
+}
+
 /// Writes why an expression of a function has no type, where `Typed` refused it as `Lower(rule)`: its kind, the types of its
-/// operands, and what is wrong, as `Add of vec3<f32> and bool: the operator doesn't take operands of these types`.
+/// operands, and what is wrong, as `Splat of vec3<f32>: only a scalar can be splatted`. Of an operator with two sides it says
+/// which side it doesn't take, or how they differ: `left and right of Equal have different types: vec3<f32> and f32`.
 ///
 /// Where there is no memory for the types, they aren't written. A number that is no rule's is written itself. An Err is that of
 /// the writer.
@@ -129,10 +194,15 @@ pub fn write_untyped<W: fmt::Write>(
     handle: Handle<tag::Expression>,
     rule: u32,
 ) -> fmt::Result {
-    write_kind(alloc, writer, module, fun, handle.index())?;
-    writer.write_str(": ")?;
-    match sentence_of(rule) {
-        Some(sentence) => writer.write_str(sentence),
-        None => write!(writer, "it breaks a rule with the number {rule}"),
+    let Some(expression) = fun.expressions.as_slice().get(handle.index()) else {
+        return writer.write_str("an expression that isn't there");
+    };
+    match types_before(alloc, module, fun, handle.index()) {
+        Ok(types) => write_over_types(writer, module, types.as_slice(), expression, rule),
+        Err(_) => {
+            writer.write_str(name_of(expression))?;
+            writer.write_str(": ")?;
+            write_rule(writer, rule)
+        }
     }
 }

@@ -1,6 +1,7 @@
 -- What the exports answer, and what stands in the caller's memory after a call.
-use Rattle.std.specs.Prelude.{◌≡◌, ◌⊎◌, ◌++◌, ℕ, List, [], ◌∷◌, length, take, drop, ⊤}
-use Rattle.json_verdict.specs.Judges.{Judges, status_of}
+use Rattle.std.specs.Prelude.{◌≡◌, ◌⊎◌, ◌++◌, ℕ, List, [], ◌∷◌, Option, None, length, take, drop, ⊤}
+use Rattle.ir_misfits.specs.declared.misfit.Misfit.{Misfit}
+use Rattle.json_verdict.specs.Judges.{HasMisfit, Judges, status_of}
 use Rattle.json_verdict.specs.VerdictJson.{IsJsonOf}
 use Rattle.json_verdict.specs.declared.judge.Verdict as judge
 use Rattle.json_verdict.specs.declared.judge.Verdict.TheVariants as verdict
@@ -14,23 +15,27 @@ use Rattle.leafnurd.specs.declared.reply.Form.TheVariants as forms
 abbrev pub laid : List ℕ → List ℕ → List ℕ
 laid text out = take (length out) text ++ drop (length text) out
 
--- the text of a verdict: its JSON; of the text for people no more is said than that there is one
-unfoldable pub IsTextOf : Form → judge.Verdict → List ℕ → Type 0
-IsTextOf forms.Json v text = IsJsonOf v text
-IsTextOf forms.Lines v text = ⊤
+-- the text of a verdict with its misfit: its JSON; of the text for people no more is said than that there is one
+unfoldable pub IsTextOf : Form → judge.Verdict → Option Misfit → List ℕ → Type 0
+IsTextOf forms.Json v misfit text = IsJsonOf v misfit text
+IsTextOf forms.Lines v misfit text = ⊤
 
 -- The status is that of this verdict, the length is that of its text, and this text was laid into the caller's bytes.
-abbrev pub Tells : Form → judge.Verdict → Answer → List ℕ → List ℕ → Type 0
-Tells form v answer old new =
-    (text : List ℕ) × IsTextOf form v text × (answer.status ≡ status_of v) × (answer.length ≡ length text) × (new ≡ laid text old)
+abbrev pub Tells : Form → judge.Verdict → Option Misfit → Answer → List ℕ → List ℕ → Type 0
+Tells form v misfit answer old new =
+    (text : List ℕ) × IsTextOf form v misfit text × (answer.status ≡ status_of v) × (answer.length ≡ length text)
+    × (new ≡ laid text old)
 
 -- This verdict is reported, or out of memory.
-abbrev pub IsTold : Form → judge.Verdict → Answer → List ℕ → List ℕ → Type 0
-IsTold form v answer old new = Tells form v answer old new ⊎ Tells form (verdict.Refused fault.Memory) answer old new
+abbrev pub IsTold : Form → judge.Verdict → Option Misfit → Answer → List ℕ → List ℕ → Type 0
+IsTold form v misfit answer old new =
+    Tells form v misfit answer old new ⊎ Tells form (verdict.Refused fault.Memory) None answer old new
 
 -- A verdict of the document is reported. That there was no memory is a verdict of each document (`Judges`).
 abbrev pub IsAnswered : Form → List ℕ → Answer → List ℕ → List ℕ → Type 0
-IsAnswered form document answer old new = (v : judge.Verdict) × Judges document v × Tells form v answer old new
+IsAnswered form document answer old new =
+    (v : judge.Verdict) × (misfit : Option Misfit) × Judges document v × HasMisfit document v misfit
+    × Tells form v misfit answer old new
 
 -- the version 0.1.0, in ASCII
 abbrev pub version_text : List ℕ

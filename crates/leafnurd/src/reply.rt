@@ -1,13 +1,13 @@
 //! What the exports answer, and how a text is written into the caller's memory.
 
-ghost use Rattle.std.specs.Prelude.{◌≡◌, IfSome, length, string_bytes};
+ghost use Rattle.std.specs.Prelude.{◌≡◌, None, IfSome, length, string_bytes};
 ghost use Rattle.naga_module.specs.declared.check.ModuleFault.TheVariants as faults;
 ghost use Rattle.json_verdict.specs.declared.judge.Verdict.TheVariants as verdicts;
 ghost use Rattle.leafnurd.specs.Replies.{IsAnswered, IsTextOf, IsTold, laid};
 
-use json_verdict::judge::{Verdict, judge};
+use json_verdict::examine::{Examined, examine};
 use json_verdict::line::json_line;
-use json_verdict::verdict::write_lines;
+use json_verdict::verdict::write_examined;
 use std::alloc::Global;
 use std::fmt;
 
@@ -37,25 +37,25 @@ pub(crate) fn lay(text: &[u8], out: &mut [u8])
 }
 
 /// The verdict for a person.
-fn lines_text(alloc: Global, verdict: &Verdict) -> Result<String, fmt::Error> {
+fn lines_text(alloc: Global, examined: &Examined) -> Result<String, fmt::Error> {
     let mut text = String::new(alloc);
-    write_lines(&mut text, verdict)?;
+    write_examined(alloc, &mut text, examined)?;
     Ok(text)
 }
 
 /// The text of the verdict in this form. None is out of memory.
-fn text_of(alloc: Global, verdict: &Verdict, form: Form) -> Option<String>
-    ensures { IfSome result (λ text. IsTextOf form verdict.now (string_bytes text)) }
+fn text_of(alloc: Global, examined: &Examined, form: Form) -> Option<String>
+    ensures { IfSome result (λ text. IsTextOf form examined.now.verdict examined.now.misfit (string_bytes text)) }
 {
     match form {
-        Form::Json => json_line(alloc, verdict).ok(),
-        Form::Lines => lines_text(alloc, verdict).ok(),
+        Form::Json => json_line(alloc, examined).ok(),
+        Form::Lines => lines_text(alloc, examined).ok(),
     }
 }
 
 /// The text of out of memory.
 fn memory_text(form: Form) -> &'static [u8]
-    ensures { IsTextOf form (verdicts.Refused faults.Memory) result.now }
+    ensures { IsTextOf form (verdicts.Refused faults.Memory) None result.now }
 {
     match form {
         Form::Json => b"\"memory\"",
@@ -77,11 +77,11 @@ fn told(status: u8, text: &[u8], out: &mut [u8]) -> Answer
 }
 
 /// Writes the verdict, and answers its status. If there is no memory for its text, both are those of out of memory.
-fn tell(alloc: Global, verdict: &Verdict, out: &mut [u8], form: Form) -> Answer
-    ensures { IsTold form verdict.now result out.old out.new }
+fn tell(alloc: Global, examined: &Examined, out: &mut [u8], form: Form) -> Answer
+    ensures { IsTold form examined.now.verdict examined.now.misfit result out.old out.new }
 {
-    match text_of(alloc, verdict, form) {
-        Some(text) => told(verdict.status(), text.as_str().as_bytes(), out),
+    match text_of(alloc, examined, form) {
+        Some(text) => told(examined.verdict.status(), text.as_str().as_bytes(), out),
         None => told(3, memory_text(form), out),
     }
 }
@@ -90,6 +90,6 @@ fn tell(alloc: Global, verdict: &Verdict, out: &mut [u8], form: Form) -> Answer
 pub(crate) fn judge_into(alloc: Global, text: &[u8], out: &mut [u8], form: Form) -> Answer
     ensures { IsAnswered form text.now result out.old out.new }
 {
-    let verdict = judge(alloc, text);
-    tell(alloc, &verdict, out, form)
+    let examined = examine(alloc, text);
+    tell(alloc, &examined, out, form)
 }

@@ -180,6 +180,55 @@ entry point 0: Function: Expression { handle: [1], source: NotInScope }
     );
 }
 
+/// The place stands behind the span.
+#[test]
+fn a_refusal_as_json(rt: HostRuntime) {
+    expect(
+        &rt,
+        Input::Text(REFUSED),
+        JSON,
+        r#"{"refused":{"at":{"EntryPoint":0},"fault":{"Function":{"Expression":{"handle":1,"source":"NotInScope"}}},"spans":[[50,64]],"place":"/module/entry_points/0/function/body/0"}}
+"#,
+        1,
+    );
+}
+
+/// A module of a constant, whose type isn't there.
+const UNFIT: &str = r#"{
+    "flags": [], "capabilities": [], "subgroup_stages": [], "subgroup_operations": [],
+    "module": {
+        "types": [], "special_types": {"ray_desc": null}, "constants": [{"ty": 0}], "overrides": [],
+        "global_variables": [], "global_expressions": [], "functions": [], "entry_points": []
+    },
+    "facts": null
+}"#;
+
+/// What doesn't fit, and where it stands. There is no listing of it.
+#[test]
+fn what_does_not_fit(rt: HostRuntime) {
+    for output in [FOR_A_PERSON, Output::Listing] {
+        expect(
+            &rt,
+            Input::Text(UNFIT),
+            output,
+            r#"refused
+NotFit
+  place: /module/constants/0
+  the type of constant 0 names type 0, and none may stand there
+"#,
+            1,
+        );
+    }
+    expect(
+        &rt,
+        Input::Text(UNFIT),
+        JSON,
+        r#"{"refused":{"at":"NotFit","fault":{"place":{"ConstantType":0},"problem":{"Handle":{"of":"Types","index":0,"below":0}}},"spans":[],"place":"/module/constants/0"}}
+"#,
+        1,
+    );
+}
+
 /// The listing of what is refused, and why it is.
 #[test]
 fn a_listing(rt: HostRuntime) {
@@ -198,7 +247,7 @@ entry point 0:
   workgroup_size: [0, 0, 0]
 expressions:
   [0] Literal(Literal { scalar: Scalar { kind: Bool, width: 1 }, bits: 1 })
-  [1] Unary { operands: [[0]], detail: 0 }
+  [1] Negate { operands: [[0]] }
 body:
 > #0 If { condition: [1] }
 Why: no statement of the body emits [1].

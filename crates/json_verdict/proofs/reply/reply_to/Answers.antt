@@ -2,4 +2,7 @@ use Rattle.json_verdict.proofs.Told.{told_reply}
 use Rattle.json_verdict.proofs.reply.reply_to.Goals as goal
 
 pub returns : goal.returns
-returns g c = told_reply c.reply.result c.args.form c.judge-verdict.result c.args.bytes.now _ _ c.judge-verdict.ensures c.reply.ensures
+returns g c =
+    let examined = c.examine-examined.result in
+    told_reply c.reply.result c.args.form examined.verdict examined.misfit c.args.bytes.now _ _ c.examine-examined.ensures.judged
+    c.examine-examined.ensures.misfit c.reply.ensures

@@ -1,11 +1,13 @@
-use Rattle.std.proofs.Common.{inl, inr, refl}
+use Rattle.std.proofs.Common.{None, inl, inr, refl}
+use Rattle.json_verdict.proofs.Misfits.{memory_fits}
 use Rattle.json_verdict.specs.declared.judge.Verdict.TheVariants as verdict
 use Rattle.naga_module.specs.declared.check.ModuleFault.TheVariants as fault
 use Rattle.leafnurd.proofs.reply.judge_into.Goals as goal
 
 pub returns : goal.returns
 returns c =
+    let found = c.examine-examined.result in
     elim c.tell.ensures [
-      | inl told ↦ (c.judge-verdict.result, c.judge-verdict.ensures, told)
-      | inr told ↦ (verdict.Refused fault.Memory, inl refl, told)
+      | inl told ↦ (found.verdict, found.misfit, c.examine-examined.ensures.judged, c.examine-examined.ensures.misfit, told)
+      | inr told ↦ (verdict.Refused fault.Memory, None, inl refl, memory_fits c.args.text.now _ None refl, told)
     ]

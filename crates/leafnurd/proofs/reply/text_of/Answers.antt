@@ -19,4 +19,4 @@ returns-in-Lines c = rw c.in-Lines.is (any c.ok-in-Lines.result)
 
 pub returns-in-Json : goal.returns-in-Json
 unfolding IsTextOf
-returns-in-Json c = rw (c.in-Json.is, c.ok.ensures.value) (same c.json_line.result (λ t. IsJsonOf c.args.verdict.now (string_bytes t)) c.json_line.ensures)
+returns-in-Json c = rw (c.in-Json.is, c.ok.ensures.value) (same c.json_line.result (λ t. IsJsonOf c.args.examined.now.verdict c.args.examined.now.misfit (string_bytes t)) c.json_line.ensures)

@@ -1,0 +1,240 @@
+//! Where in a document that stands which doesn't fit.
+
+use crate::find::Found;
+use crate::nodes::{Position, nodes_of};
+use crate::place::{Place, add, add_position};
+use crate::spot::Spot;
+use json_document::Step;
+use naga_below::{Block, Module};
+use naga_module::{
+    EntryField, Misfit, Owner, Place as MisfitPlace, StatementField, TypeField, TypeOwner,
+};
+use std::alloc::{AllocError, Global};
+
+/// Finds where what doesn't fit stands: the statement, break condition, expression, variable, argument, result, member, type
+/// or list, or the field of an entry point. None out of memory.
+///
+/// Without facts the types of global expressions are computed, so the place is that of the expressions.
+pub fn locate_misfit(
+    alloc: Global,
+    has_facts: bool,
+    module: &Module,
+    misfit: &Misfit,
+) -> Option<Found> {
+    let mut steps = Vec::new(alloc);
+    match add_misfit(alloc, &mut steps, has_facts, module, &misfit.place) {
+        Ok(()) => Some(Found {
+            spot: Spot::Misfit,
+            place: Place { steps },
+            reason: None,
+        }),
+        Err(_) => None,
+    }
+}
+
+/// Adds the way from the document.
+fn add_misfit(
+    alloc: Global,
+    steps: &mut Vec<Step>,
+    has_facts: bool,
+    module: &Module,
+    place: &MisfitPlace,
+) -> Result<(), AllocError> {
+    match place {
+        MisfitPlace::TypeInfos => add(steps, &[Step::Name("facts"), Step::Name("type_infos")]),
+        MisfitPlace::StorageLayout(info) => add_layout(steps, *info, "storage_layout"),
+        MisfitPlace::UniformLayout(info) => add_layout(steps, *info, "uniform_layout"),
+        MisfitPlace::GlobalTypes => add_global_types(steps, has_facts),
+        MisfitPlace::InType(owner, field) => add_type(steps, has_facts, *owner, *field),
+        _ => {
+            steps.push(Step::Name("module"))?;
+            add_in_module(alloc, steps, module, place)
+        }
+    }
+}
+
+/// Adds the way from the document to a layout of an info.
+fn add_layout(steps: &mut Vec<Step>, info: usize, layout: &'static str) -> Result<(), AllocError> {
+    add(
+        steps,
+        &[
+            Step::Name("facts"),
+            Step::Name("type_infos"),
+            Step::Index(info),
+            Step::Name(layout),
+        ],
+    )
+}
+
+/// Adds the way from the document to the types of global expressions, or, where these are computed, to the expressions.
+fn add_global_types(steps: &mut Vec<Step>, has_facts: bool) -> Result<(), AllocError> {
+    let (whole, list) = if has_facts {
+        ("facts", "global_types")
+    } else {
+        ("module", "global_expressions")
+    };
+    add(steps, &[Step::Name(whole), Step::Name(list)])
+}
+
+/// Adds the way from the document to a type, or to the members of a struct. The type of a global expression that is computed
+/// has no members in the document.
+fn add_type(
+    steps: &mut Vec<Step>,
+    has_facts: bool,
+    owner: TypeOwner,
+    field: TypeField,
+) -> Result<(), AllocError> {
+    let inner = match owner {
+        TypeOwner::OfModule(ty) => {
+            add(
+                steps,
+                &[Step::Name("module"), Step::Name("types"), Step::Index(ty)],
+            )?;
+            "inner"
+        }
+        TypeOwner::OfGlobalExpression(expression) => {
+            add_global_types(steps, has_facts)?;
+            steps.push(Step::Index(expression))?;
+            if !has_facts {
+                return Ok(());
+            }
+            "Value"
+        }
+    };
+    let members = [
+        Step::Name(inner),
+        Step::Name("Struct"),
+        Step::Name("members"),
+    ];
+    match field {
+        TypeField::Whole | TypeField::Base => Ok(()),
+        TypeField::Members => add(steps, &members),
+        TypeField::Member(index) => {
+            add(steps, &members)?;
+            add(steps, &[Step::Index(index)])
+        }
+    }
+}
+
+/// Adds the way from the module to what is no type.
+fn add_in_module(
+    alloc: Global,
+    steps: &mut Vec<Step>,
+    module: &Module,
+    place: &MisfitPlace,
+) -> Result<(), AllocError> {
+    match place {
+        MisfitPlace::RayDesc => add(
+            steps,
+            &[Step::Name("special_types"), Step::Name("ray_desc")],
+        ),
+        MisfitPlace::ConstantType(index) => add_item(steps, "constants", *index),
+        MisfitPlace::OverrideType(index) => add_item(steps, "overrides", *index),
+        MisfitPlace::InGlobal(index, _) => add_item(steps, "global_variables", *index),
+        MisfitPlace::Operand(Owner::Module, index, _)
+        | MisfitPlace::Reference(Owner::Module, index) => {
+            add_item(steps, "global_expressions", *index)
+        }
+        MisfitPlace::InEntryPoint(index, field) => {
+            add_item(steps, "entry_points", *index)?;
+            add_entry_field(steps, *field)
+        }
+        _ => add_in_function(alloc, steps, module, place),
+    }
+}
+
+/// Adds the way to an item of a list.
+fn add_item(steps: &mut Vec<Step>, list: &'static str, index: usize) -> Result<(), AllocError> {
+    add(steps, &[Step::Name(list), Step::Index(index)])
+}
+
+/// Adds the way from an entry point to a field of it, or of its mesh.
+fn add_entry_field(steps: &mut Vec<Step>, field: EntryField) -> Result<(), AllocError> {
+    let name = match field {
+        EntryField::TaskPayload => return add(steps, &[Step::Name("task_payload")]),
+        EntryField::MaxVerticesOverride => "max_vertices_override",
+        EntryField::MaxPrimitivesOverride => "max_primitives_override",
+        EntryField::VertexOutputType => "vertex_output_type",
+        EntryField::PrimitiveOutputType => "primitive_output_type",
+        EntryField::OutputVariable => "output_variable",
+    };
+    add(steps, &[Step::Name("mesh_info"), Step::Name(name)])
+}
+
+/// Adds the way from the module to what a function has.
+fn add_in_function(
+    alloc: Global,
+    steps: &mut Vec<Step>,
+    module: &Module,
+    place: &MisfitPlace,
+) -> Result<(), AllocError> {
+    match place {
+        MisfitPlace::Arguments(owner) => {
+            add_owner(steps, *owner)?;
+            add(steps, &[Step::Name("arguments")])
+        }
+        MisfitPlace::ArgumentType(owner, index) => {
+            add_owner(steps, *owner)?;
+            add_item(steps, "arguments", *index)
+        }
+        MisfitPlace::ResultType(owner) => {
+            add_owner(steps, *owner)?;
+            add(steps, &[Step::Name("result")])
+        }
+        MisfitPlace::InLocal(owner, index, _) => {
+            add_owner(steps, *owner)?;
+            add_item(steps, "local_variables", *index)
+        }
+        MisfitPlace::Operand(owner, index, _) | MisfitPlace::Reference(owner, index) => {
+            add_owner(steps, *owner)?;
+            add_item(steps, "expressions", *index)
+        }
+        MisfitPlace::InStatement(owner, number, field) => {
+            add_owner(steps, *owner)?;
+            match body_of(module, *owner) {
+                Some(body) => add_statement(alloc, steps, body, *number, *field),
+                None => Ok(()),
+            }
+        }
+        _ => Ok(()),
+    }
+}
+
+/// Adds the way from the module to a function.
+fn add_owner(steps: &mut Vec<Step>, owner: Owner) -> Result<(), AllocError> {
+    match owner {
+        Owner::Module => Ok(()),
+        Owner::Function(index) => add_item(steps, "functions", index),
+        Owner::EntryPoint(index) => {
+            add_item(steps, "entry_points", index)?;
+            add(steps, &[Step::Name("function")])
+        }
+    }
+}
+
+/// The body of a function.
+fn body_of(module: &Module, owner: Owner) -> Option<&Block> {
+    match owner {
+        Owner::Module => None,
+        Owner::Function(index) => Some(&module.functions.as_slice().get(index)?.body),
+        Owner::EntryPoint(index) => {
+            Some(&module.entry_points.as_slice().get(index)?.function.body)
+        }
+    }
+}
+
+/// Adds the way from a function to a statement, or to a break condition.
+fn add_statement(
+    alloc: Global,
+    steps: &mut Vec<Step>,
+    body: &Block,
+    number: usize,
+    field: StatementField,
+) -> Result<(), AllocError> {
+    let nodes = nodes_of(alloc, body)?;
+    let position = match field {
+        StatementField::BreakIf => Position::BreakIf(number),
+        _ => Position::Statement(number),
+    };
+    add_position(alloc, steps, position, nodes.as_slice())
+}

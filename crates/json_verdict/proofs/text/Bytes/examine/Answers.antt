@@ -1,0 +1,20 @@
+use Rattle.std.proofs.Common.{◌∙◌, subst, arith}
+use Rattle.json_verdict.proofs.Kept.{kept_judges, kept_misfit}
+use Rattle.json_verdict.specs.Judges.{HasMisfit, Judges}
+use Rattle.json_verdict.specs.walk.Stream.{Holds, most}
+use Rattle.json_verdict.proofs.text.Bytes.examine.Goals as goal
+
+pub returns-else-self-clause-judged : goal.returns-else-self-clause-judged
+unfolding Holds
+returns-else-self-clause-judged c = λ text held.
+    let v = c.examine.result.verdict in
+    kept_judges most text v (omega arith)
+    (subst (λ t. Judges t v) (c.as_slice.ensures.value ∙ held c.if-self.false) c.examine.ensures.judged)
+
+pub returns-else-self-clause-misfit : goal.returns-else-self-clause-misfit
+unfolding Holds
+returns-else-self-clause-misfit c = λ text held.
+    let v = c.examine.result.verdict in
+    let misfit = c.examine.result.misfit in
+    kept_misfit most text v misfit (omega arith)
+    (subst (λ t. HasMisfit t v misfit) (c.as_slice.ensures.value ∙ held c.if-self.false) c.examine.ensures.misfit)
