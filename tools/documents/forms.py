@@ -1,5 +1,5 @@
 """Rows of the form of documents and verdicts: a worked example, facts beyond what is asked for and facts of a wrong number, texts
-with escapes, names that no other document has, and documents that can't be read."""
+with escapes, names that no other document has, documents that can't be read, and stages by one text."""
 
 import json
 
@@ -159,10 +159,29 @@ def everything():
     return one_function(module, made, f.COMPUTE_LIKE, functions=[fact])
 
 
-# What can't be read: in the facts, in the settings, and in an entry point.
+# What can't be read: in the facts, in the settings, and in an entry point. Which names a form has is written here as
+# docs/MODULES.md has it.
 
 def unreadable(pointer, expected):
     return {"unreadable": {"pointer": pointer, "expected": expected}}
+
+
+def quoted(names):
+    return ", ".join(f'"{name}"' for name in names)
+
+
+def missing(name):
+    return f'the field "{name}"'
+
+
+def too_many(name, *fields):
+    return f'no field "{name}": ' + ("the field is " if len(fields) == 1 else "the fields are ") + quoted(fields)
+
+
+def one_of(names, holding=()):
+    """One of these names, or of these variants that hold something."""
+    held = [f'{{"{name}": ..}}' for name in holding]
+    return "one of " + ", ".join([f'"{name}"' for name in names] + held)
 
 
 def broken(change):
@@ -176,11 +195,62 @@ def unreadables():
     unknown_name = lambda told: told.update(capabilities=["SUBGROUP", "SUBGROUPS"])
     with_a_point = lambda told: told["module"]["entry_points"][0].update(workgroup_size=[0, 0, 1.0])
     return [
-        (broken(lacks_a_field), unreadable("/facts/entry_points/0/info", "an object with exactly the fields of its form")),
-        (broken(unknown_name), unreadable("/capabilities/1", "one of the names of the set")),
+        (broken(lacks_a_field), unreadable("/facts/entry_points/0/info", missing("dual_source_blending"))),
+        (broken(unknown_name), unreadable("/capabilities/1", one_of(f.CAPABILITIES))),
         (broken(with_a_point), unreadable("/module/entry_points/0/workgroup_size/2", "an integer from 0 to 4294967295")),
     ]
 
 
+def misnamed():
+    """Names that there aren't, of each kind; counts that are 0; and a field that is one too many, where another is missing."""
+    one_type = lambda inner: lambda told: told["module"].update(types=[{"name": None, "inner": inner}])
+    one_expression = lambda made: lambda told: told["module"]["functions"][0].update(expressions=[made])
+    a_typo = lambda told: told["module"]["entry_points"][0].update(msh_info=told["module"]["entry_points"][0].pop("mesh_info"))
+    entry_point = ["stage", "early_depth_test", "workgroup_size", "function", "mesh_info", "task_payload"]
+    binary = {"op": "Plus", "left": 0, "right": 0}
+    operators = [
+        "Add", "Subtract", "Multiply", "Divide", "Modulo", "Equal", "NotEqual", "Less", "LessEqual", "Greater", "GreaterEqual", "And",
+        "ExclusiveOr", "InclusiveOr", "LogicalAnd", "LogicalOr", "ShiftLeft", "ShiftRight",
+    ]
+    plain = ["Function", "Private", "WorkGroup", "Uniform", "Handle", "Immediate", "TaskPayload", "RayPayload", "IncomingRayPayload"]
+    expression = "/module/functions/0/expressions/0/"
+    inner = "/module/types/0/inner/"
+    return [
+        (broken(a_typo), unreadable("/module/entry_points/0", too_many("msh_info", *entry_point))),
+        (broken(one_type({"Sampler": {"compare": True}})), unreadable(inner + "Sampler", too_many("compare", "comparison"))),
+        (broken(one_type({"Pointer": {"base": 0, "space": "Workgroup"}})),
+         unreadable(inner + "Pointer/space", one_of(plain, ["Storage"]))),
+        (broken(one_type({"Array": {"base": 0, "size": {"Constant": 0}, "stride": 4}})),
+         unreadable(inner + "Array/size/Constant", "an integer from 1 to 4294967295")),
+        (broken(one_type({"Array": {"base": 0, "size": {"Constant": -1}, "stride": 4}})),
+         unreadable(inner + "Array/size/Constant", "an integer from 1 to 4294967295")),
+        (broken(one_type({"Array": {"base": 0, "size": 3, "stride": 4}})),
+         unreadable(inner + "Array/size", one_of(["Dynamic"], ["Constant", "Pending"]))),
+        (broken(one_expression({"Binary": binary})), unreadable(expression + "Binary/op", one_of(operators))),
+        (broken(one_expression({"Splat": {"size": "Tri", "valu": 0}})),
+         unreadable(expression + "Splat", too_many("valu", "size", "value"))),
+        (broken(one_expression({"As": {"expr": 0, "kind": "Float", "convert": -1}})),
+         unreadable(expression + "As/convert", "an integer from 1 to 255, or null")),
+        (broken(lambda told: told.update(subgroup_stages=["ALL"])), unreadable("/subgroup_stages/0", one_of(STAGES))),
+        (broken(lambda told: told.update(subgroup_stages="VERTEX")), unreadable("/subgroup_stages", 'a list of stages, or "ALL"')),
+        (broken(lambda told: told.update(subgroup_stages=None)), unreadable("/subgroup_stages", 'a list of stages, or "ALL"')),
+    ]
+
+
+# Stages by one text, wherever a document has a set of them.
+
+def all_stages():
+    """A function and an entry point, whose facts have all stages; the settings have them too."""
+    told = with_facts({})
+    told["subgroup_stages"] = "ALL"
+    for name in ("functions", "entry_points"):
+        info = told["facts"][name][0]["info"]
+        assert info["stages"] == STAGES
+        info.update(stages="ALL", expressions=[{"stages": "ALL"} for _ in info["expressions"]])
+    return told, verdicts.ok([STAGES], [verdicts.entry()])
+
+
 def forms():
-    return rows_of("forms", [worked(), *facts(), named_local(), named_argument(), everything(), *unreadables()])
+    return rows_of("forms", [
+        worked(), *facts(), named_local(), named_argument(), everything(), *unreadables(), all_stages(), *misnamed(),
+    ])

@@ -11,7 +11,7 @@
 //! assert_eq!(verdict.status(), Status::Unreadable);
 //! if let Verdict::Unreadable { pointer, expected, .. } = &verdict {
 //!     assert_eq!(pointer, "");
-//!     assert_eq!(expected, "an object with exactly the fields of its form");
+//!     assert_eq!(expected, "the field \"flags\"");
 //! }
 //! ```
 //!

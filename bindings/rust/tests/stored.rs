@@ -36,6 +36,7 @@ fn each_document_has_its_line() {
                 }
             }
             Verdict::Unreadable { pointer, expected, .. } => {
+                let expected = expected.replace('\\', "\\\\").replace('"', "\\\"");
                 assert_eq!(
                     *line,
                     format!("{{\"unreadable\":{{\"pointer\":\"{pointer}\",\"expected\":\"{expected}\"}}}}")

@@ -71,5 +71,14 @@ barrier_of d = option_map (λ bits. record { 0 = bits }) (bits_of (barrier.ghost
 abbrev pub memory_decorations_of : Data → Option MemoryDecorations
 memory_decorations_of d = option_map (λ bits. record { 0 = bits }) (bits_of (memory_decorations.ghosts).table [] d)
 
+-- the text of all stages
+abbrev pub all_stages : List ℕ → Option ShaderStages
+all_stages name = if bytes_eq name (codes "ALL") then Some (record { 0 = 511 }) else None
+
+abbrev pub stages_from : Option (List ℕ) → Data → Option ShaderStages
+stages_from (Some name) d = all_stages name
+stages_from None d = option_map (λ bits. record { 0 = bits }) (bits_of (stages.ghosts).table (codes "COMPUTE_LIKE") d)
+
+-- a list of stages, or the text of all
 abbrev pub stages_of : Data → Option ShaderStages
-stages_of d = option_map (λ bits. record { 0 = bits }) (bits_of (stages.ghosts).table (codes "COMPUTE_LIKE") d)
+stages_of d = stages_from (as_str d) d

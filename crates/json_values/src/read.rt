@@ -4,6 +4,7 @@ pub mod bindings;
 pub mod entry_points;
 pub mod error;
 pub mod errors;
+pub mod expected;
 pub mod expressions;
 pub mod facts;
 pub mod form_names;

@@ -1,5 +1,5 @@
 -- The JSON of a verdict.
-use Rattle.std.specs.Prelude.{◌≡◌, ℕ, List, [], ◌∷◌, ◌++◌, Option, Result, codes, decimal}
+use Rattle.std.specs.Prelude.{◌≡◌, ℕ, List, [], ◌∷◌, ◌++◌, Option, Result, codes, decimal, string_bytes}
 use Rattle.json.specs.Json.{Json, string}
 use Rattle.json.specs.Token.{Token}
 use Rattle.ir_arena.specs.declared.span.Span.{Span}
@@ -71,7 +71,7 @@ unreadable_at pointer expected =
     holding (codes "unreadable") (two_fields (codes "pointer") (string pointer) (codes "expected") (string expected))
 
 abbrev pub unreadable_form : Unreadable → Json
-unreadable_form unreadable = unreadable_at (pointer_text unreadable.steps.items) unreadable.expected.now
+unreadable_form unreadable = unreadable_at (pointer_text unreadable.steps.items) (string_bytes unreadable.expected)
 
 -- a verdict, whose fault has these spans, this place and this misfit
 unfoldable pub verdict_form : List Span → Option (List ℕ) → Option Misfit → judge.Verdict → Json

@@ -233,5 +233,5 @@ fn write_unreadable(
     ensures { Writes result out.old out.new (unreadable_form unreadable.now) }
 {
     let pointer = pointer_text(alloc, unreadable.steps.as_slice())?;
-    write_unreadable_at(out, pointer.as_str(), unreadable.expected)
+    write_unreadable_at(out, pointer.as_str(), unreadable.expected.as_str())
 }

@@ -123,7 +123,7 @@ fn tell_stages<W: fmt::Write>(out: &mut W, info: &FunctionInfo) -> fmt::Result {
 
 /// Where reading stopped, and what was expected there.
 fn tell_unreadable<W: fmt::Write>(out: &mut W, unreadable: &Unreadable) -> fmt::Result {
-    let expected = unreadable.expected;
+    let expected = unreadable.expected.as_str();
     if unreadable.steps.is_empty() {
         write!(out, "unreadable: expected {expected}")
     } else {

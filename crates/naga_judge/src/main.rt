@@ -18,11 +18,22 @@ use std::io;
 use std::io::{Read, Write};
 use std::process::ExitCode;
 
+/// The exit status of a command line that is wrong.
+const WRONG: u8 = 2;
+
 /// Does what the command line asks for, and answers the exit status. An Err is that of the arguments, the reader or
 /// the writer.
 fn answer(rt: &HostRuntime) -> io::Result<u8> {
     let alloc = rt.alloc();
-    let words: Vec<String> = std::env::args(rt)?.collect(alloc)?;
+    let arguments = match std::env::args(rt) {
+        Ok(arguments) => arguments,
+        Err(error) if error.kind() == io::ErrorKind::InvalidData => {
+            eprintln!(rt; "naga_judge: a word of the command line is not UTF-8")?;
+            return Ok(WRONG);
+        }
+        Err(error) => return Err(error),
+    };
+    let words: Vec<String> = arguments.collect(alloc)?;
     let request = match request_of(alloc, words.as_slice()) {
         Ok(request) => request,
         Err(error) => {

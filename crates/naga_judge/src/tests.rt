@@ -59,5 +59,5 @@ impl Ending {
 
 /// The verdict of what is JSON and no object.
 const NO_OBJECT: &str =
-    r#"{"unreadable":{"pointer":"","expected":"an object with exactly the fields of its form"}}
+    r#"{"unreadable":{"pointer":"","expected":"an object with the fields \"flags\", \"capabilities\", \"subgroup_stages\", \"subgroup_operations\", \"module\", \"facts\""}}
 "#;

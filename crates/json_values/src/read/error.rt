@@ -17,8 +17,8 @@ pub enum Step {
 /// Where reading stopped, and what was expected there.
 #[derive(Debug, Drop)]
 pub struct Unreadable {
-    /// It never quotes the document.
-    pub expected: &'static str,
+    /// Of the document it quotes a field that is one too many, and nothing else.
+    pub expected: String,
     /// The way from the whole document to the value that was being read, the last step first.
     pub steps: Vec<Step>,
 }
@@ -31,8 +31,16 @@ pub enum ReadError {
 }
 
 impl ReadError {
-    /// This was expected of the value that is being read.
-    pub fn expected(alloc: Global, expected: &'static str) -> Self {
+    /// This was expected of the value that is being read; or out of memory.
+    pub fn expected(alloc: Global, expected: &str) -> Self {
+        match String::from_str(alloc, expected) {
+            Ok(expected) => ReadError::told(alloc, expected),
+            Err(_) => ReadError::Memory,
+        }
+    }
+
+    /// The same of a text that was made for it.
+    pub fn told(alloc: Global, expected: String) -> Self {
         ReadError::Unreadable(Unreadable {
             expected,
             steps: Vec::new(alloc),

@@ -10,10 +10,12 @@ ghost use Rattle.json_values.specs.Document.FormNames.{names_of};
 ghost use Rattle.json_values.specs.Document.Forms.{count_if, counted, form_of, gather_of, level_held, level_of, maybe, maybe_of, operand, pattern_of, piece_of, place_of, query_of, two_components, width_from, width_of, with_field, with_operand, with_piece};
 
 use crate::read::error::ReadError;
+use crate::read::expected::expected_fields;
 use crate::read::expressions::Parts;
 use crate::read::form_names::read_form_name;
 use crate::read::from_json::{Held, has_count};
 use crate::read::list::elements;
+use crate::read::number::byte;
 use crate::read::variant::{Variant, read_name, read_variant};
 use ir_arena::{Handle, tag};
 use ir_module::Operands;
@@ -165,19 +167,29 @@ fn width(bytes: Option<u8>) -> Option<Piece>
     }
 }
 
+/// What the width that a value is counts.
+fn width_at(value: &Value) -> Option<Piece>
+    ensures { result ≡ width_of (view value.now) }
+{
+    if value.is_null() {
+        return width(None);
+    }
+    match byte(value) {
+        Some(bytes) => width(Some(bytes)),
+        None => None,
+    }
+}
+
 /// A width in bytes, or null.
 fn read_width(held: Held) -> Result<Piece, ReadError>
     ensures { ReadsMeaning (width_of (view held.entry.value.now)) result }
 {
-    match held.read() {
-        Ok(bytes) => match width(bytes) {
-            Some(piece) => Ok(piece),
-            None => Err(held.outside(ReadError::expected(
-                held.alloc,
-                "an integer from 1 to 255, or null",
-            ))),
-        },
-        Err(error) => Err(error),
+    match width_at(held.value) {
+        Some(piece) => Ok(piece),
+        None => Err(held.outside(ReadError::expected(
+            held.alloc,
+            "an integer from 1 to 255, or null",
+        ))),
     }
 }
 
@@ -351,18 +363,30 @@ pub fn with_piece(parts: Parts, piece: Piece) -> Result<Parts, ReadError>
     })
 }
 
-/// These parts, and what the field with this name gives.
+/// An object with exactly the fields of this form was expected.
+fn no_form(held: Held, form: &[(&'static str, Field)]) -> ReadError {
+    let mut names = Vec::new(held.alloc);
+    for row in form {
+        if names.push(row.0).is_err() {
+            return ReadError::Memory;
+        }
+    }
+    held.outside(expected_fields(held.alloc, held.value, names.as_slice()))
+}
+
+/// These parts, and what a field of this form gives.
 fn with_field(
     held: Held,
     parts: Parts,
+    form: &[(&'static str, Field)],
     name: &'static str,
     field: Field,
 ) -> Result<Parts, ReadError>
     ensures { ReadsMeaning (with_field parts name.now field (view held.entry.value.now)) result }
 {
-    let value = match held.member(name) {
-        Ok(value) => value,
-        Err(error) => return Err(error),
+    let value = match held.value.get(name) {
+        Some(value) => value,
+        None => return Err(no_form(held, form)),
     };
     let inside = Held {
         alloc: held.alloc,
@@ -381,15 +405,14 @@ pub fn read_form(held: Held, form: &[(&'static str, Field)]) -> Result<Parts, Re
     ensures { ReadsMeaning (form_of (rows_of form.now) (view held.entry.value.now)) result }
 {
     if !has_count(held.value, form.len()) {
-        let expected = "an object with exactly the fields of its form";
-        return Err(held.outside(ReadError::expected(held.alloc, expected)));
+        return Err(no_form(held, form));
     }
     let mut parts = Parts {
         operands: Operands::new(held.alloc),
         detail: 0,
     };
     for row in form {
-        parts = match with_field(held, parts, row.0, row.1) {
+        parts = match with_field(held, parts, form, row.0, row.1) {
             Ok(more) => more,
             Err(error) => return Err(error),
         };

@@ -9,6 +9,7 @@ ghost use Rattle.json_values.specs.Reads.{ReadsMeaning, texts_of};
 ghost use Rattle.json_values.specs.ReadsFields.{ReadsFields, ReadsValue, ReadsTwo, ReadsThree, ReadsFour};
 
 use crate::read::error::{ReadError, Step};
+use crate::read::expected::expected_fields;
 use serde_json::Value;
 use std::alloc::Global;
 
@@ -114,8 +115,7 @@ impl<'v> Held<'v> {
         if has_only(self.value, names) {
             return Ok(());
         }
-        let expected = "an object with exactly the fields of its form";
-        Err(self.outside(ReadError::expected(self.alloc, expected)))
+        Err(self.outside(expected_fields(self.alloc, self.value, names)))
     }
 
     /// The value of a field.

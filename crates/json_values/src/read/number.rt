@@ -1,6 +1,8 @@
 //! Numbers, texts and handles.
 
+ghost use Rattle.std.specs.Prelude.{◌≡◌};
 ghost use Rattle.serde_json.specs.Find.{as_bool, as_str};
+ghost use Rattle.serde_json.specs.View.{view};
 ghost use Rattle.json_values.specs.Numbers.{u8_of, u32_of, u64_of, i32_of, nonzero_of};
 
 use crate::read::error::ReadError;
@@ -10,6 +12,37 @@ use ir_types::Name;
 use serde_json::Value;
 use std::alloc::Global;
 use std::num::NonZeroU32;
+
+/// The integer of 8 bits that a value is.
+pub fn byte(value: &Value) -> Option<u8>
+    ensures { result ≡ u8_of (view value.now) }
+{
+    match value.as_u64() {
+        Some(n) if n <= 255 => Some(n as u8),
+        _ => None,
+    }
+}
+
+/// The integer of 32 bits that a value is.
+fn word(value: &Value) -> Option<u32>
+    ensures { result ≡ u32_of (view value.now) }
+{
+    match value.as_u64() {
+        Some(n) if n <= 4294967295 => Some(n as u32),
+        _ => None,
+    }
+}
+
+/// The same, where it isn't 0.
+#[tactic(auto, using(crate::proofs::Counts::nonzero_is))]
+fn count(value: &Value) -> Option<NonZeroU32>
+    ensures { result ≡ nonzero_of (view value.now) }
+{
+    match word(value) {
+        Some(n) => NonZeroU32::new(n),
+        None => None,
+    }
+}
 
 impl FromJson for bool {
     ghost stands_for = { as_bool };
@@ -26,9 +59,9 @@ impl FromJson for u8 {
     ghost stands_for = { u8_of };
 
     fn from_json(alloc: Global, value: &Value) -> Result<Self, ReadError> {
-        match value.as_u64() {
-            Some(n) if n <= 255 => Ok(n as u8),
-            _ => Err(ReadError::expected(alloc, "an integer from 0 to 255")),
+        match byte(value) {
+            Some(n) => Ok(n),
+            None => Err(ReadError::expected(alloc, "an integer from 0 to 255")),
         }
     }
 }
@@ -37,9 +70,9 @@ impl FromJson for u32 {
     ghost stands_for = { u32_of };
 
     fn from_json(alloc: Global, value: &Value) -> Result<Self, ReadError> {
-        match value.as_u64() {
-            Some(n) if n <= 4294967295 => Ok(n as u32),
-            _ => Err(ReadError::expected(alloc, "an integer from 0 to 4294967295")),
+        match word(value) {
+            Some(n) => Ok(n),
+            None => Err(ReadError::expected(alloc, "an integer from 0 to 4294967295")),
         }
     }
 }
@@ -70,12 +103,9 @@ impl FromJson for NonZeroU32 {
     ghost stands_for = { nonzero_of };
 
     fn from_json(alloc: Global, value: &Value) -> Result<Self, ReadError> {
-        match u32::from_json(alloc, value) {
-            Ok(n) => match NonZeroU32::new(n) {
-                Some(count) => Ok(count),
-                None => Err(ReadError::expected(alloc, "an integer from 1 to 4294967295")),
-            },
-            Err(error) => Err(error),
+        match count(value) {
+            Some(n) => Ok(n),
+            None => Err(ReadError::expected(alloc, "an integer from 1 to 4294967295")),
         }
     }
 }

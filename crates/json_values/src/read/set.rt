@@ -7,6 +7,7 @@ ghost use Rattle.json_values.specs.Sets as sets;
 ghost use Rattle.json_values.specs.ReadsSets.{ReadsBits};
 
 use crate::read::error::{ReadError, Step};
+use crate::read::expected::expected_bit;
 use crate::read::from_json::FromJson;
 use crate::read::list::elements;
 use bitflags::Flags;
@@ -16,6 +17,9 @@ use ir_flags::{
 };
 use serde_json::Value;
 use std::alloc::Global;
+
+/// What is expected where a set of stages is.
+const STAGES: &str = "a list of stages, or \"ALL\"";
 
 /// The bit that a text names. A name of several bits, which may be given, is none.
 fn read_bit<B: Flags + Copy>(alloc: Global, value: &Value, joined: &str) -> Result<B, ReadError>
@@ -28,7 +32,7 @@ fn read_bit<B: Flags + Copy>(alloc: Global, value: &Value, joined: &str) -> Resu
             }
         }
     }
-    Err(ReadError::expected(alloc, "one of the names of the set"))
+    Err(expected_bit::<B>(alloc, joined))
 }
 
 /// The set of the bits that a list names.
@@ -119,11 +123,31 @@ impl FromJson for MemoryDecorations {
     }
 }
 
-/// The nine single stages; the name of three of them together is none.
+/// All stages, by the text that stands for them.
+fn all_stages(text: &str) -> Option<ShaderStages>
+    ensures { result ≡ sets.all_stages text.now }
+{
+    if text == "ALL" {
+        Some(ShaderStages::ALL)
+    } else {
+        None
+    }
+}
+
+/// The text `"ALL"`, or a list of some of the nine single stages; the name of three of them together is none.
 impl FromJson for ShaderStages {
     ghost stands_for = { sets.stages_of };
 
     fn from_json(alloc: Global, value: &Value) -> Result<Self, ReadError> {
-        read_set(alloc, value, "COMPUTE_LIKE")
+        if let Some(text) = value.as_str() {
+            return match all_stages(text) {
+                Some(all) => Ok(all),
+                None => Err(ReadError::expected(alloc, STAGES)),
+            };
+        }
+        match value.as_array() {
+            Some(_) => read_set(alloc, value, "COMPUTE_LIKE"),
+            None => Err(ReadError::expected(alloc, STAGES)),
+        }
     }
 }

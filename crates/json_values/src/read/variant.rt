@@ -9,6 +9,7 @@ ghost use Rattle.json_values.specs.Variants.{either, variant_of};
 ghost use Rattle.json_values.specs.ReadsVariants.{ReadsVariant, tag_of};
 
 use crate::read::error::ReadError;
+use crate::read::expected::{expected_name, expected_variant};
 use crate::read::from_json::Held;
 use serde_json::{Map, Value};
 use std::alloc::Global;
@@ -36,9 +37,9 @@ pub fn read_name<T: Copy>(
     match value.as_str() {
         Some(name) => match look_up(table, name) {
             Some((_, named)) => Ok(named),
-            None => Err(ReadError::expected(alloc, "one of the names of its form")),
+            None => Err(expected_name(alloc, table)),
         },
-        None => Err(ReadError::expected(alloc, "a text, which is one of the names of its form")),
+        None => Err(expected_name(alloc, table)),
     }
 }
 
@@ -110,7 +111,7 @@ pub fn read_variant<'v, P: Copy, H: Copy>(
         }
         None => {}
     }
-    Err(ReadError::expected(alloc, "one of the variants of its form"))
+    Err(expected_variant(alloc, plain, holding))
 }
 
 /// An enum with variants that hold something, each of which has a name.
@@ -160,5 +161,6 @@ pub fn read_holding<E: Holding<N>, N: Copy>(
             return E::read_held(found, held);
         }
     }
-    Err(ReadError::expected(alloc, "one of the variants of its form"))
+    let none: [(&'static str, ()); 0] = [];
+    Err(expected_variant(alloc, &none, holding))
 }

@@ -7,7 +7,7 @@ use std::io;
 use std::io::{Read, Write};
 
 /// Two lines, neither of which is a document, nor are both together.
-const LINES: &str = "7\n{}";
+const LINES: &str = "7\n[]";
 
 /// How many reads of a byte there are of them: four that give one, and one that gives none.
 const READS: u32 = 5;

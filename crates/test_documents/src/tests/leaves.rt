@@ -58,6 +58,7 @@ fn sets(rt: HostRuntime) {
             r#"["VERTEX","VERTEX"]"#,
         ],
     );
+    check::<ShaderStages>(&rt, r#""ALL""#, [r#"["ALL"]"#, r#""all""#, r#""VERTEX""#]);
     check::<TypeFlags>(
         &rt,
         r#"["CONSTRUCTIBLE"]"#,

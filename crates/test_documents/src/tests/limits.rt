@@ -7,8 +7,9 @@ use std::process::Abort;
 /// What is said of a text that is no JSON.
 const NO_JSON: &str = ": JSON in UTF-8, whose brackets nest at most 127 deep";
 
-/// What is said of JSON that is no object of a document's fields.
-const NO_OBJECT: &str = ": an object with exactly the fields of its form";
+/// What is said of JSON that is no object.
+const NO_OBJECT: &str =
+    r#": an object with the fields "flags", "capabilities", "subgroup_stages", "subgroup_operations", "module", "facts""#;
 
 /// What is said of a document.
 const DOCUMENT: &str = "a document";
@@ -21,7 +22,7 @@ fn line_of<T: Drop>(
     match answer {
         Ok(_) => Some(made(rt, String::from_str(rt.alloc(), DOCUMENT))),
         Err(ReadError::Unreadable(unreadable)) => {
-            let expected = unreadable.expected;
+            let expected = unreadable.expected.as_str();
             Some(made(rt, format!(in rt.alloc(); "{unreadable}: {expected}")))
         }
         Err(ReadError::Memory) => None,
@@ -157,6 +158,76 @@ fn a_pointer_leads_to_the_innermost_value(rt: HostRuntime) {
     stops_at(&rt, cases, "/0/Switch/cases/0/value/I32");
 }
 
+/// A body, and what is said of it behind the pointer to the body.
+#[derive(Clone, Copy)]
+struct Row(&'static str, &'static str);
+
+/// Fields that are missing or one too many, and names that there aren't.
+static NAMES: [Row; 12] = [
+    Row("[{\"Return\":{}}]", "/0/Return: the field \"value\""),
+    Row(
+        r#"[{"Return":{"valu":0}}]"#,
+        r#"/0/Return: no field "valu": the field is "value""#,
+    ),
+    Row(
+        r#"[{"Return":7}]"#,
+        r#"/0/Return: an object with the field "value""#,
+    ),
+    Row(
+        r#"[{"Store":{"value":1}}]"#,
+        r#"/0/Store: the field "pointer""#,
+    ),
+    Row(
+        r#"[{"Store":{"pointer":0,"z":2,"value":1,"a":2}}]"#,
+        r#"/0/Store: no field "a": the fields are "pointer", "value""#,
+    ),
+    Row(
+        r#"[{"Store":{"\u001b\"":0}}]"#,
+        r#"/0/Store: no field "\u{1b}\"": the fields are "pointer", "value""#,
+    ),
+    Row(
+        r#"[{"Store":[0,1]}]"#,
+        r#"/0/Store: an object with the fields "pointer", "value""#,
+    ),
+    Row(
+        r#"[{"RayPipelineFunction":"TraceRay"}]"#,
+        r#"/0/RayPipelineFunction: one of {"TraceRay": ..}"#,
+    ),
+    Row(
+        r#"[{"RayQuery":{"query":0,"fun":{"Terminate":null}}}]"#,
+        r#"/0/RayQuery/fun: one of "ConfirmIntersection", "Terminate", {"Initialize": ..}, {"Proceed": ..}, {"GenerateIntersection": ..}"#,
+    ),
+    Row(
+        r#"[{"SubgroupCollectiveOperation":{"op":"Add","collective_op":"reduce","argument":0,"result":1}}]"#,
+        r#"/0/SubgroupCollectiveOperation/collective_op: one of "Reduce", "InclusiveScan", "ExclusiveScan""#,
+    ),
+    Row(
+        r#"[{"SubgroupCollectiveOperation":{"op":"Add","collective_op":0,"argument":0,"result":1}}]"#,
+        r#"/0/SubgroupCollectiveOperation/collective_op: one of "Reduce", "InclusiveScan", "ExclusiveScan""#,
+    ),
+    Row(
+        r#"[{"ControlBarrier":["TEXTURE","STORAGES"]}]"#,
+        r#"/0/ControlBarrier/1: one of "STORAGE", "WORK_GROUP", "SUB_GROUP", "TEXTURE""#,
+    ),
+];
+
+/// Whether a line names the body of the first function and goes on so.
+fn is_behind_the_body(line: &str, told: &str) -> bool {
+    match line.strip_prefix("/module/functions/0/body") {
+        Some(behind) => behind == told,
+        None => false,
+    }
+}
+
+#[test]
+fn what_is_unreadable_names_the_names(rt: HostRuntime) {
+    for row in &NAMES {
+        let text = document(&rt, row.0);
+        let line = told(&rt, text.as_bytes());
+        assert!(&rt; is_behind_the_body(line.as_str(), row.1), "{line}");
+    }
+}
+
 /// Of a field that is written twice the last counts, and a text ends with its document.
 #[test]
 fn a_field_twice_and_a_text_behind(rt: HostRuntime) {
@@ -189,7 +260,7 @@ fn a_second_equal_type_is_unreadable(rt: HostRuntime) {
     expect_of_types(
         &rt,
         &["[", ty, ",", ty, ",0]"],
-        "/module/types/2: an object with exactly the fields of its form",
+        r#"/module/types/2: an object with the fields "name", "inner""#,
     );
     expect_of_types(&rt, &["[", ty, "]"], DOCUMENT);
 }
