@@ -166,6 +166,8 @@ fn validate_points(
         result }
     ensures scope { OnOk result (HasPut table.old.scope table.new.scope (puts (tree_of (context_of context.now) located.now))) }
     ensures filled { table.new.filled ≡ table.old.filled }
+    ensures operands { table.new.operands ≡ table.old.operands }
+    ensures roots { table.new.roots ≡ table.old.roots }
 {
     let span = located.span;
     let scope = &table.scope;

@@ -1,4 +1,4 @@
-use Rattle.std.proofs.Common.{◌≡◌, ◌<◌, true, IsTrue, Ok, Err, length, get_or, subst, sym, ap, ◌∙◌}
+use Rattle.std.proofs.Common.{refl, subst, sym}
 use Rattle.check_scope.specs.BodyTrees.{emitted_operands}
 use Rattle.check_scope.specs.walk.Place.{place_at}
 use Rattle.check_scope.specs.walk.SeenContext.{context_of}
@@ -18,7 +18,7 @@ returns-then-is_known-clause-holds c =
     let operands = emitted_operands (context_of c.args.context.now).fun in
     let last = kept_at c.args.operands.now h in
     let put = c.requires.operands.usable h (c.is_known.ensures c.if-is_known.true) in
-    (λ e. all_usable t last c.args.list.now (subst (ArePutUpTo (shown t) last) (sym c.requires.list) put), λ all. c.if-is_known.true)
+    (λ e. all_usable t last c.args.list.now (subst (ArePutUpTo (shown t) last) (sym c.requires.list) put), λ all. refl)
 
 pub returns-clause-operands : goal.returns-clause-operands
 returns-clause-operands c =
