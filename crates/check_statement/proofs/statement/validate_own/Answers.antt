@@ -17,8 +17,8 @@ use Rattle.check_statement.proofs.Own.{others}
 use Rattle.check_statement.proofs.Parts.{in_leaf}
 use Rattle.check_statement.proofs.statement.validate_own.Goals as goal
 
-pub validate_emit-requires : goal.validate_emit-requires
-validate_emit-requires c =
+pub validate_emit-requires-clause-there : goal.validate_emit-requires-clause-there
+validate_emit-requires-clause-there c =
     let fits = in_leaf (context_of c.args.context.now) _ _ _ (rw c.in-Emit.is at c.requires.statement) in
     omega (arith, c.requires.table.scope, fits.1)
 
