@@ -60,13 +60,7 @@ pub fn validate_own(
     let span = located.span;
     match &located.statement {
         Statement::Emit(range) => {
-            control::validate_emit(
-                &mut table.scope,
-                &mut table.operands,
-                context,
-                *range,
-                span,
-            )?;
+            control::validate_emit(&mut table.scope, &mut table.operands, context, *range, span)?;
             // it runs in every stage, and bits that stand for none go
             state.stages = state.stages.intersection(ShaderStages::ALL);
             Ok(true)
