@@ -2,6 +2,7 @@ pub mod Traces
 pub mod StatesLeft
 pub mod Walk
 pub mod LoopBody
+pub mod Tables
 pub mod PreEmitted
 pub mod Judged
 pub mod Accepted

@@ -1,14 +1,14 @@
 -- The body list of a Loop as the code goes through it, statement by statement.
-use Rattle.std.proofs.Common.{◌≡◌, ℕ, Bool, true, false, Option, Some, None, List, [], ◌++◌, append-nil, append_assoc, refl, subst, sym, ap, ◌∙◌}
+use Rattle.std.proofs.Common.{◌≡◌, ℕ, ◌≤◌, Bool, true, false, Option, Some, None, List, [], ◌++◌, append-nil, append_assoc, refl, subst, sym, ap, ◌∙◌}
 use Rattle.std.specs.Prelude.{if◌then◌else◌}
 use Rattle.ir_module.specs.Tree.{Stmt, Body, Done, Then}
 use Rattle.naga_runs.specs.Must.{holds_continue}
 use Rattle.check_scope.specs.declared.table.ScopeColumn.{ScopeColumn}
 use Rattle.check_scope.specs.declared.table.ScopeState.TheVariants.{Open}
-use Rattle.check_scope.specs.walk.Table.{shown, known, count, left, skipped, HasPut, HasLooped, Divides}
+use Rattle.check_scope.specs.walk.Table.{shown, known, count, left, scopes, skipped, HasPut, HasLooped, Divides, IsLast}
 use Rattle.check_statement.specs.walk.Walk.{puts, body_puts, puts_to_continue}
-use Rattle.check_scope.proofs.Columns.{both_put, put_nothing, same_known}
-use Rattle.check_scope.proofs.Divided.{Divided, divided_more, looped, looped_whole, may_skip}
+use Rattle.check_scope.proofs.Columns.{both_put, put_nothing}
+use Rattle.check_scope.proofs.Divided.{Divided, divided_more, last_skipped, looped, looped_whole, may_skip}
 
 -- so far no statement holds a Continue
 pub record Whole (before after : ScopeColumn) (rest whole : Body) : Type 0 where
@@ -31,14 +31,9 @@ PutsOfLoop before after (Some home) rest whole = Parted before after home rest w
 
 pub at_first : (before : ScopeColumn) (whole : Body) → PutsOfLoop before before None whole whole
 at_first before whole =
-    record { earlier = []; put = put_nothing before before refl refl; joined = refl; sure = refl }
+    record { earlier = []; put = put_nothing before; joined = refl; sure = refl }
 
--- what was put is put where the same shows
-still_put : {a b c : ScopeColumn} {xs : List ℕ} → HasPut a b xs → shown c ≡ shown b → count c ≡ count b → HasPut a c xs
-still_put {a} {b} {c} p same n =
-    record { inside = same_known b c same ∙ p.inside; outside = ap left same ∙ p.outside; as_many = n ∙ p.as_many }
-
-module _ (before now mid next : ScopeColumn) (x : Stmt) (rest whole : Body) (put : HasPut now mid (puts x)) (same : known next ≡ known mid) (n : count next ≡ count mid) where
+module _ (before now mid next : ScopeColumn) (x : Stmt) (rest whole : Body) (put : HasPut now mid (puts x)) (same : known next ≡ known mid) (n : count next ≡ count mid) (last : IsLast (shown mid)) where
   pub one_more : (home after : Option ℕ) (held : Bool) → PutsOfLoop before now home (Then x rest) whole → held ≡ holds_continue x → Divides mid next home held after → PutsOfLoop before next after rest whole
   unfolding body_puts puts_to_continue
   one_more None None true w e d = absurd d
@@ -53,7 +48,9 @@ module _ (before now mid next : ScopeColumn) (x : Stmt) (rest whole : Body) (put
           entered = d.0;
           same = same;
           opened = d.1;
-          later_put = put_nothing next next refl refl;
+          last = last;
+          enters = d.2;
+          later_put = put_nothing next;
           as_many = n;
         };
         joined =
@@ -63,7 +60,7 @@ module _ (before now mid next : ScopeColumn) (x : Stmt) (rest whole : Body) (put
   one_more None after false w e d =
       subst (λ o. PutsOfLoop before next o rest whole) (sym d.0) (record {
         earlier = w.earlier ++ puts x;
-        put = still_put (both_put w.put put) d.1 n;
+        put = subst (λ t. HasPut before t (w.earlier ++ puts x)) (sym d.1) (both_put w.put put);
         joined = append_assoc w.earlier (puts x) (body_puts rest) ∙ w.joined;
         sure =
             append_assoc w.earlier (puts x) (puts_to_continue rest)
@@ -74,7 +71,7 @@ module _ (before now mid next : ScopeColumn) (x : Stmt) (rest whole : Body) (put
       subst (λ o. PutsOfLoop before next o rest whole) (sym d.0) (record {
         first = p.first;
         later = p.later ++ puts x;
-        parts = divided_more p.parts (still_put put d.1 n);
+        parts = divided_more p.parts (subst (λ t. HasPut now t (puts x)) (sym d.1) put);
         joined =
             ap (λ l. l ++ body_puts rest) (sym (append_assoc p.first p.later (puts x)))
             ∙ append_assoc (p.first ++ p.later) (puts x) (body_puts rest)
@@ -94,9 +91,12 @@ module _ (before after : ScopeColumn) (home : ℕ) (whole : Body) (p : PutsOfLoo
   pub may_part : (left (shown after) home).state home ≡ Open
   may_part = may_skip p.parts
 
-  pub divided : (end : ScopeColumn) (number : ℕ) → shown end ≡ skipped (shown after) home → number ≡ (shown after).innermost → count end ≡ count after → HasLooped before end (Some number) (puts_to_continue whole) (body_puts whole)
+  pub last_parted : (end : ScopeColumn) → shown end ≡ skipped (shown after) home → IsLast (shown end)
+  last_parted = last_skipped p.parts
+
+  pub divided : (end : ScopeColumn) (number : ℕ) → shown end ≡ skipped (shown after) home → number ≡ (shown after).innermost → count end ≡ count after → scopes after ≤ scopes end → HasLooped before end (Some number) (puts_to_continue whole) (body_puts whole)
   unfolding body_puts
-  divided end number is by n =
+  divided end number is by n taken =
       subst (λ l. HasLooped before end (Some number) l (body_puts whole)) p.sure (
-      subst (HasLooped before end (Some number) p.first) (sym (append-nil (p.first ++ p.later)) ∙ p.joined) (looped p.parts end number is by n)
+      subst (HasLooped before end (Some number) p.first) (sym (append-nil (p.first ++ p.later)) ∙ p.joined) (looped p.parts end number is by n taken)
       )

@@ -1,6 +1,6 @@
 //! The judgement of a body of statements: naga's `validate_block`.
 
-ghost use Rattle.std.specs.Prelude.{◌≡◌, IfOk, OnOk, length};
+ghost use Rattle.std.specs.Prelude.{◌≡◌, ◌≤◌, ℕ, List, IfOk, OnOk, length};
 ghost use Rattle.naga_runs.specs.Handles.{no_handles};
 ghost use Rattle.naga_runs.specs.Must.{holds_continue, body_holds_continue, cases_hold_continue};
 ghost use Rattle.check_scope.specs.walk.Place.{no_sets};
@@ -11,7 +11,8 @@ ghost use Rattle.check_statement.specs.FunctionJudgement.{body_judgement};
 ghost use Rattle.check_statement.specs.Ready.{IsStatementReady, IsBodyReady, AreCasesReady};
 ghost use Rattle.check_scope.specs.walk.SeenContext.{context_of};
 ghost use Rattle.check_statement.specs.walk.State.{kept, body_left};
-ghost use Rattle.check_scope.specs.walk.Table.{HasLooped, HasPut, IsTableOf, KnowsResults, count, filled_in, known, marked, shown, unfilled_in};
+ghost use Rattle.check_scope.specs.declared.table.OperandColumn.{OperandColumn};
+ghost use Rattle.check_scope.specs.walk.Table.{HasLooped, HasPut, IsTableOf, KnowsOperands, KnowsResults, count, filled_in, known, marked, scopes, shown, unfilled_in};
 ghost use Rattle.check_statement.specs.walk.Walk.{puts, body_puts, puts_to_continue, parts_answer, stmt_answer, body_answer, cases_answer};
 
 use check_scope::context::BlockContext;
@@ -41,6 +42,8 @@ pub fn validate_body(
     let count = context.fun.expressions.len();
     table.scope.begin(count)?;
     table.filled.begin(count)?;
+    table.operands.begin();
+    table.roots.begin();
     begin_columns(&mut table.scope, &mut table.filled, context);
     let mut state = BodyOutcome {
         stages: context.info.available_stages,
@@ -65,6 +68,8 @@ fn begin_columns(scope: &mut ScopeColumn, filled: &mut FilledColumn, context: &B
     ensures filled { filled_in filled.new ≡ no_handles }
     ensures results { KnowsResults (context_of context.now) filled.new }
     ensures marked { marked filled.new ≡ marked filled.old }
+    ensures operands { (operands : ℕ → List ℕ) (t : OperandColumn) → KnowsOperands operands t scope.old
+        → KnowsOperands operands t scope.new }
 {
     let count = context.fun.expressions.len() as u32;
     for index in 0..count {
@@ -98,6 +103,7 @@ fn validate_nested(
         (leaving (kept table.new.filled state.new) result) }
     ensures table { OnOk result (IsTableOf (context_of context.now) table.new) }
     ensures scope { OnOk result (shown table.new.scope ≡ shown table.old.scope) }
+    ensures taken { OnOk result (scopes table.old.scope ≤ scopes table.new.scope) }
     ensures held { IfOk result (λ held. held ≡ holds_continue (tree_of (context_of context.now) located.now)) }
 {
     match &located.statement {
@@ -251,6 +257,7 @@ fn validate_block(
         (leaving (kept table.new.filled state.new) result) }
     ensures table { OnOk result (IsTableOf (context_of context.now) table.new) }
     ensures scope { OnOk result (shown table.new.scope ≡ shown table.old.scope) }
+    ensures taken { OnOk result (scopes table.old.scope ≤ scopes table.new.scope) }
     ensures held { IfOk result (λ held. held ≡ body_holds_continue (block_of (context_of context.now) block.now)) }
 {
     let outer = table.scope.enter()?;
@@ -276,6 +283,7 @@ fn validate_cases(
         (leaving (kept table.new.filled state.new) result) }
     ensures table { OnOk result (IsTableOf (context_of context.now) table.new) }
     ensures scope { OnOk result (shown table.new.scope ≡ shown table.old.scope) }
+    ensures taken { OnOk result (scopes table.old.scope ≤ scopes table.new.scope) }
     ensures held { IfOk result (λ held. held ≡ cases_hold_continue (cases_of (context_of context.now) cases.now)) }
 {
     let mut held = false;

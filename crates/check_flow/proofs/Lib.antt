@@ -5,3 +5,4 @@ pub mod Values
 pub mod Rising
 pub mod Once
 pub mod Distinct
+pub mod Kept

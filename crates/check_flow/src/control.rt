@@ -1,6 +1,6 @@
 //! The check lists of Emit, If, Return, Break and Continue, and of a break condition.
 
-ghost use Rattle.std.specs.Prelude.{◌≡◌, ◌≤◌, ◌↔◌, IsTrue, OnOk, map};
+ghost use Rattle.std.specs.Prelude.{◌≡◌, ◌<◌, ◌≤◌, ◌↔◌, IsTrue, OnOk, length, map};
 ghost use Rattle.std.specs.Option.{option_copied};
 ghost use Rattle.check_flow.specs.Control.{emit_points, emitted_points, is_bool_scalar, condition_points, declared_type, is_returned_as, return_points, break_points, continue_points};
 ghost use Rattle.check_scope.specs.Results.{is_result};
@@ -11,15 +11,16 @@ ghost use Rattle.check_scope.specs.walk.Findings.{AllHold, IsRefusalFor, Refuses
 ghost use Rattle.check_errors.specs.Answers.{Answers, Finds, FirstOf};
 ghost use Rattle.check_scope.specs.Context.{ContextFits};
 ghost use Rattle.check_scope.specs.walk.SeenContext.{context_of};
-ghost use Rattle.check_scope.specs.BodyTrees.{operands_if};
+ghost use Rattle.check_scope.specs.BodyTrees.{emitted_operands, operands_if};
+ghost use Rattle.check_scope.specs.ExpressionTypes.{expression_at};
 ghost use Rattle.check_scope.specs.ScopePoints.{use_point};
-ghost use Rattle.check_scope.specs.walk.Table.{HasPut, count, known};
+ghost use Rattle.check_scope.specs.walk.Table.{HasPut, KnowsOperands, count, known};
 
 use check_errors::function::FunctionError;
 use check_scope::context::BlockContext;
 use check_scope::refuse::{answer, check_put, check_use, not_in_scope};
 use check_scope::refused::Refused;
-use check_scope::table::ScopeColumn;
+use check_scope::table::{OperandColumn, ScopeColumn};
 use check_scope::types::is_of_type;
 use ir_arena::handle::Handle;
 use ir_arena::range::Range;
@@ -32,23 +33,30 @@ use ir_types::typifier::TypeResolution;
 use naga_runs::Abilities;
 use std::alloc::Global;
 
+// from how many operands on it is kept that they may be used
+const LONG_LIST: usize = 16;
+
 /// Emit: brings the expressions of a range into scope, one by one, each after its operands.
 pub fn validate_emit(
     scope: &mut ScopeColumn,
+    operands: &mut OperandColumn,
     context: &BlockContext,
     range: Range,
     span: Span,
 ) -> Result<(), Refused>
-    requires { range.end ≤ count scope.old }
+    requires there { range.end ≤ count scope.old }
+    requires count { count scope.old ≡ length (context_of context.now).fun.expressions }
+    requires operands { KnowsOperands (emitted_operands (context_of context.now).fun) operands.old scope.old }
     ensures fault { Answers
         (FirstOf (emit_points (context_of context.now) (place_at (known scope.old)) range.start range.end)) result }
     ensures refused { RefusesFaultsAlone
         (emit_points (context_of context.now) (place_at (known scope.old)) range.start range.end) result }
     ensures scope { OnOk result (HasPut scope.old scope.new (handles_between range.start range.end)) }
+    ensures operands { OnOk result (KnowsOperands (emitted_operands (context_of context.now).fun) operands.new scope.new) }
 {
     for index in range.start..range.end {
         let handle = Handle::new(index);
-        check_emitted(scope, context, handle, span)?;
+        check_emitted(scope, operands, context, handle, span)?;
         scope.put(handle);
     }
     Ok(())
@@ -58,17 +66,21 @@ pub fn validate_emit(
 /// scope yet.
 fn check_emitted(
     scope: &ScopeColumn,
+    operands: &mut OperandColumn,
     context: &BlockContext,
     handle: Handle<tag::Expression>,
     span: Span,
 ) -> Result<(), Refused>
+    requires there { handle < length (context_of context.now).fun.expressions }
+    requires operands { KnowsOperands (emitted_operands (context_of context.now).fun) operands.old scope.now }
     ensures fault { Answers (FirstOf (emitted_points (context_of context.now) (place_at (known scope.now))
         (place_at (known scope.now)) handle)) result }
     ensures refused { RefusesFaultsAlone
         (emitted_points (context_of context.now) (place_at (known scope.now)) (place_at (known scope.now)) handle)
         result }
+    ensures operands { KnowsOperands (emitted_operands (context_of context.now).fun) operands.new scope.now }
 {
-    if emitted_holds(scope, context, handle) {
+    if emitted_holds(scope, operands, context, handle) {
         return Ok(());
     }
     first_fault_of_emitted(scope, context, handle, span)
@@ -77,32 +89,52 @@ fn check_emitted(
 /// Whether no point of an expression that is emitted fails.
 fn emitted_holds(
     scope: &ScopeColumn,
+    operands: &mut OperandColumn,
     context: &BlockContext,
     handle: Handle<tag::Expression>,
 ) -> bool
-    ensures { IsTrue result ↔ AllHold
+    requires there { handle < length (context_of context.now).fun.expressions }
+    requires operands { KnowsOperands (emitted_operands (context_of context.now).fun) operands.old scope.now }
+    ensures holds { IsTrue result ↔ AllHold
         (emitted_points (context_of context.now) (place_at (known scope.now)) (place_at (known scope.now)) handle) }
+    ensures operands { KnowsOperands (emitted_operands (context_of context.now).fun) operands.new scope.now }
 {
     let expression = context.expression(handle);
     if is_result(expression) {
         return false;
     }
-    if !operands_hold(scope, expression) {
+    if !operands_hold(scope, operands, context, handle, expression) {
         return false;
     }
     !scope.contains(handle)
 }
 
 /// Whether every run has put the operands of an expression.
-fn operands_hold(scope: &ScopeColumn, expression: Option<&Expression>) -> bool
-    ensures { IsTrue result ↔ AllHold
+fn operands_hold(
+    scope: &ScopeColumn,
+    operands: &mut OperandColumn,
+    context: &BlockContext,
+    handle: Handle<tag::Expression>,
+    expression: Option<&Expression>,
+) -> bool
+    requires there { handle < length (context_of context.now).fun.expressions }
+    requires expression { option_copied expression ≡ expression_at (context_of context.now) handle }
+    requires operands { KnowsOperands (emitted_operands (context_of context.now).fun) operands.old scope.now }
+    ensures holds { IsTrue result ↔ AllHold
         (map (use_point (place_at (known scope.now))) (operands_if (option_copied expression.entry))) }
+    ensures operands { KnowsOperands (emitted_operands (context_of context.now).fun) operands.new scope.now }
 {
     match expression {
         Some(Expression::Load { pointer }) => scope.may_use(*pointer),
         Some(Expression::AccessIndex { base, .. }) => scope.may_use(*base),
         Some(Expression::Access { base, index }) => scope.may_use(*base) && scope.may_use(*index),
-        Some(expression) => listed_hold(scope, listed_operands(expression)),
+        Some(expression) => {
+            let list = listed_operands(expression);
+            if list.len() < LONG_LIST {
+                return listed_hold(scope, list);
+            }
+            long_list_holds(scope, operands, context, handle, list)
+        }
         None => true,
     }
 }
@@ -116,6 +148,34 @@ fn listed_hold(scope: &ScopeColumn, operands: &[Handle<tag::Expression>]) -> boo
             return false;
         }
     }
+    true
+}
+
+/// The same of the operands of an expression, where these are many: once every run had put them all, it is kept which
+/// scope was the last of those that put them, and while that is open they needn't be asked again.
+#[inline(never)]
+fn long_list_holds(
+    scope: &ScopeColumn,
+    operands: &mut OperandColumn,
+    context: &BlockContext,
+    handle: Handle<tag::Expression>,
+    list: &[Handle<tag::Expression>],
+) -> bool
+    requires there { handle < length (context_of context.now).fun.expressions }
+    requires list { list.now ≡ emitted_operands (context_of context.now).fun handle }
+    requires operands { KnowsOperands (emitted_operands (context_of context.now).fun) operands.old scope.now }
+    ensures holds { IsTrue result ↔ AllHold (map (use_point (place_at (known scope.now))) list.now) }
+    ensures operands { KnowsOperands (emitted_operands (context_of context.now).fun) operands.new scope.now }
+{
+    if operands.is_known(scope, handle) {
+        return true;
+    }
+    if !listed_hold(scope, list) {
+        return false;
+    }
+    let count = context.fun.expressions.len();
+    // where memory is short nothing is kept
+    let _ = operands.keep(count, handle, scope.last_of(list));
     true
 }
 

@@ -21,7 +21,7 @@ use Rattle.check_errors.specs.declared.function.FunctionError.{FunctionError}
 use Rattle.naga_runs.specs.Visits.{Place}
 use Rattle.check_scope.specs.Context.{Context}
 use Rattle.check_scope.specs.ScopePoints.{Points, use_point}
-use Rattle.check_memory.specs.Store.{access_base}
+use Rattle.check_scope.specs.Roots.{access_base}
 use Rattle.check_scope.specs.ExpressionTypes.{is_integer, expression_at, type_at}
 
 -- the type that the global is declared with which an expression is

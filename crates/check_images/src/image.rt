@@ -11,9 +11,9 @@ ghost use Rattle.check_scope.specs.walk.Table.{known};
 ghost use Rattle.check_errors.specs.Answers.{Finds, FirstOf};
 
 use check_errors::function::FunctionError;
-use check_memory::store::access_base;
 use check_scope::context::BlockContext;
 use check_scope::refuse::check_use;
+use check_scope::roots::access_base;
 use check_scope::table::ScopeColumn;
 use check_scope::types::is_integer;
 use ir_arena::handle::Handle;

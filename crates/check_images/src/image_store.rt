@@ -14,10 +14,10 @@ ghost use Rattle.check_scope.specs.walk.Table.{known};
 
 use crate::image::{ImageShape, ImageStatement, Texel, check_texel, element_of, image_global};
 use check_errors::function::FunctionError;
-use check_memory::store::access_base;
 use check_scope::context::BlockContext;
 use check_scope::refuse::{answer, check_use};
 use check_scope::refused::Refused;
+use check_scope::roots::access_base;
 use check_scope::table::ScopeColumn;
 use check_scope::types::inner_at;
 use ir_arena::handle::Handle;

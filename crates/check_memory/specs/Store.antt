@@ -1,6 +1,5 @@
 -- The check list of Store.
-use Rattle.std.specs.Prelude.{ℕ, zero, suc, Bool, true, false, not, List, [], ◌∷◌, Option, None, Some, slice_get, unwrap_or}
-use Rattle.std.specs.Option.{option_map}
+use Rattle.std.specs.Prelude.{ℕ, Bool, true, false, not, [], ◌∷◌, Option, None, Some}
 use Rattle.ir_types.specs.Types.{resolved}
 use Rattle.ir_module.specs.declared.expressions.Expression.{Expression}
 use Rattle.ir_module.specs.declared.expressions.Expression.TheVariants as e
@@ -12,26 +11,11 @@ use Rattle.check_errors.specs.declared.function.FunctionError.TheVariants.{Inval
 use Rattle.naga_runs.specs.Visits.{Place}
 use Rattle.check_scope.specs.Context.{Context}
 use Rattle.check_scope.specs.Pointers.{base_type_at, is_writable}
+use Rattle.check_scope.specs.Roots.{root_at}
 use Rattle.check_scope.specs.ScopePoints.{Points, use_point}
 use Rattle.ir_facts.specs.Points.{Point}
 use Rattle.ir_types.specs.TypeTests.{is_scalar}
 use Rattle.check_scope.specs.ExpressionTypes.{expression_at, is_of_type, type_at, named_type}
-
--- the expression of which an access takes a part
-abbrev pub access_base : Option Expression → Option ℕ
-access_base (Some (e.Access base index)) = Some base
-access_base (Some (e.AccessIndex base index)) = Some base
-access_base _ = None
-
--- where n steps from an expression lead, each from an access to its base
-unfoldable pub root_within : List Expression → ℕ → ℕ → ℕ
-root_within expressions zero h = h
-root_within expressions (suc n) h =
-    unwrap_or (option_map (root_within expressions n) (access_base (slice_get expressions h))) h
-
--- where the walk from an expression stops. A base stands before its access, so that h steps reach the end
-abbrev pub root_at : Context → ℕ → ℕ
-root_at context h = root_within context.fun.expressions h h
 
 -- a variable, or an argument
 abbrev pub is_variable : Option Expression → Bool

@@ -8,18 +8,19 @@ ghost use Rattle.check_errors.specs.Answers.{Answers, FirstOf};
 ghost use Rattle.check_scope.specs.Context.{ContextFits};
 ghost use Rattle.check_scope.specs.walk.Place.{place_at};
 ghost use Rattle.check_scope.specs.walk.SeenContext.{context_of};
-ghost use Rattle.check_memory.specs.Store.{access_base, root_at, is_variable, is_texture, is_stored_as, store_points};
+ghost use Rattle.check_memory.specs.Store.{is_variable, is_texture, is_stored_as, store_points};
 ghost use Rattle.check_scope.specs.Pointers.{base_type_at};
 ghost use Rattle.check_scope.specs.ExpressionTypes.{named_type};
 ghost use Rattle.ir_types.specs.declared.typifier.TypeResolution.TheVariants.{Handle as OfHandle};
-ghost use Rattle.check_scope.specs.walk.Table.{known};
+ghost use Rattle.check_scope.specs.walk.Table.{KnowsRoots, known};
 
 use check_errors::function::FunctionError;
 use check_scope::context::BlockContext;
 use check_scope::pointers::{base_type, is_writable};
 use check_scope::refuse::not_in_scope;
 use check_scope::refused::Refused;
-use check_scope::table::ScopeColumn;
+use check_scope::roots::root_of;
+use check_scope::table::{RootColumn, ScopeColumn};
 use check_scope::types::{is_of_type, is_scalar};
 use ir_arena::handle::Handle;
 use ir_arena::span::Span;
@@ -33,18 +34,21 @@ use std::alloc::Global;
 /// holds it, and its space takes stores.
 pub fn check_store(
     scope: &ScopeColumn,
+    roots: &mut RootColumn,
     context: &BlockContext,
     pointer: Handle<tag::Expression>,
     value: Handle<tag::Expression>,
     span: Span,
 ) -> Result<(), Refused>
-    requires { ContextFits (context_of context.now) }
+    requires context { ContextFits (context_of context.now) }
+    requires roots { KnowsRoots (context_of context.now) roots.old }
     ensures fault { Answers (FirstOf (store_points (context_of context.now) (place_at (known scope.now)) pointer
         value)) result }
     ensures refused { RefusesFaultsAlone
         (store_points (context_of context.now) (place_at (known scope.now)) pointer value) result }
+    ensures roots { KnowsRoots (context_of context.now) roots.new }
 {
-    if store_holds(scope, context, pointer, value) {
+    if store_holds(scope, roots, context, pointer, value) {
         return Ok(());
     }
     first_fault_of_store(scope, context, pointer, value, span)
@@ -53,14 +57,18 @@ pub fn check_store(
 /// Whether no point of a Store fails.
 fn store_holds(
     scope: &ScopeColumn,
+    roots: &mut RootColumn,
     context: &BlockContext,
     pointer: Handle<tag::Expression>,
     value: Handle<tag::Expression>,
 ) -> bool
-    requires { ContextFits (context_of context.now) }
-    ensures { IsTrue result ↔ AllHold (store_points (context_of context.now) (place_at (known scope.now)) pointer value) }
+    requires context { ContextFits (context_of context.now) }
+    requires roots { KnowsRoots (context_of context.now) roots.old }
+    ensures holds { IsTrue result ↔ AllHold
+        (store_points (context_of context.now) (place_at (known scope.now)) pointer value) }
+    ensures roots { KnowsRoots (context_of context.now) roots.new }
 {
-    is_variable(context.expression(root_of(context, pointer)))
+    is_variable(context.expression(roots.root_of(context, pointer)))
         && scope.may_use(value)
         && !is_texture(context.type_inner(value))
         && is_stored_at(context, value, pointer)
@@ -105,30 +113,6 @@ fn first_fault_of_store(
         return Err(Refused::placed(alloc, fault, span));
     }
     Ok(())
-}
-
-/// Where the walk from a pointer stops, which goes from an access to its base.
-fn root_of(context: &BlockContext, pointer: Handle<tag::Expression>) -> Handle<tag::Expression>
-    requires { ContextFits (context_of context.now) }
-    ensures { result ≡ root_at (context_of context.now) pointer }
-{
-    let mut handle = pointer;
-    while let Some(base) = access_base(context.expression(handle)) {
-        handle = base;
-    }
-    handle
-}
-
-/// The expression of which an access takes a part.
-pub fn access_base(expression: Option<&Expression>) -> Option<Handle<tag::Expression>>
-    ensures { result ≡ access_base (option_copied expression.entry) }
-{
-    match expression {
-        Some(Expression::Access { base, .. }) | Some(Expression::AccessIndex { base, .. }) => {
-            Some(*base)
-        }
-        _ => None,
-    }
 }
 
 /// Whether an expression is a variable or an argument.

@@ -1,5 +1,5 @@
 -- What the columns of a table show as they change.
-use Rattle.std.proofs.Common.{◌≡◌, ℕ, zero, suc, ◌-◌, ◌<◌, ◌≤◌, ◌==◌, Bool, true, false, Option, Some, None, List, [], ◌∷◌, ◌++◌, All, OnOk, Result, Ok, Err, is_some, length, get_or, length-set, replicate, take, refl, sym, ap, ◌∙◌, arith}
+use Rattle.std.proofs.Common.{◌≡◌, ℕ, zero, suc, ◌-◌, ◌<◌, ◌≤◌, ◌==◌, Bool, true, false, Option, Some, None, List, [], ◌∷◌, ◌++◌, All, OnOk, Result, Ok, Err, is_some, length, get_or, length-append, length-set, replicate, ◌+◌, take, refl, sym, ap, ◌∙◌, arith}
 use Rattle.std.proofs.lemmas.Bool.Decides.{nat_tests}
 use Rattle.std.proofs.lemmas.List.{get_or_append_left}
 use Rattle.std.proofs.Math.ListN.{set}
@@ -7,7 +7,7 @@ use Rattle.std.specs.Prelude.{if◌then◌else◌}
 use Rattle.naga_runs.specs.Handles.{Handles, no_handles, with_handle}
 use Rattle.check_scope.specs.walk.ScopeNumbers.{number_at, state_at, IsSound}
 use Rattle.check_scope.specs.walk.Place.{Sets, no_sets}
-use Rattle.check_scope.specs.walk.Table.{Shown, where_kept, is_open, put_open, shown, known, known_in, count, unless_by, closing, left, skipped, with_all, with_puts, HasPut, IsTableOf}
+use Rattle.check_scope.specs.walk.Table.{Shown, where_kept, is_open, put_open, shown, known, known_in, count, unless_by, closing, left, skipped, with_all, with_puts, scopes, HasPut, HasEntered, IsLast, IsTableOf}
 use Rattle.check_scope.specs.declared.table.Table.{Table}
 use Rattle.check_scope.specs.Context.{Context}
 use Rattle.check_scope.specs.declared.table.ScopeColumn.{ScopeColumn}
@@ -30,6 +30,14 @@ filled_up zero (suc m) a le = absurd (omega arith)
 filled_up (suc n) (suc m) a le =
     let less : suc n - suc m ≡ n - m = omega arith in
     ap (λ k. a ∷ take n (replicate m a) ++ replicate k a) less ∙ ap (λ l. a ∷ l) (filled_up n m a (omega arith))
+
+-- a list filled up with what is read behind its end
+pub read_filled : {A : Type 0} (xs : List A) (n m i : ℕ) (a : A) → length xs ≤ n → get_or (take n xs ++ replicate m a) i a ≡ get_or xs i a
+read_filled [] zero m i a le = at_replicate m i a
+read_filled [] (suc n) m i a le = at_replicate m i a
+read_filled (x ∷ xs) zero m i a le = absurd (omega arith)
+read_filled (x ∷ xs) (suc n) m zero a le = refl
+read_filled (x ∷ xs) (suc n) m (suc i) a le = read_filled xs n m i a (omega arith)
 
 -- equal items in front of a list
 front : {A : Type 0} (n : ℕ) (a : A) (rest : List A) → take n (replicate n a ++ rest) ≡ replicate n a
@@ -61,7 +69,7 @@ again (s ∷ states) (suc n) =
     ap (λ b. if b then Closed else state_at (states ++ Open ∷ []) n) same ∙ again states n
 
 -- a list where one item is set
-set_at : {A : Type 0} (xs : List A) (i n : ℕ) (new d : A) → i < length xs → get_or (set xs i new) n d ≡ (if n == i then new else get_or xs n d)
+pub set_at : {A : Type 0} (xs : List A) (i n : ℕ) (new d : A) → i < length xs → get_or (set xs i new) n d ≡ (if n == i then new else get_or xs n d)
 set_at [] i n new d lt = absurd (omega arith)
 set_at (x ∷ xs) zero zero new d lt = refl
 set_at (x ∷ xs) zero (suc n) new d lt =
@@ -81,6 +89,17 @@ pub open_taken : (states : List ScopeState) (i : ℕ) → state_at states i ≡ 
 open_taken [] i is = cc
 open_taken (s ∷ states) zero is = omega arith
 open_taken (s ∷ states) (suc i) is = let lt = open_taken states i is in omega arith
+
+-- the scope that is entered is the last that is open
+pub last_entered : (states after : List ScopeState) → after ≡ states ++ Open ∷ [] → (n : ℕ) → state_at after n ≡ Open → n ≤ length states
+last_entered states after is n e =
+    let lt = open_taken after n e in
+    let more : length after ≡ length states + 1 = ap length is ∙ length-append states (Open ∷ []) in
+    omega (arith, lt, more)
+
+-- where a function begins, the scope of its body is the last
+pub last_begun : (states : List ScopeState) (n : ℕ) → length states ≤ 2 → state_at states n ≡ Open → n ≤ 1
+last_begun states n le e = let lt = open_taken states n e in omega (arith, lt, le)
 
 past_end : (states : List ScopeState) (n : ℕ) → length states ≤ n → state_at states n ≡ Closed
 past_end [] n le = refl
@@ -121,7 +140,7 @@ unless_is Open n i = refl
 unless_is Skipped n i = refl
 
 -- whether the scope that put an expression is open
-must_is : (state : ℕ → ScopeState) (n : ℕ) → put_open state (where_kept (state n) n) ≡ is_open (state n)
+pub must_is : (state : ℕ → ScopeState) (n : ℕ) → put_open state (where_kept (state n) n) ≡ is_open (state n)
 must_is state n = go (state n) refl
   where
     go : (s : ScopeState) → state n ≡ s → put_open state (where_kept s n) ≡ is_open s
@@ -169,7 +188,7 @@ module _ (numbers : List ℕ) (states : List ScopeState) where
       same n false e = refl
 
 module _ (numbers : List ℕ) (states : List ScopeState) (inner : ℕ) (sound : IsSound numbers states inner) where
-  taken : (h : ℕ) → number_at numbers h < length states
+  pub taken : (h : ℕ) → number_at numbers h < length states
   taken h =
       let body = sound.body in below_next numbers (length states) (omega arith) sound.numbered h
 
@@ -323,7 +342,9 @@ both_put {a = a} {xs = xs} {ys = ys} p q =
     record {
       inside = q.inside ∙ ap (λ s. with_puts s ys) p.inside ∙ sym (puts-append xs ys (known a));
       outside = q.outside ∙ p.outside;
+      inner = q.inner ∙ p.inner;
       as_many = q.as_many ∙ p.as_many;
+      taken = let before = p.taken in let more = q.taken in omega (arith, before, more);
     }
 
 -- what shows the same has put nothing
@@ -331,18 +352,20 @@ pub same_known : (a b : ScopeColumn) → shown b ≡ shown a → known b ≡ kno
 unfolding known
 same_known a b same = ap known_in same
 
-pub put_nothing : (a b : ScopeColumn) → shown b ≡ shown a → count b ≡ count a → HasPut a b []
-put_nothing a b same n = record { inside = same_known a b same; outside = ap left same; as_many = n }
+pub put_nothing : (a : ScopeColumn) → HasPut a a []
+put_nothing a = record { inside = refl; outside = refl; inner = refl; as_many = refl; taken = omega arith }
 
 -- what was put is put where the same shows
-pub stays_put : {T E : Type 0} (context : Context) (a b : ScopeColumn) (table : Table) (xs : List ℕ) (r : Result T E) → HasPut a b xs → count a ≡ length context.fun.expressions → OnOk r (IsTableOf context table) → OnOk r (shown table.scope ≡ shown b) → OnOk r (HasPut a table.scope xs)
-stays_put context a b table xs (Ok x) put n of same =
+pub stays_put : {T E : Type 0} (context : Context) (a b : ScopeColumn) (table : Table) (xs : List ℕ) (r : Result T E) → HasPut a b xs → count a ≡ length context.fun.expressions → OnOk r (IsTableOf context table) → OnOk r (shown table.scope ≡ shown b) → OnOk r (scopes b ≤ scopes table.scope) → OnOk r (HasPut a table.scope xs)
+stays_put context a b table xs (Ok x) put n of same more =
     record {
       inside = same_known b table.scope same ∙ put.inside;
       outside = ap left same ∙ put.outside;
+      inner = ap (λ (s : Shown). s.innermost) same ∙ put.inner;
       as_many = of.scope ∙ sym n;
+      taken = let before = put.taken in omega (arith, before, more);
     }
-stays_put context a b table xs (Err e) put n of same = tt
+stays_put context a b table xs (Err e) put n of same more = tt
 
 -- an innermost scope that was entered and in which this was put may be left, and then shows what there was
 module _ (before entered after : ScopeColumn) {xs : List ℕ} (outer : ℕ) (shows : left (shown entered) outer ≡ shown before) (put : HasPut entered after xs) where

@@ -1,11 +1,13 @@
 -- The body list of a Loop, whose puts behind its first Continue have a number of their own.
-use Rattle.std.proofs.Common.{◌≡◌, ℕ, ◌==◌, Bool, true, false, Option, Some, None, List, ◌++◌, refl, sym, ap, ◌∙◌}
-use Rattle.std.specs.Prelude.{if◌then◌else◌}
+use Rattle.std.proofs.Common.{◌≡◌, ℕ, ◌≤◌, ◌==◌, Bool, true, false, Option, Some, None, List, ◌++◌, refl, subst, sym, ap, ◌∙◌, arith}
+use Rattle.std.proofs.lemmas.Bool.Decides.{nat_tests}
+use Rattle.std.specs.Prelude.{◌≢◌, IfSome, if◌then◌else◌}
 use Rattle.check_scope.specs.declared.table.ScopeColumn.{ScopeColumn}
 use Rattle.check_scope.specs.declared.table.ScopeState.{ScopeState}
 use Rattle.check_scope.specs.declared.table.ScopeState.TheVariants.{Closed, Open, Skipped}
-use Rattle.check_scope.specs.walk.Table.{Shown, is_open, put_open, shown, known, known_in, count, unless_by, closing, closing_if, left, skipped, with_all, HasPut, HasLooped}
+use Rattle.check_scope.specs.walk.Table.{Shown, is_open, put_open, shown, known, known_in, count, unless_by, closing, closing_if, left, skipped, with_all, scopes, HasPut, HasEntered, HasLooped, IsLast}
 use Rattle.check_scope.proofs.Columns.{all-append, both_put}
+use Rattle.check_scope.proofs.Operands.{closed_not_open, still_open, skipped_not_open}
 
 -- closing two scopes is the same in both orders
 commute : (i j : ℕ) (o : Option ℕ) → unless_by i (unless_by j o) ≡ unless_by j (unless_by i o)
@@ -57,6 +59,8 @@ pub record Divided (before after : ScopeColumn) (home : ℕ) (first later : List
   pub entered : left (shown split) home ≡ shown at
   pub same : known split ≡ known at
   pub opened : (shown at).state home ≡ Open
+  pub last : IsLast (shown at)
+  pub enters : HasEntered at split
   pub later_put : HasPut split after later
   pub as_many : count split ≡ count at
 
@@ -70,9 +74,9 @@ module _ {before after : ScopeColumn} {home : ℕ} {first later : List ℕ} (d :
   back = ap (λ (f : ℕ → Shown). f home) d.later_put.outside ∙ d.entered
 
   -- and then the later puts stay in scope, and may no longer be used
-  pub looped : (end : ScopeColumn) (number : ℕ) → shown end ≡ skipped (shown after) home → number ≡ (shown after).innermost → count end ≡ count after → HasLooped before end (Some number) first (first ++ later)
+  pub looped : (end : ScopeColumn) (number : ℕ) → shown end ≡ skipped (shown after) home → number ≡ (shown after).innermost → count end ≡ count after → scopes after ≤ scopes end → HasLooped before end (Some number) first (first ++ later)
   unfolding known
-  looped end number is by n =
+  looped end number is by n taken =
       let scope =
       ap (λ (s : Shown). (known_in s).scope) is
       ∙ ap (λ s. s.scope) d.later_put.inside
@@ -92,8 +96,36 @@ module _ {before after : ScopeColumn} {home : ℕ} {first later : List ℕ} (d :
             ∙ skips_close (shown after) home outer
             ∙ ap (λ s. left s outer) back
             ∙ ap (λ (f : ℕ → Shown). f outer) d.first_put.outside;
+        apart = apart;
         as_many = n ∙ d.later_put.as_many ∙ d.as_many ∙ d.first_put.as_many;
+        taken = all_taken;
       }
+    where
+      apart : (outer : ℕ) → (left (shown end) outer).state number ≢ Open
+      apart outer e =
+          let kept = still_open Closed closed_not_open (shown end).innermost number ((shown end).state number) e in
+          let same : (number == (shown after).innermost) ≡ true = grind (arith, nat_tests) in
+          skipped_not_open (sym (ap (λ b. if b then Skipped else (shown after).state number) same) ∙ sym (ap (λ (s : Shown). s.state number) is) ∙ kept.1)
+
+      all_taken : scopes before ≤ scopes end
+      all_taken =
+          let first = d.first_put.taken in
+          let entered = d.enters.taken in
+          let later = d.later_put.taken in
+          omega (arith, first, entered, later, taken)
+
+  -- the scope that the second number was left for is then the last that is open
+  pub last_skipped : (end : ScopeColumn) → shown end ≡ skipped (shown after) home → IsLast (shown end)
+  last_skipped end is n e =
+      let at = sym (ap (λ (s : Shown). s.state n) is) ∙ e in
+      let kept = still_open Skipped skipped_not_open (shown after).innermost n ((shown after).state n) at in
+      let was : (shown d.at).state n ≡ Open =
+      sym (ap (λ (s : Shown). s.state n) back)
+      ∙ ap (λ b. if b then Closed else (shown after).state n) kept.0
+      ∙ kept.1
+      in
+      let le : n ≤ (shown d.at).innermost = d.last n was in
+      subst (λ k. n ≤ k) (sym (ap (λ (s : Shown). s.innermost) back) ∙ sym (ap (λ (s : Shown). s.innermost) is)) le
 
   -- more of the list
   pub divided_more : {next : ScopeColumn} {xs : List ℕ} → HasPut after next xs → Divided before next home first (later ++ xs)
@@ -105,6 +137,8 @@ module _ {before after : ScopeColumn} {home : ℕ} {first later : List ℕ} (d :
         entered = d.entered;
         same = d.same;
         opened = d.opened;
+        last = d.last;
+        enters = d.enters;
         later_put = both_put d.later_put put;
         as_many = d.as_many;
       }
@@ -115,13 +149,18 @@ looped_whole {before} {after} put =
     record {
       inside = put.inside;
       outside = λ outer. ap (λ (f : ℕ → Shown). f outer) put.outside;
+      apart = λ outer. tt;
       as_many = put.as_many;
+      taken = put.taken;
     }
 
 -- a Loop is left behind its continuing list
 module _ (before entered body after : ScopeColumn) (outer : ℕ) (skipped : Option ℕ) {sure all ys : List ℕ} (shows : left (shown entered) outer ≡ shown before) (loops : HasLooped entered body skipped sure all) (put : HasPut body after ys) where
   pub loop_left : closing_if skipped (left (shown after) outer) ≡ shown before
   loop_left = ap (λ (f : ℕ → Shown). closing_if skipped (f outer)) put.outside ∙ loops.outside outer ∙ shows
+
+  pub apart_still : IfSome skipped (λ n. (left (shown after) outer).state n ≢ Open)
+  apart_still = subst (λ (s : Shown). IfSome skipped (λ n. s.state n ≢ Open)) (sym (ap (λ (f : ℕ → Shown). f outer) put.outside)) (loops.apart outer)
 
   pub may_leave_loop : (shown before).state outer ≡ Open → (closing_if skipped (left (shown after) outer)).state outer ≡ Open
   may_leave_loop opened = ap (λ (s : Shown). s.state outer) loop_left ∙ opened

@@ -3,3 +3,5 @@ pub mod Divided
 pub mod Flat
 pub mod Refusals
 pub mod InRange
+pub mod Walks
+pub mod Operands

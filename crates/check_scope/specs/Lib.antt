@@ -1,6 +1,7 @@
 pub mod Context
 pub mod ExpressionTypes
 pub mod Pointers
+pub mod Roots
 pub mod ScopePoints
 pub mod BodyTrees
 pub mod Results

@@ -7,6 +7,7 @@ pub mod pointers;
 pub mod refuse;
 pub mod refused;
 pub mod results;
+pub mod roots;
 pub mod table;
 pub mod trace;
 pub mod types;

@@ -1,10 +1,15 @@
-//! The table of a function's expressions: by expression, which scope put it, and whether it is a result that is filled.
+//! The table of a function's expressions: by expression, which scope put it, whether it is a result that is filled, and
+//! what else is kept of it.
 
 ghost use Rattle.check_scope.specs.walk.ScopeNumbers.{IsSound};
 
 mod filled;
+mod operands;
+mod roots;
 mod scope;
 
+use ir_arena::handle::Handle;
+use ir_arena::tag;
 use std::alloc::{AllocError, Global};
 
 /// Whether what a scope put may be used.
@@ -52,11 +57,28 @@ pub struct FilledColumn {
     marks: Vec<ResultState>,
 }
 
-/// Both columns, which grow to the size of the largest function that they were begun for.
+/// Of expressions with many operands, which open scope put the last of these when they were found usable: while it is
+/// open, so are the scopes that it lies in, and these put the others. So they needn't be asked each time.
+#[derive(Drop)]
+pub struct OperandColumn {
+    // by expression, 0 where nothing is kept. Empty until something is
+    numbers: Vec<usize>,
+}
+
+/// Of expressions, where the walk stops that goes from each access to its base.
+#[derive(Drop)]
+pub struct RootColumn {
+    // by expression. Empty until a walk is long
+    roots: Vec<Handle<tag::Expression>>,
+}
+
+/// The columns, which grow to the size of the largest function that they were begun for.
 #[derive(Drop)]
 pub struct Table {
     pub scope: ScopeColumn,
     pub filled: FilledColumn,
+    pub operands: OperandColumn,
+    pub roots: RootColumn,
 }
 
 impl Table {
@@ -67,6 +89,8 @@ impl Table {
             None => Ok(Table {
                 scope: ScopeColumn::new(alloc)?,
                 filled: FilledColumn::new(alloc),
+                operands: OperandColumn::new(alloc),
+                roots: RootColumn::new(alloc),
             }),
         }
     }

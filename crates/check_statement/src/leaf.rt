@@ -50,6 +50,8 @@ pub(crate) fn validate_rarer_leaf(
         (place_at (known table.old.scope)) located.now.statement)) result }
     ensures scope { OnOk result (HasPut table.old.scope table.new.scope (puts (tree_of (context_of context.now) located.now))) }
     ensures filled { table.new.filled ≡ table.old.filled }
+    ensures operands { table.new.operands ≡ table.old.operands }
+    ensures roots { table.new.roots ≡ table.old.roots }
 {
     let span = located.span;
     let scope = &mut table.scope;

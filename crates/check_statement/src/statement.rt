@@ -60,13 +60,20 @@ pub fn validate_own(
     let span = located.span;
     match &located.statement {
         Statement::Emit(range) => {
-            control::validate_emit(&mut table.scope, context, *range, span)?;
+            control::validate_emit(&mut table.scope, &mut table.operands, context, *range, span)?;
             // it runs in every stage, and bits that stand for none go
             state.stages = state.stages.intersection(ShaderStages::ALL);
             Ok(true)
         }
         Statement::Store { pointer, value } => {
-            check_store(&table.scope, context, *pointer, *value, span)?;
+            check_store(
+                &table.scope,
+                &mut table.roots,
+                context,
+                *pointer,
+                *value,
+                span,
+            )?;
             state.stages = state.stages.intersection(ShaderStages::ALL);
             Ok(true)
         }
@@ -153,6 +160,8 @@ fn validate_points(
         result }
     ensures scope { OnOk result (HasPut table.old.scope table.new.scope (puts (tree_of (context_of context.now) located.now))) }
     ensures filled { table.new.filled ≡ table.old.filled }
+    ensures operands { table.new.operands ≡ table.old.operands }
+    ensures roots { table.new.roots ≡ table.old.roots }
 {
     let span = located.span;
     let scope = &table.scope;

@@ -1,11 +1,15 @@
 -- What the table shows of scopes and of results: work of lemmas, cited by functions that the validator alone calls.
-use Rattle.std.specs.Prelude.{ℕ, ◌≡◌, ◌==◌, Bool, true, false, Option, Some, None, is_some, List, [], ◌∷◌, length, slice_index_or, if◌then◌else◌}
+use Rattle.std.specs.Prelude.{ℕ, ◌≡◌, ◌≢◌, ◌<◌, ◌≤◌, ◌==◌, Bool, true, false, Option, Some, None, IfSome, is_some, List, [], ◌∷◌, length, slice_index_or, if◌then◌else◌}
 use Rattle.naga_runs.specs.Handles.{Handles, with_handle}
+use Rattle.check_scope.specs.BodyTrees.{emitted_operands}
 use Rattle.check_scope.specs.Context.{Context}
 use Rattle.check_scope.specs.Results.{is_unfilled}
+use Rattle.check_scope.specs.Roots.{root_at}
 use Rattle.check_scope.specs.declared.table.ResultState.{ResultState}
 use Rattle.check_scope.specs.declared.table.ResultState.TheVariants.{NoResult, Unfilled, Filled}
 use Rattle.check_scope.specs.declared.table.FilledColumn.{FilledColumn}
+use Rattle.check_scope.specs.declared.table.OperandColumn.{OperandColumn}
+use Rattle.check_scope.specs.declared.table.RootColumn.{RootColumn}
 use Rattle.check_scope.specs.declared.table.ScopeColumn.{ScopeColumn}
 use Rattle.check_scope.specs.declared.table.Table.{Table}
 use Rattle.check_scope.specs.declared.table.ScopeState.{ScopeState}
@@ -52,6 +56,22 @@ known t = known_in (shown t)
 abbrev pub count : ScopeColumn → ℕ
 count t = length t.numbers.items
 
+-- how many numbers of scopes are taken
+abbrev pub scopes : ScopeColumn → ℕ
+scopes t = length t.states.items
+
+-- the innermost scope is the last of those that are open
+abbrev pub IsLast : Shown → Type 0
+IsLast s = (n : ℕ) → s.state n ≡ Open → n ≤ s.innermost
+
+-- an open scope put an expression, that of this number or one before it
+abbrev pub IsPutUpTo : Shown → ℕ → ℕ → Type 0
+IsPutUpTo s last h = (n : ℕ) × (s.put_by h ≡ Some n) × (s.state n ≡ Open) × (n ≤ last)
+
+-- so it is with each expression of a list
+abbrev pub ArePutUpTo : Shown → ℕ → List ℕ → Type 0
+ArePutUpTo s last handles = (k : ℕ) → k < length handles → IsPutUpTo s last (slice_index_or handles k 0)
+
 -- but for what this scope put
 abbrev pub unless_by : ℕ → Option ℕ → Option ℕ
 unless_by i None = None
@@ -96,22 +116,33 @@ with_puts s handles = record { scope = with_all s.scope handles; must = with_all
 pub record HasPut (before after : ScopeColumn) (handles : List ℕ) : Type 0 where
   pub inside : known after ≡ with_puts (known before) handles
   pub outside : left (shown after) ≡ left (shown before)
+  pub inner : (shown after).innermost ≡ (shown before).innermost
   pub as_many : count after ≡ count before
+  pub taken : scopes before ≤ scopes after
+
+-- a scope was entered, with a number that none had
+pub record HasEntered (before after : ScopeColumn) : Type 0 where
+  pub last : IsLast (shown after)
+  pub number : (shown after).innermost ≡ scopes before
+  pub taken : scopes before ≤ scopes after
 
 -- the puts behind a statement of a Loop's body list: where it is the first that holds a Continue, those of the statements
 -- behind it get a scope of their own, which is to be left for the one of the number that is given
 abbrev pub Divides : ScopeColumn → ScopeColumn → Option ℕ → Bool → Option ℕ → Type 0
 Divides before after None true None = ⊥
-Divides before after None true (Some home) = (left (shown after) home ≡ shown before) × ((shown before).state home ≡ Open)
-Divides before after None false next = (next ≡ None) × (shown after ≡ shown before)
-Divides before after (Some home) held next = (next ≡ Some home) × (shown after ≡ shown before)
+Divides before after None true (Some home) =
+    (left (shown after) home ≡ shown before) × ((shown before).state home ≡ Open) × HasEntered before after
+Divides before after None false next = (next ≡ None) × (after ≡ before)
+Divides before after (Some home) held next = (next ≡ Some home) × (after ≡ before)
 
 -- a Loop's body list is left: what it put is in scope, and every run has put the first of it; and nothing of it stays
 -- once the Loop is left, and with it the scope that was skipped
 pub record HasLooped (before after : ScopeColumn) (skipped : Option ℕ) (sure all : List ℕ) : Type 0 where
   pub inside : known after ≡ record { scope = with_all (known before).scope all; must = with_all (known before).must sure }
   pub outside : (outer : ℕ) → closing_if skipped (left (shown after) outer) ≡ left (shown before) outer
+  pub apart : (outer : ℕ) → IfSome skipped (λ n. (left (shown after) outer).state n ≢ Open)
   pub as_many : count after ≡ count before
+  pub taken : scopes before ≤ scopes after
 
 abbrev pub is_filled_state : ResultState → Bool
 is_filled_state NoResult = false
@@ -142,8 +173,28 @@ marked t = length t.marks.items
 abbrev pub KnowsResults : Context → FilledColumn → Type 0
 KnowsResults context t = (h : ℕ) → unfilled_in t h ≡ is_unfilled context (filled_in t) h
 
--- both columns are of the function's expressions, of whose results the second knows
+-- the number that is kept of an expression's operands, 0 where none is
+unfoldable pub kept_at : OperandColumn → ℕ → ℕ
+kept_at t h = slice_index_or t.numbers.items h 0
+
+-- where the scope of the number that is kept of an expression is open, open scopes put all its operands: that scope, and
+-- such as it lies in
+pub record KnowsOperands (operands : ℕ → List ℕ) (t : OperandColumn) (scope : ScopeColumn) : Type 0 where
+  pub last : IsLast (shown scope)
+  pub numbered : (h : ℕ) → kept_at t h < scopes scope
+  pub usable : (h : ℕ) → (shown scope).state (kept_at t h) ≡ Open → ArePutUpTo (shown scope) (kept_at t h) (operands h)
+
+-- the first of a function's expressions have these roots
+abbrev pub AreRoots : Context → List ℕ → Type 0
+AreRoots context roots = (h : ℕ) → h < length roots → slice_index_or roots h 0 ≡ root_at context h
+
+abbrev pub KnowsRoots : Context → RootColumn → Type 0
+KnowsRoots context t = AreRoots context t.roots.items
+
+-- the columns are of the function's expressions, and what is kept of results, operands and roots holds
 pub record IsTableOf (context : Context) (t : Table) : Type 0 where
   pub scope : count t.scope ≡ length context.fun.expressions
   pub filled : marked t.filled ≡ length context.fun.expressions
   pub results : KnowsResults context t.filled
+  pub operands : KnowsOperands (emitted_operands context.fun) t.operands t.scope
+  pub roots : KnowsRoots context t.roots

@@ -1,15 +1,25 @@
 //! Which expressions are in scope.
 #![tactic(auto, unfolding(crate::specs::walk::Table::shown, crate::specs::walk::Table::known))]
 
-ghost use Rattle.std.specs.Prelude.{◌≡◌, ◌<◌, false, ◌∷◌, [], OnOk, OnErr, IfOk};
+ghost use Rattle.std.specs.Prelude.{◌≡◌, ◌<◌, ◌≤◌, ℕ, true, false, ◌∷◌, [], IsTrue, OnOk, OnErr, IfOk, length, slice_index};
 ghost use Rattle.check_scope.specs.walk.Place.{no_sets};
 ghost use Rattle.check_scope.specs.declared.table.ScopeState.TheVariants.{Open};
-ghost use Rattle.check_scope.specs.walk.Table.{Divides, HasPut, closing_if, count, known, left, shown, skipped};
+ghost use Rattle.check_scope.specs.walk.ScopeNumbers.{number_at};
+ghost use Rattle.check_scope.specs.walk.Table.{ArePutUpTo, Divides, HasEntered, HasPut, IsLast, closing_if, count, known, left, scopes, shown, skipped};
 
 use crate::table::{ScopeColumn, ScopeState};
 use ir_arena::handle::Handle;
 use ir_arena::tag;
 use std::alloc::{AllocError, Global};
+
+/// The later of two numbers.
+fn later(one: usize, other: usize) -> usize
+    ensures one { one ≤ result }
+    ensures other { other ≤ result }
+    ensures below { (end : ℕ) → one < end → other < end → result < end }
+{
+    if one < other { other } else { one }
+}
 
 impl ScopeColumn {
     /// Of no expression.
@@ -30,6 +40,8 @@ impl ScopeColumn {
     pub fn begin(&mut self, expressions: usize) -> Result<(), AllocError>
         ensures known { OnOk result (known self.new ≡ no_sets) }
         ensures count { OnOk result (count self.new ≡ expressions) }
+        ensures last { OnOk result (IsLast (shown self.new)) }
+        ensures taken { OnOk result (0 < scopes self.new) }
     {
         self.numbers.truncate(expressions);
         self.numbers.as_mut_slice().fill(0);
@@ -60,6 +72,41 @@ impl ScopeColumn {
         }
     }
 
+    /// Whether the scope of a number is open.
+    pub fn is_open(&self, number: usize) -> bool
+        ensures { IsTrue result → (shown self.now).state number ≡ Open }
+    {
+        match self.states.as_slice().get(number) {
+            Some(state) => *state == ScopeState::Open,
+            None => false,
+        }
+    }
+
+    /// The number of the scope that put an expression, 0 where none did.
+    fn number_of(&self, handle: Handle<tag::Expression>) -> usize
+        ensures number { result ≡ number_at self.now.numbers.items handle }
+        ensures taken { result < scopes self.now }
+    {
+        match self.numbers.as_slice().get(handle.index()) {
+            Some(number) => *number,
+            None => 0,
+        }
+    }
+
+    /// The number of the last of the scopes that put the expressions of a list, where each of these may be used.
+    pub fn last_of(&self, handles: &[Handle<tag::Expression>]) -> usize
+        requires { (k : ℕ) → k < length handles.now → (known self.now).must (slice_index handles.now k) ≡ true }
+        ensures taken { result < scopes self.now }
+        ensures put { ArePutUpTo (shown self.now) result handles.now }
+    {
+        let mut last = 0;
+        for handle in handles {
+            let number = self.number_of(*handle);
+            last = later(last, number);
+        }
+        last
+    }
+
     /// Brings an expression into the innermost scope.
     pub fn put(&mut self, handle: Handle<tag::Expression>)
         requires there { handle < count self.old }
@@ -75,6 +122,7 @@ impl ScopeColumn {
         ensures known { OnOk result (known self.new ≡ known self.old) }
         ensures outside { IfOk result (λ outer. left (shown self.new) outer ≡ shown self.old) }
         ensures open { IfOk result (λ outer. (shown self.old).state outer ≡ Open) }
+        ensures entered { OnOk result (HasEntered self.old self.new) }
         ensures count { count self.new ≡ count self.old }
         ensures err { OnErr result (shown self.new ≡ shown self.old) }
     {
@@ -113,6 +161,7 @@ impl ScopeColumn {
         ensures shown { shown self.new ≡ skipped (shown self.old) outer }
         ensures number { result ≡ (shown self.old).innermost }
         ensures count { count self.new ≡ count self.old }
+        ensures taken { scopes self.new ≡ scopes self.old }
     {
         let number = self.innermost;
         self.states[number] = ScopeState::Skipped;
@@ -126,6 +175,7 @@ impl ScopeColumn {
         requires { (closing_if skipped (left (shown self.old) outer)).state outer ≡ Open }
         ensures shown { shown self.new ≡ closing_if skipped (left (shown self.old) outer) }
         ensures count { count self.new ≡ count self.old }
+        ensures taken { scopes self.new ≡ scopes self.old }
     {
         self.states[self.innermost] = ScopeState::Closed;
         if let Some(number) = skipped {

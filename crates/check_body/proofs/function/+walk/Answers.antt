@@ -1,4 +1,4 @@
-use Rattle.std.proofs.Common.{rules, ◌≡◌, Err, None, Some, ◌||◌, subst, append-nil, ◌++◌, ◌+◌, [], refl, sym, ap, ◌∙◌, drop, append_assoc}
+use Rattle.std.proofs.Common.{rules, arith, ◌≡◌, Err, None, Some, ◌||◌, subst, append-nil, ◌++◌, ◌+◌, [], refl, sym, ap, ◌∙◌, drop, append_assoc}
 use Rattle.ir_module.specs.declared.statements.Block.{the_lemmas}
 use Rattle.ir_module.proofs.Rows.{body_of-list, tree_of-switch}
 use Rattle.ir_module.specs.View as view
@@ -10,9 +10,10 @@ use Rattle.check_statement.specs.walk.State.{kept, with_statement}
 use Rattle.check_scope.specs.walk.Table.{HasPut, known}
 use Rattle.check_statement.specs.walk.Walk.{puts, body_puts, body_answer}
 use Rattle.check_scope.proofs.Columns.{both_put, put_nothing, same_known, stays_put, shows_before, may_leave}
-use Rattle.check_scope.proofs.Divided.{loop_left, may_leave_loop}
+use Rattle.check_scope.proofs.Divided.{apart_still, loop_left, may_leave_loop}
 use Rattle.naga_runs.specs.Must.{body_holds_continue, cases_hold_continue}
-use Rattle.check_body.proofs.LoopBody.{PutsOfLoop, at_first, one_more, undivided, divided, may_part}
+use Rattle.check_body.proofs.LoopBody.{PutsOfLoop, at_first, one_more, undivided, divided, may_part, last_parted}
+use Rattle.check_body.proofs.Tables.{entered_table, divided_table, left_table, skipped_table}
 use Rattle.check_statement.proofs.Parts.{in_block, in_branch, in_switch, in_lists, in_list, in_cases}
 use Rattle.check_scope.proofs.Refusals.{next_is, passes, stops_first, stops_next, answers_next}
 use Rattle.check_body.proofs.Walk.{holds_turn, rest_turn, rest_end, cases_hold_turn, leaving_err, whole_parts, whole_holds, or_assoc, own_passes, own_refuses, parts_later, parts_branch, parts_switch, stmt_more, body_turn, puts_turn, body_end, puts_end, cases_turn, cases_end}
@@ -97,7 +98,7 @@ validate_statements-returns-clause-scope t c =
 
 pub validate_block-validate_statements-requires : goal.validate_block-validate_statements-requires
 validate_block-validate_statements-requires t c =
-    (search (rules, the_lemmas), (c.requires.context, (c.requires.ready, record { scope = c.in_ok-outer.ensures.count ∙ c.requires.table.scope; filled = c.requires.table.filled; results = c.requires.table.results })))
+    (search (rules, the_lemmas), (c.requires.context, (c.requires.ready, entered_table c.in_ok-outer.outer c.requires.table c.in_ok-outer.ensures.count c.in_ok-outer.ensures.outside c.in_ok-outer.ensures.entered)))
 
 pub validate_cases-validate_block-requires : goal.validate_cases-validate_block-requires
 validate_cases-validate_block-requires t c =
@@ -114,7 +115,7 @@ validate_nested-validate_block-requires-in-If-2 t c =
 
 pub validate_nested-validate_loop_body-requires : goal.validate_nested-validate_loop_body-requires
 validate_nested-validate_loop_body-requires t c =
-    (search (rules, the_lemmas), (c.requires.context, ((in_lists (context_of c.args.context.now) _ _ _ (rw c.in-Loop.is at c.requires.ready)).0, record { scope = c.in_ok-outer-in-Loop.ensures.count ∙ c.requires.table.scope; filled = c.requires.table.filled; results = c.requires.table.results })))
+    (search (rules, the_lemmas), (c.requires.context, ((in_lists (context_of c.args.context.now) _ _ _ (rw c.in-Loop.is at c.requires.ready)).0, entered_table c.in_ok-outer-in-Loop.outer c.requires.table c.in_ok-outer-in-Loop.ensures.count c.in_ok-outer-in-Loop.ensures.outside c.in_ok-outer-in-Loop.ensures.entered)))
 
 pub validate_nested-validate_statements-requires : goal.validate_nested-validate_statements-requires
 validate_nested-validate_statements-requires t c =
@@ -130,7 +131,7 @@ validate_nested-returns-in_ok-check_break_if-in-Loop-clause-scope t c =
 
 pub validate_statement-returns-clause-scope : goal.validate_statement-returns-clause-scope
 validate_statement-returns-clause-scope t c =
-    stays_put (context_of c.args.context.now) _ _ _ _ c.validate_nested.result c.in_ok-whole.ensures.scope c.requires.table.scope c.validate_nested.ensures.table c.validate_nested.ensures.scope
+    stays_put (context_of c.args.context.now) _ _ _ _ c.validate_nested.result c.in_ok-whole.ensures.scope c.requires.table.scope c.validate_nested.ensures.table c.validate_nested.ensures.scope c.validate_nested.ensures.taken
 
 pub validate_statements-loop-located-init : goal.validate_statements-loop-located-init
 validate_statements-loop-located-init t c =
@@ -140,7 +141,7 @@ validate_statements-loop-located-init t c =
       faults = ap (body_answer (context_of c.args.context.now) (kept c.args.table.now.filled c.args.state.now) c.args.abilities.now (known c.args.table.now.scope)) (sym same);
       table = c.requires.table;
       held = ap body_holds_continue (sym same);
-      puts = record { earlier = []; put = put_nothing c.args.table.now.scope c.args.table.now.scope refl refl; joined = ap body_puts (sym same) };
+      puts = record { earlier = []; put = put_nothing c.args.table.now.scope; joined = ap body_puts (sym same) };
     }
 
 pub validate_loop_body-loop-located-init : goal.validate_loop_body-loop-located-init
@@ -179,8 +180,8 @@ validate_loop_body-loop-located-preserved t c =
     record {
       ready = (in_list context xs i x lt is old.ready).1;
       faults = rw (c.in_ok-home.ensures.known, put.inside) (next_is _ _ _ _ (body_turn context xs i (kept c.loop-located.table.filled c.loop-located.state) c.args.abilities.now (known c.loop-located.table.scope) x lt is) c.in_ok-held.ensures.fault ∙ old.faults);
-      table = record { scope = c.in_ok-home.ensures.count ∙ c.in_ok-held.ensures.table.scope; filled = c.in_ok-held.ensures.table.filled; results = c.in_ok-held.ensures.table.results };
-      puts = one_more c.args.table.now.scope c.loop-located.table.scope _ _ (tree_of context x) (list_of context (drop (i + 1) xs)) whole put c.in_ok-home.ensures.known c.in_ok-home.ensures.count c.loop-located.home _ c.in_ok-held.held puts c.in_ok-held.ensures.held c.in_ok-home.ensures.home;
+      table = divided_table c.loop-located.home c.in_ok-held.held _ c.in_ok-held.ensures.table c.in_ok-home.ensures.count c.in_ok-home.ensures.home;
+      puts = one_more c.args.table.now.scope c.loop-located.table.scope _ _ (tree_of context x) (list_of context (drop (i + 1) xs)) whole put c.in_ok-home.ensures.known c.in_ok-home.ensures.count c.in_ok-held.ensures.table.operands.last c.loop-located.home _ c.in_ok-held.held puts c.in_ok-held.ensures.held c.in_ok-home.ensures.home;
     }
 
 pub validate_loop_body-skip-requires : goal.validate_loop_body-skip-requires
@@ -205,7 +206,7 @@ validate_loop_body-returns-in-Some-clause-scope t c =
     let i = c.loop-located.located-index in
     let at = subst (λ o. PutsOfLoop c.args.table.now.scope c.loop-located.table.scope o (list_of context (drop i xs)) whole) c.in-Some.is c.loop-located.invariant.puts in
     let all = subst (λ b. PutsOfLoop c.args.table.now.scope c.loop-located.table.scope (Some c.in-Some.number) b whole) (rest_end context xs i c.loop-located-test.false) at in
-    divided c.args.table.now.scope c.loop-located.table.scope c.in-Some.number whole all _ c.skip.result c.skip.ensures.shown c.skip.ensures.number c.skip.ensures.count
+    divided c.args.table.now.scope c.loop-located.table.scope c.in-Some.number whole all _ c.skip.result c.skip.ensures.shown c.skip.ensures.number c.skip.ensures.count (let same = c.skip.ensures.taken in omega (arith, same))
 
 pub validate_loop_body-returns-in-None-clause-fault : goal.validate_loop_body-returns-in-None-clause-fault
 validate_loop_body-returns-in-None-clause-fault t c =
@@ -301,5 +302,39 @@ validate_cases-loop-case-preserved t c =
       faults = rw (same_known _ _ c.in_ok-holds.ensures.scope) (next_is _ _ _ _ (cases_turn context cs i (kept c.loop-case.table.filled c.loop-case.state) c.args.abilities.now (known c.loop-case.table.scope) x lt is) c.in_ok-holds.ensures.fault ∙ old.faults);
       table = c.in_ok-holds.ensures.table;
       scope = c.in_ok-holds.ensures.scope ∙ old.scope;
+      taken = let before = old.taken in let more = c.in_ok-holds.ensures.taken in omega (arith, before, more);
       held = or_assoc c.loop-case.held c.in_ok-holds.holds rest ∙ ap (λ z. c.loop-case.held || (z || rest)) c.in_ok-holds.ensures.held ∙ ap (λ z. c.loop-case.held || z) (sym (cases_hold_turn context cs i x lt is)) ∙ old.held;
     }
+
+pub validate_block-returns-clause-table : goal.validate_block-returns-clause-table
+validate_block-returns-clause-table t c =
+    left_table c.in_ok-outer.outer None c.requires.table c.in_ok-held.ensures.table c.leave.ensures.count c.leave.ensures.taken c.leave.ensures.shown (c.leave.ensures.shown ∙ shows_before _ _ _ c.in_ok-outer.outer c.in_ok-outer.ensures.outside c.in_ok-held.ensures.scope) tt
+
+pub validate_block-returns-clause-taken : goal.validate_block-returns-clause-taken
+validate_block-returns-clause-taken t c =
+    let entered = c.in_ok-outer.ensures.entered.taken in
+    let put = c.in_ok-held.ensures.scope.taken in
+    let same = c.leave.ensures.taken in
+    omega (arith, entered, put, same)
+
+pub validate_nested-returns-in_ok-check_break_if-in-Loop-clause-table : goal.validate_nested-returns-in_ok-check_break_if-in-Loop-clause-table
+validate_nested-returns-in_ok-check_break_if-in-Loop-clause-table t c =
+    left_table c.in_ok-outer-in-Loop.outer c.in_ok-skipped-in-Loop.skipped c.requires.table c.in_ok-validate_statements-in-Loop.ensures.table c.leave.ensures.count c.leave.ensures.taken c.leave.ensures.shown (c.leave.ensures.shown ∙ loop_left _ _ _ _ c.in_ok-outer-in-Loop.outer c.in_ok-skipped-in-Loop.skipped c.in_ok-outer-in-Loop.ensures.outside c.in_ok-skipped-in-Loop.ensures.scope c.in_ok-validate_statements-in-Loop.ensures.scope) (apart_still _ _ _ _ c.in_ok-outer-in-Loop.outer c.in_ok-skipped-in-Loop.skipped c.in_ok-outer-in-Loop.ensures.outside c.in_ok-skipped-in-Loop.ensures.scope c.in_ok-validate_statements-in-Loop.ensures.scope)
+
+pub validate_nested-returns-in_ok-check_break_if-in-Loop-clause-taken : goal.validate_nested-returns-in_ok-check_break_if-in-Loop-clause-taken
+validate_nested-returns-in_ok-check_break_if-in-Loop-clause-taken t c =
+    let entered = c.in_ok-outer-in-Loop.ensures.entered.taken in
+    let body = c.in_ok-skipped-in-Loop.ensures.scope.taken in
+    let behind = c.in_ok-validate_statements-in-Loop.ensures.scope.taken in
+    let same = c.leave.ensures.taken in
+    omega (arith, entered, body, behind, same)
+
+pub validate_loop_body-returns-in-Some-clause-table : goal.validate_loop_body-returns-in-Some-clause-table
+validate_loop_body-returns-in-Some-clause-table t c =
+    let context = context_of c.args.context.now in
+    let whole = block_of context c.args.block.now in
+    let xs = c.as_slice-located-items.result.now in
+    let i = c.loop-located.located-index in
+    let at = subst (λ o. PutsOfLoop c.args.table.now.scope c.loop-located.table.scope o (list_of context (drop i xs)) whole) c.in-Some.is c.loop-located.invariant.puts in
+    let all = subst (λ b. PutsOfLoop c.args.table.now.scope c.loop-located.table.scope (Some c.in-Some.number) b whole) (rest_end context xs i c.loop-located-test.false) at in
+    skipped_table c.in-Some.number c.loop-located.invariant.table c.skip.ensures.count c.skip.ensures.taken c.skip.ensures.shown (last_parted c.args.table.now.scope c.loop-located.table.scope c.in-Some.number whole all _ c.skip.ensures.shown)

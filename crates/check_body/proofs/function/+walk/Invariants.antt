@@ -1,9 +1,9 @@
-use Rattle.std.proofs.Common.{◌≡◌, ◌||◌, drop}
+use Rattle.std.proofs.Common.{◌≡◌, ◌≤◌, ◌||◌, drop}
 use Rattle.check_scope.specs.BodyTrees.{block_of, list_of, cases_of}
 use Rattle.check_statement.specs.Ready.{IsBodyReady, AreCasesReady}
 use Rattle.check_scope.specs.walk.SeenContext.{context_of}
 use Rattle.check_statement.specs.walk.State.{kept}
-use Rattle.check_scope.specs.walk.Table.{IsTableOf, known, shown}
+use Rattle.check_scope.specs.walk.Table.{IsTableOf, known, scopes, shown}
 use Rattle.check_statement.specs.walk.Walk.{body_puts, body_answer, cases_answer}
 use Rattle.naga_runs.specs.Must.{body_holds_continue, cases_hold_continue}
 use Rattle.check_scope.proofs.Columns.{PutsBefore}
@@ -35,5 +35,6 @@ invariant-validate_cases-loop-case l = record {
   faults : cases_answer (context_of l.context) (kept l.table.filled l.state) l.abilities (known l.table.scope) (cases_of (context_of l.context) (drop l.case-index l.cases)) ≡ cases_answer (context_of l.context) (kept l.initial.table.filled l.initial.state) l.abilities (known l.initial.table.scope) (cases_of (context_of l.context) l.cases);
   table : IsTableOf (context_of l.context) l.table;
   scope : shown l.table.scope ≡ shown l.initial.table.scope;
+  taken : scopes l.initial.table.scope ≤ scopes l.table.scope;
   held : (l.held || cases_hold_continue (cases_of (context_of l.context) (drop l.case-index l.cases))) ≡ cases_hold_continue (cases_of (context_of l.context) l.cases);
 }

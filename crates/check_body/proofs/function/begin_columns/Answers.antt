@@ -1,9 +1,10 @@
-use Rattle.std.proofs.Common.{Some, arith, ◌∷◌, [], refl, sym, ap, ◌∙◌}
+use Rattle.std.proofs.Common.{Some, arith, ◌∷◌, [], refl, subst, sym, ap, ◌∙◌}
 use Rattle.std.proofs.lemmas.Option.{get_or_from_slice_get}
 use Rattle.check_scope.specs.Context.{if_pre_emitted}
 use Rattle.check_scope.specs.Results.{is_to_fill}
 use Rattle.check_scope.specs.walk.SeenContext.{context_of}
-use Rattle.check_scope.specs.walk.Table.{count, filled_in, known, marked, unfilled_in, with_all}
+use Rattle.check_scope.proofs.Operands.{put_operands}
+use Rattle.check_scope.specs.walk.Table.{KnowsOperands, count, filled_in, known, marked, unfilled_in, with_all}
 use Rattle.check_body.proofs.PreEmitted.{is_new, one_more, none_more, results_known}
 use Rattle.naga_runs.specs.Handles.{with_handle}
 use Rattle.check_body.proofs.function.begin_columns.Goals as goal
@@ -74,6 +75,12 @@ loop-index-preserved c =
         | then-is_to_fill w ↦ ap marked w.filled-is ∙ w.expect.ensures.count ∙ c.loop-index.invariant.marked
         | else-is_to_fill w ↦ ap marked w.filled-is ∙ c.loop-index.invariant.marked
       ];
+      operands = λ operands t k.
+          let old = c.loop-index.invariant.operands operands t k in
+          elim c.if-needs_pre_emit.branch [
+            | then-needs_pre_emit w ↦ subst (KnowsOperands operands t) (sym w.scope-is) (put_operands w.put.ensures old)
+            | else-needs_pre_emit w ↦ subst (KnowsOperands operands t) (sym w.scope-is) old
+          ];
     }
 
 pub returns-clause-results : goal.returns-clause-results

@@ -7,14 +7,15 @@ use Rattle.check_scope.specs.walk.Table.{known}
 use Rattle.check_flow.proofs.Emits.{emitted_passes, emitted_fails}
 use Rattle.check_flow.proofs.control.emitted_holds.Goals as goal
 
-pub returns : goal.returns
-returns c =
+pub returns-clause-holds : goal.returns-clause-holds
+returns-clause-holds c =
     let o = option_copied c.expression-expression.result in
     let emitted : is_result o ≡ false = search rules in
-    rw c.contains.ensures (emitted_passes (context_of c.args.context.now) (place_at (known c.args.scope.now)) c.args.handle o c.expression-expression.ensures emitted c.operands_hold.result c.operands_hold.ensures (search rules))
+    rw c.contains.ensures (emitted_passes (context_of c.args.context.now) (place_at (known c.args.scope.now)) c.args.handle o c.expression-expression.ensures emitted c.operands_hold.result c.operands_hold.ensures.holds (search rules))
 
-pub returns-then-not-operands_hold : goal.returns-then-not-operands_hold
-returns-then-not-operands_hold c =
+pub returns-then-not-operands_hold-clause-holds :
+    goal.returns-then-not-operands_hold-clause-holds
+returns-then-not-operands_hold-clause-holds c =
     let o = option_copied c.expression-expression.result in
     let emitted : is_result o ≡ false = search rules in
-    emitted_fails (context_of c.args.context.now) (place_at (known c.args.scope.now)) c.args.handle o c.expression-expression.ensures emitted c.operands_hold.result c.operands_hold.ensures (search rules)
+    emitted_fails (context_of c.args.context.now) (place_at (known c.args.scope.now)) c.args.handle o c.expression-expression.ensures emitted c.operands_hold.result c.operands_hold.ensures.holds (search rules)

@@ -7,6 +7,7 @@ use Rattle.check_scope.specs.walk.Place.{place_at}
 use Rattle.check_scope.specs.walk.SeenContext.{context_of}
 use Rattle.check_scope.specs.walk.Table.{HasPut, known}
 use Rattle.check_scope.proofs.Columns.{both_put}
+use Rattle.check_scope.proofs.Operands.{put_operands}
 use Rattle.check_flow.proofs.Emits.{asked_is, emitted_new, emit_stops, emit_stops_alone, emit_next, emit_none}
 use Rattle.check_flow.proofs.Lists.{between_more, between_end}
 use Rattle.check_flow.proofs.control.validate_emit.Goals as goal
@@ -50,6 +51,7 @@ loop-index-preserved c =
     let whole = emit_points context (place_at s) start c.args.range.end in
     record {
       scope = rw (between_more start h c.loop-index.auto.index) (both_put c.loop-index.invariant.scope (rw c.new-handle.ensures at c.put.ensures));
+      operands = put_operands c.put.ensures c.in_ok-check_emitted.ensures.operands;
       stays = omega arith;
       faults = emit_next context (place_at s) start h c.args.range.end c.loop-index-test.true whole c.loop-index.invariant.faults here;
     }

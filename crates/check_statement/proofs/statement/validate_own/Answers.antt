@@ -8,6 +8,7 @@ use Rattle.check_scope.specs.BodyTrees.{emitted_operands}
 use Rattle.check_scope.specs.ScopePoints.{Points}
 use Rattle.check_scope.specs.walk.Place.{place_at}
 use Rattle.check_scope.specs.walk.SeenContext.{context_of}
+use Rattle.check_scope.proofs.Operands.{put_operands}
 use Rattle.check_scope.specs.walk.Table.{filled_in, known}
 use Rattle.check_flow.specs.Call.{call_points}
 use Rattle.check_flow.proofs.Calls.{call_puts}
@@ -16,8 +17,8 @@ use Rattle.check_statement.proofs.Own.{others}
 use Rattle.check_statement.proofs.Parts.{in_leaf}
 use Rattle.check_statement.proofs.statement.validate_own.Goals as goal
 
-pub validate_emit-requires : goal.validate_emit-requires
-validate_emit-requires c =
+pub validate_emit-requires-clause-there : goal.validate_emit-requires-clause-there
+validate_emit-requires-clause-there c =
     let fits = in_leaf (context_of c.args.context.now) _ _ _ (rw c.in-Emit.is at c.requires.statement) in
     omega (arith, c.requires.table.scope, fits.1)
 
@@ -67,4 +68,6 @@ returns-in_ok-validate_call-in-Call-clause-table c = record {
   scope = c.in_ok-validate_call-in-Call.ensures.scope.as_many ∙ c.requires.table.scope;
   filled = c.fill_named.ensures.count ∙ c.requires.table.filled;
   results = c.fill_named.ensures.results (context_of c.args.context.now) c.requires.table.results;
+  operands = put_operands c.in_ok-validate_call-in-Call.ensures.scope c.requires.table.operands;
+  roots = c.requires.table.roots;
 }

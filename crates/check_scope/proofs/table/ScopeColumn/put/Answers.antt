@@ -1,4 +1,4 @@
-use Rattle.std.proofs.Common.{length-set, ◌<◌, ◌≡◌, false, ◌∷◌, [], subst, sym, ap, ◌∙◌}
+use Rattle.std.proofs.Common.{refl, arith, length-set, ◌<◌, ◌≡◌, false, ◌∷◌, [], subst, sym, ap, ◌∙◌}
 use Rattle.check_scope.specs.walk.Table.{count, known, shown, with_puts}
 use Rattle.check_scope.proofs.Columns.{put_inside, put_outside}
 use Rattle.check_scope.proofs.table.ScopeColumn.put.Goals as goal
@@ -13,5 +13,7 @@ returns c =
     record {
       inside = put_inside t.numbers.items t.states.items t.innermost t.sound c.index.result there new ∙ ap (λ h. with_puts (known t) (h ∷ [])) c.index.ensures.value;
       outside = put_outside t.numbers.items t.states.items t.innermost t.sound c.index.result there new;
+      inner = refl;
       as_many = length-set t.numbers.items c.index.result t.innermost;
+      taken = omega arith;
     }
