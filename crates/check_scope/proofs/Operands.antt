@@ -161,12 +161,11 @@ module _ {a b : ScopeColumn} {xs : List ℕ} (p : HasPut a b xs) where
 -- where one scope is closed, what others put stays
 closing_keeps : (s : Shown) (i m h : ℕ) → ((n : ℕ) → n ≤ m → s.state n ≡ Open → (n == i) ≡ false) → IsPutUpTo s m h → IsPutUpTo (closing i s) m h
 closing_keeps s i m h other q =
-    let apart = other q.0 q.3 q.2 in
-    (
+    let apart = other q.0 q.3 q.2 in (
       q.0,
       ap (unless_by i) q.1 ∙ ap (λ b. if b then None else Some q.0) apart,
       ap (λ b. if b then Closed else s.state q.0) apart ∙ q.2,
-      q.3
+      q.3,
     )
 
 module _ {operands : ℕ → List ℕ} {t : OperandColumn} {now : ScopeColumn} (k : KnowsOperands operands t now) where
@@ -191,12 +190,11 @@ module _ {operands : ℕ → List ℕ} {t : OperandColumn} {now : ScopeColumn} (
 
       usable : (h : ℕ) → (shown new).state (kept_at t h) ≡ Open → ArePutUpTo (shown new) (kept_at t h) (operands h)
       usable h e j lt =
-          let q = k.usable h (sym (before (kept_at t h) h (omega arith)) ∙ e) j lt in
-          (
+          let q = k.usable h (sym (before (kept_at t h) h (omega arith)) ∙ e) j lt in (
             q.0,
             unless_some (shown new).innermost q.0 ((shown new).put_by (get_or (operands h) j 0)) (ap (λ (s : Shown). s.put_by (get_or (operands h) j 0)) shows ∙ q.1),
             before q.0 h q.3 ∙ q.2,
-            q.3
+            q.3,
           )
 
   -- a number up to that of an open scope but the innermost is not that of the innermost
