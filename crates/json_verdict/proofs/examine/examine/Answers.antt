@@ -1,7 +1,8 @@
 use Rattle.json_values.specs.Failures.{IsUnreadable}
+use Rattle.json_verdict.proofs.Misfits.{unreadable_judges}
 use Rattle.json_verdict.proofs.examine.examine.Goals as goal
 
-pub returns-in-Err-Unreadable : goal.returns-in-Err-Unreadable
-returns-in-Err-Unreadable c =
+pub returns-in-Err-Unreadable-clause-judged : goal.returns-in-Err-Unreadable-clause-judged
+returns-in-Err-Unreadable-clause-judged c =
     let refused : IsUnreadable c.in-Err-Unreadable.field-0 = rw c.in-Err-Unreadable.field-0-is tt in
-    c.in-Err-Unreadable.ensures refused
+    unreadable_judges _ _ _ (c.in-Err-Unreadable.ensures refused) c.alone.ensures.verdict
