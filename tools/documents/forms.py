@@ -1,5 +1,5 @@
 """Rows of the form of documents and verdicts: a worked example, facts beyond what is asked for and facts of a wrong number, texts
-with escapes, names that no other document has, documents that can't be read, and stages by one text."""
+with escapes, names that no other document has, documents that can't be read, stages by one text, and ids."""
 
 import json
 
@@ -250,7 +250,39 @@ def all_stages():
     return told, verdicts.ok([STAGES], [verdicts.entry()])
 
 
+# Ids, which come back in front of the verdict.
+
+FIELDS = ["flags", "capabilities", "subgroup_stages", "subgroup_operations", "module", "facts"]
+NO_ID = "a text, or an integer from -9223372036854775808 to 9223372036854775807"
+
+
+def with_id(name, row):
+    """The row of a document with an id, which stands last in it."""
+    told, verdict = row[:2]
+    return {**told, "id": name}, {"id": name, **verdict}
+
+
+def ids():
+    accepted = with_facts({}), verdicts.ok([STAGES], [verdicts.entry()])
+    unfit = with_facts({"global_types": [{"Handle": 0}]}), verdicts.NOT_FIT
+    lacks_one = with_id(0, accepted)[0]
+    lacks_one.pop("facts")
+    told, verdict = named_local()
+    return [
+        with_id(7, accepted), with_id("", accepted), with_id(-9223372036854775808, unfit), with_id(9223372036854775807, unfit),
+        with_id(ESCAPED, (told, verdict)),
+        (lacks_one, {"id": 0, **unreadable("", missing("facts"))}),
+        ({"id": "no document", "x": 1}, {"id": "no document", **unreadable("", too_many("x", "id", *FIELDS))}),
+        with_id(-1, (broken(lambda told: told.update(flags=7)), unreadable("/flags", "a list"))),
+        ({**accepted[0], "id": None}, unreadable("/id", NO_ID)),
+        ({**accepted[0], "id": 9223372036854775808}, unreadable("/id", NO_ID)),
+        ({**accepted[0], "id": 1.0}, unreadable("/id", NO_ID)),
+        ({**accepted[0], "id": None, "flags": 7}, unreadable("/id", NO_ID)),
+    ]
+
+
 def forms():
     return rows_of("forms", [
         worked(), *facts(), named_local(), named_argument(), everything(), *unreadables(), all_stages(), *misnamed(),
+        *ids(),
     ])

@@ -40,7 +40,7 @@ def told(line, verdict):
         return verdict
     document = json.loads(line)
     fault = misfits.misfit_of(document)[0] if refused["at"] == "NotFit" else refused["fault"]
-    return {"refused": {**refused, "fault": fault, "place": place_of(document, verdict)}}
+    return {**verdict, "refused": {**refused, "fault": fault, "place": place_of(document, verdict)}}
 
 
 # Functions.

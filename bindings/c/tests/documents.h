@@ -62,11 +62,27 @@ static inline int begins(text it, const char *with) {
     return it.length >= length && !memcmp(it.at, with, length);
 }
 
+/* The text from its second field on, where its first is an id. No stored id has a comma and a quotation mark in it. */
+static inline text behind_id(text it) {
+    if (!begins(it, "{\"id\":")) return it;
+    do it.at++, it.length--;
+    while (it.length && !begins(it, ",\""));
+    return it;
+}
+
+/* Whether the field behind an id, or the first field, has this name. */
+static inline int tells(text verdict, const char *field) {
+    text rest = behind_id(verdict);
+    if (!rest.length) return 0;
+    rest.at++, rest.length--;
+    return begins(rest, field);
+}
+
 /* The status that belongs to a verdict's line. */
 static inline uint32_t status_of(text verdict) {
-    if (begins(verdict, "{\"ok\":")) return LEAFNURD_ACCEPTED;
-    if (begins(verdict, "{\"refused\":")) return LEAFNURD_REFUSED;
-    if (begins(verdict, "{\"unreadable\":")) return LEAFNURD_UNREADABLE;
+    if (tells(verdict, "\"ok\":")) return LEAFNURD_ACCEPTED;
+    if (tells(verdict, "\"refused\":")) return LEAFNURD_REFUSED;
+    if (tells(verdict, "\"unreadable\":")) return LEAFNURD_UNREADABLE;
     return LEAFNURD_MEMORY;
 }
 

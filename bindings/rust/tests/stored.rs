@@ -11,6 +11,12 @@ fn stored(name: &str) -> String {
     fs::read_to_string(folder.join(name)).expect("the repository's stored documents")
 }
 
+/// Whether a line tells this of a document, which may have an id.
+fn tells(line: &str, field: &str) -> bool {
+    line.starts_with(&format!("{{\"{field}\":"))
+        || (line.starts_with("{\"id\":") && line.contains(&format!(",\"{field}\":")))
+}
+
 #[test]
 fn each_document_has_its_line() {
     let (documents, verdicts) = (stored("stdin"), stored("stdout"));
@@ -18,12 +24,12 @@ fn each_document_has_its_line() {
     for (document, line) in documents.lines().zip(verdicts.lines()) {
         let verdict = judge(document);
         assert_eq!(verdict.json(), line);
-        assert_eq!(verdict.is_accepted(), line.starts_with("{\"ok\":"));
+        assert_eq!(verdict.is_accepted(), tells(line, "ok"));
         // Which field of the line a verdict's variant is, and what is read from it.
         match &verdict {
-            Verdict::Accepted { .. } => assert!(line.starts_with("{\"ok\":")),
+            Verdict::Accepted { .. } => assert!(tells(line, "ok")),
             Verdict::Refused { at, fault, spans, place, .. } => {
-                assert!(line.starts_with("{\"refused\":"));
+                assert!(tells(line, "refused"));
                 assert_eq!(fault.is_none(), *at == Part::NotFit);
                 let written: Vec<String> = spans.iter().map(|it| format!("[{},{}]", it.start, it.end)).collect();
                 let place = place.as_deref().expect("the place of a stored document's fault");
@@ -37,10 +43,8 @@ fn each_document_has_its_line() {
             }
             Verdict::Unreadable { pointer, expected, .. } => {
                 let expected = expected.replace('\\', "\\\\").replace('"', "\\\"");
-                assert_eq!(
-                    *line,
-                    format!("{{\"unreadable\":{{\"pointer\":\"{pointer}\",\"expected\":\"{expected}\"}}}}")
-                );
+                let told = format!("\"unreadable\":{{\"pointer\":\"{pointer}\",\"expected\":\"{expected}\"}}}}");
+                assert!(tells(line, "unreadable") && line.ends_with(&told), "{line}");
             }
             other => panic!("{other}"),
         }

@@ -1,2 +1,3 @@
+pub mod Ids
 pub mod Whole
 pub mod ReadsDocument

@@ -1,13 +1,17 @@
 //! Documents: the settings of a validator, a module, and what is known of it, where it says so.
 
-ghost use Rattle.json_document.specs.Whole.{known_of, document_of};
+ghost use Rattle.serde_json.specs.View.{view};
+ghost use Rattle.json_document.specs.Whole.{all_parts, document_of, known_of, named_parts, parts_of, settings_of};
+ghost use Rattle.json_values.specs.Reads.{ReadsMeaning};
 
+use crate::id::Id;
 use ir_arena::Sequence;
 use ir_facts::{Settings, TypeInfo};
+use ir_flags::{Capabilities, ShaderStages, SubgroupOperationSet, ValidationFlags};
 use ir_module::Module;
 use ir_types::TypeResolution;
 use json_values::read::error::ReadError;
-use json_values::read::from_json::{FromJson, Held};
+use json_values::read::from_json::{FromJson, Held, has_field};
 use naga_layers::Facts;
 use serde_json::Value;
 use std::alloc::Global;
@@ -64,23 +68,112 @@ impl FromJson for Known {
     }
 }
 
+/// What the fields of a document stand for, without its id.
+type Parts = (
+    ValidationFlags,
+    Capabilities,
+    ShaderStages,
+    SubgroupOperationSet,
+    Module,
+    Option<Known>,
+);
+
+/// The settings, whatever stands beside them.
+fn read_settings(
+    held: Held,
+) -> Result<
+    (
+        ValidationFlags,
+        Capabilities,
+        ShaderStages,
+        SubgroupOperationSet,
+    ),
+    ReadError,
+>
+    ensures { ReadsMeaning (settings_of (view held.entry.value.now)) result }
+{
+    let flags = match held.get("flags") {
+        Ok(flags) => flags,
+        Err(error) => return Err(error),
+    };
+    let capabilities = match held.get("capabilities") {
+        Ok(capabilities) => capabilities,
+        Err(error) => return Err(error),
+    };
+    let stages = match held.get("subgroup_stages") {
+        Ok(stages) => stages,
+        Err(error) => return Err(error),
+    };
+    match held.get("subgroup_operations") {
+        Ok(operations) => Ok((flags, capabilities, stages, operations)),
+        Err(error) => Err(error),
+    }
+}
+
+/// The settings, the module and the facts, whatever stands beside them.
+fn read_all_parts(held: Held) -> Result<Parts, ReadError>
+    ensures { ReadsMeaning (all_parts (view held.entry.value.now)) result }
+{
+    let (flags, capabilities, stages, operations) = match read_settings(held) {
+        Ok(settings) => settings,
+        Err(error) => return Err(error),
+    };
+    match held.get("module") {
+        Ok(module) => match held.get("facts") {
+            Ok(known) => Ok((flags, capabilities, stages, operations, module, known)),
+            Err(error) => Err(error),
+        },
+        Err(error) => Err(error),
+    }
+}
+
+/// The same of an object with exactly these fields and an id.
+fn read_named_parts(held: Held) -> Result<Parts, ReadError>
+    ensures { ReadsMeaning (named_parts (view held.entry.value.now)) result }
+{
+    if let Err(error) = held.fields(&[
+        "id",
+        "flags",
+        "capabilities",
+        "subgroup_stages",
+        "subgroup_operations",
+        "module",
+        "facts",
+    ]) {
+        return Err(error);
+    }
+    match held.get::<Id>("id") {
+        Ok(_) => read_all_parts(held),
+        Err(error) => Err(error),
+    }
+}
+
+/// The same of an object with an id or without one.
+fn read_parts(held: Held) -> Result<Parts, ReadError>
+    ensures { ReadsMeaning (parts_of (view held.entry.value.now)) result }
+{
+    if has_field(held.value, "id") {
+        return read_named_parts(held);
+    }
+    held.six(&(
+        "flags",
+        "capabilities",
+        "subgroup_stages",
+        "subgroup_operations",
+        "module",
+        "facts",
+    ))
+}
+
 impl FromJson for Document {
     ghost stands_for = { document_of };
 
     fn from_json(alloc: Global, value: &Value) -> Result<Self, ReadError> {
-        let held = Held {
+        match read_parts(Held {
             alloc,
             value,
             variant: None,
-        };
-        match held.six(&(
-            "flags",
-            "capabilities",
-            "subgroup_stages",
-            "subgroup_operations",
-            "module",
-            "facts",
-        )) {
+        }) {
             Ok((flags, capabilities, subgroup_stages, subgroup_operations, module, known)) => {
                 let settings = Settings {
                     flags,

@@ -3,8 +3,10 @@
 #![tactic(auto)]
 
 pub mod document;
+pub mod id;
 pub mod text;
 
 pub use crate::document::{Document, Known};
-pub use crate::text::{MOST_BYTES, read_document};
+pub use crate::id::Id;
+pub use crate::text::{MOST_BYTES, Reading, read_document, read_text};
 pub use json_values::{FromJson, ReadError, Step, Unreadable};

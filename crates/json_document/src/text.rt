@@ -1,8 +1,14 @@
 //! Reads a text as a document.
 
+ghost use Rattle.std.specs.Prelude.{◌≡◌};
+ghost use Rattle.serde_json.specs.View.{view};
+ghost use Rattle.json_document.specs.Ids.{IsComplete, IsIdOf, id_in};
 ghost use Rattle.json_document.specs.ReadsDocument.{ReadsDocument};
+ghost use Rattle.json_document.specs.Whole.{document_of};
+ghost use Rattle.json_values.specs.Reads.{ReadsMeaning};
 
 use crate::document::Document;
+use crate::id::{Id, id_in};
 use json_values::read::error::ReadError;
 use json_values::read::from_json::FromJson;
 use serde_json::Value;
@@ -11,22 +17,66 @@ use std::alloc::Global;
 /// The most bytes that a document may have.
 pub const MOST_BYTES: usize = 16777216;
 
-/// Reads a text as a document.
+/// What was read of a text.
+#[derive(Drop)]
+pub struct Reading {
+    /// What the document is called, where the text says so. A text that is no document may have an id too.
+    pub id: Option<Id>,
+    pub document: Result<Document, ReadError>,
+}
+
+/// Reads a value as a document, and its id.
+fn read_value(alloc: Global, value: &Value) -> Reading
+    ensures document { ReadsMeaning (document_of (view value.now)) result.document }
+    ensures id { IsComplete result.document → result.id ≡ id_in (view value.now) }
+{
+    match id_in(alloc, value) {
+        Ok(id) => Reading {
+            id,
+            document: Document::from_json(alloc, value),
+        },
+        Err(_) => Reading {
+            id: None,
+            document: Err(ReadError::Memory),
+        },
+    }
+}
+
+/// Reads a text as a document, and its id.
 ///
 /// An Err says where reading stopped and what was expected there, or is out of memory. The text is JSON in UTF-8, of at
 /// most [`MOST_BYTES`] bytes. docs/MODULES.md has its form.
+#[tactic(auto, using(crate::proofs::Texts::reads_value, crate::proofs::Texts::has_id))]
+pub fn read_text(alloc: Global, text: &[u8]) -> Reading
+    ensures document { ReadsDocument text.now result.document }
+    ensures id { IsComplete result.document → IsIdOf text.now result.id }
+{
+    if text.len() > MOST_BYTES {
+        let expected = "a document of at most 16777216 bytes";
+        return Reading {
+            id: None,
+            document: Err(ReadError::expected(alloc, expected)),
+        };
+    }
+    match Value::from_slice(alloc, text) {
+        Ok(value) => read_value(alloc, &value),
+        Err(error) if error.is_memory() => Reading {
+            id: None,
+            document: Err(ReadError::Memory),
+        },
+        Err(_) => Reading {
+            id: None,
+            document: Err(ReadError::expected(
+                alloc,
+                "JSON in UTF-8, whose brackets nest at most 127 deep",
+            )),
+        },
+    }
+}
+
+/// Reads a text as a document, as [`read_text`] does.
 pub fn read_document(alloc: Global, text: &[u8]) -> Result<Document, ReadError>
     ensures { ReadsDocument text.now result }
 {
-    if text.len() > MOST_BYTES {
-        return Err(ReadError::expected(alloc, "a document of at most 16777216 bytes"));
-    }
-    match Value::from_slice(alloc, text) {
-        Ok(value) => Document::from_json(alloc, &value),
-        Err(error) if error.is_memory() => Err(ReadError::Memory),
-        Err(_) => Err(ReadError::expected(
-            alloc,
-            "JSON in UTF-8, whose brackets nest at most 127 deep",
-        )),
-    }
+    read_text(alloc, text).document
 }

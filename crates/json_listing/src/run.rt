@@ -5,7 +5,7 @@ use json_document::MOST_BYTES;
 use json_faults::writer::JsonWriter;
 use json_verdict::examine::{Examined, alone, examine};
 use json_verdict::judge::Verdict;
-use json_verdict::line::{json_line, write_verdict};
+use json_verdict::named::named_line;
 use json_verdict::run::{Form, run_document, run_lines};
 use naga_module::ModuleFault;
 use std::alloc::{AllocError, Global};
@@ -236,7 +236,7 @@ fn answered(
 ) -> (u8, Result<String, AllocError>) {
     let examined = match bytes {
         Some(bytes) => examine(alloc, bytes.as_slice()),
-        None => alone(Verdict::Refused(ModuleFault::Memory)),
+        None => alone(None, Verdict::Refused(ModuleFault::Memory)),
     };
     (examined.verdict.status(), line_of(alloc, name, &examined))
 }
@@ -245,17 +245,19 @@ fn answered(
 fn line_of(alloc: Global, name: Option<&str>, examined: &Examined) -> Result<String, AllocError> {
     match name {
         Some(name) => line_of_file(alloc, name, examined),
-        None => json_line(alloc, examined),
+        None => named_line(alloc, examined),
     }
 }
 
 /// A verdict as JSON, in an object after the name of its file.
 fn line_of_file(alloc: Global, name: &str, examined: &Examined) -> Result<String, AllocError> {
+    let line = named_line(alloc, examined)?;
     let mut out = JsonWriter::new(alloc);
     out.open("file")?;
     out.string(name)?;
-    out.key("verdict")?;
-    write_verdict(alloc, &mut out, examined)?;
-    out.end_object()?;
-    Ok(out.into_text())
+    let mut text = out.into_text();
+    text.push_str(",\"verdict\":")?;
+    text.push_str(line.as_str())?;
+    text.push_str("}")?;
+    Ok(text)
 }

@@ -1,11 +1,14 @@
 -- What is kept of a text says its verdict.
-use Rattle.std.proofs.Common.{◌≡◌, ◌≤◌, ◌<◌, ℕ, true, List, [], ◌∷◌, ◌++◌, length, take, Option, sym, ap, ◌∙◌, subst, inl, inr, arith}
+use Rattle.std.proofs.Common.{◌≡◌, ◌≤◌, ◌<◌, ℕ, true, List, [], ◌∷◌, ◌++◌, length, take, Option, None, Some, sym, ap, ◌∙◌, subst, inl, inr, arith}
 use Rattle.std.proofs.lemmas.List.{length-take, length-append, take_all, take-append-le}
 use Rattle.ir_misfits.specs.declared.misfit.Misfit.{Misfit}
 use Rattle.naga_module.specs.declared.check.ModuleFault.{ModuleFault}
 use Rattle.json_document.specs.declared.document.Document.{Document}
+use Rattle.json_document.specs.declared.id.Id.{Id}
+use Rattle.json_document.specs.Ids.{HasId, IsIdOf}
 use Rattle.json_document.specs.ReadsDocument.{IsDocument}
 use Rattle.json_verdict.specs.Judges.{HasMisfit, Judges, Refuses}
+use Rattle.json_verdict.specs.Named.{HasItsId}
 use Rattle.json_verdict.specs.declared.judge.Verdict as judge
 use Rattle.json_verdict.specs.declared.text.Bytes.{Bytes}
 use Rattle.json_verdict.specs.walk.Stream.{Holds, most}
@@ -64,3 +67,16 @@ pub kept_misfit : (n : ℕ) (text : List ℕ) (v : judge.Verdict) (misfit : Opti
 kept_misfit n text v misfit lt has = λ same.
     let (d, is, judged, first) = has same in
     (d, whole n text d lt is, judged, first)
+
+-- so is its id
+same_id : (n : ℕ) (text : List ℕ) (id : Option Id) → 16777216 < n → IsIdOf (take n text) id → IsIdOf text id
+same_id n text (Some id) lt has =
+    let bounded = has.1 in
+    subst (λ t. HasId t id) (take_all n text (omega (arith, bounded, length-take n text))) has
+same_id n text None lt none = λ id has.
+    let bounded = has.1 in
+    none id (subst (λ t. HasId t id) (sym (take_all n text (omega (arith, bounded)))) has)
+
+pub kept_id : (n : ℕ) (text : List ℕ) (v : judge.Verdict) (id : Option Id) → 16777216 < n → HasItsId (take n text) v id → HasItsId text v id
+kept_id n text v id lt (inl memory) = inl memory
+kept_id n text v id lt (inr has) = inr (same_id n text id lt has)

@@ -2,10 +2,11 @@
 use Rattle.std.proofs.Common.{[], ◌∷◌, None, refl}
 use Rattle.json.specs.Print.{escape_byte, print_from}
 use Rattle.naga_module.specs.declared.check.ModuleFault.TheVariants as faults
-use Rattle.json_verdict.specs.VerdictJson.{IsJsonOf, refused_form, verdict_form}
+use Rattle.json_verdict.specs.Named.{IsJsonOfNamed}
+use Rattle.json_verdict.specs.VerdictJson.{refused_form, verdict_form}
 use Rattle.json_verdict.specs.declared.judge.Verdict.TheVariants as verdicts
 
--- "memory", in quotes
-pub memory_json : IsJsonOf (verdicts.Refused faults.Memory) None (34 ∷ 109 ∷ 101 ∷ 109 ∷ 111 ∷ 114 ∷ 121 ∷ 34 ∷ [])
+-- "memory", in quotes, without an id
+pub memory_json : IsJsonOfNamed None (verdicts.Refused faults.Memory) None (34 ∷ 109 ∷ 101 ∷ 109 ∷ 111 ∷ 114 ∷ 121 ∷ 34 ∷ [])
 unfolding verdict_form refused_form print_from escape_byte
 memory_json = ([], None, refl)

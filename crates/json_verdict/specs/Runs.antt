@@ -2,22 +2,23 @@
 use Rattle.std.specs.Prelude.{◌≡◌, ℕ, ◌==◌, List, [], ◌∷◌, ◌++◌, Option, codes, max, if◌then◌else◌, ⊤}
 use Rattle.std.specs.Io.KnownBytes.{Appends}
 use Rattle.ir_misfits.specs.declared.misfit.Misfit.{Misfit}
+use Rattle.json_document.specs.declared.id.Id.{Id}
 use Rattle.json_verdict.specs.Judges.{HasMisfit, Judges, status_of}
-use Rattle.json_verdict.specs.VerdictJson.{IsJsonOf}
+use Rattle.json_verdict.specs.Named.{HasItsId, IsJsonOfNamed}
 use Rattle.json_verdict.specs.declared.judge.Verdict as judge
 use Rattle.json_verdict.specs.declared.reply.Form.{Form}
 use Rattle.json_verdict.specs.declared.reply.Form.TheVariants as forms
 
--- the line of a verdict with its misfit: its JSON and a newline; of the text for a person no more is said than that there is one
-unfoldable pub IsLineOf : Form → judge.Verdict → Option Misfit → List ℕ → Type 0
-IsLineOf forms.Json v misfit line = (text : List ℕ) × IsJsonOf v misfit text × (line ≡ text ++ codes "\n")
-IsLineOf forms.Lines v misfit line = ⊤
+-- the line of a verdict with its id and its misfit: its JSON and a newline; of the text for a person no more is said than that there is one
+unfoldable pub IsLineOf : Form → Option Id → judge.Verdict → Option Misfit → List ℕ → Type 0
+IsLineOf forms.Json id v misfit line = (text : List ℕ) × IsJsonOfNamed id v misfit text × (line ≡ text ++ codes "\n")
+IsLineOf forms.Lines id v misfit line = ⊤
 
--- The line and the status of a verdict of this text. That there was no memory is a verdict of each text (`Judges`).
+-- The line and the status of a verdict of this text. That there was no memory is a verdict of each text (`Judges`), and needs no id.
 unfoldable pub IsReply : Form → List ℕ → List ℕ → ℕ → Type 0
 IsReply form text line status =
-    (v : judge.Verdict) × (misfit : Option Misfit) × Judges text v × HasMisfit text v misfit × IsLineOf form v misfit line
-    × (status ≡ status_of v)
+    (id : Option Id) × (v : judge.Verdict) × (misfit : Option Misfit) × Judges text v × HasMisfit text v misfit × HasItsId text v id
+    × IsLineOf form id v misfit line × (status ≡ status_of v)
 
 -- the reply to the text was written, and nothing else
 abbrev pub Replies : Form → List ℕ → Option (List ℕ) → Option (List ℕ) → ℕ → Type 0

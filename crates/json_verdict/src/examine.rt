@@ -6,11 +6,12 @@ ghost use Rattle.naga_module.specs.Misfits.{module_points};
 ghost use Rattle.naga_module.specs.declared.check.ModuleFault.TheVariants as faults;
 ghost use Rattle.json_verdict.specs.Basis.{meaning_of};
 ghost use Rattle.json_verdict.specs.Judges.{HasMisfit, Judges};
+ghost use Rattle.json_verdict.specs.Named.{HasItsId};
 ghost use Rattle.json_verdict.specs.declared.judge.Verdict.TheVariants as verdicts;
 
 use crate::basis::{Basis, copy_of};
 use crate::judge::Verdict;
-use json_document::{Document, ReadError, read_document};
+use json_document::{Document, Id, ReadError, Reading, read_text};
 use json_places::{Found, locate, locate_misfit};
 use naga_below::{Module, Settings};
 use naga_module::{Misfit, ModuleFault};
@@ -19,6 +20,8 @@ use std::alloc::Global;
 /// A text that was judged.
 #[derive(Drop)]
 pub struct Examined {
+    /// What its document is called, where the text says so. Out of memory may have none.
+    pub id: Option<Id>,
     pub verdict: Verdict,
     /// Where the verdict is `NotFit`, the first thing that doesn't fit.
     pub misfit: Option<Misfit>,
@@ -44,11 +47,13 @@ impl Examined {
 }
 
 /// A verdict of which there is no more to tell.
-pub fn alone(verdict: Verdict) -> Examined
+pub fn alone(id: Option<Id>, verdict: Verdict) -> Examined
+    ensures id { result.id ≡ id }
     ensures verdict { result.verdict ≡ verdict }
     ensures misfit { result.misfit ≡ None }
 {
     Examined {
+        id,
         verdict,
         misfit: None,
         refused: None,
@@ -87,11 +92,13 @@ fn find(
 /// A module that is refused with this fault.
 fn refusal(
     alloc: Global,
+    id: Option<Id>,
     settings: Settings,
     module: Module,
     basis: &Basis,
     fault: ModuleFault,
 ) -> Examined
+    ensures id { result.id ≡ id }
     ensures verdict { result.verdict ≡ verdicts.Refused fault }
     ensures misfit { fault ≡ faults.NotFit → result.misfit ≡ first_fault (module_points (meaning_of basis.now.layer)
         basis.now.given.types.items «module» basis.now.given.global_types.items) }
@@ -99,6 +106,7 @@ fn refusal(
     let misfit = misfit_of(&module, basis, &fault);
     let found = find(alloc, settings, &module, basis, &fault, &misfit);
     Examined {
+        id,
         verdict: Verdict::Refused(fault),
         misfit,
         refused: Some(Refused {
@@ -118,11 +126,15 @@ pub fn examine(alloc: Global, text: &[u8]) -> Examined
 
     // What is told not to fit is the first misfit of the document's module.
     ensures misfit { HasMisfit text.now result.verdict result.misfit }
+
+    // The id is the one that the text has.
+    ensures id { HasItsId text.now result.verdict result.id }
 {
-    let document = match read_document(alloc, text) {
+    let Reading { id, document } = read_text(alloc, text);
+    let document = match document {
         Ok(document) => document,
-        Err(ReadError::Unreadable(unreadable)) => return alone(Verdict::Unreadable(unreadable)),
-        Err(ReadError::Memory) => return alone(Verdict::Refused(ModuleFault::Memory)),
+        Err(ReadError::Unreadable(unreadable)) => return alone(id, Verdict::Unreadable(unreadable)),
+        Err(ReadError::Memory) => return alone(id, Verdict::Refused(ModuleFault::Memory)),
     };
     let Document {
         settings,
@@ -131,10 +143,10 @@ pub fn examine(alloc: Global, text: &[u8]) -> Examined
     } = document;
     let basis = match Basis::new(alloc, &module, known) {
         Ok(basis) => basis,
-        Err(_) => return alone(Verdict::Refused(ModuleFault::Memory)),
+        Err(_) => return alone(id, Verdict::Refused(ModuleFault::Memory)),
     };
     match basis.judge(alloc, settings, &module) {
-        Ok(infos) => alone(Verdict::Accepted { module, infos }),
-        Err(fault) => refusal(alloc, settings, module, &basis, fault),
+        Ok(infos) => alone(id, Verdict::Accepted { module, infos }),
+        Err(fault) => refusal(alloc, id, settings, module, &basis, fault),
     }
 }

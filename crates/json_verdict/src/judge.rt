@@ -44,10 +44,12 @@ pub fn judge(alloc: Global, text: &[u8]) -> Verdict
     ensures { Judges text.now result }
 {
     let Examined {
+        id,
         verdict,
         misfit: _,
         refused,
     } = examine(alloc, text);
+    drop(id);
     drop(refused);
     verdict
 }

@@ -6,6 +6,7 @@ mod basis;
 pub mod examine;
 pub mod judge;
 pub mod line;
+pub mod named;
 mod pointer;
 mod reply;
 pub mod run;

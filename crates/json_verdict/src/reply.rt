@@ -8,7 +8,7 @@ ghost use Rattle.json_verdict.specs.Runs.{IsLineOf, Replies};
 ghost use Rattle.json_verdict.specs.walk.Stream.{Holds, Tells};
 
 use crate::examine::Examined;
-use crate::line::json_line;
+use crate::named::named_line;
 use crate::text::Bytes;
 use crate::verdict::write_examined;
 use std::alloc::{AllocError, Global};
@@ -24,9 +24,9 @@ pub enum Form {
 
 /// The verdict as JSON, with a newline at the end.
 fn json_text(alloc: Global, examined: &Examined) -> Result<String, AllocError>
-    ensures { IfOk result (λ text. IsLineOf forms.Json examined.now.verdict examined.now.misfit (string_bytes text)) }
+    ensures { IfOk result (λ text. IsLineOf forms.Json examined.now.id examined.now.verdict examined.now.misfit (string_bytes text)) }
 {
-    let mut text = json_line(alloc, examined)?;
+    let mut text = named_line(alloc, examined)?;
     text.push_str("\n")?;
     Ok(text)
 }
@@ -41,7 +41,7 @@ fn lines_text(alloc: Global, examined: &Examined) -> Result<String, fmt::Error> 
 
 /// The text of a verdict, with the end of its last line. None is out of memory.
 fn text_of(alloc: Global, examined: &Examined, form: Form) -> Option<String>
-    ensures { IfSome result (λ text. IsLineOf form examined.now.verdict examined.now.misfit (string_bytes text)) }
+    ensures { IfSome result (λ text. IsLineOf form examined.now.id examined.now.verdict examined.now.misfit (string_bytes text)) }
 {
     match form {
         Form::Lines => lines_text(alloc, examined).ok(),
@@ -51,7 +51,7 @@ fn text_of(alloc: Global, examined: &Examined, form: Form) -> Option<String>
 
 /// The text of out of memory.
 fn memory_text(form: Form) -> &'static [u8]
-    ensures { IsLineOf form (verdicts.Refused faults.Memory) None result.now }
+    ensures { IsLineOf form None (verdicts.Refused faults.Memory) None result.now }
 {
     match form {
         Form::Lines => b"memory\n",
@@ -61,7 +61,7 @@ fn memory_text(form: Form) -> &'static [u8]
 
 /// Writes a verdict, and answers its exit status. If there is no memory for its text, both are those of out of memory.
 fn reply<W: Write>(alloc: Global, writer: &mut W, examined: &Examined, form: Form) -> io::Result<u8>
-    ensures { IfOk result (λ status. Tells form examined.now.verdict examined.now.misfit (W.contents writer.old) (W.contents writer.new) status) }
+    ensures { IfOk result (λ status. Tells form examined.now.id examined.now.verdict examined.now.misfit (W.contents writer.old) (W.contents writer.new) status) }
 {
     match text_of(alloc, examined, form) {
         Some(text) => {

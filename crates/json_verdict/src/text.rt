@@ -3,6 +3,7 @@
 ghost use Rattle.std.specs.Prelude.{◌≡◌, ◌++◌, ◌∷◌, [], ℕ, List, true, false};
 ghost use Rattle.std.specs.Bool.{OnTrue};
 ghost use Rattle.json_verdict.specs.Judges.{HasMisfit, Judges};
+ghost use Rattle.json_verdict.specs.Named.{HasItsId};
 ghost use Rattle.json_verdict.specs.walk.Stream.{Holds};
 
 use crate::examine::{Examined, alone, examine};
@@ -76,9 +77,10 @@ impl Bytes {
     pub fn examine(&self, alloc: Global) -> Examined
         ensures judged { (text : List ℕ) → Holds self.now text → Judges text result.verdict }
         ensures misfit { (text : List ℕ) → Holds self.now text → HasMisfit text result.verdict result.misfit }
+        ensures id { (text : List ℕ) → Holds self.now text → HasItsId text result.verdict result.id }
     {
         if self.is_lost {
-            alone(Verdict::Refused(ModuleFault::Memory))
+            alone(None, Verdict::Refused(ModuleFault::Memory))
         } else {
             examine(alloc, self.kept.as_slice())
         }

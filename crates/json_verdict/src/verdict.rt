@@ -2,6 +2,7 @@
 
 use crate::examine::Examined;
 use crate::judge::Verdict;
+use crate::named::write_id;
 use crate::untyped::tell_untyped;
 use json_document::Unreadable;
 use json_faults::sets::write_names;
@@ -11,8 +12,10 @@ use naga_module::{Misfit, ModuleFault, Whereabouts, write_module_fault_lines};
 use std::alloc::Global;
 use std::fmt;
 
-/// Writes the verdict of a judged text for a person, as [`write_lines`] does, with the place of its fault; of an expression
-/// without a type why it has none; of `NotFit` what doesn't fit, and of facts that are short or break a law which these are.
+/// Writes the verdict of a judged text for a person, after the id of its document.
+///
+/// It does so as [`write_lines`] does, with the place of the fault; of an expression without a type why it has none; of
+/// `NotFit` what doesn't fit, and of facts that are short or break a law which these are.
 ///
 /// An Err is that of the writer, or out of memory.
 pub fn write_examined<W: fmt::Write>(
@@ -20,6 +23,7 @@ pub fn write_examined<W: fmt::Write>(
     out: &mut W,
     examined: &Examined,
 ) -> fmt::Result {
+    write_id(out, &examined.id, &examined.verdict)?;
     let fault = match &examined.verdict {
         Verdict::Refused(fault) if !matches!(fault, ModuleFault::Memory) => fault,
         verdict => return write_lines(out, verdict),

@@ -1,8 +1,9 @@
 -- What the exports answer, and what stands in the caller's memory after a call.
 use Rattle.std.specs.Prelude.{◌≡◌, ◌⊎◌, ◌++◌, ℕ, List, [], ◌∷◌, Option, None, length, take, drop, ⊤}
 use Rattle.ir_misfits.specs.declared.misfit.Misfit.{Misfit}
+use Rattle.json_document.specs.declared.id.Id.{Id}
 use Rattle.json_verdict.specs.Judges.{HasMisfit, Judges, status_of}
-use Rattle.json_verdict.specs.VerdictJson.{IsJsonOf}
+use Rattle.json_verdict.specs.Named.{HasItsId, IsJsonOfNamed}
 use Rattle.json_verdict.specs.declared.judge.Verdict as judge
 use Rattle.json_verdict.specs.declared.judge.Verdict.TheVariants as verdict
 use Rattle.naga_module.specs.declared.check.ModuleFault.TheVariants as fault
@@ -15,27 +16,27 @@ use Rattle.leafnurd.specs.declared.reply.Form.TheVariants as forms
 abbrev pub laid : List ℕ → List ℕ → List ℕ
 laid text out = take (length out) text ++ drop (length text) out
 
--- the text of a verdict with its misfit: its JSON; of the text for people no more is said than that there is one
-unfoldable pub IsTextOf : Form → judge.Verdict → Option Misfit → List ℕ → Type 0
-IsTextOf forms.Json v misfit text = IsJsonOf v misfit text
-IsTextOf forms.Lines v misfit text = ⊤
+-- the text of a verdict with its id and its misfit: its JSON; of the text for people no more is said than that there is one
+unfoldable pub IsTextOf : Form → Option Id → judge.Verdict → Option Misfit → List ℕ → Type 0
+IsTextOf forms.Json id v misfit text = IsJsonOfNamed id v misfit text
+IsTextOf forms.Lines id v misfit text = ⊤
 
 -- The status is that of this verdict, the length is that of its text, and this text was laid into the caller's bytes.
-abbrev pub Tells : Form → judge.Verdict → Option Misfit → Answer → List ℕ → List ℕ → Type 0
-Tells form v misfit answer old new =
-    (text : List ℕ) × IsTextOf form v misfit text × (answer.status ≡ status_of v) × (answer.length ≡ length text)
+abbrev pub Tells : Form → Option Id → judge.Verdict → Option Misfit → Answer → List ℕ → List ℕ → Type 0
+Tells form id v misfit answer old new =
+    (text : List ℕ) × IsTextOf form id v misfit text × (answer.status ≡ status_of v) × (answer.length ≡ length text)
     × (new ≡ laid text old)
 
 -- This verdict is reported, or out of memory.
-abbrev pub IsTold : Form → judge.Verdict → Option Misfit → Answer → List ℕ → List ℕ → Type 0
-IsTold form v misfit answer old new =
-    Tells form v misfit answer old new ⊎ Tells form (verdict.Refused fault.Memory) None answer old new
+abbrev pub IsTold : Form → Option Id → judge.Verdict → Option Misfit → Answer → List ℕ → List ℕ → Type 0
+IsTold form id v misfit answer old new =
+    Tells form id v misfit answer old new ⊎ Tells form None (verdict.Refused fault.Memory) None answer old new
 
--- A verdict of the document is reported. That there was no memory is a verdict of each document (`Judges`).
+-- A verdict of the document is reported. That there was no memory is a verdict of each document (`Judges`), and needs no id.
 abbrev pub IsAnswered : Form → List ℕ → Answer → List ℕ → List ℕ → Type 0
 IsAnswered form document answer old new =
-    (v : judge.Verdict) × (misfit : Option Misfit) × Judges document v × HasMisfit document v misfit
-    × Tells form v misfit answer old new
+    (id : Option Id) × (v : judge.Verdict) × (misfit : Option Misfit) × Judges document v × HasMisfit document v misfit
+    × HasItsId document v id × Tells form id v misfit answer old new
 
 -- the version 0.1.0, in ASCII
 abbrev pub version_text : List ℕ

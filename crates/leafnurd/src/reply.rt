@@ -6,7 +6,7 @@ ghost use Rattle.json_verdict.specs.declared.judge.Verdict.TheVariants as verdic
 ghost use Rattle.leafnurd.specs.Replies.{IsAnswered, IsTextOf, IsTold, laid};
 
 use json_verdict::examine::{Examined, examine};
-use json_verdict::line::json_line;
+use json_verdict::named::named_line;
 use json_verdict::verdict::write_examined;
 use std::alloc::Global;
 use std::fmt;
@@ -45,17 +45,17 @@ fn lines_text(alloc: Global, examined: &Examined) -> Result<String, fmt::Error> 
 
 /// The text of the verdict in this form. None is out of memory.
 fn text_of(alloc: Global, examined: &Examined, form: Form) -> Option<String>
-    ensures { IfSome result (λ text. IsTextOf form examined.now.verdict examined.now.misfit (string_bytes text)) }
+    ensures { IfSome result (λ text. IsTextOf form examined.now.id examined.now.verdict examined.now.misfit (string_bytes text)) }
 {
     match form {
-        Form::Json => json_line(alloc, examined).ok(),
+        Form::Json => named_line(alloc, examined).ok(),
         Form::Lines => lines_text(alloc, examined).ok(),
     }
 }
 
 /// The text of out of memory.
 fn memory_text(form: Form) -> &'static [u8]
-    ensures { IsTextOf form (verdicts.Refused faults.Memory) None result.now }
+    ensures { IsTextOf form None (verdicts.Refused faults.Memory) None result.now }
 {
     match form {
         Form::Json => b"\"memory\"",
@@ -78,7 +78,7 @@ fn told(status: u8, text: &[u8], out: &mut [u8]) -> Answer
 
 /// Writes the verdict, and answers its status. If there is no memory for its text, both are those of out of memory.
 fn tell(alloc: Global, examined: &Examined, out: &mut [u8], form: Form) -> Answer
-    ensures { IsTold form examined.now.verdict examined.now.misfit result out.old out.new }
+    ensures { IsTold form examined.now.id examined.now.verdict examined.now.misfit result out.old out.new }
 {
     match text_of(alloc, examined, form) {
         Some(text) => told(examined.verdict.status(), text.as_str().as_bytes(), out),

@@ -3,6 +3,7 @@ use Rattle.std.specs.Prelude.{◌≡◌, ◌⊎◌, ℕ, false, List, Option, No
 use Rattle.std.specs.Io.KnownBytes.{Appends}
 use Rattle.ir_misfits.specs.declared.misfit.Misfit.{Misfit}
 use Rattle.naga_module.specs.declared.check.ModuleFault.TheVariants as faults
+use Rattle.json_document.specs.declared.id.Id.{Id}
 use Rattle.json_verdict.specs.Judges.{status_of}
 use Rattle.json_verdict.specs.Runs.{IsLineOf}
 use Rattle.json_verdict.specs.declared.text.Bytes.{Bytes}
@@ -19,11 +20,11 @@ unfoldable pub Holds : Bytes → List ℕ → Type 0
 Holds bytes text = bytes.is_lost ≡ false → bytes.kept.items ≡ take most text
 
 -- the line of this verdict was written
-abbrev pub TellsOf : Form → judge.Verdict → Option Misfit → Option (List ℕ) → Option (List ℕ) → ℕ → Type 0
-TellsOf form v misfit old new status =
-    (line : List ℕ) × IsLineOf form v misfit line × Appends old new line × (status ≡ status_of v)
+abbrev pub TellsOf : Form → Option Id → judge.Verdict → Option Misfit → Option (List ℕ) → Option (List ℕ) → ℕ → Type 0
+TellsOf form id v misfit old new status =
+    (line : List ℕ) × IsLineOf form id v misfit line × Appends old new line × (status ≡ status_of v)
 
 -- the line of the verdict was written, or that there was no memory
-abbrev pub Tells : Form → judge.Verdict → Option Misfit → Option (List ℕ) → Option (List ℕ) → ℕ → Type 0
-Tells form v misfit old new status =
-    TellsOf form v misfit old new status ⊎ TellsOf form (verdicts.Refused faults.Memory) None old new status
+abbrev pub Tells : Form → Option Id → judge.Verdict → Option Misfit → Option (List ℕ) → Option (List ℕ) → ℕ → Type 0
+Tells form id v misfit old new status =
+    TellsOf form id v misfit old new status ⊎ TellsOf form None (verdicts.Refused faults.Memory) None old new status

@@ -8,6 +8,14 @@ pub returns : goal.returns
 returns c =
     let found = c.examine-examined.result in
     elim c.tell.ensures [
-      | inl told ↦ (found.verdict, found.misfit, c.examine-examined.ensures.judged, c.examine-examined.ensures.misfit, told)
-      | inr told ↦ (verdict.Refused fault.Memory, None, inl refl, memory_fits c.args.text.now _ None refl, told)
+      | inl told ↦ (
+        found.id,
+        found.verdict,
+        found.misfit,
+        c.examine-examined.ensures.judged,
+        c.examine-examined.ensures.misfit,
+        c.examine-examined.ensures.id,
+        told,
+      )
+      | inr told ↦ (None, verdict.Refused fault.Memory, None, inl refl, memory_fits c.args.text.now _ None refl, inl refl, told)
     ]

@@ -1,7 +1,7 @@
 use Rattle.std.proofs.Common.{Option, Some, None, Result, Ok, Err}
 use Rattle.std.specs.Prelude.{IfOk, IfSome, ⊤, string_bytes}
 use Rattle.std.specs.Result.{result_ok}
-use Rattle.json_verdict.specs.VerdictJson.{IsJsonOf}
+use Rattle.json_verdict.specs.Named.{IsJsonOfNamed}
 use Rattle.leafnurd.specs.Replies.{IsTextOf}
 use Rattle.leafnurd.proofs.reply.text_of.Goals as goal
 
@@ -19,4 +19,5 @@ returns-in-Lines c = rw c.in-Lines.is (any c.ok-in-Lines.result)
 
 pub returns-in-Json : goal.returns-in-Json
 unfolding IsTextOf
-returns-in-Json c = rw (c.in-Json.is, c.ok.ensures.value) (same c.json_line.result (λ t. IsJsonOf c.args.examined.now.verdict c.args.examined.now.misfit (string_bytes t)) c.json_line.ensures)
+returns-in-Json c = rw (c.in-Json.is, c.ok.ensures.value) (same c.named_line.result
+    (λ t. IsJsonOfNamed c.args.examined.now.id c.args.examined.now.verdict c.args.examined.now.misfit (string_bytes t)) c.named_line.ensures)

@@ -1,6 +1,7 @@
 use Rattle.std.proofs.Common.{◌∙◌, subst, arith}
-use Rattle.json_verdict.proofs.Kept.{kept_judges, kept_misfit}
+use Rattle.json_verdict.proofs.Kept.{kept_id, kept_judges, kept_misfit}
 use Rattle.json_verdict.specs.Judges.{HasMisfit, Judges}
+use Rattle.json_verdict.specs.Named.{HasItsId}
 use Rattle.json_verdict.specs.walk.Stream.{Holds, most}
 use Rattle.json_verdict.proofs.text.Bytes.examine.Goals as goal
 
@@ -18,3 +19,11 @@ returns-else-self-clause-misfit c = λ text held.
     let misfit = c.examine.result.misfit in
     kept_misfit most text v misfit (omega arith)
     (subst (λ t. HasMisfit t v misfit) (c.as_slice.ensures.value ∙ held c.if-self.false) c.examine.ensures.misfit)
+
+pub returns-else-self-clause-id : goal.returns-else-self-clause-id
+unfolding Holds
+returns-else-self-clause-id c = λ text held.
+    let v = c.examine.result.verdict in
+    let id = c.examine.result.id in
+    kept_id most text v id (omega arith)
+    (subst (λ t. HasItsId t v id) (c.as_slice.ensures.value ∙ held c.if-self.false) c.examine.ensures.id)

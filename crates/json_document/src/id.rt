@@ -1,0 +1,52 @@
+//! Ids of documents.
+
+ghost use Rattle.std.specs.Prelude.{◌≡◌, IfOk};
+ghost use Rattle.serde_json.specs.View.{view};
+ghost use Rattle.json_document.specs.Ids.{id_in, id_of};
+
+use ir_types::Name;
+use json_values::read::error::ReadError;
+use json_values::read::from_json::FromJson;
+use serde_json::Value;
+use std::alloc::{AllocError, Global};
+
+/// What a document is called by whoever sent it: its verdict says so too.
+#[derive(Debug, Drop)]
+pub enum Id {
+    Text(Name),
+    Integer(i64),
+}
+
+impl FromJson for Id {
+    ghost stands_for = { id_of };
+
+    fn from_json(alloc: Global, value: &Value) -> Result<Self, ReadError> {
+        if value.as_str().is_some() {
+            return match Name::from_json(alloc, value) {
+                Ok(text) => Ok(Id::Text(text)),
+                Err(error) => Err(error),
+            };
+        }
+        match value.as_i64() {
+            Some(number) => Ok(Id::Integer(number)),
+            None => Err(ReadError::expected(
+                alloc,
+                "a text, or an integer from -9223372036854775808 to 9223372036854775807",
+            )),
+        }
+    }
+}
+
+/// The id that a value has, if it has one. An Err is out of memory.
+pub(crate) fn id_in(alloc: Global, value: &Value) -> Result<Option<Id>, AllocError>
+    ensures { IfOk result (λ id. id ≡ id_in (view value.now)) }
+{
+    match value.get("id") {
+        Some(inner) => match Id::from_json(alloc, inner) {
+            Ok(id) => Ok(Some(id)),
+            Err(ReadError::Unreadable(_)) => Ok(None),
+            Err(ReadError::Memory) => Err(AllocError),
+        },
+        None => Ok(None),
+    }
+}
