@@ -9,9 +9,9 @@ returns-in-Some c = rw c.in-Some.is (record {
   types = c.of_facts.ensures.globals;
 })
 
-pub returns-in-None : goal.returns-in-None
-returns-in-None c = rw c.in-None.is (record {
+pub returns-in_ok-computed-in-None : goal.returns-in_ok-computed-in-None
+returns-in_ok-computed-in-None c = rw c.in-None.is (record {
   meaning = refl;
-  infos = c.in_ok-computed.ensures.types;
-  types = c.in_ok-computed.ensures.globals;
+  infos = c.in_ok-computed-in-None.ensures.types;
+  types = c.in_ok-computed-in-None.ensures.globals;
 })
