@@ -1,5 +1,5 @@
--- What doesn't fit: of which verdicts there is a misfit, and that it is the document's.
-use Rattle.std.proofs.Common.{◌≡◌, List, ℕ, Option, None, Err, Result, sym, ◌∙◌, subst}
+-- The verdict of a document, and its misfit, by what was judged over its basis.
+use Rattle.std.proofs.Common.{◌≡◌, List, ℕ, Option, Result, Ok, Err, refl, sym, ◌∙◌, subst, inl, inr}
 use Rattle.ir_facts.specs.Points.{first_fault}
 use Rattle.ir_facts.specs.declared.valid.info.ModuleInfo.{ModuleInfo}
 use Rattle.ir_misfits.specs.declared.misfit.Misfit.{Misfit}
@@ -12,7 +12,7 @@ use Rattle.json_document.specs.ReadsDocument.{IsDocument}
 use Rattle.json_document.specs.declared.document.Document.{Document}
 use Rattle.json_values.specs.declared.read.error.Unreadable.{Unreadable}
 use Rattle.json_verdict.specs.Basis.{IsBasis, meaning_of}
-use Rattle.json_verdict.specs.Judges.{HasMisfit, IsJudged, first_misfit}
+use Rattle.json_verdict.specs.Judges.{HasMisfit, IsJudged, Judges, first_misfit}
 use Rattle.json_verdict.specs.declared.basis.Basis.{Basis}
 use Rattle.json_verdict.specs.declared.judge.Verdict as judge
 use Rattle.json_verdict.specs.declared.judge.Verdict.TheVariants as verdicts
@@ -42,6 +42,28 @@ memory_fits text v misfit is = λ same. absurd (not_memory (sym is ∙ same))
 pub judged_over : (d : Document) (basis : Basis) (r : Result ModuleInfo ModuleFault) → IsBasis d.known d.module basis
     → IsJudgementOrMemory (meaning_of basis.layer) d.settings basis.given.types.items d.module basis.given.global_types.items r → IsJudged d r
 judged_over d basis r is judged = rw (is.meaning, is.infos, is.types) at judged
+
+-- the verdict of a text, by what it is
+pub accepted_judges : (text : List ℕ) (d : Document) (basis : Basis) (v : judge.Verdict) (m : Module) (infos : ModuleInfo) → IsDocument text d
+    → IsBasis d.known d.module basis
+    → IsJudgementOrMemory (meaning_of basis.layer) d.settings basis.given.types.items d.module basis.given.global_types.items (Ok infos)
+    → d.module ≡ m → v ≡ verdicts.Accepted m infos → Judges text v
+accepted_judges text d basis v m infos is over judged same told =
+    subst (Judges text) (sym told) (d, is, same, judged_over d basis (Ok infos) over judged)
+
+pub refused_judges : (text : List ℕ) (d : Document) (basis : Basis) (v : judge.Verdict) (e : ModuleFault) → IsDocument text d
+    → IsBasis d.known d.module basis
+    → IsJudgementOrMemory (meaning_of basis.layer) d.settings basis.given.types.items d.module basis.given.global_types.items (Err e)
+    → v ≡ verdicts.Refused e → Judges text v
+refused_judges text d basis v e is over judged told =
+    subst (Judges text) (sym told) (inr (d, is, judged_over d basis (Err e) over judged))
+
+pub unreadable_judges : (text : List ℕ) (v : judge.Verdict) (unreadable : Unreadable) → ((d : Document) → IsDocument text d → ⊥)
+    → v ≡ verdicts.Unreadable unreadable → Judges text v
+unreadable_judges text v unreadable none told = subst (Judges text) (sym told) none
+
+pub memory_judges : (text : List ℕ) (v : judge.Verdict) → v ≡ verdicts.Refused faults.Memory → Judges text v
+memory_judges text v told = subst (Judges text) (sym told) (inl refl)
 
 -- the first misfit over a basis is the document's
 first_over : (d : Document) (basis : Basis) (misfit : Option Misfit) → IsBasis d.known d.module basis

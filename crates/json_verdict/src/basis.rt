@@ -1,11 +1,11 @@
 //! What a module is judged over: the facts of its document, or what is computed from it.
 
-ghost use Rattle.std.specs.Prelude.{◌≡◌, IfOk};
+ghost use Rattle.std.specs.Prelude.{◌≡◌, Some, IfOk};
 ghost use Rattle.ir_facts.specs.Points.{first_fault};
 ghost use Rattle.naga_module.specs.Misfits.{module_points};
 ghost use Rattle.naga_module.specs.ModuleJudgement.{IsJudgementOrMemory};
 ghost use Rattle.json_verdict.specs.Basis.{IsBasis, meaning_of};
-ghost use Rattle.json_verdict.specs.Judges.{computed_infos, computed_types};
+ghost use Rattle.json_verdict.specs.Judges.{computed_infos, computed_types, recorded_of};
 
 use json_document::Known;
 use json_places::Lent;
@@ -37,7 +37,9 @@ impl Basis {
     }
 
     fn of_facts(known: Known) -> Self
-        ensures { (m : Module) → IsBasis (Some known) m result }
+        ensures layer { result.layer ≡ Some (recorded_of known) }
+        ensures infos { result.given.types.items ≡ known.type_infos }
+        ensures globals { result.given.global_types.items ≡ known.global_types }
     {
         let Known {
             type_infos,

@@ -119,6 +119,7 @@ fn refusal(
 
 /// Judges a text as [`judge`](crate::judge::judge) does, and finds where the fault of a refused module stands, and what
 /// doesn't fit.
+#[tactic(auto, using(crate::proofs::Misfits::accepted_judges, crate::proofs::Misfits::refused_judges, crate::proofs::Misfits::memory_judges, crate::proofs::Misfits::accepted_fits, crate::proofs::Misfits::refused_has, crate::proofs::Misfits::unreadable_fits, crate::proofs::Misfits::memory_fits))]
 pub fn examine(alloc: Global, text: &[u8]) -> Examined
     // The verdict is that of the text.
     ensures judged { Judges text.now result.verdict }

@@ -35,11 +35,23 @@ pub fn write_verdict(
 {
     match &examined.verdict {
         Verdict::Accepted { infos, .. } => write_infos(out, infos),
-        Verdict::Refused(fault) => {
-            let place = place_text(alloc, examined.found())?;
-            write_refused(out, fault, &examined.misfit, &place)
-        }
+        Verdict::Refused(fault) => write_found(alloc, out, fault, examined),
         Verdict::Unreadable(unreadable) => write_unreadable(alloc, out, unreadable),
+    }
+}
+
+/// Writes the fault of a module with its place, if that is known.
+fn write_found(
+    alloc: Global,
+    out: &mut JsonWriter,
+    fault: &ModuleFault,
+    examined: &Examined,
+) -> Result<(), AllocError>
+    ensures { WritesFault result out.old out.new examined.now.misfit fault.now }
+{
+    match place_text(alloc, examined.found()) {
+        Ok(place) => write_refused(out, fault, &examined.misfit, &place),
+        Err(error) => Err(error),
     }
 }
 

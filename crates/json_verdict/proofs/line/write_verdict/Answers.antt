@@ -8,7 +8,7 @@ returns-in-Accepted c = ([], None, rw c.in-Accepted.is c.write_infos.ensures)
 
 pub returns-in-Refused : goal.returns-in-Refused
 unfolding verdict_form
-returns-in-Refused c = rw c.in-Refused.is c.write_refused.ensures
+returns-in-Refused c = rw c.in-Refused.is c.write_found.ensures
 
 pub returns-in-Unreadable : goal.returns-in-Unreadable
 unfolding verdict_form
