@@ -1,3 +1,5 @@
+use Rattle.std.proofs.Common.{Ok, Err, subst}
+use Rattle.json_document.specs.ReadsDocument.{ReadsDocument}
 use Rattle.json_values.specs.Failures.{IsUnreadable}
 use Rattle.json_verdict.proofs.Misfits.{refused_has, unreadable_judges}
 use Rattle.json_verdict.proofs.examine.examine.Goals as goal
@@ -5,9 +7,11 @@ use Rattle.json_verdict.proofs.examine.examine.Goals as goal
 pub returns-in-Err-Unreadable-clause-judged : goal.returns-in-Err-Unreadable-clause-judged
 returns-in-Err-Unreadable-clause-judged c =
     let refused : IsUnreadable c.in-Err-Unreadable.field-0 = rw c.in-Err-Unreadable.field-0-is tt in
-    unreadable_judges _ _ _ (c.in-Err-Unreadable.ensures refused) c.alone.ensures.verdict
+    let read : ReadsDocument c.args.text.now (Err c.in-Err-Unreadable.field-0) = subst (ReadsDocument c.args.text.now) c.in-Err-Unreadable.is c.read_text-id.ensures.document in
+    unreadable_judges _ _ _ (read refused) c.alone.ensures.verdict
 
 pub returns-clause-misfit : goal.returns-clause-misfit
 returns-clause-misfit c =
+    let read : ReadsDocument c.args.text.now (Ok c.in-Ok.document) = subst (ReadsDocument c.args.text.now) c.in-Ok.is c.read_text-id.ensures.document in
     refused_has c.args.text.now c.in-Ok.document c.in-Ok-new.basis c.refusal.result.verdict c.in-Err-judge.fault c.refusal.result.misfit
-    c.in-Ok.ensures c.in-Ok-new.ensures c.in-Err-judge.ensures c.refusal.ensures.verdict c.refusal.ensures.misfit
+    read c.in-Ok-new.ensures c.in-Err-judge.ensures c.refusal.ensures.verdict c.refusal.ensures.misfit
