@@ -2,7 +2,7 @@
    document.
 
    The three functions for memory are this file's. A call answers the document's own verdict, or a refusal without its
-   place, or "memory", and gives back each block that it got. */
+   place, or for people without the types of operands, or "memory", and gives back each block that it got. */
 #include "documents.h"
 
 /* The request that is refused, counted from 1; 0: none. */
@@ -45,6 +45,15 @@ static int is_without_place(const char *out, size_t length, const char *verdict,
     return length == kept + 15 && !memcmp(out + kept, ",\"place\":null}}", 15);
 }
 
+/* Whether a text for people is the document's own without the types of operands in its last line, which says why an
+   expression has no type. */
+static int is_without_types(const char *out, size_t length, const char *verdict) {
+    const char *last = strrchr(verdict, '\n');
+    const char *why = last ? strstr(last, ": ") : NULL;
+    size_t kept = last ? (size_t)(last - verdict) + 1 : 0, end = why ? strlen(why) : 0;
+    return why && length >= kept + end && !memcmp(out, verdict, kept) && !memcmp(out + length - end, why, end);
+}
+
 /* Refuses the first request, the second, and so on up to the call that meets no refusal, and answers how many there
    were. */
 static size_t refuse_each(call *judge, text document, leafnurd_answer own, const char *verdict, text memory, const char *mark) {
@@ -61,7 +70,8 @@ static size_t refuse_each(call *judge, text document, leafnurd_answer own, const
             CHECK(answer.status == LEAFNURD_REFUSED && own.status == LEAFNURD_REFUSED, "request %zu", refused);
             CHECK(answer.length < ROOM, "request %zu", refused);
             out[answer.length] = '\0';
-            CHECK(is_without_place(out, answer.length, verdict, mark), "request %zu", refused);
+            CHECK(is_without_place(out, answer.length, verdict, mark)
+                || (*mark != ',' && is_without_types(out, answer.length, verdict)), "request %zu", refused);
         }
         if (requests < refused) {
             CHECK(answer.length == own.length && !memcmp(out, verdict, own.length), "the call without a refusal");
