@@ -1,11 +1,11 @@
 -- Where no point of something fails, what it asks for holds, and the other way round.
-use Rattle.std.proofs.Common.{◌≡◌, ◌<◌, ◌≤◌, ◌+◌, ◌↔◌, ℕ, zero, suc, Bool, true, false, List, [], ◌∷◌, ◌++◌, All, Option, Some, None, length, refl, subst, arith}
+use Rattle.std.proofs.Common.{◌≡◌, ◌<◌, ◌≤◌, ◌+◌, ℕ, zero, suc, Bool, true, false, List, [], ◌∷◌, ◌++◌, All, Option, Some, None, refl, subst, arith}
 use Rattle.std.proofs.lemmas.Bool.{ltb-true, lt-ltb, leb-true, le-leb}
 use Rattle.std.specs.Prelude.{⊤, IfSome, nat_lt, nat_le}
 use Rattle.ir_facts.proofs.Each.{EachFrom, each_from}
 use Rattle.ir_facts.proofs.Points.{first_holds, both_hold}
 use Rattle.ir_facts.specs.Each.{EachAt}
-use Rattle.ir_facts.specs.Points.{Point, first_fault, points_from, points_of_each}
+use Rattle.ir_facts.specs.Points.{first_fault, points_from, points_of_each}
 use Rattle.ir_misfits.specs.declared.misfit.HandleOf.{HandleOf}
 use Rattle.ir_misfits.specs.declared.misfit.Misfit.{Misfit}
 use Rattle.ir_misfits.specs.declared.misfit.Place.{Place}

@@ -1,7 +1,7 @@
 -- What the points of a body, and of a function, ask for is that it fits.
-use Rattle.std.proofs.Common.{◌≡◌, ◌<◌, ◌≤◌, ℕ, Bool, true, List, [], ◌∷◌, ◌++◌, All, Option, Some, None, length, refl}
+use Rattle.std.proofs.Common.{◌<◌, ◌≤◌, ℕ, List, [], ◌∷◌, ◌++◌, All, Option, length}
 use Rattle.std.proofs.lemmas.Bool.{leb-true, le-leb}
-use Rattle.std.specs.Prelude.{⊤, IfSome, nat_le}
+use Rattle.std.specs.Prelude.{IfSome, nat_le}
 use Rattle.ir_arena.specs.declared.range.Range.{Range}
 use Rattle.ir_module.specs.declared.functions.Function.{Function}
 use Rattle.ir_module.specs.declared.module.Module.{Module}
@@ -19,7 +19,7 @@ use Rattle.ir_module.specs.Tree.{Stmt, Leaf, Block, Branch, Switch, Loop, Break,
 use Rattle.ir_module.specs.View.{body_of, no_operands}
 use Rattle.ir_facts.specs.Fits.{FitsFunction, LocalFits, NameEarlierExpressions, ReferencesFit}
 use Rattle.ir_facts.specs.FitsBody.{SignatureFits, CalleeFits, AtomicFits, GatherFits, QueryFits, PipelineFits, LeafFits, StatementFits, BodyFits, CasesFit}
-use Rattle.ir_facts.specs.Points.{first_fault, points_of_each}
+use Rattle.ir_facts.specs.Points.{points_of_each}
 use Rattle.ir_misfits.specs.declared.misfit.HandleOf.TheVariants as handle
 use Rattle.ir_misfits.specs.declared.misfit.Misfit.{Misfit}
 use Rattle.ir_misfits.specs.declared.misfit.Owner.{Owner}
@@ -27,7 +27,7 @@ use Rattle.ir_misfits.specs.declared.misfit.Place.TheVariants as place
 use Rattle.ir_misfits.specs.declared.misfit.Problem.TheVariants as problem
 use Rattle.ir_misfits.specs.declared.misfit.StatementField.{StatementField}
 use Rattle.ir_misfits.specs.declared.misfit.StatementField.TheVariants as field
-use Rattle.ir_misfits.specs.Points.{Points, named, named_if}
+use Rattle.ir_misfits.specs.Points.{Points}
 use Rattle.ir_misfits.specs.OfSignatures.{signature_points, callee_points}
 use Rattle.ir_misfits.specs.OfExpressions.{expressions_points, reference_points}
 use Rattle.ir_misfits.specs.OfBodies.{next, after_statement, after_body, names, names_if, atomic_points, gather_points, query_points, pipeline_points, range_points, call_argument_points, call_points, leaf_points, statement_points, body_points, cases_points}

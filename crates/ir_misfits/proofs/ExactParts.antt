@@ -1,11 +1,10 @@
 -- What the points of types, globals, expressions and entry points ask for is that they fit.
-use Rattle.std.proofs.Common.{◌≡◌, ◌≢◌, ◌<◌, ◌≤◌, ◌↔◌, ℕ, Bool, true, false, not, List, [], ◌∷◌, ◌++◌, All, Option, Some, None, length, slice_get, refl, arith, eqb-true, eq-eqb}
-use Rattle.std.proofs.lemmas.Option.{slice_get_within, slice_get_past}
-use Rattle.std.specs.Prelude.{⊤, IfSome, IsSomeAnd, ◌==◌}
+use Rattle.std.proofs.Common.{◌≡◌, ◌≢◌, ◌<◌, ◌↔◌, ℕ, Bool, true, false, not, List, [], ◌∷◌, ◌++◌, All, Option, Some, None, length, slice_get, refl, eqb-true, eq-eqb}
+use Rattle.std.proofs.lemmas.Option.{slice_get_within}
+use Rattle.std.specs.Prelude.{⊤, IfSome, IsSomeAnd}
 use Rattle.ir_types.specs.declared.types.AddressSpace.{AddressSpace}
 use Rattle.ir_types.specs.declared.types.AddressSpace.TheVariants as space
 use Rattle.ir_types.specs.declared.types.ImageClass.TheVariants as class
-use Rattle.ir_types.specs.declared.types.StructMember.{StructMember}
 use Rattle.ir_types.specs.declared.types.TypeInner.{TypeInner}
 use Rattle.ir_types.specs.declared.types.TypeInner.TheVariants as inner
 use Rattle.ir_types.specs.declared.types.Type.{«Type» as IrType}
@@ -25,8 +24,8 @@ use Rattle.ir_module.specs.Operands.{operands_of}
 use Rattle.ir_facts.specs.Each.{EachAt}
 use Rattle.ir_facts.specs.Fits.{FitsTypes, MemberCountFits, FitsGlobals, GlobalFits, IsUnbindable, IsUnbindableArray, NameEarlierExpressions, ReferencesFit, LocalFits, FitsEntry, MeshFits}
 use Rattle.ir_facts.specs.FitsBody.{SignatureFits, CalleeFits}
-use Rattle.ir_facts.specs.Infos.{empty_info}
-use Rattle.ir_facts.specs.Points.{first_fault, points_of_each}
+use Rattle.ir_facts.specs.declared.valid.info.ModuleInfo.{ModuleInfo}
+use Rattle.ir_facts.specs.Points.{points_of_each}
 use Rattle.ir_misfits.specs.declared.misfit.EntryField.TheVariants as entry_field
 use Rattle.ir_misfits.specs.declared.misfit.HandleOf.TheVariants as handle
 use Rattle.ir_misfits.specs.declared.misfit.Misfit.{Misfit}
@@ -39,7 +38,7 @@ use Rattle.ir_misfits.specs.declared.misfit.TypeField.TheVariants as type_field
 use Rattle.ir_misfits.specs.declared.misfit.TypeOwner.{TypeOwner}
 use Rattle.ir_misfits.specs.declared.misfit.TypeOwner.TheVariants.{OfModule, OfGlobalExpression}
 use Rattle.ir_misfits.specs.declared.misfit.VariableField.TheVariants as field
-use Rattle.ir_misfits.specs.Points.{Points, named, named_if, counted}
+use Rattle.ir_misfits.specs.Points.{Points, named, named_if}
 use Rattle.ir_misfits.specs.OfTypes.{member_points, inner_points, earlier_points, member_count_points, count_points, constant_points, override_points, types_points}
 use Rattle.ir_misfits.specs.OfSignatures.{argument_points, outcome_points, signature_points, signature_points_if, callee_points}
 use Rattle.ir_misfits.specs.OfExpressions.{expressions_of, operand_points, operands_points, expressions_points, reference_points}
@@ -271,8 +270,9 @@ resolution_exact : (n k : ℕ) (r : TypeResolution) → Exact (resolution_points
 resolution_exact n k (Handle h) = named_alone (place.InType (OfGlobalExpression k) type_field.Whole) handle.Types n h
 resolution_exact n k (Value i) = inner_exact (OfGlobalExpression k) n i
 
-pub globals_exact : (m : Module) (types : List TypeResolution) → Exact (globals_points m types) (FitsGlobals m (record empty_info { global_types = types }))
-globals_exact m types =
+pub globals_exact : (m : Module) (info : ModuleInfo) → Exact (globals_points m info.global_types) (FitsGlobals m info)
+globals_exact m info =
+    let types = info.global_types in
     let n = length m.types in
     let P1 : Type 0 = All (GlobalFits m) m.global_variables in
     let P2 : Type 0 = length types ≡ length m.global_expressions in

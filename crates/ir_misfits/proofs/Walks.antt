@@ -9,7 +9,7 @@ use Rattle.ir_module.specs.Tree.{Stmt, Body}
 use Rattle.ir_module.specs.View.{no_operands, tree_of, body_of, list_body, list_cases}
 use Rattle.ir_facts.proofs.Each.{from_here}
 use Rattle.ir_facts.proofs.Points.{first_of_both}
-use Rattle.ir_facts.specs.Points.{Point, first_fault}
+use Rattle.ir_facts.specs.Points.{first_fault}
 use Rattle.ir_misfits.specs.declared.misfit.Misfit.{Misfit}
 use Rattle.ir_misfits.specs.declared.misfit.Owner.{Owner}
 use Rattle.ir_misfits.specs.Points.{Points}

@@ -1,5 +1,5 @@
 -- The misfits of a function of a module.
-use Rattle.std.specs.Prelude.{ℕ, [], ◌∷◌, ◌++◌, length}
+use Rattle.std.specs.Prelude.{ℕ, ◌∷◌, ◌++◌, length}
 use Rattle.ir_module.specs.declared.functions.Function.{Function}
 use Rattle.ir_module.specs.declared.functions.LocalVariable.{LocalVariable}
 use Rattle.ir_module.specs.declared.module.Module.{Module}

@@ -1,5 +1,5 @@
 -- The misfits of the types of a module, and of what else names one of them.
-use Rattle.std.specs.Prelude.{ℕ, List, [], ◌∷◌, ◌++◌, length}
+use Rattle.std.specs.Prelude.{ℕ, [], ◌∷◌, ◌++◌, length}
 use Rattle.ir_types.specs.declared.types.StructMember.{StructMember}
 use Rattle.ir_types.specs.declared.types.TypeInner.{TypeInner}
 use Rattle.ir_types.specs.declared.types.TypeInner.TheVariants as inner

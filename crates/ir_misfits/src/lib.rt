@@ -1,10 +1,11 @@
-//! What doesn't fit: the first thing that fails a test of conditions, by its place and what is wrong there. Nothing allocates.
-//! Users import these from `naga_module`.
+//! The tests of conditions, and what doesn't fit: the first thing that fails one, by its place and what is wrong there. Nothing
+//! allocates. Users import the tests from `naga_below`, and the rest from `naga_module`.
 #![tactic(auto)]
 
 pub mod body;
 pub mod entry;
 pub mod expressions;
+pub mod fits;
 pub mod function;
 pub mod globals;
 pub mod laws;
@@ -15,6 +16,7 @@ pub mod texts;
 pub mod types;
 
 pub use crate::entry::check_entry_fits;
+pub use crate::fits::{fits_entry, fits_function, fits_globals, fits_types};
 pub use crate::function::check_function_fits;
 pub use crate::globals::check_globals_fit;
 pub use crate::laws::misfits_law;

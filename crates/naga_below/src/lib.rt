@@ -9,11 +9,11 @@ pub use ir_facts::{
     Disalignment, ExpressionError, ExpressionKind, ExpressionKindTracker, FunctionInfo,
     ImmediateError, ModuleInfo, Settings, TypeInfo,
 };
-pub use ir_fits::{fits_entry, fits_function, fits_globals, fits_types};
 pub use ir_flags::{
     Barrier, Capabilities, GlobalUse, MemoryDecorations, ShaderStages, StorageAccess,
     SubgroupOperationSet, TypeFlags, ValidationFlags,
 };
+pub use ir_misfits::{fits_entry, fits_function, fits_globals, fits_types};
 pub use ir_module::{
     AtomicFunction, Block, CollectiveOperation, Constant, CooperativeData, EarlyDepthTest,
     EntryPoint, Expression, Function, FunctionArgument, FunctionResult, GatherMode, GlobalVariable,

@@ -104,7 +104,7 @@ module_exact below types m global_types =
     (λ a. (a.infos, (a.types_fit, (a.globals, (a.functions, (a.sizes, a.entries))))))
     (both ps1 (ps2 ++ (ps3 ++ (ps4 ++ (ps5 ++ ps6)))) P1 (P2 × (P3 × (P4 × (P5 × P6)))) (infos_exact m types)
     (both ps2 (ps3 ++ (ps4 ++ (ps5 ++ ps6))) P2 (P3 × (P4 × (P5 × P6))) (types_exact m)
-    (both ps3 (ps4 ++ (ps5 ++ ps6)) P3 (P4 × (P5 × P6)) (globals_exact m global_types)
+    (both ps3 (ps4 ++ (ps5 ++ ps6)) P3 (P4 × (P5 × P6)) (globals_exact m (first_infos global_types))
     (both ps4 (ps5 ++ ps6) P4 (P5 × P6) e4 (both ps5 ps6 P5 P6 e5 e6)))))
 
 -- an answer that is the first misfit: it is none exactly where what is asked for holds, and there is one elsewhere

@@ -1,4 +1,5 @@
 use Rattle.ir_misfits.proofs.ExactParts.{types_exact, globals_exact, entry_exact}
+use Rattle.ir_facts.specs.Infos.{empty_info}
 use Rattle.ir_misfits.proofs.ExactBodies.{function_exact}
 use Rattle.ir_misfits.proofs.laws.misfits_law.Goals as goal
 
@@ -6,7 +7,7 @@ pub returns-clause-types : goal.returns-clause-types
 returns-clause-types c = λ m. let e = types_exact m in (e.holds, e.passes)
 
 pub returns-clause-globals : goal.returns-clause-globals
-returns-clause-globals c = λ m types. let e = globals_exact m types in (e.holds, e.passes)
+returns-clause-globals c = λ m types. let e = globals_exact m (record empty_info { global_types = types }) in (e.holds, e.passes)
 
 pub returns-clause-functions : goal.returns-clause-functions
 returns-clause-functions c = λ of f m earlier. let e = function_exact of f m earlier in (e.holds, e.passes)
