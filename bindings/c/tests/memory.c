@@ -45,13 +45,21 @@ static int is_without_place(const char *out, size_t length, const char *verdict,
     return length == kept + 15 && !memcmp(out + kept, ",\"place\":null}}", 15);
 }
 
+/* Whether a text ends with another one. */
+static int ends_with(const char *out, size_t length, const char *end) {
+    size_t own = strlen(end);
+    return length >= own && !memcmp(out + length - own, end, own);
+}
+
 /* Whether a text for people is the document's own without the types of operands in its last line, which says why an
-   expression has no type. */
+   expression has no type. Of an operator with two sides that line has the types in its sentence. */
 static int is_without_types(const char *out, size_t length, const char *verdict) {
+    static const char of_operator[] = ": the operator doesn't take operands of these types";
     const char *last = strrchr(verdict, '\n');
     const char *why = last ? strstr(last, ": ") : NULL;
-    size_t kept = last ? (size_t)(last - verdict) + 1 : 0, end = why ? strlen(why) : 0;
-    return why && length >= kept + end && !memcmp(out, verdict, kept) && !memcmp(out + length - end, why, end);
+    size_t kept = last ? (size_t)(last - verdict) + 1 : 0;
+    if (!why || length <= kept || memcmp(out, verdict, kept)) return 0;
+    return ends_with(out, length, why) || ends_with(out, length, of_operator);
 }
 
 /* Refuses the first request, the second, and so on up to the call that meets no refusal, and answers how many there

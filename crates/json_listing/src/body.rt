@@ -1,8 +1,9 @@
 //! The statements of a body, one a line.
 
 use crate::words::{write_part, write_spaces, write_statement};
+use json_document::Step;
 use json_places::nodes::way_to;
-use json_places::{Inside, Node, Part, Position};
+use json_places::{Inside, Node, Part, Place, Position};
 use std::alloc::{AllocError, Global};
 use std::fmt;
 
@@ -68,7 +69,8 @@ impl Shown {
         Ok(())
     }
 
-    fn has(&self, number: usize) -> bool {
+    /// Whether a statement is written.
+    pub fn has(&self, number: usize) -> bool {
         match self.is_shown.as_slice().get(number) {
             Some(is_shown) => *is_shown,
             None => false,
@@ -95,18 +97,19 @@ fn digits(number: usize) -> usize {
     count
 }
 
-/// Writes the statements that are shown, each with its number, and a mark at the one that has the fault. Lists stand under
-/// what they are called, and an empty list is left out.
+/// Writes the statements that are shown, each with its number, and a mark at the one that has the fault, whose place stands at
+/// the head. Lists stand under what they are called, and an empty list is left out.
 pub fn write_body<W: fmt::Write>(
     out: &mut W,
     nodes: &[Node<'_>],
     shown: &Shown,
     position: Option<Position>,
+    place: &Place,
 ) -> fmt::Result {
     if nodes.is_empty() {
         return Ok(());
     }
-    out.write_str("\nbody:")?;
+    write_head(out, position, place)?;
     let width = digits(nodes.len().saturating_sub(1));
     let mut hidden = 0usize;
     for (number, node) in nodes.iter().enumerate() {
@@ -126,6 +129,33 @@ pub fn write_body<W: fmt::Write>(
         write_node(out, node, number, width, position)?;
     }
     write_gap(out, hidden)
+}
+
+/// Writes the head of a body: which number the place has that the verdict tells.
+fn write_head<W: fmt::Write>(
+    out: &mut W,
+    position: Option<Position>,
+    place: &Place,
+) -> fmt::Result {
+    out.write_str("\nbody")?;
+    match position {
+        None => return out.write_str(":"),
+        Some(Position::Statement(number)) => write!(out, ", where #{number}")?,
+        Some(Position::BreakIf(number)) => {
+            write!(out, ", where the break condition of #{number}")?
+        }
+    }
+    out.write_str(" is the place body")?;
+    let mut is_inside = false;
+    for step in place.steps.as_slice() {
+        match step {
+            Step::Name(name) if is_inside => write!(out, "/{name}")?,
+            Step::Index(index) if is_inside => write!(out, "/{index}")?,
+            Step::Name(name) => is_inside = *name == "body",
+            Step::Index(_) => {}
+        }
+    }
+    out.write_str(":")
 }
 
 /// Writes how many statements are left out.

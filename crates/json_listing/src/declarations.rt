@@ -195,18 +195,42 @@ fn write_mesh<W: fmt::Write>(
     Ok(())
 }
 
-/// Writes the expressions that are marked, if there are some.
+/// At most so many expressions are written for the sake of statements that don't have the fault.
+const MOST_EXPRESSIONS: usize = 100;
+
+/// Writes expressions, if there are some: all that the shown statements name, or where these are too many those that the fault
+/// is about, and how many are left out.
 pub fn write_expressions<W: fmt::Write>(
+    out: &mut W,
+    function: &Function,
+    marks: &Marks,
+    all: &Marks,
+    spot: Spot,
+) -> fmt::Result {
+    let count = all.count();
+    if count == 0 {
+        return Ok(());
+    }
+    out.write_str("\nexpressions:")?;
+    if count <= MOST_EXPRESSIONS {
+        return write_marked(out, function, all, spot);
+    }
+    write_marked(out, function, marks, spot)?;
+    match count.saturating_sub(marks.count()) {
+        0 => Ok(()),
+        left => write!(out, "\n  .. {left} more, which other statements below name"),
+    }
+}
+
+/// Writes the expressions that are marked.
+fn write_marked<W: fmt::Write>(
     out: &mut W,
     function: &Function,
     marks: &Marks,
     spot: Spot,
 ) -> fmt::Result {
-    let mut before = "\nexpressions:";
     for (index, expression) in function.expressions.as_slice().iter().enumerate() {
         if marks.has(index) {
-            out.write_str(before)?;
-            before = "";
             let is_marked = match spot {
                 Spot::Expression(handle) => handle.index() == index,
                 _ => false,

@@ -4,6 +4,7 @@
 
 pub mod body;
 pub mod declarations;
+pub mod kept;
 pub mod listing;
 pub mod marks;
 pub mod run;

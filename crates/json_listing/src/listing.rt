@@ -2,8 +2,11 @@
 
 use crate::body::{Shown, write_body};
 use crate::declarations::{write_declarations, write_entry, write_expressions, write_global};
+use crate::kept::{Kept, kept_of};
 use crate::marks::{Marks, user_in};
-use crate::why::{Earlier, earlier_of, write_cases, write_earlier, write_reason, write_twin};
+use crate::why::{
+    Earlier, earlier_of, write_cases, write_cures, write_earlier, write_reason, write_twin,
+};
 use json_places::find::unseen;
 use json_places::{Found, Node, Position, Reason, Spot, nodes_of};
 use naga_below::{Function, Handle, Module, Statement, tag};
@@ -14,7 +17,7 @@ use std::alloc::{AllocError, Global};
 use std::fmt;
 
 /// Writes the listing of a refused module, without a newline at the end: of a global its declaration, of a function or an
-/// entry point its declarations, the expressions that the faulty statement names and all that they are made from, and its
+/// entry point its declarations, the expressions that the shown statements name and all that they are made from, and its
 /// body. The fault has a mark, and why it is there follows, where the listing shows it.
 ///
 /// An Err is that of the writer, or out of memory.
@@ -84,22 +87,70 @@ fn write_function<W: fmt::Write>(
     let nodes = nodes.as_slice();
     let position = position_of(found.spot);
     write_declarations(out, module, function, found.spot)?;
-    let marks = marks_of(alloc, function, nodes, fault, found)?;
-    write_expressions(out, function, &marks, found.spot)?;
     let earlier = match (fault, position) {
         (Some(fault), Some(position)) => earlier_of(alloc, function, nodes, fault, position)?,
         _ => Earlier::None,
     };
-    let named = named_by(alloc, found.reason, earlier)?;
+    let kept = kept_before(alloc, function, nodes, fault, found)?;
+    let named = named_by(alloc, found.reason, earlier, &kept)?;
     let shown = Shown::new(alloc, nodes, position, named.as_slice())?;
-    write_body(out, nodes, &shown, position)?;
+    let marks = marks_of(alloc, function, nodes, fault, found)?;
+    let all = marks_of_shown(alloc, function, nodes, &marks, &shown)?;
+    write_expressions(out, function, &marks, &all, found.spot)?;
+    write_body(out, nodes, &shown, position, &found.place)?;
     match (fault, position) {
         (Some(fault), Some(position)) => {
             write_earlier(out, earlier)?;
-            write_why(out, function, nodes, fault, position, found)
+            write_why(out, function, nodes, fault, position, found, &kept)
         }
         _ => Ok(()),
     }
+}
+
+/// What is done with a value before its list ends, if the fault is that it has ended. An Err is out of memory.
+fn kept_before(
+    alloc: Global,
+    function: &Function,
+    nodes: &[Node<'_>],
+    fault: Option<&FunctionError>,
+    found: &Found,
+) -> Result<Option<Kept>, AllocError> {
+    let Some(
+        Reason::Ended {
+            emitted,
+            ended_loop,
+            ..
+        },
+    ) = found.reason
+    else {
+        return Ok(None);
+    };
+    let handle = match fault {
+        Some(fault) => unseen(fault, nodes, &found.spot),
+        None => None,
+    };
+    match handle {
+        Some(handle) => Ok(Some(kept_of(alloc, function, nodes, emitted, ended_loop, handle)?)),
+        None => Ok(None),
+    }
+}
+
+/// The expressions that the fault is about, and those that the shown statements name, with all that they are made from.
+fn marks_of_shown(
+    alloc: Global,
+    function: &Function,
+    nodes: &[Node<'_>],
+    marks: &Marks,
+    shown: &Shown,
+) -> Result<Marks, AllocError> {
+    let mut all = marks.copy(alloc)?;
+    for (number, node) in nodes.iter().enumerate() {
+        if shown.has(number) {
+            all.add_whole_statement(&node.located.statement);
+        }
+    }
+    all.close(function);
+    Ok(all)
 }
 
 /// The expressions that the fault is about, with all that they are made from.
@@ -148,11 +199,12 @@ fn add_unseen(
     }
 }
 
-/// The statements that a reason names.
+/// The statements that a reason names, and those that name a value before its list ends.
 fn named_by(
     alloc: Global,
     reason: Option<Reason>,
     earlier: Earlier,
+    kept: &Option<Kept>,
 ) -> Result<Vec<usize>, AllocError> {
     let mut named = Vec::new(alloc);
     match reason {
@@ -167,6 +219,14 @@ fn named_by(
         Earlier::Emits(number) | Earlier::Fills(number) => named.push(number)?,
         Earlier::FromStart | Earlier::Unflagged | Earlier::None => {}
     }
+    if let Some(kept) = kept {
+        for number in kept.named.as_slice() {
+            named.push(*number)?;
+        }
+        if let Some(stored) = kept.stored {
+            named.push(stored.number)?;
+        }
+    }
     Ok(named)
 }
 
@@ -178,10 +238,15 @@ fn write_why<W: fmt::Write>(
     fault: &FunctionError,
     position: Position,
     found: &Found,
+    kept: &Option<Kept>,
 ) -> fmt::Result {
     if let (Some(reason), Some(handle)) = (found.reason, unseen(fault, nodes, &found.spot)) {
         write_user(out, function, nodes, position.number(), handle)?;
-        return write_reason(out, position, handle, reason);
+        write_reason(out, position, handle, reason)?;
+        return match kept {
+            Some(kept) => write_cures(out, function, position, handle, reason, kept),
+            None => Ok(()),
+        };
     }
     match nodes.get(position.number()) {
         Some(node) => write_cases(out, &node.located.statement, fault),

@@ -40,6 +40,33 @@ impl Marks {
         }
     }
 
+    /// Takes the mark of an expression away.
+    pub fn remove(&mut self, handle: Handle<tag::Expression>) {
+        if let Some(mark) = self.marked.as_mut_slice().get_mut(handle.index()) {
+            *mark = false;
+        }
+    }
+
+    /// How many expressions are marked.
+    pub fn count(&self) -> usize {
+        let mut count = 0usize;
+        for mark in self.marked.as_slice() {
+            if *mark {
+                count = count.saturating_add(1);
+            }
+        }
+        count
+    }
+
+    /// The same marks once more. An Err is out of memory.
+    pub fn copy(&self, alloc: Global) -> Result<Marks, AllocError> {
+        let mut marked = Vec::with_capacity(alloc, self.marked.len())?;
+        for mark in self.marked.as_slice() {
+            marked.push(*mark)?;
+        }
+        Ok(Marks { marked })
+    }
+
     fn add_if_any(&mut self, handle: Option<Handle<tag::Expression>>) {
         if let Some(handle) = handle {
             self.add(handle);
@@ -71,7 +98,19 @@ impl Marks {
         }
     }
 
-    /// Marks the expressions that a statement names, but those of the statements that it holds.
+    /// Marks all expressions that a statement names, those of a long Emit too.
+    pub fn add_whole_statement(&mut self, statement: &Statement) {
+        match statement {
+            Statement::Emit(range) => {
+                for index in range.start..range.end {
+                    self.add(Handle::new(index));
+                }
+            }
+            _ => self.add_statement(statement),
+        }
+    }
+
+    /// Marks the expressions that a statement names, but those of the statements that it holds, and those of a long Emit.
     pub fn add_statement(&mut self, statement: &Statement) {
         match statement {
             Statement::Emit(range) => {

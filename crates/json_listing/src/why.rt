@@ -1,5 +1,6 @@
 //! Why a statement or a declaration is refused, where the body or the declarations show it.
 
+use crate::kept::{Kept, Stored};
 use json_places::nodes::result_of;
 use json_places::parts::{Bound, Group, bounds_of, first_of};
 use json_places::scope::first_emission;
@@ -83,7 +84,7 @@ fn write_position<W: fmt::Write>(out: &mut W, position: Position) -> fmt::Result
     }
 }
 
-/// Writes why an expression isn't in scope at a position, and what to do.
+/// Writes why an expression isn't in scope at a position, and what to do. Where its list has ended, [`write_cures`] says that.
 pub fn write_reason<W: fmt::Write>(
     out: &mut W,
     position: Position,
@@ -93,32 +94,27 @@ pub fn write_reason<W: fmt::Write>(
     match reason {
         Reason::Never => {
             write!(out, "\nWhy: no statement of the body emits {handle:?}.")?;
-            write_cure(out, position, handle)
+            write_cure(out, "Cure", position, handle)
         }
-        Reason::Ended { emitted, list } => {
+        Reason::Ended { emitted, list, .. } => {
             write!(out, "\nWhy: #{emitted} emits {handle:?}, in ")?;
             write_list_name(out, list)?;
             out.write_str(", which has ended before ")?;
             write_position(out, position)?;
-            out.write_str(".")?;
-            write_cure(out, position, handle)?;
-            write!(
-                out,
-                "\nOr: store it in a local after #{emitted}, and use a Load of that."
-            )
+            out.write_str(".")
         }
         Reason::Later { emitted } if position == Position::Statement(emitted) => {
             write!(
                 out,
                 "\nWhy: #{emitted} itself emits {handle:?}, after it has used it."
             )?;
-            write_cure(out, position, handle)
+            write_cure(out, "Cure", position, handle)
         }
         Reason::Later { emitted } => {
             write!(out, "\nWhy: #{emitted} emits {handle:?}, and comes after ")?;
             write_position(out, position)?;
             out.write_str(".")?;
-            write_cure(out, position, handle)
+            write_cure(out, "Cure", position, handle)
         }
         Reason::Skipped {
             emitted,
@@ -150,13 +146,57 @@ fn write_cure_of_skipped<W: fmt::Write>(
     out.write_str(".")
 }
 
+/// Writes the two cures of a value whose list has ended. One that a Loop makes anew in each turn is kept in a local first.
+pub fn write_cures<W: fmt::Write>(
+    out: &mut W,
+    function: &Function,
+    position: Position,
+    handle: Handle<tag::Expression>,
+    reason: Reason,
+    kept: &Kept,
+) -> fmt::Result {
+    let Reason::Ended { emitted, .. } = reason else {
+        return Ok(());
+    };
+    if kept.is_of_loop {
+        write_keeping(out, "Cure", function, emitted, kept)?;
+        return write_cure(out, "Or", position, handle);
+    }
+    write_cure(out, "Cure", position, handle)?;
+    write_keeping(out, "Or", function, emitted, kept)
+}
+
+/// Writes in which local a value is kept, or that one is needed.
+fn write_keeping<W: fmt::Write>(
+    out: &mut W,
+    lead: &str,
+    function: &Function,
+    emitted: usize,
+    kept: &Kept,
+) -> fmt::Result {
+    let Some(Stored { number, local }) = kept.stored else {
+        return write!(
+            out,
+            "\n{lead}: store it in a local after #{emitted}, and use a Load of that."
+        );
+    };
+    write!(out, "\n{lead}: use a Load of local {local:?}")?;
+    if let Some(local) = function.local_variables.as_slice().get(local.index()) {
+        if let Some(name) = &local.name {
+            write!(out, " {name:?}")?;
+        }
+    }
+    write!(out, ", in which #{number} stores it.")
+}
+
 /// Writes where an expression is to be emitted.
 fn write_cure<W: fmt::Write>(
     out: &mut W,
+    lead: &str,
     position: Position,
     handle: Handle<tag::Expression>,
 ) -> fmt::Result {
-    write!(out, "\nCure: emit {handle:?} before ")?;
+    write!(out, "\n{lead}: emit {handle:?} before ")?;
     write_position(out, position)?;
     out.write_str(", in the same list or in one around it.")
 }

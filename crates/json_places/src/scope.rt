@@ -13,7 +13,10 @@ pub enum Reason {
     /// A statement emits it in a list that has ended.
     Ended {
         emitted: usize,
+        /// The innermost list around that statement.
         list: Inside,
+        /// The outermost Loop around it that has ended, if one has.
+        ended_loop: Option<usize>,
     },
     /// Only this statement and later ones emit it. It may be the statement that uses it.
     Later {
@@ -104,19 +107,32 @@ fn found(
     }
     let same = shared(around, way);
     let first = around.get(same)?;
-    if !has_one_scope(*first, way.get(same)) {
-        return Some(Reason::Ended {
-            emitted,
-            list: *first,
-        });
-    }
-    match around.get(same.saturating_add(1)) {
+    let open = if has_one_scope(*first, way.get(same)) {
+        same.saturating_add(1)
+    } else {
+        same
+    };
+    let Some((_, ended)) = around.split_at_checked(open) else {
+        return None;
+    };
+    match ended.last() {
         Some(list) => Some(Reason::Ended {
             emitted,
             list: *list,
+            ended_loop: outermost_loop(ended),
         }),
         None => skipped(nodes, emitted, *first),
     }
+}
+
+/// The first Loop of which one of these is a list.
+fn outermost_loop(parts: &[Inside]) -> Option<usize> {
+    for inside in parts {
+        if matches!(inside.part, Part::Body | Part::Continuing) {
+            return Some(inside.number);
+        }
+    }
+    None
 }
 
 /// Whether a statement, with the parts around it, is visited before a position.

@@ -1,0 +1,158 @@
+//! What a body does with a value before the list ends in which it is emitted.
+
+use crate::marks::Marks;
+use json_places::Node;
+use json_places::nodes::result_of;
+use naga_below::{Expression, Function, Handle, Statement, tag};
+use std::alloc::{AllocError, Global};
+
+/// So many statements that name the value are shown.
+const HANDFUL: usize = 5;
+
+/// A statement that stores a value, and the local that it is stored in.
+#[derive(Clone, Copy)]
+pub struct Stored {
+    pub number: usize,
+    pub local: Handle<tag::LocalVariable>,
+}
+
+/// What is done with a value between its emission and the end of the list.
+#[derive(Drop)]
+pub struct Kept {
+    /// The first statements that name it.
+    pub named: Vec<usize>,
+    /// The first one that stores it in a local.
+    pub stored: Option<Stored>,
+    /// Whether a Loop that has ended made it anew in each turn.
+    pub is_of_loop: bool,
+}
+
+/// What is done with a value that this statement emits, until the list of that statement ends. `ended_loop` is the outermost
+/// Loop around it that has ended. An Err is out of memory.
+pub fn kept_of(
+    alloc: Global,
+    function: &Function,
+    nodes: &[Node<'_>],
+    emitted: usize,
+    ended_loop: Option<usize>,
+    handle: Handle<tag::Expression>,
+) -> Result<Kept, AllocError> {
+    let is_of_loop = match ended_loop {
+        Some(holder) => is_made_in(alloc, function, nodes, holder, handle)?,
+        None => false,
+    };
+    let mut named = Vec::new(alloc);
+    let mut stored = None;
+    let mut marks = Marks::new(alloc, function.expressions.len())?;
+    for (number, node) in behind(nodes, emitted).iter().enumerate() {
+        if !is_in_list_of(node, nodes.get(emitted)) {
+            break;
+        }
+        let statement = &node.located.statement;
+        let number = emitted.saturating_add(1).saturating_add(number);
+        if stored.is_none() {
+            stored = stored_by(function, number, statement, handle);
+        }
+        marks.remove(handle);
+        marks.add_statement(statement);
+        if marks.has(handle.index()) && named.len() < HANDFUL {
+            named.push(number)?;
+        }
+    }
+    Ok(Kept {
+        named,
+        stored,
+        is_of_loop,
+    })
+}
+
+/// The statements that are visited after this one.
+fn behind<'a, 'b>(nodes: &'a [Node<'b>], number: usize) -> &'a [Node<'b>] {
+    match nodes.split_at_checked(number.saturating_add(1)) {
+        Some((_, left)) => left,
+        None => &[],
+    }
+}
+
+/// Whether a statement after another one stands in the same list, or is held by one that does.
+fn is_in_list_of(node: &Node<'_>, other: Option<&Node<'_>>) -> bool {
+    match other {
+        Some(other) => node.depth > other.depth || node.inside == other.inside,
+        None => false,
+    }
+}
+
+/// Whether a statement stores a value in a local, and in which.
+fn stored_by(
+    function: &Function,
+    number: usize,
+    statement: &Statement,
+    handle: Handle<tag::Expression>,
+) -> Option<Stored> {
+    let Statement::Store { pointer, value } = statement else {
+        return None;
+    };
+    if *value != handle {
+        return None;
+    }
+    match function.expressions.as_slice().get(pointer.index()) {
+        Some(Expression::LocalVariable(local)) => Some(Stored {
+            number,
+            local: *local,
+        }),
+        _ => None,
+    }
+}
+
+/// Whether a value is made anew in each turn of a Loop: it is loaded or the result of a statement, or something that it is made
+/// from is emitted in the Loop. An Err is out of memory.
+fn is_made_in(
+    alloc: Global,
+    function: &Function,
+    nodes: &[Node<'_>],
+    holder: usize,
+    handle: Handle<tag::Expression>,
+) -> Result<bool, AllocError> {
+    let Some(head) = nodes.get(holder) else {
+        return Ok(false);
+    };
+    if is_loaded(function, handle) {
+        return Ok(true);
+    }
+    let mut parts = Marks::new(alloc, function.expressions.len())?;
+    parts.add(handle);
+    parts.close(function);
+    for node in behind(nodes, holder) {
+        if node.depth <= head.depth {
+            break;
+        }
+        if brings_one(&node.located.statement, &parts, handle) {
+            return Ok(true);
+        }
+    }
+    Ok(false)
+}
+
+/// Whether an expression is a Load.
+fn is_loaded(function: &Function, handle: Handle<tag::Expression>) -> bool {
+    match function.expressions.as_slice().get(handle.index()) {
+        Some(expression) => matches!(expression, Expression::Load { .. }),
+        None => false,
+    }
+}
+
+/// Whether a statement has one of these as its result, or emits one of them that isn't the value itself.
+fn brings_one(statement: &Statement, parts: &Marks, value: Handle<tag::Expression>) -> bool {
+    if let Statement::Emit(range) = statement {
+        for index in range.start..range.end {
+            if index as usize != value.index() && parts.has(index as usize) {
+                return true;
+            }
+        }
+        return false;
+    }
+    match result_of(statement) {
+        Some(made) => parts.has(made.index()),
+        None => false,
+    }
+}
