@@ -18,8 +18,10 @@ import entries
 import fits
 import forms
 import functions
+import infos
 import modules
 import needs
+import operators
 import places
 import program
 import rules
@@ -27,6 +29,7 @@ import shaders
 import statements
 import table
 import typed
+import unfit
 import unshown
 
 # How many documents stand in front.
@@ -43,8 +46,9 @@ TABLES = [
     entries.faults, entries.order, entries.meshes, entries.stages, entries.worked, entries.kept,
     modules.modules, modules.recorded, modules.fault_table,
     rules.built_ins, rules.interpolations, rules.items, rules.globals_, capabilities.needing,
-    unshown.unshown, forms.forms, program.flags, fits.unfit, fits.switches, shaders.shaders, shaders.mistakes,
+    unshown.unshown, forms.forms, program.flags, fits.unfit, fits.switches, unfit.misfits, shaders.shaders, shaders.mistakes,
     typed.accesses, typed.functions, typed.cooperatives, computed.uses, computed.stages, computed.types, computed.meshes,
+    operators.operations, operators.image_operations, infos.infos,
 ]
 
 

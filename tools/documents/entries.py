@@ -3,12 +3,12 @@
 import form as f
 from entry import (
     AT_COMPUTE, AT_FRAGMENT, AT_MESH, AT_TASK, AT_VERTEX, COLLIDING, COLLIDING_FACELESS, COLOR, CORNERS, COUNTS, FACELESS,
-    IMMEDIATE, INCOMING, KILLS, OTHER_IMMEDIATE, OUTPUT, PAYLOAD, PLACED, PLACELESS, RAY_PAYLOAD, RESTS, ROUGH,
-    SHORT_PAYLOAD, SINK, SOURCES, STRUCTURE, TWIN, TWO_FACED, UNIFORM, WAITS, Analysis, at, entry_row, in_groups,
+    IMMEDIATE, INCOMING, KILLS, OTHER_IMMEDIATE, OTHER_RAY_PAYLOAD, OUTPUT, PAYLOAD, PLACED, PLACELESS, RAY_PAYLOAD, RESTS,
+    ROUGH, SHORT_PAYLOAD, SINK, SOURCES, STRUCTURE, TWIN, TWO_FACED, UNIFORM, WAITS, Analysis, Bench, at, entry_row, in_groups,
     smooth, triangles,
 )
-from form import F32, FLAGS, U32
-from statements import rows_of
+from form import F32, FLAGS, STAGES, U32
+from statements import one_function, rows_of
 from verdicts import WITH_ALL
 
 LAST = 4294967295
@@ -63,6 +63,7 @@ def faults():
         (AT_TASK.but(payload=SHORT_PAYLOAD), {"TaskPayloadTooSmall": 3}),
         (at("AnyHit").naming(RAY_PAYLOAD, RAY_PAYLOAD), {"RayPayloadInInvalidStage": "AnyHit"}),
         (at("RayGeneration").naming(INCOMING, INCOMING), {"IncomingRayPayloadInInvalidStage": "RayGeneration"}),
+        (at("RayGeneration").naming(STRUCTURE, RAY_PAYLOAD).doing(f.trace_ray(0, 2, 2)), {"Function": "InvalidPayloadType"}),
     ])
 
 
@@ -181,6 +182,14 @@ def stages():
 
 # Rows that were worked out by hand.
 
+def alone(case, outcome):
+    """The function of a case by itself, with a local that begins as the ray descriptor."""
+    bench = Bench([case])
+    made = bench.function(case)
+    made["local_variables"] = [{"name": None, "ty": bench.type(COLOR), "init": len(case.globals)}]
+    return one_function(bench.module, made, outcome)
+
+
 def positions(first):
     """Two positions, the first of which is invariant or not, and the second not so."""
     place = lambda invariant: (COLOR, f.built_in(f.position(invariant)))
@@ -195,7 +204,8 @@ def worked():
     with_any_bindings = lambda case: case.but(flags=tuple(f.without(FLAGS, "BINDINGS")))
     two_at_last = AT_FRAGMENT.but(arguments=(smooth(COLOR, LAST), smooth(COLOR, LAST)))
     out_of_range = "OutOfRangeWorkgroupSize"
-    return rows("entry/worked", [
+    generating = lambda payload, ray: at("RayGeneration").naming(STRUCTURE, payload).doing(ray)
+    entry_points = [
         (sized(AT_COMPUTE, 16384),),
         (sized(AT_COMPUTE, 16385), out_of_range),
         (sized(AT_COMPUTE, 0), out_of_range),
@@ -215,6 +225,10 @@ def worked():
         (AT_FRAGMENT.but(arguments=(smooth(COLOR, LAST),)),),
         (two_at_last, {"Argument": [1, {"BindingCollision": {"location": LAST}}]}),
         (with_any_bindings(two_at_last),),
+    ]
+    return rows_of("entry/worked", [entry_row(*case) for case in entry_points] + [
+        alone(generating(RAY_PAYLOAD, f.trace_ray(0, 1, 1)), {"InvalidRayDescriptor": 1}),
+        alone(generating(OTHER_RAY_PAYLOAD, "TraceRay"), STAGES),
     ])
 
 
@@ -233,4 +247,7 @@ def kept():
         (AT_COMPUTE.naming(UNIFORM, UNIFORM),),
         (tracing.but(payload=PAYLOAD), "UnexpectedTaskPayload"),
         (tracing,),
+        (AT_MESH.but(beside=(PAYLOAD,)),),
+        (AT_COMPUTE.but(beside=(OUTPUT,)),),
+        (AT_COMPUTE.naming(UNIFORM, UNIFORM).but(beside=(TWIN,)),),
     ])

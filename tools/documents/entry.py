@@ -62,8 +62,10 @@ SINK = Global("sink", f.storage("STORE", "ATOMIC"), U32, 0)
 RAY_PAYLOAD = Global("ray payload", "RayPayload", U32, None)
 INCOMING = Global("incoming", "IncomingRayPayload", U32, None)
 STRUCTURE = Global("structure", "Handle", STRUCTURE_TYPE, 2)
+OTHER_RAY_PAYLOAD = Global("other ray payload", "RayPayload", F32, None)
 GLOBALS = [
     OUTPUT, PAYLOAD, SHORT_PAYLOAD, IMMEDIATE, OTHER_IMMEDIATE, UNIFORM, TWIN, SINK, RAY_PAYLOAD, INCOMING, STRUCTURE,
+    OTHER_RAY_PAYLOAD,
 ]
 
 # The functions that entry points call, and the stages that they may run in.
@@ -96,13 +98,14 @@ class Analysis:
 @dataclass(frozen=True)
 class Case:
     """An entry point, and what it is judged over. Its function names globals, and its body calls functions (`Call` and which),
-    traces a ray (`TraceRay`), or has another statement."""
+    traces a ray (`TraceRay`), or has another statement. The module may have globals beside those that are named."""
     stage: str
     tests_depth: bool = False
     workgroup_size: tuple = (0, 0, 0)
     mesh: Mesh = None
     payload: object = None
     globals: tuple = ()
+    beside: tuple = ()
     body: tuple = ()
     arguments: tuple = ()
     declared: tuple = None
@@ -146,7 +149,7 @@ class Bench:
     """A module of entry points, with handles for what they name."""
 
     def __init__(self, cases, variables=None):
-        """Of the globals that cases name, or of these."""
+        """Of the globals that cases name or have beside these, or of the given ones."""
         self.module = Module()
         named = [self.named_by(case) for case in cases]
         self.variables = [var for var in GLOBALS if any(var in names for names in named)] if variables is None else variables
@@ -158,7 +161,7 @@ class Bench:
     @staticmethod
     def named_by(case):
         mesh = [case.mesh.output] if case.mesh else []
-        return [*case.globals, case.payload, *mesh]
+        return [*case.globals, *case.beside, case.payload, *mesh]
 
     def type(self, definition):
         """The handle of a type. Of structs all but the one of sources are not shared between stages."""

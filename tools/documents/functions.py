@@ -28,6 +28,14 @@ def variable_row(init, source, **settings):
     return one_function(typed_module(), made, variable_fault(0, source), None, **settings)
 
 
+def named_variable():
+    """A variable with a name, whose initializer is an i32."""
+    made = function([f.literal(f.SINT)], [], [(0, 0)])
+    made["local_variables"][0]["name"] = "color"
+    fault = {"LocalVariable": {"handle": 0, "name": "color", "source": "InitializerType"}}
+    return one_function(typed_module(), made, fault, None)
+
+
 def argument_row(ty, binding, fault, **settings):
     return one_function(typed_module(), function(arguments=[(ty, binding)]), fault, None, **settings)
 
@@ -51,6 +59,7 @@ def declarations():
         argument_row(0, f.location(0), {"PipelineInputRegularFunction": {"name": ""}}),
         argument_of_an_entry_point(),
         returns_nothing,
+        named_variable(),
     ])
 
 
@@ -218,6 +227,7 @@ def recorded():
         ([{"stages": ["FRAGMENT"]}], ["FRAGMENT"]),
         ([{"error": "InvalidImageArrayIndex"}], {"Expression": {"handle": 0, "source": "InvalidImageArrayIndex"}}),
         ([], USELESS),
+        ([{"stages": ["FRAGMENT"]}, {"stages": ["VERTEX"]}], ["FRAGMENT"]),
     ]
     told = [
         recorded_row([info_fact([{"Handle": 0}], [[]], expressions=expressions)], outcome)

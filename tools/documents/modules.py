@@ -4,6 +4,7 @@ import form as f
 import verdicts
 from entry import AT_COMPUTE, AT_FRAGMENT, AT_MESH, STRUCTURE_TYPE, Bench, Global, TypeOf, at
 from form import F32, HERE, STAGES, U32
+from functions import USELESS
 from module import Module, document, function
 from plain import info_fact
 from statements import rows_of
@@ -120,8 +121,15 @@ def unknown_mesh():
     return document(bench.module), verdicts.in_entry_point(0, "BadMeshOutputVariableType")
 
 
+def without_fact():
+    """An entry point of which no fact is recorded."""
+    module = Module(U32)
+    module.entry_point("Fragment", function([f.literal(f.UINT, 7)]))
+    return document(module, entry_points=[]), verdicts.refused({"EntryPoint": 0}, {"Function": USELESS})
+
+
 def recorded():
-    return rows_of("entry/recorded", [facts_in_order(), unknown_mesh()])
+    return rows_of("entry/recorded", [facts_in_order(), unknown_mesh(), without_fact()])
 
 
 def modules():

@@ -223,11 +223,15 @@ class Walk:
     def __init__(self, function):
         self.function = function
         self.events = []
+        # Whether the first that is unseen is in scope, and a run that takes a Continue comes there without it.
+        self.is_skipped = False
         known = {at for at, it in enumerate(function["expressions"]) if name_of(it) in PRE_EMITTED}
         self.list(function["body"], "", set(known), set(known))
 
-    def use(self, pointer, handle, sure):
+    def use(self, pointer, handle, scope, sure):
         if handle is not None and handle not in sure:
+            if all(kind != "unseen" for _, kind, _ in self.events):
+                self.is_skipped = handle in scope
             self.events.append((pointer, "unseen", handle))
 
     def put(self, pointer, handle, scope, sure):
@@ -250,10 +254,10 @@ class Walk:
         if name == "Emit":
             for handle in range(held["start"], held["end"]):
                 for operand in operands_of(self.function["expressions"][handle]):
-                    self.use(own, operand, sure)
+                    self.use(own, operand, scope, sure)
                 self.put(own, handle, scope, sure)
         for handle in uses_of(name, held):
-            self.use(own, handle, sure)
+            self.use(own, handle, scope, sure)
         for handle in emitted_by(name, held):
             self.put(own, handle, scope, sure)
         if name != "Loop":
@@ -265,7 +269,7 @@ class Walk:
         before = self.list(body, at, scope, sure)
         sure = sure if before is None else before
         self.list(continuing, behind, scope, sure)
-        self.use(f"{inner}/Loop/break_if", held["break_if"], sure)
+        self.use(f"{inner}/Loop/break_if", held["break_if"], scope, sure)
 
 
 # Which statements can have a fault, by its name.

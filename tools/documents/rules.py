@@ -18,28 +18,36 @@ TYPES = [
     f.matrix("Quad", "Quad", f.FLOAT), f.vector("Bi", f.BOOLEAN),
 ]
 
-# Each built-in with a place where it is visible (the letter of a stage, and `i` in or `o` out; `prim` among what a mesh puts out
-# of a primitive), its type, and a neighbor of it, which it doesn't have.
+# Each built-in with the places where it is visible, its type, and a neighbor of it, which it doesn't have. A place is the letter
+# of a stage and one for how: `i` in, `o` out, `p` out with the primitives of a mesh, `n` in without a task payload. `prim` is
+# among what a mesh puts out of a primitive.
+HITS = "Ai Ao Hi Ho"
+RAYS = f"Ri Ro {HITS} Si So"
+MISSES = f"{HITS} Si So"
+GROUPS = "Ci Ti Mi"
+SUBGROUPS = "Fi Ci Mi Ti Ri Ai Hi Si"
 BUILT_INS = [
-    ("BaseInstance", "Vi", 0, 11), ("BaseVertex", "Vi", 0, 11), ("VertexIndex", "Vi", 0, 11), ("InstanceIndex", "Vi", 0, 3),
-    ("DrawIndex", "Vi", 0, 11), ("ClipDistances", "Vo", 9, 10), ("CullDistance", "Vo", 9, 10), ("PointSize", "Vo", 1, 12),
-    ("PointCoord", "Fi", 5, 6), (f.position(False), "Fi", 7, 6), (f.position(True), "Fi", 7, 6), ("ViewIndex", "Vi", 0, 11),
-    ("FragDepth", "Fo", 1, 12), ("FrontFacing", "Fi", 2, 15), ("PrimitiveIndex", "Fi", 0, 3),
+    ("BaseInstance", "Vi", 0, 11), ("BaseVertex", "Vi", 0, 11), ("VertexIndex", "Vi", 0, 11),
+    ("InstanceIndex", "Vi Ai Hi", 0, 3), ("DrawIndex", "Vi Ti Mn", 0, 11), ("ClipDistances", "Vo Mo", 9, 10),
+    ("CullDistance", "Vo Mo", 9, 10), ("PointSize", "Vo Mo", 1, 12), ("PointCoord", "Fi", 5, 6),
+    (f.position(False), "Fi Vo Mo", 7, 6), (f.position(True), "Fi Vo Mo", 7, 6), ("ViewIndex", "Vi Fi Ti Mi", 0, 11),
+    ("FragDepth", "Fo", 1, 12), ("FrontFacing", "Fi", 2, 15), ("PrimitiveIndex", "Fi Ai Hi Mp", 0, 3),
     ({"Barycentric": {"perspective": False}}, "Fi", 6, 7), ({"Barycentric": {"perspective": True}}, "Fi", 6, 7),
-    ("SampleIndex", "Fi", 0, 11), ("SampleMask", "Fi", 0, 3), ("LocalInvocationIndex", "Ci", 0, 4),
-    ("GlobalInvocationId", "Ci", 4, 3), ("LocalInvocationId", "Ci", 4, 3), ("WorkGroupId", "Ci", 4, 3),
-    ("WorkGroupSize", "Ci", 4, 3), ("NumWorkGroups", "Ci", 4, 3), ("NumSubgroups", "Ci", 0, 11), ("SubgroupId", "Ci", 0, 11),
-    ("SubgroupSize", "Fi", 0, 11), ("SubgroupInvocationId", "Fi", 0, 11), ("CullPrimitive", "prim", 2, 15),
-    ("PointIndex", "prim", 0, 11), ("LineIndices", "prim", 3, 4), ("TriangleIndices", "prim", 4, 13),
-    ("MeshTaskSize", "To", 4, 3), ("RayInvocationId", "Ri", 4, 6), ("NumRayInvocations", "Ri", 4, 6),
-    ("InstanceCustomData", "Ai", 0, 11), ("GeometryIndex", "Ai", 0, 11), ("HitKind", "Ai", 0, 11),
-    ("WorldRayOrigin", "Ai", 6, 4), ("WorldRayDirection", "Ai", 6, 4), ("ObjectRayOrigin", "Ai", 6, 7),
-    ("ObjectRayDirection", "Ai", 6, 7), ("RayTmin", "Ai", 1, 0), ("RayTCurrentMax", "Ai", 1, 0), ("ObjectToWorld", "Ai", 8, 14),
-    ("WorldToObject", "Ai", 8, 14),
+    ("SampleIndex", "Fi", 0, 11), ("SampleMask", "Fi Fo", 0, 3), ("LocalInvocationIndex", GROUPS, 0, 4),
+    ("GlobalInvocationId", GROUPS, 4, 3), ("LocalInvocationId", GROUPS, 4, 3), ("WorkGroupId", GROUPS, 4, 3),
+    ("WorkGroupSize", GROUPS, 4, 3), ("NumWorkGroups", GROUPS, 4, 3), ("NumSubgroups", GROUPS, 0, 11),
+    ("SubgroupId", GROUPS, 0, 11), ("SubgroupSize", SUBGROUPS, 0, 11), ("SubgroupInvocationId", SUBGROUPS, 0, 11),
+    ("CullPrimitive", "prim", 2, 15), ("PointIndex", "prim", 0, 11), ("LineIndices", "prim", 3, 4),
+    ("TriangleIndices", "prim", 4, 13), ("MeshTaskSize", "To", 4, 3), ("RayInvocationId", RAYS, 4, 6),
+    ("NumRayInvocations", RAYS, 4, 6), ("InstanceCustomData", HITS, 0, 11), ("GeometryIndex", HITS, 0, 11),
+    ("HitKind", HITS, 0, 11), ("WorldRayOrigin", MISSES, 6, 4), ("WorldRayDirection", MISSES, 6, 4),
+    ("ObjectRayOrigin", HITS, 6, 7), ("ObjectRayDirection", HITS, 6, 7), ("RayTmin", MISSES, 1, 0),
+    ("RayTCurrentMax", MISSES, 1, 0), ("ObjectToWorld", HITS, 8, 14), ("WorldToObject", HITS, 8, 14),
 ]
 NEVER_VISIBLE = ["VertexCount", "PrimitiveCount", "Vertices", "Primitives"]
 AT_STAGE = {
-    "V": AT_VERTEX, "F": AT_FRAGMENT, "C": AT_COMPUTE, "T": AT_TASK, "R": at("RayGeneration"), "A": at("AnyHit"),
+    "V": AT_VERTEX, "F": AT_FRAGMENT, "C": AT_COMPUTE, "T": AT_TASK, "M": AT_MESH, "R": at("RayGeneration"), "A": at("AnyHit"),
+    "H": at("ClosestHit"), "S": at("Miss"),
 }
 
 
@@ -64,9 +72,9 @@ def said(where, fault):
 
 def built_ins():
     found = []
-    for name, place, ty, neighbor in BUILT_INS:
+    for name, places, ty, neighbor in BUILT_INS:
         for chosen in (ty, neighbor):
-            case, where = at_place(place, (TYPES[chosen], f.built_in(name)), name)
+            case, where = at_place(places.split()[0], (TYPES[chosen], f.built_in(name)), name)
             fault = said(where, {"InvalidBuiltInType": [name, InnerOf(TYPES[chosen])]})
             found.append(entry_row(case) if chosen == ty else entry_row(case, fault))
     for name in NEVER_VISIBLE:
@@ -83,13 +91,13 @@ SMOOTH = ["Center", "Centroid", "Sample"]
 PAIRS = {"Perspective": SMOOTH, "Linear": SMOOTH, "Flat": ["First", "Either"], "PerVertex": []}
 
 
-def interpolation_fault(interpolation, sampling, is_float):
-    """What is said of a part, by the list of a location."""
+def interpolation_fault(interpolation, sampling, is_float, is_asked_for=True):
+    """What is said of a part, by the list of a location. Three for each vertex are at Fragment."""
     if interpolation == "PerVertex" and sampling not in (None, "Center"):
         return "InvalidPerVertexSampling"
     if interpolation and sampling and sampling not in PAIRS[interpolation]:
         return {"InvalidInterpolationSamplingCombination": {"interpolation": interpolation, "sampling": sampling}}
-    if interpolation == "PerVertex":
+    if interpolation == "PerVertex" or not is_asked_for:
         return None
     if is_float:
         return None if interpolation else "MissingInterpolation"

@@ -3,9 +3,6 @@
 //! It reads the case from standard input, writes the line to standard output, and ends with the line's status.
 #![tactic(auto)]
 
-#[cfg(test)]
-mod tests;
-
 use case_run::run_case;
 use std::io;
 use std::process::ExitCode;

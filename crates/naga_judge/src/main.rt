@@ -6,8 +6,6 @@
 #![tactic(auto)]
 
 mod arguments;
-#[cfg(test)]
-mod tests;
 
 use crate::arguments::{Request, request_of};
 use clap::error::ErrorKind;

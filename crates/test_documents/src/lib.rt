@@ -1,4 +1,4 @@
-//! Tests of JSON documents and of what is unreadable.
+//! Tests of what no document shows of documents and cases: values that no form asks for alone, and writers whose flush fails.
 #![tactic(auto)]
 
 #[cfg(test)]

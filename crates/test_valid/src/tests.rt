@@ -1,4 +1,4 @@
-//! The validator over the plain layer, and what is told of refusals.
+//! What no document can say: what a validator keeps, out of memory, calls by themselves, and texts.
 
 ghost use Rattle.std.specs.Prelude.{◌≡◌, true};
 
@@ -18,12 +18,14 @@ macro_rules! holds {
     };
 }
 
-mod bodies;
-mod entry;
+mod bench;
 mod entry_errors;
+mod faltering;
+mod falters;
+mod fitting;
 mod globals;
-mod limits;
+mod judged;
+mod kept;
 mod parts;
-mod rays;
 mod report;
-mod settings;
+mod rows;

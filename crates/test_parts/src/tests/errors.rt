@@ -1,7 +1,4 @@
-//! Errors, of which no clause says what is tested: printed names and sentences, calls with ample memory, and a lower layer that
-//! answers within its laws.
+//! Errors, of which no clause says what is tested: printed names, and calls with ample memory.
 
-mod bools;
 mod clones;
-mod laws;
-mod texts;
+mod names;

@@ -1,24 +1,34 @@
 //! What the tests share: places, checks, what is known of types, and what there was memory for.
 
-use naga_below::{Span, Type, TypeFlags, TypeInfo, TypeInner, UniqueArena, ValidationFlags};
+use naga_below::{
+    Capabilities, Settings, ShaderStages, Span, SubgroupOperationSet, Type, TypeFlags, TypeInfo,
+    TypeInner, UniqueArena, ValidationFlags,
+};
 use std::process::Abort;
 
 /// Where nothing is.
 pub const NOWHERE: Span = Span::UNDEFINED;
 
-/// Where statements are.
+/// Where something is.
 pub const HERE: Span = Span { start: 3, end: 7 };
 
-/// What is known of a type that can be used for everything, and whose layouts are good.
-pub const GOOD: TypeInfo = TypeInfo {
-    flags: TypeFlags::ALL,
-    storage_layout: Ok(4),
-    uniform_layout: Ok(4),
-    immediates_compatibility: Ok(()),
+/// Every check, for a target with everything.
+pub const SETTINGS: Settings = Settings {
+    flags: ValidationFlags::ALL,
+    capabilities: Capabilities::ALL,
+    subgroup_stages: ShaderStages::ALL,
+    subgroup_operations: SubgroupOperationSet::ALL,
 };
 
-/// Every check.
-pub const ALL_CHECKS: ValidationFlags = ValidationFlags::ALL;
+/// What is known of a type that can be used for everything but between stages, and whose layouts are good.
+pub fn known() -> TypeInfo {
+    TypeInfo {
+        flags: TypeFlags(TypeFlags::ALL.0 & !TypeFlags::IO_SHAREABLE.0),
+        storage_layout: Ok(4),
+        uniform_layout: Ok(4),
+        immediates_compatibility: Ok(()),
+    }
+}
 
 /// What there was memory for.
 pub fn made<T, E>(rt: &impl Abort, answer: Result<T, E>) -> T {
@@ -32,4 +42,9 @@ pub fn made<T, E>(rt: &impl Abort, answer: Result<T, E>) -> T {
 pub fn add_type(rt: &impl Abort, types: &mut UniqueArena<Type>, inner: TypeInner) {
     holds!(rt; !types.is_full());
     made(rt, types.insert(Type { name: None, inner }, NOWHERE));
+}
+
+/// Two texts are the same.
+pub fn expect_text(rt: &impl Abort, found: &str, expected: &str) {
+    assert!(rt; found == expected, "{found}");
 }

@@ -1,15 +1,15 @@
 //! The texts of refusals, and that refusals pass into `anyhow`.
 
-use crate::tests::bodies::{EVERYTHING, expect_text, validator_for};
-use crate::tests::parts::{HERE, made};
+use crate::tests::bench::{Bench, make_bench};
+use crate::tests::judged::{layer, text_of, validator_over};
+use crate::tests::parts::{HERE, expect_text, made};
+use crate::tests::rows::{MISLED, function};
 use naga_below::{
-    AddressSpace, Capabilities, Expression, ExpressionError, Function, FunctionInfo, Handle,
-    Literal, Module, ModuleInfo, Name, Refusal, Scalar, Span, Statement, TypeInner, WithSpan,
-    fits_function, fits_types,
+    Function, FunctionInfo, Handle, Refusal, Span, WithSpan, fits_function, fits_types,
 };
 use naga_module::check::ModuleFault;
 use naga_module::report::{Subject, write_fault, write_module_fault, write_refusal};
-use naga_rules::{CallError, Explain, FunctionError, GlobalVariableError, LocalVariableError};
+use naga_rules::{Explain, FunctionError, GlobalVariableError};
 use naga_valid::EntryPointError;
 use std::process::Abort;
 
@@ -20,75 +20,9 @@ fn assert_told(
     refusal: &Refusal<FunctionError>,
     expected: &str,
 ) {
-    let mut told = String::new(rt.alloc());
-    made(
-        rt,
-        write_refusal(&mut told, Subject::Function(Handle::new(function)), refusal),
-    );
+    let told = text_of(rt, Subject::Function(Handle::new(function)), refusal);
     expect_text(rt, told.as_str(), expected);
     drop(told);
-}
-
-/// The refusal for a fault at this place.
-fn at(
-    rt: &(impl Abort + AllocGlobal),
-    place: Span,
-    fault: FunctionError,
-) -> Refusal<FunctionError> {
-    Refusal::Fault(made(rt, WithSpan::new(rt.alloc(), fault).with_span(place)))
-}
-
-/// The text of each fault between 50 and 55 in function 2, in the order of `fault_at`.
-static TOLD: [&str; 7] = [
-    "function [2]: 50..55: InvalidStoreTypes { pointer: [4], value: [1] }: the stored value is not of the type that the pointer points to",
-    "function [2]: 50..55: MissingCapability(Capabilities(SUBGROUP)): the target lacks a capability that a statement needs",
-    "function [2]: 50..55: InvalidPayloadAddressSpace(Private): the payload of a ray is in this address space, which is not for ray payloads",
-    "function [2]: 50..55: InvalidStoreTexture { actual: [3], actual_ty: Sampler { comparison: true } }: the stored value is an image or a sampler",
-    "function [2]: 50..55: InvalidReturnType { expression: None, expected_ty: Some([1]) }: the returned value doesn't match the declared return type, or only one of them is there",
-    "function [2]: 50..55: LocalVariable { handle: [0], name: \"color\", source: InitializerType }: a local variable is invalid: the initializer is of another type than the variable",
-    "function [2]: 50..55: InvalidCall { function: [1], error: Argument { index: 0, source: NotInScope } }: a call of this function is invalid: an argument is invalid: the expression is not in scope where it is used",
-];
-
-/// The fault at this place.
-fn fault_at(rt: &(impl Abort + AllocGlobal), index: usize) -> FunctionError {
-    match index {
-        0 => FunctionError::InvalidStoreTypes {
-            pointer: Handle::new(4),
-            value: Handle::new(1),
-        },
-        1 => FunctionError::MissingCapability(Capabilities::SUBGROUP),
-        2 => FunctionError::InvalidPayloadAddressSpace(AddressSpace::Private),
-        3 => FunctionError::InvalidStoreTexture {
-            actual: Handle::new(3),
-            actual_ty: TypeInner::Sampler { comparison: true },
-        },
-        4 => FunctionError::InvalidReturnType {
-            expression: None,
-            expected_ty: Some(Handle::new(1)),
-        },
-        5 => FunctionError::LocalVariable {
-            handle: Handle::new(0),
-            name: Name::from(made(rt, String::from_str(rt.alloc(), "color"))),
-            source: LocalVariableError::InitializerType,
-        },
-        _ => FunctionError::InvalidCall {
-            function: Handle::new(1),
-            error: CallError::Argument {
-                index: 0,
-                source: ExpressionError::NotInScope,
-            },
-        },
-    }
-}
-
-#[test]
-fn faults_are_told_with_their_fields(rt: HostRuntime) {
-    let place = Span { start: 50, end: 55 };
-    for (index, expected) in TOLD.iter().enumerate() {
-        let refusal = at(&rt, place, fault_at(&rt, index));
-        assert_told(&rt, 2, &refusal, expected);
-        drop(refusal);
-    }
 }
 
 /// A refusal without a place, one with two, and want of memory.
@@ -152,56 +86,34 @@ fn subjects_are_told(rt: HostRuntime) {
     );
 }
 
-/// The number 7.
-const SEVEN: Literal = Literal {
-    scalar: Scalar::U32,
-    bits: 7,
-};
-
-/// A function that returns a number although it declares no result.
-fn function(rt: &(impl Abort + AllocGlobal)) -> Function {
-    let mut fun = Function::new(rt.alloc());
-    holds!(rt; !fun.expressions.is_full());
-    made(
-        rt,
-        fun.expressions
-            .append(Expression::Literal(SEVEN), Span::UNDEFINED),
-    );
-    let ends = Statement::Return {
-        value: Some(Handle::new(0)),
-    };
-    made(rt, fun.body.push(ends, HERE));
-    fun
-}
-
 /// Judges a function, as a program does that only passes errors on.
 fn judged(
     rt: &(impl Abort + AllocGlobal),
     fun: &Function,
-    module: &Module,
+    bench: &Bench,
 ) -> anyhow::Result<FunctionInfo> {
-    let infos = ModuleInfo::new(rt.alloc());
-    let mut validator = validator_for(rt, EVERYTHING, module);
+    let Bench { module, infos } = bench;
+    let mut validator = validator_over(rt, layer());
     holds!(rt; validator.has_types_of(module));
     holds!(rt; fits_types(module));
     holds!(rt; fits_function(fun, module, infos.functions.len()));
-    let info = validator.validate_function(rt.alloc(), fun, module, &infos, false)?;
+    let info = validator.validate_function(rt.alloc(), fun, module, infos, false)?;
     Ok(info)
 }
 
 /// What the error says that such a program ends with.
-fn passed_text(rt: &(impl Abort + AllocGlobal), fun: &Function, module: &Module) -> String {
-    match judged(rt, fun, module) {
+fn passed_text(rt: &(impl Abort + AllocGlobal), fun: &Function, bench: &Bench) -> String {
+    match judged(rt, fun, bench) {
         Ok(_) => panic!(rt; "accepted"),
         Err(error) => made(rt, error.to_string(rt.alloc())),
     }
 }
 
 /// Such a program ends with this error. Where memory is refused, the function is judged again.
-fn expect_passed(rt: &(impl Abort + AllocGlobal), fun: &Function, module: &Module, expected: &str) {
-    let text = passed_text(rt, fun, module);
+fn expect_passed(rt: &(impl Abort + AllocGlobal), fun: &Function, bench: &Bench, expected: &str) {
+    let text = passed_text(rt, fun, bench);
     if text.as_str() == "Memory" {
-        let again = passed_text(rt, fun, module);
+        let again = passed_text(rt, fun, bench);
         expect_text(rt, again.as_str(), expected);
     } else {
         expect_text(rt, text.as_str(), expected);
@@ -210,11 +122,11 @@ fn expect_passed(rt: &(impl Abort + AllocGlobal), fun: &Function, module: &Modul
 
 #[test]
 fn refusals_pass_into_anyhow(rt: HostRuntime) {
-    let fun = function(&rt);
-    let module = Module::new(rt.alloc());
-    expect_passed(&rt, &fun, &module, "InvalidReturnType");
+    let bench = make_bench(&rt);
+    let fun = function(&rt, &MISLED);
+    expect_passed(&rt, &fun, &bench, "InvalidRayDescriptor");
     drop(fun);
-    drop(module);
+    drop(bench);
 }
 
 /// Passes a fault with its places on.

@@ -3,9 +3,9 @@
 use crate::tests::made;
 use bitflags::Flags;
 use naga_below::{
-    Barrier, Capabilities, ExpressionError, FunctionInfo, GlobalUse, Handle, ImageClass,
-    ImageDimension, MemoryDecorations, Refusal, Sequence, ShaderStages, Span, StorageAccess,
-    StorageFormat, SubgroupOperationSet, TypeFlags, ValidationFlags, WithSpan,
+    Barrier, Capabilities, ExpressionError, FunctionInfo, GlobalUse, Handle, MemoryDecorations,
+    Refusal, Sequence, ShaderStages, Span, SubgroupOperationSet, TypeFlags, ValidationFlags,
+    WithSpan,
 };
 use std::alloc::AllocError;
 use std::process::Abort;
@@ -66,59 +66,6 @@ fn uses_are_joined(rt: HostRuntime) {
     let mut info = reading(&rt);
     join_write(&rt, &mut info);
     drop(info);
-}
-
-/// An error writes this name.
-fn expect_name(rt: &(impl Abort + AllocGlobal), error: &ExpressionError, name: &str) {
-    let text = made(rt, error.to_string(rt.alloc()));
-    holds!(rt; text.as_str() == name);
-}
-
-#[test]
-fn errors_write_their_names(rt: HostRuntime) {
-    let rows = [
-        (ExpressionError::NotInScope, "NotInScope"),
-        (
-            ExpressionError::ExpectedGlobalVariable,
-            "ExpectedGlobalVariable",
-        ),
-        (
-            ExpressionError::ExpectedBindingArrayType(Handle::new(3)),
-            "ExpectedBindingArrayType",
-        ),
-        (
-            ExpressionError::ExpectedImageType(Handle::new(3)),
-            "ExpectedImageType",
-        ),
-        (
-            ExpressionError::InvalidImageClass(ImageClass::External),
-            "InvalidImageClass",
-        ),
-        (
-            ExpressionError::InvalidImageCoordinateType(ImageDimension::D2, Handle::new(3)),
-            "InvalidImageCoordinateType",
-        ),
-        (
-            ExpressionError::InvalidImageArrayIndex,
-            "InvalidImageArrayIndex",
-        ),
-        (
-            ExpressionError::InvalidImageArrayIndexType(Handle::new(3)),
-            "InvalidImageArrayIndexType",
-        ),
-        (
-            ExpressionError::InvalidImageStorageAccess(StorageAccess::LOAD),
-            "InvalidImageStorageAccess",
-        ),
-        (
-            ExpressionError::InvalidImageFormat(StorageFormat::R32Uint),
-            "InvalidImageFormat",
-        ),
-        (ExpressionError::Lower(4), "Lower"),
-    ];
-    for (error, name) in &rows {
-        expect_name(&rt, error, name);
-    }
 }
 
 const FAULT: ExpressionError = ExpressionError::NotInScope;

@@ -6,7 +6,7 @@ ghost use Rattle.ir_types.specs.Types.{ResolutionFits};
 use crate::tests::ir::scalar_type;
 use crate::tests::made;
 use bitflags::Flags;
-use ir_fits::types::names_types_below;
+use ir_misfits::fits::names_types_below;
 use naga_below::{
     AddressSpace, Expression, ExpressionKind, ExpressionKindTracker, GatherMode, Handle,
     ImageDimension, Module, Name, Scalar, ScalarKind, Sequence, Span, StorageAccess, StorageFormat,

@@ -1,269 +1,289 @@
-//! The plain layer by itself.
+//! The plain layer, asked by code over any lower layer, which knows its laws alone.
 
-use crate::tests::layers::{HERE, function_of, module_of_types};
+ghost use Rattle.std.specs.Prelude.{◌≡◌, ◌<◌, length};
+
+use crate::tests::layers::{
+    HERE, LITERAL, add, composed, expect_kinds, expressions_of_kinds, put, unary,
+};
 use crate::tests::made;
 use bitflags::Flags;
 use naga_below::{
-    AddressSpace, Arena, ArraySize, Capabilities, Expression, ExpressionKindTracker, Function,
-    FunctionInfo, GlobalUse, GlobalVariable, Handle, Literal, MemoryDecorations, Module,
-    ModuleInfo, Refusal, Scalar, Sequence, Type, TypeInner, TypeResolution, UniqueArena,
-    ValidationFlags, VectorSize,
+    AddressSpace, Arena, Capabilities, Expression, ExpressionError, Function, FunctionInfo,
+    GlobalUse, GlobalVariable, Handle, MemoryDecorations, Module, ModuleInfo, Refusal, Scalar,
+    Settings, ShaderStages, SubgroupOperationSet, TypeInner, TypeResolution, ValidationFlags,
+    VectorSize, tag,
 };
 use naga_layers::plain::Plain;
 use naga_rules::{Below, FunctionError};
-use std::alloc::Global;
-use std::num::NonZeroU32;
+use std::alloc::{AllocError, Global};
 use std::process::Abort;
 
-/// A type without a name.
-fn type_of_scalar(scalar: Scalar) -> Type {
-    Type {
-        name: None,
-        inner: TypeInner::Scalar(scalar),
+/// No check, and a target that can do nothing.
+pub fn settings() -> Settings {
+    Settings {
+        flags: ValidationFlags::empty(),
+        capabilities: Capabilities::empty(),
+        subgroup_stages: ShaderStages::empty(),
+        subgroup_operations: SubgroupOperationSet::empty(),
     }
 }
 
-/// A module of types 0 bool, 1 u32 and 2 i32 alone.
-fn scalars_module(rt: &(impl Abort + AllocGlobal)) -> Module {
-    let mut types = UniqueArena::new(rt.alloc());
-    made(rt, types.insert(type_of_scalar(Scalar::BOOL), HERE));
-    made(rt, types.insert(type_of_scalar(Scalar::U32), HERE));
-    made(rt, types.insert(type_of_scalar(Scalar::I32), HERE));
-    module_of_types(rt.alloc(), types)
+/// What a layer is asked about: a function of a module, behind the functions of these infos.
+#[derive(Clone, Copy)]
+struct Subject<'a> {
+    fun: &'a Function,
+    program: &'a Module,
+    mod_info: &'a ModuleInfo,
 }
 
-const LITERAL: Expression = Expression::Literal(Literal {
-    scalar: Scalar::U32,
-    bits: 7,
-});
-
-/// A function of this expression and a u32 literal before it.
-fn function(rt: &(impl Abort + AllocGlobal), second: Expression) -> Function {
-    let mut expressions = Arena::new(rt.alloc());
-    made(rt, expressions.append(LITERAL, HERE));
-    made(rt, expressions.append(second, HERE));
-    function_of(rt.alloc(), expressions)
+/// The info of a function, with one more use of a global, and whether the expression is a struct: by the laws
+/// the expression has a type, the type is there, it is no struct as a value, and the global has a use.
+fn with_query<B: Below>(
+    below: &B,
+    alloc: Global,
+    subject: &Subject,
+    handle: Handle<tag::Expression>,
+    global: Handle<tag::GlobalVariable>,
+) -> Result<(FunctionInfo, bool), Refusal<FunctionError>>
+    requires expression { handle < length subject.now.fun.now.expressions }
+    requires global { global < length subject.now.program.now.global_variables }
+{
+    let Subject {
+        fun,
+        program,
+        mod_info,
+    } = *subject;
+    let Settings {
+        flags,
+        capabilities,
+        ..
+    } = settings();
+    let mut info = below.process_function(alloc, fun, program, mod_info, flags, capabilities)?;
+    info.insert_global_use(GlobalUse::QUERY, global);
+    let resolution = &info.expression_types[handle.index()];
+    if let TypeResolution::Value(inner) = resolution {
+        prove!(!matches!(inner, TypeInner::Struct { .. }));
+    }
+    let is_struct = matches!(
+        resolution.inner_with(&program.types),
+        TypeInner::Struct { .. }
+    );
+    Ok((info, is_struct))
 }
 
-/// What the plain layer answers to a function, with no other before it.
-fn answer_of(
+/// Whether the expression is a constant: by the last law it has a kind.
+fn is_constant<B: Below>(
+    below: &B,
     alloc: Global,
     fun: &Function,
-    module: &Module,
-) -> Result<FunctionInfo, Refusal<FunctionError>> {
-    let infos = ModuleInfo::new(alloc);
-    let flags = ValidationFlags::empty();
-    Plain::without_mesh_shaders().process_function(
+    handle: Handle<tag::Expression>,
+) -> Result<bool, AllocError>
+    requires { handle < length fun.now.expressions }
+{
+    let kinds = below.kinds(alloc, &fun.expressions)?;
+    Ok(kinds.is_const(handle))
+}
+
+/// The stages of an expression.
+fn stages<B: Below>(
+    below: &B,
+    alloc: Global,
+    subject: &Subject,
+    info: &FunctionInfo,
+    handle: Handle<tag::Expression>,
+) -> Result<ShaderStages, Refusal<ExpressionError>> {
+    let kinds = below.kinds(alloc, &subject.fun.expressions)?;
+    below.validate_expression(
         alloc,
-        fun,
-        module,
-        &infos,
-        flags,
-        Capabilities::empty(),
+        settings(),
+        handle,
+        subject.fun,
+        subject.program,
+        info,
+        subject.mod_info,
+        &kinds,
     )
 }
 
-/// The info of a function, if it has one. Where memory is refused, the layer is asked again.
-fn info_of(alloc: Global, fun: &Function, module: &Module) -> Option<FunctionInfo> {
-    match answer_of(alloc, fun, module) {
-        Ok(info) => Some(info),
-        Err(Refusal::Fault(_)) => None,
-        Err(Refusal::Memory) => answer_of(alloc, fun, module).ok(),
-    }
-}
-
-/// The second expression's type, in an info that may be missing, is the expected one.
-fn expect_type_in(rt: &impl Abort, info: &Option<FunctionInfo>, expected: &Option<TypeResolution>) {
-    let found = match info {
-        Some(info) => info.expression_types.as_slice().get(1),
-        None => None,
-    };
-    holds!(rt; found == expected.as_ref());
-}
-
-/// An expression has this type, behind a u32 literal; `None` where the plain layer has none for it.
-fn expect_type(
-    rt: &(impl Abort + AllocGlobal),
+/// What a layer says of a global as the output of a mesh shader, and the size of its type.
+fn output_size<B: Below>(
+    below: &B,
+    alloc: Global,
     module: &Module,
-    expression: Expression,
-    expected: Option<TypeResolution>,
-) {
-    let fun = function(rt, expression);
-    let info = info_of(rt.alloc(), &fun, module);
-    drop(fun);
-    expect_type_in(rt, &info, &expected);
+    global: Handle<tag::GlobalVariable>,
+) -> Result<Option<u32>, AllocError> {
+    let analysis = below.analyze_mesh_shader_info(alloc, module, global)?;
+    Ok(below.type_size(module, analysis.implied.vertex_output_type))
 }
 
-/// The negated literal.
-fn negated(rt: &(impl Abort + AllocGlobal)) -> Expression {
-    let mut operands = Sequence::new(rt.alloc());
-    made(rt, operands.push(Handle::new(0)));
-    Expression::Unary {
-        operands,
-        detail: 0,
+/// Puts a global of u32 last.
+fn add_global(rt: &impl Abort, globals: &mut Arena<GlobalVariable>) {
+    if globals.is_full() {
+        panic!(rt; "full");
     }
-}
-
-/// A value of a scalar.
-fn scalar_value(scalar: Scalar) -> TypeResolution {
-    TypeResolution::Value(TypeInner::Scalar(scalar))
-}
-
-/// Expressions in the module of scalars.
-fn expect_types(rt: &(impl Abort + AllocGlobal), module: &Module) {
-    let u32_value = Some(scalar_value(Scalar::U32));
-    expect_type(rt, module, negated(rt), u32_value);
-    let composed = Expression::Compose {
-        ty: Handle::new(2),
-        components: Sequence::new(rt.alloc()),
-    };
-    let third = Some(TypeResolution::Handle(Handle::new(2)));
-    expect_type(rt, module, composed, third);
-    let ballot = Some(TypeResolution::Value(TypeInner::Vector {
-        size: VectorSize::Quad,
-        scalar: Scalar::U32,
-    }));
-    expect_type(rt, module, Expression::SubgroupBallotResult, ballot);
-    let bool_value = Some(scalar_value(Scalar::BOOL));
-    expect_type(rt, module, Expression::RayQueryProceedResult, bool_value);
-    expect_type(rt, module, Expression::ZeroValue(Handle::new(3)), None);
-    expect_type(rt, module, Expression::FunctionArgument(0), None);
-}
-
-#[test]
-fn types(rt: HostRuntime) {
-    let module = scalars_module(&rt);
-    expect_types(&rt, &module);
-    drop(module);
-}
-
-fn global_u32() -> GlobalVariable {
-    GlobalVariable {
+    let global = GlobalVariable {
         space: AddressSpace::Private,
         binding: None,
         ty: Handle::new(1),
         init: None,
         memory_decorations: MemoryDecorations::empty(),
-    }
+    };
+    made(rt, globals.append(global, HERE));
 }
 
-/// The module of scalars with two globals.
-fn module_with_globals(rt: &(impl Abort + AllocGlobal)) -> Module {
-    let mut globals = Arena::new(rt.alloc());
-    made(rt, globals.append(global_u32(), HERE));
-    made(rt, globals.append(global_u32(), HERE));
-    let mut module = scalars_module(rt);
-    module.global_variables = globals;
+/// A module of types 0 bool, 1 u32 and 2 i32, and two globals of u32.
+fn module_of_scalars(rt: &(impl Abort + AllocGlobal)) -> Module {
+    let mut module = Module::new(rt.alloc());
+    put(rt, &mut module.types, TypeInner::Scalar(Scalar::BOOL));
+    put(rt, &mut module.types, TypeInner::Scalar(Scalar::U32));
+    put(rt, &mut module.types, TypeInner::Scalar(Scalar::I32));
+    add_global(rt, &mut module.global_variables);
+    add_global(rt, &mut module.global_variables);
     module
 }
 
-/// There is an info, with these uses.
-fn expect_uses(rt: &impl Abort, info: &Option<FunctionInfo>, expected: &[GlobalUse]) {
-    match info {
-        Some(info) => holds!(rt; info.global_uses.as_slice() == expected),
-        None => panic!(rt; "refused"),
+/// A function of the expressions that the plain layer types.
+fn function_of_typed(rt: &(impl Abort + AllocGlobal)) -> Function {
+    let mut fun = Function::new(rt.alloc());
+    add(rt, &mut fun.expressions, LITERAL);
+    add(rt, &mut fun.expressions, unary(rt, &[0]));
+    add(rt, &mut fun.expressions, composed(rt, &[]));
+    add(rt, &mut fun.expressions, Expression::SubgroupBallotResult);
+    add(rt, &mut fun.expressions, Expression::RayQueryProceedResult);
+    add(
+        rt,
+        &mut fun.expressions,
+        Expression::GlobalVariable(Handle::new(1)),
+    );
+    fun
+}
+
+/// The type of the expression with an index.
+fn type_at(index: usize) -> TypeResolution {
+    let inner = match index {
+        0 | 1 => TypeInner::Scalar(Scalar::U32),
+        2 => return TypeResolution::Handle(Handle::new(2)),
+        3 => TypeInner::Vector {
+            size: VectorSize::Quad,
+            scalar: Scalar::U32,
+        },
+        4 => TypeInner::Scalar(Scalar::BOOL),
+        _ => TypeInner::Pointer {
+            base: Handle::new(1),
+            space: AddressSpace::Private,
+        },
+    };
+    TypeResolution::Value(inner)
+}
+
+/// What is no refusal.
+fn answered<T, E>(rt: &impl Abort, answer: Result<T, Refusal<E>>) -> T {
+    match answer {
+        Ok(value) => value,
+        Err(Refusal::Memory) => panic!(rt; "no memory"),
+        Err(Refusal::Fault(_)) => panic!(rt; "refused"),
     }
 }
 
-/// The second global is read alone, and stands for a pointer.
-fn expect_global(rt: &impl Abort, info: &Option<FunctionInfo>) {
-    expect_uses(rt, info, &[GlobalUse::empty(), GlobalUse::READ]);
-    let pointer = Some(TypeResolution::Value(TypeInner::Pointer {
-        base: Handle::new(1),
-        space: AddressSpace::Private,
-    }));
-    expect_type_in(rt, info, &pointer);
+/// The info has these types, and the second global is read, and queried as was added.
+fn expect_info(rt: &impl Abort, info: &FunctionInfo) {
+    holds!(rt; info.expression_types.len() == 6);
+    for (index, found) in info.expression_types.as_slice().iter().enumerate() {
+        holds!(rt; *found == type_at(index));
+    }
+    let uses = [
+        GlobalUse::empty(),
+        GlobalUse(GlobalUse::READ.0 | GlobalUse::QUERY.0),
+    ];
+    holds!(rt; info.global_uses.as_slice() == uses.as_slice());
+}
+
+/// Asks of the first expression and the second global.
+fn expect_answers(rt: &(impl Abort + AllocGlobal), subject: &Subject) {
+    let plain = Plain::without_mesh_shaders();
+    let (handle, global) = (Handle::new(0), Handle::new(1));
+    let (fun, module) = (subject.fun, subject.program);
+    holds!(rt; fun.expressions.len() == 6);
+    holds!(rt; module.global_variables.len() == 2);
+    holds!(rt; made(rt, is_constant(&plain, rt.alloc(), fun, handle)));
+    let size = made(rt, output_size(&plain, rt.alloc(), module, global));
+    holds!(rt; size == Some(1));
+    let query = with_query(&plain, rt.alloc(), subject, handle, global);
+    let (info, is_struct) = answered(rt, query);
+    expect_info(rt, &info);
+    let left = answered(rt, stages(&plain, rt.alloc(), subject, &info, handle));
+    drop(info);
+    holds!(rt; !is_struct);
+    holds!(rt; left == ShaderStages::ALL);
+}
+
+/// Asks of a function.
+fn ask(rt: &(impl Abort + AllocGlobal), fun: &Function, program: &Module) {
+    let infos = ModuleInfo::new(rt.alloc());
+    let mod_info = &infos;
+    expect_answers(
+        rt,
+        &Subject {
+            fun,
+            program,
+            mod_info,
+        },
+    );
+    drop(infos);
+}
+
+/// Whether a function is refused. None is out of memory.
+fn refusal_of(alloc: Global, fun: &Function, module: &Module) -> Option<bool> {
+    let infos = ModuleInfo::new(alloc);
+    let flags = ValidationFlags::empty();
+    let none = Capabilities::empty();
+    let plain = Plain::without_mesh_shaders();
+    match plain.process_function(alloc, fun, module, &infos, flags, none) {
+        Ok(_) => Some(false),
+        Err(Refusal::Fault(_)) => Some(true),
+        Err(Refusal::Memory) => None,
+    }
+}
+
+/// A function of one expression.
+fn function_of(rt: &(impl Abort + AllocGlobal), expression: Expression) -> Function {
+    let mut fun = Function::new(rt.alloc());
+    add(rt, &mut fun.expressions, expression);
+    fun
+}
+
+/// An expression has no type in the plain layer. Where memory is refused, the layer is asked again.
+fn expect_refused(rt: &(impl Abort + AllocGlobal), module: &Module, expression: Expression) {
+    let fun = function_of(rt, expression);
+    let refused = match refusal_of(rt.alloc(), &fun, module) {
+        None => refusal_of(rt.alloc(), &fun, module),
+        answer => answer,
+    };
+    drop(fun);
+    holds!(rt; refused == Some(true));
 }
 
 #[test]
-fn a_global_is_read_and_stands_for_a_pointer(rt: HostRuntime) {
-    let fun = function(&rt, Expression::GlobalVariable(Handle::new(1)));
-    let module = module_with_globals(&rt);
-    let info = info_of(rt.alloc(), &fun, &module);
-    expect_global(&rt, &info);
-    drop(info);
-    drop(module);
+fn a_lawful_layer_answers(rt: HostRuntime) {
+    let module = module_of_scalars(&rt);
+    let fun = function_of_typed(&rt);
+    ask(&rt, &fun, &module);
+    expect_refused(&rt, &module, Expression::ZeroValue(Handle::new(3)));
+    expect_refused(&rt, &module, Expression::FunctionArgument(0));
     drop(fun);
+    drop(module);
 }
 
-/// Expressions whose kinds are const, override, override and runtime.
-fn expressions_of_kinds(rt: &(impl Abort + AllocGlobal)) -> Arena<Expression> {
-    let mut components = Sequence::new(rt.alloc());
-    made(rt, components.push(Handle::new(1)));
-    made(rt, components.push(Handle::new(0)));
-    let composed = Expression::Compose {
-        ty: Handle::new(0),
-        components,
-    };
-    let mut expressions = Arena::new(rt.alloc());
-    made(rt, expressions.append(LITERAL, HERE));
-    made(
-        rt,
-        expressions.append(Expression::Override(Handle::new(0)), HERE),
-    );
-    made(rt, expressions.append(composed, HERE));
-    made(
-        rt,
-        expressions.append(Expression::RayQueryProceedResult, HERE),
-    );
-    expressions
-}
-
-/// These are their kinds.
-fn expect_kinds(rt: &impl Abort, kinds: &ExpressionKindTracker) {
-    holds!(rt; kinds.len() == 4);
-    holds!(rt; kinds.is_const(Handle::new(0)));
-    holds!(rt; !kinds.is_const(Handle::new(2)));
-    holds!(rt; kinds.is_const_or_override(Handle::new(2)));
-    holds!(rt; !kinds.is_const_or_override(Handle::new(3)));
+/// The kinds of these expressions.
+fn ask_kinds(rt: &(impl Abort + AllocGlobal), expressions: &Arena<Expression>) {
+    let plain = Plain::without_mesh_shaders();
+    let kinds = made(rt, plain.kinds(rt.alloc(), expressions));
+    expect_kinds(rt, &kinds);
 }
 
 #[test]
 fn kinds(rt: HostRuntime) {
     let expressions = expressions_of_kinds(&rt);
-    let plain = Plain::without_mesh_shaders();
-    let kinds = made(&rt, plain.kinds(rt.alloc(), &expressions));
+    ask_kinds(&rt, &expressions);
     drop(expressions);
-    expect_kinds(&rt, &kinds);
-}
-
-/// The size that the plain layer gives a type is the expected one.
-fn expect_size(rt: &(impl Abort + AllocGlobal), inner: TypeInner, expected: Option<u32>) {
-    let mut types = UniqueArena::new(rt.alloc());
-    let handle = made(rt, types.insert(Type { name: None, inner }, HERE));
-    let module = module_of_types(rt.alloc(), types);
-    let size = Plain::without_mesh_shaders().type_size(&module, handle);
-    drop(module);
-    holds!(rt; size == expected);
-}
-
-/// An array of so many.
-fn array_of(count: NonZeroU32, stride: u32) -> TypeInner {
-    TypeInner::Array {
-        base: Handle::new(0),
-        size: ArraySize::Constant(count),
-        stride,
-    }
-}
-
-#[test]
-fn sizes(rt: HostRuntime) {
-    let Some(count) = NonZeroU32::new(65536) else {
-        panic!(rt; "no count");
-    };
-    let vector = TypeInner::Vector {
-        size: VectorSize::Tri,
-        scalar: Scalar::F32,
-    };
-    let matrix = TypeInner::Matrix {
-        columns: VectorSize::Bi,
-        rows: VectorSize::Tri,
-        scalar: Scalar::F32,
-    };
-    expect_size(&rt, vector, Some(12));
-    expect_size(&rt, matrix, Some(32));
-    expect_size(&rt, TypeInner::Atomic(Scalar::U64), Some(8));
-    expect_size(&rt, array_of(count, 65535), Some(4294901760));
-    expect_size(&rt, array_of(count, 65536), None);
-    expect_size(&rt, TypeInner::Sampler { comparison: false }, None);
 }

@@ -1,64 +1,102 @@
-//! The layer of recorded facts: what it answers where a fact is there, missing, or against a law.
+//! The layer of recorded facts, asked as `check_module` doesn't: of an expression of a function that has an error, and where an
+//! analysis or a size is missing.
 
-mod expressions;
-mod meshes;
-
-use crate::tests::layers::{HERE, function_of, module_of_types};
+use crate::tests::layers::plain::settings;
+use crate::tests::layers::{LITERAL, add, expect_kinds, expressions_of_kinds, put};
 use crate::tests::made;
 use bitflags::Flags;
 use naga_below::{
-    AddressSpace, Arena, Expression, Function, FunctionInfo, GlobalVariable, Handle, Literal,
-    MemoryDecorations, Module, Scalar, Sequence, ShaderStages, Type, TypeInner, UniqueArena,
+    ExpressionError, Function, FunctionInfo, Handle, MeshOutputTopology, MeshStageInfo, Module,
+    ModuleInfo, Refusal, Scalar, Sequence, ShaderStages, TypeInner,
 };
-use naga_layers::facts::{Facts, FunctionFact};
+use naga_layers::facts::{Facts, FunctionFact, LowerFunctionError, MeshAnalysisFact};
+use naga_layers::recorded::Recorded;
+use naga_rules::{Below, MeshAnalysis, MeshFault};
 use std::alloc::Global;
 use std::process::Abort;
 
-/// A function of one u32 literal.
-fn literal_function(rt: &(impl Abort + AllocGlobal)) -> Function {
-    let mut expressions = Arena::new(rt.alloc());
-    let literal = Literal {
-        scalar: Scalar::U32,
-        bits: 7,
-    };
-    made(rt, expressions.append(Expression::Literal(literal), HERE));
-    function_of(rt.alloc(), expressions)
+/// What is known of a mesh shader's output variable, with this fault.
+fn analysis(fault: Option<MeshFault>) -> MeshAnalysisFact {
+    MeshAnalysisFact {
+        implied: MeshStageInfo {
+            topology: MeshOutputTopology::Lines,
+            max_vertices: 4,
+            max_vertices_override: None,
+            max_primitives: 2,
+            max_primitives_override: None,
+            vertex_output_type: Handle::new(0),
+            primitive_output_type: Handle::new(0),
+            output_variable: Handle::new(0),
+        },
+        overrides: [None, Some(Handle::new(6))],
+        fault,
+    }
 }
 
-/// Type 0 is u32.
-fn u32_alone(rt: &(impl Abort + AllocGlobal)) -> UniqueArena<Type> {
-    let mut types = UniqueArena::new(rt.alloc());
-    let inner = TypeInner::Scalar(Scalar::U32);
-    made(rt, types.insert(Type { name: None, inner }, HERE));
-    types
+/// The third global's output has a member of a wrong type; nothing is known of the second. The second type's size is known. The
+/// first entry point has an error.
+fn some_facts(rt: &(impl Abort + AllocGlobal)) -> Facts {
+    let mut facts = Facts::new(rt.alloc());
+    made(rt, facts.mesh_analyses.push(Some(analysis(None))));
+    made(rt, facts.mesh_analyses.push(None));
+    let fault = Some(MeshFault::OutputField);
+    made(rt, facts.mesh_analyses.push(Some(analysis(fault))));
+    made(rt, facts.sizes.push(None));
+    made(rt, facts.sizes.push(Some(12)));
+    let error = LowerFunctionError::InvalidMeshFunctionCall(Handle::new(0));
+    made(rt, facts.entry_points.push(FunctionFact::Error(error)));
+    facts
 }
 
-/// One global of it.
-fn one_global(rt: &(impl Abort + AllocGlobal)) -> Arena<GlobalVariable> {
-    let mut globals = Arena::new(rt.alloc());
-    let global = GlobalVariable {
-        space: AddressSpace::Private,
-        binding: None,
-        ty: Handle::new(0),
-        init: None,
-        memory_decorations: MemoryDecorations::empty(),
-    };
-    made(rt, globals.append(global, HERE));
-    globals
-}
-
-/// A module of one type and one global of it, without functions, so that the fact of the first entry point is asked for.
+/// A module of one type, without functions, so that the fact of the first entry point is asked for.
 fn module_alone(rt: &(impl Abort + AllocGlobal)) -> Module {
-    let mut module = module_of_types(rt.alloc(), u32_alone(rt));
-    module.global_variables = one_global(rt);
+    let mut module = Module::new(rt.alloc());
+    put(rt, &mut module.types, TypeInner::Scalar(Scalar::U32));
     module
 }
 
-/// Facts of one entry point alone.
-fn facts_of(rt: &(impl Abort + AllocGlobal), fact: FunctionFact) -> Facts {
-    let mut facts = Facts::new(rt.alloc());
-    made(rt, facts.entry_points.push(fact));
-    facts
+/// The fault of an answer, and its second override.
+fn fault_of(found: &MeshAnalysis) -> (Option<MeshFault>, Option<u32>) {
+    let fault = match &found.fault {
+        Some(fault) => Some(*fault.as_inner()),
+        None => None,
+    };
+    let primitives = match found.overrides[1] {
+        Some(handle) => Some(handle.index() as u32),
+        None => None,
+    };
+    (fault, primitives)
+}
+
+/// What is answered of the global with this handle: the fault, and the second override.
+fn fault_of_mesh(
+    rt: &(impl Abort + AllocGlobal),
+    recorded: &Recorded,
+    module: &Module,
+    handle: u32,
+) -> (Option<MeshFault>, Option<u32>) {
+    let output = Handle::new(handle);
+    let found = made(
+        rt,
+        recorded.analyze_mesh_shader_info(rt.alloc(), module, output),
+    );
+    fault_of(&found)
+}
+
+/// The answers where those are the facts.
+fn expect_meshes(rt: &(impl Abort + AllocGlobal), recorded: &Recorded, module: &Module) {
+    for (handle, expected) in [
+        (0, (None, Some(6))),
+        (1, (Some(MeshFault::OutputType), None)),
+        (2, (Some(MeshFault::OutputField), Some(6))),
+        (3, (Some(MeshFault::OutputType), None)),
+    ] {
+        holds!(rt; fault_of_mesh(rt, recorded, module, handle) == expected);
+    }
+    for (handle, expected) in [(0, None), (1, Some(12)), (2, None)] {
+        let size = recorded.type_size(module, Handle::new(handle));
+        holds!(rt; size == expected);
+    }
 }
 
 /// The info of a function of nothing.
@@ -69,4 +107,74 @@ fn empty_info(alloc: Global) -> FunctionInfo {
         available_stages: ShaderStages::ALL,
         dual_source_blending: false,
     }
+}
+
+/// What is answered of the first expression.
+fn stages_of(
+    rt: &(impl Abort + AllocGlobal),
+    recorded: &Recorded,
+    fun: &Function,
+    module: &Module,
+) -> Result<ShaderStages, Refusal<ExpressionError>> {
+    let kinds = made(rt, recorded.kinds(rt.alloc(), &fun.expressions));
+    let info = empty_info(rt.alloc());
+    let infos = ModuleInfo::new(rt.alloc());
+    let first = Handle::new(0);
+    recorded.validate_expression(
+        rt.alloc(),
+        settings(),
+        first,
+        fun,
+        module,
+        &info,
+        &infos,
+        &kinds,
+    )
+}
+
+/// Of an expression of a function that has an error it is said that it has none.
+fn expect_no_stages(rt: &impl Abort, answer: &Result<ShaderStages, Refusal<ExpressionError>>) {
+    let fault = match answer {
+        Err(Refusal::Fault(fault)) => Some(*fault.as_inner()),
+        _ => None,
+    };
+    holds!(rt; fault == Some(ExpressionError::Lower(0)));
+}
+
+/// A function of one literal.
+fn function_alone(rt: &(impl Abort + AllocGlobal)) -> Function {
+    let mut fun = Function::new(rt.alloc());
+    add(rt, &mut fun.expressions, LITERAL);
+    fun
+}
+
+/// Asks of a function.
+fn ask(rt: &(impl Abort + AllocGlobal), recorded: &Recorded, module: &Module) {
+    let fun = function_alone(rt);
+    let answer = stages_of(rt, recorded, &fun, module);
+    drop(fun);
+    expect_no_stages(rt, &answer);
+    drop(answer);
+}
+
+#[test]
+fn facts(rt: HostRuntime) {
+    let module = module_alone(&rt);
+    let facts = some_facts(&rt);
+    let recorded = Recorded { facts };
+    expect_meshes(&rt, &recorded, &module);
+    ask(&rt, &recorded, &module);
+    drop(recorded);
+    drop(module);
+}
+
+#[test]
+fn kinds(rt: HostRuntime) {
+    let facts = Facts::new(rt.alloc());
+    let recorded = Recorded { facts };
+    let expressions = expressions_of_kinds(&rt);
+    let kinds = made(&rt, recorded.kinds(rt.alloc(), &expressions));
+    drop(expressions);
+    drop(recorded);
+    expect_kinds(&rt, &kinds);
 }

@@ -1,18 +1,15 @@
-//! Items at their places: the types of the bench, and what is answered of an item behind others.
-
-mod built_ins;
-mod groups;
-mod locations;
+//! Items behind others: what each takes, and what is kept of one that is refused.
 
 use crate::tests::made;
+use crate::tests::varyings::places::at;
+use bitflags::Flags;
 use naga_below::{
-    ArraySize, Binding, BuiltIn, Handle, Interpolation, Module, Refusal, Sampling, Scalar,
-    ScalarKind, Sequence, Span, StructMember, Type, TypeFlags, TypeInfo, TypeInner, UniqueArena,
-    VectorSize, fits_types,
+    Binding, BuiltIn, Capabilities, Handle, Interpolation, Module, Refusal, Scalar, Sequence,
+    ShaderStage, Span, StructMember, Type, TypeFlags, TypeInfo, TypeInner, UniqueArena,
+    ValidationFlags, VectorSize, fits_types,
 };
 use naga_rules::{VaryingError, VaryingPlace, VaryingState, check_varying_item};
 use std::alloc::AllocError;
-use std::num::NonZeroU32;
 use std::process::Abort;
 
 /// Types of the bench.
@@ -20,28 +17,13 @@ const U32: u32 = 0;
 
 const F32: u32 = 1;
 
-const BOOL: u32 = 2;
-
-const VEC4_F32: u32 = 7;
-
-const DISTANCES: u32 = 9;
-
-const NINE_DISTANCES: u32 = 10;
-
-const THREE_F32: u32 = 17;
-
-const THREE_U32: u32 = 18;
+const VEC4_F32: u32 = 2;
 /// A struct that is shared between stages.
-const BLEND: u32 = 19;
+const BLEND: u32 = 3;
 /// Structs that aren't: with Position and location 1, then twice at location 2; with a member without binding.
-const COLLIDING: u32 = 20;
+const COLLIDING: u32 = 4;
 
-const UNBOUND: u32 = 21;
-
-const F64: Scalar = Scalar {
-    kind: ScalarKind::Float,
-    width: 8,
-};
+const UNBOUND: u32 = 5;
 
 /// What is known of every type but the structs that aren't shared.
 const GOOD: TypeInfo = TypeInfo {
@@ -56,36 +38,17 @@ const UNSHARED: TypeInfo = TypeInfo {
     ..GOOD
 };
 
-fn vector(size: VectorSize, scalar: Scalar) -> TypeInner {
-    TypeInner::Vector { size, scalar }
-}
+/// Position, not invariant.
+const POSITION: Binding = Binding::BuiltIn(BuiltIn::Position { invariant: false });
 
-fn matrix(rows: VectorSize) -> TypeInner {
-    TypeInner::Matrix {
-        columns: VectorSize::Quad,
-        rows,
-        scalar: Scalar::F32,
-    }
-}
-
-/// An array of so many, which are at least one.
-fn array(base: u32, count: u32) -> TypeInner {
-    TypeInner::Array {
-        base: Handle::new(base),
-        size: match NonZeroU32::new(count) {
-            Some(count) => ArraySize::Constant(count),
-            None => ArraySize::Dynamic,
-        },
-        stride: 4,
-    }
-}
-
-fn member(ty: u32, binding: Option<Binding>) -> StructMember {
-    StructMember {
-        name: None,
-        ty: Handle::new(ty),
-        binding,
-        offset: 0,
+/// A location, interpolated with perspective.
+fn location(location: u32) -> Binding {
+    Binding::Location {
+        location,
+        interpolation: Some(Interpolation::Perspective),
+        sampling: None,
+        blend_src: None,
+        per_primitive: false,
     }
 }
 
@@ -98,29 +61,6 @@ fn add(rt: &impl Abort, types: &mut UniqueArena<Type>, inner: TypeInner) {
     );
 }
 
-/// The types without members, 0 to 18.
-fn add_plain(rt: &impl Abort, types: &mut UniqueArena<Type>) {
-    add(rt, types, TypeInner::Scalar(Scalar::U32));
-    add(rt, types, TypeInner::Scalar(Scalar::F32));
-    add(rt, types, TypeInner::Scalar(Scalar::BOOL));
-    add(rt, types, vector(VectorSize::Bi, Scalar::U32));
-    add(rt, types, vector(VectorSize::Tri, Scalar::U32));
-    add(rt, types, vector(VectorSize::Bi, Scalar::F32));
-    add(rt, types, vector(VectorSize::Tri, Scalar::F32));
-    add(rt, types, vector(VectorSize::Quad, Scalar::F32));
-    add(rt, types, matrix(VectorSize::Tri));
-    add(rt, types, array(F32, 8));
-    add(rt, types, array(F32, 9));
-    add(rt, types, TypeInner::Scalar(Scalar::U64));
-    add(rt, types, TypeInner::Scalar(F64));
-    add(rt, types, vector(VectorSize::Quad, Scalar::U32));
-    add(rt, types, matrix(VectorSize::Quad));
-    add(rt, types, vector(VectorSize::Bi, Scalar::BOOL));
-    add(rt, types, vector(VectorSize::Tri, Scalar::BOOL));
-    add(rt, types, array(F32, 3));
-    add(rt, types, array(U32, 3));
-}
-
 /// A struct of members with these types and bindings.
 fn structure(
     rt: &(impl Abort + AllocGlobal),
@@ -128,16 +68,25 @@ fn structure(
     span: u32,
 ) -> TypeInner {
     let mut members = Sequence::new(rt.alloc());
-    for (ty, binding) in parts {
-        made(rt, members.push(member(*ty, *binding)));
+    for &(ty, binding) in parts {
+        let member = StructMember {
+            name: None,
+            ty: Handle::new(ty),
+            binding,
+            offset: 0,
+        };
+        made(rt, members.push(member));
     }
     TypeInner::Struct { members, span }
 }
 
-/// The structs.
-fn add_structs(rt: &(impl Abort + AllocGlobal), types: &mut UniqueArena<Type>) {
-    let color = [(VEC4_F32, None)];
-    add(rt, types, structure(rt, &color, 16));
+/// The types of the bench.
+fn add_types(rt: &(impl Abort + AllocGlobal), types: &mut UniqueArena<Type>) {
+    add(rt, types, TypeInner::Scalar(Scalar::U32));
+    add(rt, types, TypeInner::Scalar(Scalar::F32));
+    let (size, scalar) = (VectorSize::Quad, Scalar::F32);
+    add(rt, types, TypeInner::Vector { size, scalar });
+    add(rt, types, structure(rt, &[(VEC4_F32, None)], 16));
     let colliding = [
         (VEC4_F32, Some(POSITION)),
         (F32, Some(location(1))),
@@ -149,62 +98,11 @@ fn add_structs(rt: &(impl Abort + AllocGlobal), types: &mut UniqueArena<Type>) {
     add(rt, types, structure(rt, &unbound, 8));
 }
 
-/// Types, as a module, and what is known of them.
-#[derive(Drop)]
-struct Bench {
-    module: Module,
-    infos: Vec<TypeInfo>,
-}
-
-/// Two of the structs aren't shared.
-fn unshare(rt: &impl Abort, infos: &mut [TypeInfo]) {
-    holds!(rt; infos.len() == 22);
-    infos[COLLIDING as usize] = UNSHARED;
-    infos[UNBOUND as usize] = UNSHARED;
-}
-
-/// Makes the bench. A test lets it go by `drop`, since a function that lets a module go itself is slow to prove.
-fn make_bench(rt: &(impl Abort + AllocGlobal)) -> Bench {
-    let alloc = rt.alloc();
-    let mut module = Module::new(alloc);
-    add_plain(rt, &mut module.types);
-    add_structs(rt, &mut module.types);
-    let mut infos = made(rt, vec![in alloc; GOOD; module.types.len()]);
-    unshare(rt, infos.as_mut_slice());
-    Bench { module, infos }
-}
-
-/// Position, not invariant.
-const POSITION: Binding = Binding::BuiltIn(BuiltIn::Position { invariant: false });
-
-/// A location, interpolated with perspective.
-fn location(location: u32) -> Binding {
-    interpolated(location, Some(Interpolation::Perspective), None)
-}
-
-fn interpolated(
-    location: u32,
-    interpolation: Option<Interpolation>,
-    sampling: Option<Sampling>,
-) -> Binding {
-    Binding::Location {
-        location,
-        interpolation,
-        sampling,
-        blend_src: None,
-        per_primitive: false,
-    }
-}
-
-/// A location that goes by primitive.
-fn by_primitive(interpolation: Option<Interpolation>) -> Binding {
-    Binding::Location {
-        location: 0,
-        interpolation,
-        sampling: None,
-        blend_src: None,
-        per_primitive: true,
-    }
+/// A module of the types. A test lets it go by `drop`, since a function that lets a module go itself is slow to prove.
+fn module_of_types(rt: &(impl Abort + AllocGlobal)) -> Module {
+    let mut module = Module::new(rt.alloc());
+    add_types(rt, &mut module.types);
+    module
 }
 
 /// An item at a place: its type, which is one of the bench, and its binding.
@@ -215,38 +113,16 @@ struct Item {
     binding: Option<Binding>,
 }
 
-/// An item at a place, and the fault that it gets, if there is one.
-#[derive(Drop)]
-struct Row {
-    item: Item,
-    expected: Option<VaryingError>,
-}
-
-/// An item that gets no fault.
-fn passes(place: VaryingPlace, ty: u32, binding: Option<Binding>) -> Row {
-    Row {
-        item: Item { place, ty, binding },
-        expected: None,
-    }
-}
-
-/// An item that gets this fault.
-fn fails(place: VaryingPlace, ty: u32, binding: Option<Binding>, fault: VaryingError) -> Row {
-    Row {
-        item: Item { place, ty, binding },
-        expected: Some(fault),
-    }
-}
-
-/// The answer for an item, behind what the state has: the fault, if there is one.
+/// The answer for an item, behind what the state has: the fault, if there is one. The last two structs aren't shared.
 #[tactic(auto, using(ir_facts::proofs::Callers::types_name_each_other))]
 fn answer_of(
     rt: &(impl Abort + AllocGlobal),
-    bench: &Bench,
+    module: &Module,
     state: &mut VaryingState,
-    item: &Item,
+    item: Item,
 ) -> Result<Option<VaryingError>, AllocError> {
-    let Bench { module, infos } = bench;
+    let infos = [GOOD, GOOD, GOOD, GOOD, UNSHARED, UNSHARED];
+    let infos = infos.as_slice();
     holds!(rt; fits_types(module));
     holds!(rt; infos.len() == module.types.len());
     holds!(rt; (item.ty as usize) < module.types.len());
@@ -259,37 +135,130 @@ fn answer_of(
     }
 }
 
-/// That answer. Where there was no memory, the same call is made again, and there is.
-fn fault_of(
-    rt: &(impl Abort + AllocGlobal),
-    bench: &Bench,
-    state: &mut VaryingState,
-    item: &Item,
-) -> Option<VaryingError> {
-    match answer_of(rt, bench, state, item) {
-        Ok(fault) => fault,
-        Err(_) => made(rt, answer_of(rt, bench, state, item)),
-    }
-}
-
 /// A fault is the expected one.
 fn expect_fault(rt: &impl Abort, fault: &Option<VaryingError>, expected: &Option<VaryingError>) {
     holds!(rt; fault == expected);
 }
 
-/// An item behind what the state has gets its answer.
-fn next(rt: &(impl Abort + AllocGlobal), bench: &Bench, state: &mut VaryingState, row: Row) {
-    let fault = fault_of(rt, bench, state, &row.item);
-    expect_fault(rt, &fault, &row.expected);
+/// An item behind what the state has gets this answer. Where there was no memory, the same call is made again, and there is.
+fn next(
+    rt: &(impl Abort + AllocGlobal),
+    module: &Module,
+    state: &mut VaryingState,
+    item: Item,
+    expected: Option<VaryingError>,
+) {
+    let fault = match answer_of(rt, module, state, item) {
+        Ok(fault) => fault,
+        Err(_) => made(rt, answer_of(rt, module, state, item)),
+    };
+    expect_fault(rt, &fault, &expected);
 }
 
-/// An item alone gets its answer.
-fn alone(rt: &(impl Abort + AllocGlobal), bench: &Bench, row: Row) {
+/// An item of a type at a place.
+fn item_at(place: VaryingPlace, ty: u32, binding: Option<Binding>) -> Item {
+    Item { place, ty, binding }
+}
+
+/// The two sources of a blend take location 0, and collide there.
+fn blends_twice(rt: &(impl Abort + AllocGlobal), module: &Module) {
+    let mut color = at(ShaderStage::Fragment, true);
     let mut state = VaryingState::new(rt.alloc());
-    next(rt, bench, &mut state, row);
+    next(rt, module, &mut state, item_at(color, BLEND, None), None);
+    holds!(rt; state.has_location(0));
+    let fault = VaryingError::BindingCollision { location: 0 };
+    next(
+        rt,
+        module,
+        &mut state,
+        item_at(color, BLEND, None),
+        Some(fault),
+    );
+    color.flags = ValidationFlags::empty();
+    next(rt, module, &mut state, item_at(color, BLEND, None), None);
 }
 
-/// A location is taken, or isn't.
-fn expect_location(rt: &impl Abort, state: &VaryingState, location: u32, is_taken: bool) {
-    holds!(rt; state.has_location(location) == is_taken);
+/// ViewIndex is there twice, the second time where the target has nothing.
+fn view_twice(rt: &(impl Abort + AllocGlobal), module: &Module) {
+    let mut fragment = at(ShaderStage::Fragment, false);
+    fragment.flags = ValidationFlags::empty();
+    let view = Some(Binding::BuiltIn(BuiltIn::ViewIndex));
+    let mut state = VaryingState::new(rt.alloc());
+    next(rt, module, &mut state, item_at(fragment, U32, view), None);
+    fragment.capabilities = Capabilities::empty();
+    let fault = VaryingError::DuplicateBuiltIn(BuiltIn::ViewIndex);
+    next(
+        rt,
+        module,
+        &mut state,
+        item_at(fragment, U32, view),
+        Some(fault),
+    );
+}
+
+/// What the members at the colliding locations and at Position take is there, or isn't.
+fn expect_taken(rt: &impl Abort, state: &VaryingState, are_taken: bool) {
+    holds!(rt; state.has_location(1) == are_taken);
+    holds!(rt; state.has_location(2) == are_taken);
+    holds!(rt; state.has_built_in(BuiltIn::Position { invariant: false }) == are_taken);
+}
+
+/// Bindings are looked at: nothing is taken.
+fn refuse_members(rt: &(impl Abort + AllocGlobal), module: &Module, state: &mut VaryingState) {
+    let vertex = at(ShaderStage::Vertex, true);
+    let fault = VaryingError::BindingCollision { location: 2 };
+    next(
+        rt,
+        module,
+        state,
+        item_at(vertex, COLLIDING, None),
+        Some(fault),
+    );
+    expect_taken(rt, state, false);
+    let fault = VaryingError::MemberMissingBinding(1);
+    next(
+        rt,
+        module,
+        state,
+        item_at(vertex, UNBOUND, None),
+        Some(fault),
+    );
+    let fault = VaryingError::MissingBinding;
+    next(rt, module, state, item_at(vertex, U32, None), Some(fault));
+    holds!(rt; !state.has_location(3));
+}
+
+/// Bindings aren't looked at: what is bound is taken.
+fn take_members(rt: &(impl Abort + AllocGlobal), module: &Module, state: &mut VaryingState) {
+    let mut vertex = at(ShaderStage::Vertex, true);
+    vertex.flags = ValidationFlags::empty();
+    next(rt, module, state, item_at(vertex, COLLIDING, None), None);
+    expect_taken(rt, state, true);
+    next(rt, module, state, item_at(vertex, UNBOUND, None), None);
+    next(rt, module, state, item_at(vertex, U32, None), None);
+    state.clear_built_ins();
+    holds!(rt; state.has_location(3));
+    next(
+        rt,
+        module,
+        state,
+        item_at(vertex, VEC4_F32, Some(POSITION)),
+        None,
+    );
+}
+
+/// Members that are refused, and then taken.
+fn expect_members(rt: &(impl Abort + AllocGlobal), module: &Module) {
+    let mut state = VaryingState::new(rt.alloc());
+    refuse_members(rt, module, &mut state);
+    take_members(rt, module, &mut state);
+}
+
+#[test]
+fn items_behind_others(rt: HostRuntime) {
+    let module = module_of_types(&rt);
+    blends_twice(&rt, &module);
+    view_twice(&rt, &module);
+    expect_members(&rt, &module);
+    drop(module);
 }

@@ -1,0 +1,108 @@
+//! Errors inside errors of functions.
+
+use crate::tests::errors::names::expect_named;
+use naga_below::{
+    AddressSpace, AtomicFunction, Capabilities, ExpressionError, Handle, ImageClass,
+    ImageDimension, StorageAccess, StorageFormat, SubgroupOperationSet,
+};
+use naga_rules::{AtomicError, CallError, LocalVariableError, SubgroupError};
+
+/// An error of a call.
+fn call_error(index: usize) -> CallError {
+    let expression = Handle::new(1);
+    let ty = Handle::new(2);
+    match index {
+        0 => CallError::Argument {
+            index: 1,
+            source: ExpressionError::NotInScope,
+        },
+        1 => CallError::ResultAlreadyInScope(expression),
+        2 => CallError::ResultAlreadyPopulated(expression),
+        3 => CallError::ArgumentCount {
+            required: 1,
+            seen: 1,
+        },
+        4 => CallError::ArgumentType {
+            index: 1,
+            required: ty,
+            seen_expression: expression,
+        },
+        _ => CallError::ExpressionMismatch(None),
+    }
+}
+
+/// An error of an atomic operation.
+fn atomic_error(index: usize) -> AtomicError {
+    let expression = Handle::new(1);
+    match index {
+        0 => AtomicError::InvalidPointer(expression),
+        1 => AtomicError::InvalidAddressSpace(AddressSpace::Private),
+        2 => AtomicError::InvalidOperand(expression),
+        3 => AtomicError::InvalidOperator(AtomicFunction::Add),
+        4 => AtomicError::InvalidResultExpression(expression),
+        5 => AtomicError::ResultExpressionExchange(expression),
+        6 => AtomicError::ResultExpressionNotExchange(expression),
+        7 => AtomicError::ResultTypeMismatch(expression),
+        8 => AtomicError::MissingReturnValue,
+        9 => AtomicError::MissingCapability(Capabilities::MULTIVIEW),
+        _ => AtomicError::ResultAlreadyPopulated(expression),
+    }
+}
+
+/// An error of a subgroup operation.
+fn subgroup_error(index: usize) -> SubgroupError {
+    let expression = Handle::new(1);
+    match index {
+        0 => SubgroupError::InvalidOperand(expression),
+        1 => SubgroupError::ResultTypeMismatch(expression),
+        2 => SubgroupError::UnsupportedOperation(SubgroupOperationSet::VOTE),
+        3 => SubgroupError::UnknownOperation,
+        _ => SubgroupError::InvalidInvocationIdExprType(expression),
+    }
+}
+
+/// An error of a local variable.
+fn local_error(index: usize) -> LocalVariableError {
+    let ty = Handle::new(2);
+    match index {
+        0 => LocalVariableError::InvalidType(ty),
+        1 => LocalVariableError::InitializerType,
+        _ => LocalVariableError::NonConstOrOverrideInitializer,
+    }
+}
+
+/// An error of an expression.
+fn expression_error(index: usize) -> ExpressionError {
+    let expression = Handle::new(1);
+    let ty = Handle::new(2);
+    match index {
+        0 => ExpressionError::NotInScope,
+        1 => ExpressionError::ExpectedGlobalVariable,
+        2 => ExpressionError::ExpectedBindingArrayType(ty),
+        3 => ExpressionError::ExpectedImageType(ty),
+        4 => ExpressionError::InvalidImageClass(ImageClass::External),
+        5 => ExpressionError::InvalidImageCoordinateType(ImageDimension::D2, expression),
+        6 => ExpressionError::InvalidImageArrayIndex,
+        7 => ExpressionError::InvalidImageArrayIndexType(expression),
+        8 => ExpressionError::InvalidImageStorageAccess(StorageAccess::LOAD),
+        9 => ExpressionError::InvalidImageFormat(StorageFormat::R8Uint),
+        _ => ExpressionError::Lower(7),
+    }
+}
+
+#[test]
+fn errors_inside_others(rt: HostRuntime) {
+    for index in 0..6 {
+        expect_named(&rt, call_error(index));
+    }
+    for index in 0..11 {
+        expect_named(&rt, atomic_error(index));
+        expect_named(&rt, expression_error(index));
+    }
+    for index in 0..5 {
+        expect_named(&rt, subgroup_error(index));
+    }
+    for index in 0..3 {
+        expect_named(&rt, local_error(index));
+    }
+}

@@ -1,0 +1,156 @@
+//! Built-ins at places that no entry point has: the outputs of a mesh at other stages, and task payloads at others than a mesh's.
+
+use naga_below::{BuiltIn, Capabilities, ShaderStage, ValidationFlags};
+use naga_rules::{BuiltInRule, MeshOutputType, VaryingPlace, builtin_rule};
+use std::process::Abort;
+
+/// How many built-ins there are, with both values of `invariant` and of `perspective`.
+const BUILT_INS: u32 = 51;
+
+/// The built-ins of outputs of primitives, and those of meshes and rays.
+fn later_built_in(index: u32) -> BuiltIn {
+    match index {
+        29 => BuiltIn::CullPrimitive,
+        30 => BuiltIn::PointIndex,
+        31 => BuiltIn::LineIndices,
+        32 => BuiltIn::TriangleIndices,
+        33 => BuiltIn::MeshTaskSize,
+        34 => BuiltIn::VertexCount,
+        35 => BuiltIn::PrimitiveCount,
+        36 => BuiltIn::Vertices,
+        37 => BuiltIn::Primitives,
+        38 => BuiltIn::RayInvocationId,
+        39 => BuiltIn::NumRayInvocations,
+        40 => BuiltIn::InstanceCustomData,
+        41 => BuiltIn::GeometryIndex,
+        42 => BuiltIn::HitKind,
+        43 => BuiltIn::WorldRayOrigin,
+        44 => BuiltIn::WorldRayDirection,
+        45 => BuiltIn::ObjectRayOrigin,
+        46 => BuiltIn::ObjectRayDirection,
+        47 => BuiltIn::RayTmin,
+        48 => BuiltIn::RayTCurrentMax,
+        49 => BuiltIn::ObjectToWorld,
+        _ => BuiltIn::WorldToObject,
+    }
+}
+
+/// The built-in with a number.
+fn built_in(index: u32) -> BuiltIn {
+    match index {
+        0 => BuiltIn::BaseInstance,
+        1 => BuiltIn::BaseVertex,
+        2 => BuiltIn::VertexIndex,
+        3 => BuiltIn::InstanceIndex,
+        4 => BuiltIn::DrawIndex,
+        5 => BuiltIn::ClipDistances,
+        6 => BuiltIn::CullDistance,
+        7 => BuiltIn::PointSize,
+        8 => BuiltIn::PointCoord,
+        9 => BuiltIn::Position { invariant: false },
+        10 => BuiltIn::Position { invariant: true },
+        11 => BuiltIn::ViewIndex,
+        12 => BuiltIn::FragDepth,
+        13 => BuiltIn::FrontFacing,
+        14 => BuiltIn::PrimitiveIndex,
+        15 => BuiltIn::Barycentric { perspective: false },
+        16 => BuiltIn::Barycentric { perspective: true },
+        17 => BuiltIn::SampleIndex,
+        18 => BuiltIn::SampleMask,
+        19 => BuiltIn::LocalInvocationIndex,
+        20 => BuiltIn::GlobalInvocationId,
+        21 => BuiltIn::LocalInvocationId,
+        22 => BuiltIn::WorkGroupId,
+        23 => BuiltIn::WorkGroupSize,
+        24 => BuiltIn::NumWorkGroups,
+        25 => BuiltIn::NumSubgroups,
+        26 => BuiltIn::SubgroupId,
+        27 => BuiltIn::SubgroupSize,
+        28 => BuiltIn::SubgroupInvocationId,
+        _ => later_built_in(index),
+    }
+}
+
+pub static STAGES: [ShaderStage; 9] = [
+    ShaderStage::Vertex,
+    ShaderStage::Fragment,
+    ShaderStage::Compute,
+    ShaderStage::Mesh,
+    ShaderStage::Task,
+    ShaderStage::RayGeneration,
+    ShaderStage::AnyHit,
+    ShaderStage::ClosestHit,
+    ShaderStage::Miss,
+];
+
+/// A place where bindings are looked at, on a target with every capability, of an entry point without a task payload and with
+/// one invocation.
+pub fn at(stage: ShaderStage, output: bool) -> VaryingPlace {
+    VaryingPlace {
+        stage,
+        output,
+        mesh_output: MeshOutputType::Neither,
+        has_task_payload: false,
+        workgroup_size: [1, 1, 1],
+        capabilities: Capabilities::ALL,
+        flags: ValidationFlags::BINDINGS,
+    }
+}
+
+/// What is said of a built-in at a place is what is said of it at another, but for where it is visible.
+fn expect_at(
+    rt: &impl Abort,
+    built_in: BuiltIn,
+    place: &VaryingPlace,
+    other: &BuiltInRule,
+    is_visible: bool,
+) {
+    let rule = builtin_rule(built_in, place);
+    holds!(rt; rule.visible == is_visible);
+    holds!(rt; rule.required == other.required);
+    holds!(rt; rule.mesh_shader == other.mesh_shader);
+}
+
+/// Whether a built-in is visible as an output of primitives, where it isn't as another output of the stage.
+fn is_of_primitives(built_in: BuiltIn, place: &VaryingPlace) -> bool {
+    match built_in {
+        BuiltIn::CullPrimitive
+        | BuiltIn::PointIndex
+        | BuiltIn::LineIndices
+        | BuiltIn::TriangleIndices => true,
+        BuiltIn::PrimitiveIndex => place.output && place.stage == ShaderStage::Mesh,
+        _ => false,
+    }
+}
+
+/// The output of a mesh changes what is visible of primitives alone, and the task payload that DrawIndex goes into a mesh.
+fn compare(rt: &impl Abort, built_in: BuiltIn, plain: VaryingPlace) {
+    let rule = builtin_rule(built_in, &plain);
+    let mut place = plain;
+    place.has_task_payload = true;
+    let is_drawn = built_in == BuiltIn::DrawIndex && plain.stage == ShaderStage::Mesh;
+    let with_payload = rule.visible && !is_drawn;
+    expect_at(rt, built_in, &place, &rule, with_payload);
+    place.mesh_output = MeshOutputType::VertexOutput;
+    expect_at(rt, built_in, &place, &rule, with_payload);
+    place.mesh_output = MeshOutputType::PrimitiveOutput;
+    let of_primitives = is_of_primitives(built_in, &plain);
+    let among_primitives = with_payload || of_primitives;
+    expect_at(rt, built_in, &place, &rule, among_primitives);
+    place.has_task_payload = false;
+    let among_primitives = rule.visible || of_primitives;
+    expect_at(rt, built_in, &place, &rule, among_primitives);
+    place.mesh_output = MeshOutputType::VertexOutput;
+    let is_visible = rule.visible;
+    expect_at(rt, built_in, &place, &rule, is_visible);
+}
+
+#[test]
+fn places_that_no_entry_point_has(rt: HostRuntime) {
+    for index in 0..BUILT_INS {
+        for &stage in &STAGES {
+            compare(&rt, built_in(index), at(stage, false));
+            compare(&rt, built_in(index), at(stage, true));
+        }
+    }
+}
