@@ -44,12 +44,13 @@ pub fn kept_of(
     let mut named = Vec::new(alloc);
     let mut stored = None;
     let mut marks = Marks::new(alloc, function.expressions.len())?;
-    for (number, node) in behind(nodes, emitted).iter().enumerate() {
+    let first = emitted.saturating_add(1);
+    for (number, node) in nodes.iter().skip(first).enumerate() {
         if !is_in_list_of(node, nodes.get(emitted)) {
             break;
         }
         let statement = &node.located.statement;
-        let number = emitted.saturating_add(1).saturating_add(number);
+        let number = first.saturating_add(number);
         if stored.is_none() {
             stored = stored_by(function, number, statement, handle);
         }
@@ -64,14 +65,6 @@ pub fn kept_of(
         stored,
         is_of_loop,
     })
-}
-
-/// The statements that are visited after this one.
-fn behind<'a, 'b>(nodes: &'a [Node<'b>], number: usize) -> &'a [Node<'b>] {
-    match nodes.split_at_checked(number.saturating_add(1)) {
-        Some((_, left)) => left,
-        None => &[],
-    }
 }
 
 /// Whether a statement after another one stands in the same list, or is held by one that does.
@@ -122,7 +115,7 @@ fn is_made_in(
     let mut parts = Marks::new(alloc, function.expressions.len())?;
     parts.add(handle);
     parts.close(function);
-    for node in behind(nodes, holder) {
+    for node in nodes.iter().skip(holder.saturating_add(1)) {
         if node.depth <= head.depth {
             break;
         }

@@ -135,6 +135,7 @@ const ARRAY: usize = 7;
 /// The info is of these flags and this alignment, or of none of the type with this handle.
 fn expect_info(rt: &impl Abort, info: &TypeInfo, own: usize, flags: u8, alignment: u32) {
     holds!(rt; info.flags.0 == flags);
+    holds!(rt; own <= u32::MAX as usize);
     let layout = if alignment == 0 {
         Err((Handle::new(own as u32), Disalignment(0)))
     } else {

@@ -281,6 +281,7 @@ fn expect_spans(rt: &impl Abort, module: &Module, body: &Block) {
     expect_span(rt, &module.global_variables);
     expect_span(rt, &module.global_expressions);
     expect_span(rt, &module.functions);
+    holds!(rt; module.functions.len() == 1);
     expect_of_each(rt, &module.functions[Handle::new(0)], body);
     holds!(rt; module.entry_points.len() == 1);
     expect_of_each(rt, &module.entry_points[0].function, body);

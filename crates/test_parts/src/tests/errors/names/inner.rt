@@ -6,6 +6,7 @@ use naga_below::{
     ImageDimension, StorageAccess, StorageFormat, SubgroupOperationSet,
 };
 use naga_rules::{AtomicError, CallError, LocalVariableError, SubgroupError};
+use std::process::Abort;
 
 /// An error of a call.
 fn call_error(index: usize) -> CallError {
@@ -90,19 +91,57 @@ fn expression_error(index: usize) -> ExpressionError {
     }
 }
 
+fn expect_call(rt: &(impl Abort + AllocGlobal), index: usize) {
+    expect_named(rt, call_error(index));
+}
+
 #[test]
-fn errors_inside_others(rt: HostRuntime) {
+fn of_calls(rt: HostRuntime) {
     for index in 0..6 {
-        expect_named(&rt, call_error(index));
+        expect_call(&rt, index);
     }
+}
+
+fn expect_atomic(rt: &(impl Abort + AllocGlobal), index: usize) {
+    expect_named(rt, atomic_error(index));
+}
+
+#[test]
+fn of_atomics(rt: HostRuntime) {
     for index in 0..11 {
-        expect_named(&rt, atomic_error(index));
-        expect_named(&rt, expression_error(index));
+        expect_atomic(&rt, index);
     }
+}
+
+fn expect_expression(rt: &(impl Abort + AllocGlobal), index: usize) {
+    expect_named(rt, expression_error(index));
+}
+
+#[test]
+fn of_expressions(rt: HostRuntime) {
+    for index in 0..11 {
+        expect_expression(&rt, index);
+    }
+}
+
+fn expect_subgroup(rt: &(impl Abort + AllocGlobal), index: usize) {
+    expect_named(rt, subgroup_error(index));
+}
+
+#[test]
+fn of_subgroups(rt: HostRuntime) {
     for index in 0..5 {
-        expect_named(&rt, subgroup_error(index));
+        expect_subgroup(&rt, index);
     }
+}
+
+fn expect_local(rt: &(impl Abort + AllocGlobal), index: usize) {
+    expect_named(rt, local_error(index));
+}
+
+#[test]
+fn of_locals(rt: HostRuntime) {
     for index in 0..3 {
-        expect_named(&rt, local_error(index));
+        expect_local(&rt, index);
     }
 }
