@@ -58,8 +58,8 @@ static int is_without_types(const char *out, size_t length, const char *verdict)
     const char *last = strrchr(verdict, '\n');
     const char *why = last ? strstr(last, ": ") : NULL;
     size_t kept = last ? (size_t)(last - verdict) + 1 : 0;
-    if (!why || length <= kept || memcmp(out, verdict, kept)) return 0;
-    return ends_with(out, length, why) || ends_with(out, length, of_operator);
+    if (!last || length <= kept || memcmp(out, verdict, kept)) return 0;
+    return (why && ends_with(out, length, why)) || ends_with(out, length, of_operator);
 }
 
 /* Refuses the first request, the second, and so on up to the call that meets no refusal, and answers how many there
