@@ -3,9 +3,7 @@ use Rattle.std.proofs.Common.{◌≡◌, ℕ, ◌+◌, ◌<◌, ◌≤◌, ◌==
 use Rattle.std.proofs.Common.{List, [], ◌∷◌, ◌++◌, length, map, take, get_or, refl, sym, ap, ◌∙◌, subst, arith}
 use Rattle.std.proofs.lemmas.Bool.Decides.{nat_tests, Decides-int_eq}
 use Rattle.std.proofs.lemmas.List.{append_assoc, map-append}
-use Rattle.std.proofs.lemmas.List.Sorted.{sum_by-IsPermutation}
-use Rattle.std.specs.List.Sorted.{IsPermutation}
-use Rattle.std.proofs.lemmas.List.Sums.{sum_by-cons, sum_by-append}
+use Rattle.std.proofs.lemmas.List.Sums.{sum_by-append}
 use Rattle.std.specs.Int.{cast_unsigned, w32}
 use Rattle.std.specs.List.{list_any, AllByRecursion}
 use Rattle.ir_types.specs.declared.types.ScalarKind.{ScalarKind}
@@ -18,11 +16,11 @@ use Rattle.check_errors.specs.declared.function.FunctionError.TheVariants.{Confl
 use Rattle.check_flow.specs.Switch.{has_signedness_of, repeated_fault, same_value, value_points, values_of}
 use Rattle.check_flow.specs.walk.SwitchParts.{number_of}
 use Rattle.check_flow.proofs.Values.{earlier as earlier_and_one}
-use Rattle.check_flow.proofs.Once.{times}
+use Rattle.check_flow.proofs.Once.{itself, times, times-cons}
 
 -- equal values have one number
 same_number : (v w : SwitchValue) → same_value v w ≡ true → number_of v ≡ number_of w
-same_number (I32 m) (I32 n) e = ap (λ k. cast_unsigned w32 k + 1) ((Decides-int_eq m n).0 e)
+same_number (I32 m) (I32 n) e = ap (cast_unsigned w32) ((Decides-int_eq m n).0 e)
 same_number (U32 m) (U32 n) e = grind (arith, nat_tests)
 same_number Default Default e = refl
 same_number (I32 m) (U32 n) e = absurd cc
@@ -32,15 +30,9 @@ same_number (U32 m) Default e = absurd cc
 same_number Default (I32 n) e = absurd cc
 same_number Default (U32 n) e = absurd cc
 
--- numbers behind one, and one behind numbers
-times-cons : (n m : ℕ) (ms : List ℕ) → times n (m ∷ ms) ≡ cond (n == m) 1 0 + times n ms
-times-cons n m ms = sum_by-cons (λ k. cond (n == k) 1 0) m ms
-
+-- numbers behind others
 times-append : (n : ℕ) (ls ms : List ℕ) → times n (ls ++ ms) ≡ times n ls + times n ms
 times-append n ls ms = sum_by-append (λ k. cond (n == k) 1 0) ls ms
-
-itself : (n : ℕ) (ms : List ℕ) → times n (n ∷ ms) ≡ 1 + times n ms
-itself n ms = times-cons n n ms ∙ ap (λ b. cond b 1 0 + times n ms) (let same : (n == n) ≡ true = grind (arith, nat_tests) in same)
 
 -- the number of a value that is among others stands among theirs
 stands : (v : SwitchValue) (vs : List SwitchValue) → list_any (same_value v) vs ≡ true →
@@ -114,10 +106,3 @@ module _ (cs : List SwitchCase) (i : ℕ) (c : SwitchCase) (lt : i < length cs) 
   numbers_more =
       ap (map number_of) (earlier_and_one cs i c lt e)
       ∙ map-append number_of (values_of (case_list (take i cs))) ((out-SwitchCase c).value ∷ [])
-
--- numbers in another order
-pub in_order : (ms ns : List ℕ) → IsPermutation ms ns → ((n : ℕ) → times n ns ≤ 1) → (n : ℕ) → times n ms ≤ 1
-in_order ms ns moved once n =
-    let same = sum_by-IsPermutation (λ k. cond (n == k) 1 0) ms ns moved in
-    let one = once n in
-    omega arith

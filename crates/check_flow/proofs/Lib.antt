@@ -4,5 +4,6 @@ pub mod Calls
 pub mod Values
 pub mod Rising
 pub mod Once
+pub mod Among
 pub mod Distinct
 pub mod Kept

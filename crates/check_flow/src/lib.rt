@@ -4,4 +4,5 @@
 
 pub mod call;
 pub mod control;
+mod digits;
 pub mod switch;

@@ -12,6 +12,7 @@ ghost use Rattle.check_scope.specs.walk.SeenContext.{context_of};
 ghost use Rattle.check_flow.specs.walk.SwitchParts.{StandOnce, selector_points, cases_points, number_of, risen, risen_to};
 ghost use Rattle.check_scope.specs.walk.Table.{known};
 
+use crate::digits::sort_numbers;
 use check_errors::function::FunctionError;
 use check_scope::context::BlockContext;
 use check_scope::refuse::{answer, check_use};
@@ -132,7 +133,8 @@ fn risen_to(so_far: Rising, number: i64) -> Option<Rising>
     })
 }
 
-/// Whether all values have the selector's signedness and no two of them have one number: then no value stands twice.
+/// Whether all values have the selector's signedness and no two of them have one number: then no value stands twice. Where a
+/// value has the default's number, this answers false.
 fn are_distinct(
     alloc: Global,
     selector: Option<ScalarKind>,
@@ -148,31 +150,32 @@ fn are_distinct(
         }
         numbers.push(number_of(case.value))?;
     }
-    numbers.sort_unstable();
+    sort_numbers(alloc, &mut numbers)?;
     Ok(rise(numbers.as_slice()))
 }
 
-/// The number, from 1 on, that distinguishes a value from others of its sign.
-fn number_of(value: SwitchValue) -> u64
+/// The number that distinguishes a value from others of its sign. That of the default is one that a case hardly has.
+fn number_of(value: SwitchValue) -> u32
     ensures { result ≡ number_of value }
 {
     match value {
-        SwitchValue::I32(number) => u64::from(number.cast_unsigned()) + 1,
-        SwitchValue::U32(number) => u64::from(number) + 1,
-        SwitchValue::Default => u64::MAX,
+        SwitchValue::I32(number) => number.cast_unsigned(),
+        SwitchValue::U32(number) => number,
+        SwitchValue::Default => 3_141_592_653,
     }
 }
 
-/// Whether the first number is above 0, and each other above the one before it: then none stands twice.
-fn rise(numbers: &[u64]) -> bool
+/// Whether each number is above the one before it: then none stands twice.
+fn rise(numbers: &[u32]) -> bool
     ensures { IsTrue result → StandOnce numbers.now }
 {
-    let mut last = 0;
+    let mut least = 0u64;
     for number in numbers {
-        if *number <= last {
+        let number = *number as u64;
+        if number < least {
             return false;
         }
-        last = *number;
+        least = number + 1;
     }
     true
 }

@@ -1,10 +1,11 @@
-use Rattle.std.proofs.Common.{◌≡◌, ◌≤◌, [], ◌∷◌, ◌++◌, true, map, sym, ap, ◌∙◌, subst, take}
+use Rattle.std.proofs.Common.{◌≡◌, ◌≤◌, ℕ, [], ◌∷◌, ◌++◌, true, map, sym, ap, ◌∙◌, subst, take}
 use Rattle.std.proofs.lemmas.List.{take_all}
 use Rattle.ir_module.specs.declared.statements.SwitchCase.{out-SwitchCase}
 use Rattle.check_scope.specs.BodyTrees.{case_list}
 use Rattle.check_flow.specs.Switch.{has_signedness_of, values_of}
 use Rattle.check_flow.specs.walk.SwitchParts.{number_of}
-use Rattle.check_flow.proofs.Distinct.{AreSigned, in_order, none_repeated, numbers_more, signed_more}
+use Rattle.check_flow.proofs.Among.{once_among}
+use Rattle.check_flow.proofs.Distinct.{AreSigned, none_repeated, numbers_more, signed_more}
 use Rattle.check_flow.proofs.Once.{times}
 use Rattle.check_flow.proofs.switch.are_distinct.Goals as goal
 
@@ -29,9 +30,11 @@ pub returns : goal.returns
 returns c is =
     let cs = c.args.cases.now in
     let all = take_all c.loop-case.case-index cs c.loop-case-test.false in
-    let sorted = c.as_slice.ensures.value in
-    let once = in_order _ _ c.sort_unstable.ensures.permutation (λ n. subst (λ ns. times n ns ≤ 1) sorted (c.rise.ensures is n)) in
     let numbers = c.loop-case.invariant.numbers in
+    let sorted = c.sort_numbers.new.numbers.items in
+    let rising : (n : ℕ) → times n sorted ≤ 1 =
+    λ n. subst (λ ns. times n ns ≤ 1) c.as_slice.ensures.value (c.rise.ensures is n) in
+    let once = once_among sorted c.loop-case.numbers.items c.sort_numbers.ensures.len c.sort_numbers.ensures.among rising in
     none_repeated c.args.selector [] (values_of (case_list cs))
     (subst (λ l. AreSigned c.args.selector (values_of (case_list l))) all c.loop-case.invariant.signed)
     (λ n. subst (λ l. times n (map number_of (values_of (case_list l))) ≤ 1) all (subst (λ ns. times n ns ≤ 1) numbers (once n)))

@@ -7,11 +7,11 @@ pub loop-number-preserved : goal.loop-number-preserved
 loop-number-preserved c =
     let xs = c.args.numbers.now in
     let i = c.loop-number.number-index in
-    let last = c.loop-number.last in
+    let least = c.loop-number.least in
     let kept = c.loop-number.invariant in
     record {
-      once = still_once xs i 0 last c.loop-number-test.true c.if-number-last.false kept.new kept.once;
-      new = still_new xs i 0 last c.loop-number-test.true c.if-number-last.false kept.new;
+      once = still_once xs i 0 least c.loop-number-test.true c.if-number-least.false kept.new kept.once;
+      new = still_new xs i 0 least c.loop-number-test.true c.if-number-least.false kept.new;
     }
 
 pub returns : goal.returns
