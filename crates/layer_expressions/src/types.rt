@@ -260,7 +260,7 @@ pub fn types_of(
 ) -> Result<Result<Sequence<TypeResolution>, Untyped>, AllocError>
     ensures { IfOk result (λ types. types ≡ types_of «module».now arguments.now locals.now expressions.now) }
 {
-    let mut types = Sequence::new(alloc);
+    let mut types = Vec::with_capacity(alloc, expressions.len())?;
     let count = expressions.len() as u32;
     for index in 0..count {
         let handle = Handle::new(index);
@@ -276,7 +276,7 @@ pub fn types_of(
             Err(rule) => return Ok(Err(Untyped { handle, rule })),
         }
     }
-    Ok(Ok(types))
+    Ok(Ok(Sequence::from(types)))
 }
 
 /// The type of each global expression of a module, or the first that has none.

@@ -16,8 +16,8 @@ returns-in-Err c =
     let broken = c.in-Err.rule in
     let at = rw c.new-handle.ensures at c.index.ensures in
     let lt = rw c.len-count.ensures.len at c.loop-index-test.true in
-    let none : type_of m a l xs c.loop-index.types x ≡ Err broken = sym (λ j. type_of m a l (c.as_slice.ensures j) (c.as_slice-in-loop-index.ensures j) x) ∙ sym c.in-Err.ensures in
-    let found = none_here m a l c.loop-index.types xs c.loop-index.index x lt at c.loop-index.invariant.place broken none in
+    let none : type_of m a l xs c.loop-index.types.items x ≡ Err broken = sym (λ j. type_of m a l (c.as_slice.ensures j) (c.as_slice-in-loop-index.ensures.value j) x) ∙ sym c.in-Err.ensures in
+    let found = none_here m a l c.loop-index.types.items xs c.loop-index.index x lt at c.loop-index.invariant.place broken none in
     let refused : ℕ → Result (List TypeResolution) Untyped = λ h. Err (untyped h broken) in
     ap refused c.new-handle.ensures ∙ sym found ∙ c.loop-index.invariant.rest
 
@@ -30,9 +30,9 @@ loop-index-preserved c =
     let x = c.index.result.now in
     let at = rw c.new-handle.ensures at c.index.ensures in
     let lt = rw c.len-count.ensures.len at c.loop-index-test.true in
-    let some : type_of m a l xs c.loop-index.types x ≡ Ok c.in-Ok.ty = sym (λ j. type_of m a l (c.as_slice.ensures j) (c.as_slice-in-loop-index.ensures j) x) ∙ sym c.in-Ok.ensures in
-    let found = some_here m a l c.loop-index.types xs c.loop-index.index x lt at c.loop-index.invariant.place c.in-Ok.ty some in
-    let pushed = c.in_ok-push-in-Ok.ensures.pushed in
+    let some : type_of m a l xs c.loop-index.types.items x ≡ Ok c.in-Ok.ty = sym (λ j. type_of m a l (c.as_slice.ensures j) (c.as_slice-in-loop-index.ensures.value j) x) ∙ sym c.in-Ok.ensures in
+    let found = some_here m a l c.loop-index.types.items xs c.loop-index.index x lt at c.loop-index.invariant.place c.in-Ok.ty some in
+    let pushed = c.in_ok-push-in-Ok.ensures.items in
     record {
       place = search (rules, c.loop-index.invariant.place, pushed, length-append);
       rest = rw pushed (sym found ∙ c.loop-index.invariant.rest);
