@@ -1,6 +1,6 @@
 //! Documents: the settings of a validator, a module, and what is known of it, where it says so.
 
-ghost use Rattle.serde_json.specs.View.{view};
+ghost use Rattle.json_nodes.specs.Nodes.{data_of};
 ghost use Rattle.json_document.specs.Whole.{all_parts, document_of, known_of, named_parts, parts_of, settings_of};
 ghost use Rattle.json_values.specs.Reads.{ReadsMeaning};
 
@@ -10,10 +10,10 @@ use ir_facts::{Settings, TypeInfo};
 use ir_flags::{Capabilities, ShaderStages, SubgroupOperationSet, ValidationFlags};
 use ir_module::Module;
 use ir_types::TypeResolution;
+use json_nodes::Node;
 use json_values::read::error::ReadError;
 use json_values::read::from_json::{FromJson, Held, has_field};
 use naga_layers::Facts;
-use serde_json::Value;
 use std::alloc::Global;
 
 /// What a document says is known of its module: infos of its types, types of its global expressions, and the facts that a
@@ -36,7 +36,7 @@ pub struct Document {
 impl FromJson for Known {
     ghost stands_for = { known_of };
 
-    fn from_json(alloc: Global, value: &Value) -> Result<Self, ReadError> {
+    fn from_json(alloc: Global, value: &Node) -> Result<Self, ReadError> {
         let held = Held {
             alloc,
             value,
@@ -90,7 +90,7 @@ fn read_settings(
     ),
     ReadError,
 >
-    ensures { ReadsMeaning (settings_of (view held.entry.value.now)) result }
+    ensures { ReadsMeaning (settings_of (data_of held.entry.value.now)) result }
 {
     let flags = match held.get("flags") {
         Ok(flags) => flags,
@@ -112,7 +112,7 @@ fn read_settings(
 
 /// The settings, the module and the facts, whatever stands beside them.
 fn read_all_parts(held: Held) -> Result<Parts, ReadError>
-    ensures { ReadsMeaning (all_parts (view held.entry.value.now)) result }
+    ensures { ReadsMeaning (all_parts (data_of held.entry.value.now)) result }
 {
     let (flags, capabilities, stages, operations) = match read_settings(held) {
         Ok(settings) => settings,
@@ -129,7 +129,7 @@ fn read_all_parts(held: Held) -> Result<Parts, ReadError>
 
 /// The same of an object with exactly these fields and an id.
 fn read_named_parts(held: Held) -> Result<Parts, ReadError>
-    ensures { ReadsMeaning (named_parts (view held.entry.value.now)) result }
+    ensures { ReadsMeaning (named_parts (data_of held.entry.value.now)) result }
 {
     if let Err(error) = held.fields(&[
         "id",
@@ -150,7 +150,7 @@ fn read_named_parts(held: Held) -> Result<Parts, ReadError>
 
 /// The same of an object with an id or without one.
 fn read_parts(held: Held) -> Result<Parts, ReadError>
-    ensures { ReadsMeaning (parts_of (view held.entry.value.now)) result }
+    ensures { ReadsMeaning (parts_of (data_of held.entry.value.now)) result }
 {
     if has_field(held.value, "id") {
         return read_named_parts(held);
@@ -168,7 +168,7 @@ fn read_parts(held: Held) -> Result<Parts, ReadError>
 impl FromJson for Document {
     ghost stands_for = { document_of };
 
-    fn from_json(alloc: Global, value: &Value) -> Result<Self, ReadError> {
+    fn from_json(alloc: Global, value: &Node) -> Result<Self, ReadError> {
         match read_parts(Held {
             alloc,
             value,

@@ -1,13 +1,13 @@
 //! Ids of documents.
 
 ghost use Rattle.std.specs.Prelude.{◌≡◌, IfOk};
-ghost use Rattle.serde_json.specs.View.{view};
+ghost use Rattle.json_nodes.specs.Nodes.{data_of};
 ghost use Rattle.json_document.specs.Ids.{id_in, id_of};
 
 use ir_types::Name;
+use json_nodes::Node;
 use json_values::read::error::ReadError;
 use json_values::read::from_json::FromJson;
-use serde_json::Value;
 use std::alloc::{AllocError, Global};
 
 /// What a document is called by whoever sent it: its verdict says so too.
@@ -20,7 +20,7 @@ pub enum Id {
 impl FromJson for Id {
     ghost stands_for = { id_of };
 
-    fn from_json(alloc: Global, value: &Value) -> Result<Self, ReadError> {
+    fn from_json(alloc: Global, value: &Node) -> Result<Self, ReadError> {
         if value.as_str().is_some() {
             return match Name::from_json(alloc, value) {
                 Ok(text) => Ok(Id::Text(text)),
@@ -38,11 +38,11 @@ impl FromJson for Id {
 }
 
 /// The id that a value has, if it has one. An Err is out of memory.
-pub(crate) fn id_in(alloc: Global, value: &Value) -> Result<Option<Id>, AllocError>
-    ensures { IfOk result (λ id. id ≡ id_in (view value.now)) }
+pub(crate) fn id_in(alloc: Global, value: &Node) -> Result<Option<Id>, AllocError>
+    ensures { IfOk result (λ id. id ≡ id_in (data_of value.now)) }
 {
     match value.get("id") {
-        Some(inner) => match Id::from_json(alloc, inner) {
+        Some(inner) => match Id::from_json(alloc, &inner) {
             Ok(id) => Ok(Some(id)),
             Err(ReadError::Unreadable(_)) => Ok(None),
             Err(ReadError::Memory) => Err(AllocError),

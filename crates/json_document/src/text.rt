@@ -1,7 +1,7 @@
 //! Reads a text as a document.
 
 ghost use Rattle.std.specs.Prelude.{◌≡◌};
-ghost use Rattle.serde_json.specs.View.{view};
+ghost use Rattle.json_nodes.specs.Nodes.{data_of};
 ghost use Rattle.json_document.specs.Ids.{IsComplete, IsIdOf, id_in};
 ghost use Rattle.json_document.specs.ReadsDocument.{ReadsDocument};
 ghost use Rattle.json_document.specs.Whole.{document_of};
@@ -9,9 +9,10 @@ ghost use Rattle.json_values.specs.Reads.{ReadsMeaning};
 
 use crate::document::Document;
 use crate::id::{Id, id_in};
+use json::Scratch;
+use json_nodes::{TextError, Tree, read_tree};
 use json_values::read::error::ReadError;
 use json_values::read::from_json::FromJson;
-use serde_json::Value;
 use std::alloc::Global;
 
 /// The most bytes that a document may have.
@@ -25,15 +26,16 @@ pub struct Reading {
     pub document: Result<Document, ReadError>,
 }
 
-/// Reads a value as a document, and its id.
-fn read_value(alloc: Global, value: &Value) -> Reading
-    ensures document { ReadsMeaning (document_of (view value.now)) result.document }
-    ensures id { IsComplete result.document → result.id ≡ id_in (view value.now) }
+/// Reads the value of a text as a document, and its id.
+fn read_value(alloc: Global, tree: &Tree) -> Reading
+    ensures document { ReadsMeaning (document_of (data_of tree.now)) result.document }
+    ensures id { IsComplete result.document → result.id ≡ id_in (data_of tree.now) }
 {
-    match id_in(alloc, value) {
+    let value = tree.root();
+    match id_in(alloc, &value) {
         Ok(id) => Reading {
             id,
-            document: Document::from_json(alloc, value),
+            document: Document::from_json(alloc, &value),
         },
         Err(_) => Reading {
             id: None,
@@ -58,13 +60,14 @@ pub fn read_text(alloc: Global, text: &[u8]) -> Reading
             document: Err(ReadError::expected(alloc, expected)),
         };
     }
-    match Value::from_slice(alloc, text) {
-        Ok(value) => read_value(alloc, &value),
-        Err(error) if error.is_memory() => Reading {
+    let mut scratch = Scratch::new(alloc);
+    match read_tree(alloc, text, &mut scratch) {
+        Ok(tree) => read_value(alloc, &tree),
+        Err(TextError::Memory) => Reading {
             id: None,
             document: Err(ReadError::Memory),
         },
-        Err(_) => Reading {
+        Err(TextError::Invalid) => Reading {
             id: None,
             document: Err(ReadError::expected(
                 alloc,

@@ -1,5 +1,5 @@
 pub mod Blocks
 pub mod Counts
 pub mod Lists
-pub mod Members
+pub mod Names
 pub mod Types

@@ -1,9 +1,9 @@
 -- How a document is made: objects with exactly the fields of their form, variants, lists.
-use Rattle.std.specs.Prelude.{ℕ, ◌==◌, ◌&&◌, List, [], ◌∷◌, length, Bool, true, false, Option, Some, None, option_and_then, option_map, is_some, if◌then◌else◌, ⊤}
+use Rattle.std.specs.Prelude.{ℕ, ◌&&◌, List, [], ◌∷◌, Bool, true, Option, Some, None, option_and_then, option_map, is_some, if◌then◌else◌, ⊤}
 use Rattle.std.specs.Str.{bytes_eq}
-use Rattle.serde_json.specs.Data.{Data, Items, no_items, item, Members, no_members, member}
+use Rattle.serde_json.specs.Data.{Data, Items, no_items, item}
 use Rattle.serde_json.specs.Find.{get, as_array, as_object, as_str, as_null}
-use Rattle.serde_json.specs.Events.{members_len}
+use Rattle.json_nodes.specs.Fields.{only_of, has_no_other}
 
 -- what follows from a value, if there is one
 abbrev pub given : {A B : Type 0} → Option A → (A → Option B) → Option B
@@ -18,17 +18,9 @@ abbrev pub has_each : List (List ℕ) → Data → Bool
 has_each [] d = true
 has_each (name ∷ names) d = has_field name d && has_each names d
 
-abbrev pub counts : ℕ → Option Members → Bool
-counts n None = false
-counts n (Some ms) = members_len ms == n
-
--- whether it is an object with so many fields
-abbrev pub has_count : ℕ → Data → Bool
-has_count n d = counts n (as_object d)
-
 -- whether it is an object with exactly these fields
 abbrev pub has_only : List (List ℕ) → Data → Bool
-has_only names d = has_count (length names) d && has_each names d
+has_only names d = has_no_other names d && has_each names d
 
 -- an object with exactly these fields
 abbrev pub fields_of : List (List ℕ) → Data → Option Data
@@ -128,19 +120,13 @@ pub data Tagged : Type 0 where
   plain : List ℕ → Tagged
   holding : List ℕ → Data → Tagged
 
-abbrev pub only_member : Members → Option Tagged
-only_member no_members = None
-only_member (member k d no_members) = Some (holding k d)
-only_member (member k d (member l e ms)) = None
-
-abbrev pub tagged_from : Option (List ℕ) → Option Members → Option Tagged
+abbrev pub tagged_from : Option (List ℕ) → Option (List ℕ × Data) → Option Tagged
 tagged_from (Some name) o = Some (plain name)
-tagged_from None (Some ms) = only_member ms
-tagged_from None None = None
+tagged_from None o = option_map (λ f. holding f.0 f.1) o
 
 -- a text is the name of a variant that holds nothing; the only member of an object has the name and what the variant holds
 abbrev pub tagged_of : Data → Option Tagged
-tagged_of d = tagged_from (as_str d) (as_object d)
+tagged_of d = tagged_from (as_str d) (given (as_object d) only_of)
 
 -- the items of a list, each as what it stands for
 abbrev pub each_of : {T : Type 0} → (Data → Option T) → Items → Option (List T)
@@ -158,23 +144,25 @@ unless_null None o = option_map Some o
 abbrev pub optional : {T : Type 0} → (Data → Option T) → Data → Option (Option T)
 optional f d = unless_null (as_null d) (f d)
 
-abbrev pub two_items : {A B : Type 0} → (Data → Option A) → (Data → Option B) → Items → Option (A × B)
-two_items f g no_items = None
-two_items f g (item a no_items) = None
-two_items f g (item a (item b no_items)) = given (f a) (λ x. given (g b) (λ y. Some (x, y)))
-two_items f g (item a (item b (item c ds))) = None
+-- the items, if there are two
+abbrev pub pair_in : Items → Option (Data × Data)
+pair_in no_items = None
+pair_in (item a no_items) = None
+pair_in (item a (item b no_items)) = Some (a, b)
+pair_in (item a (item b (item c ds))) = None
 
 -- a list of two
 abbrev pub two_of : {A B : Type 0} → (Data → Option A) → (Data → Option B) → Data → Option (A × B)
-two_of f g d = given (as_array d) (two_items f g)
+two_of f g d =
+    given (given (as_array d) pair_in) (λ p. given (f p.0) (λ x. given (g p.1) (λ y. Some (x, y))))
 
-abbrev pub three_items : {A B C : Type 0} → (Data → Option A) → (Data → Option B) → (Data → Option C) → Items → Option (A × B × C)
-three_items f g h no_items = None
-three_items f g h (item a no_items) = None
-three_items f g h (item a (item b no_items)) = None
-three_items f g h (item a (item b (item c no_items))) = given (f a) (λ x. given (g b) (λ y. given (h c) (λ z. Some (x, y, z))))
-three_items f g h (item a (item b (item c (item d ds)))) = None
+-- the items, if there are three
+abbrev pub triple_in : Items → Option (Data × Data × Data)
+triple_in no_items = None
+triple_in (item a ds) = option_map (λ p. (a, p.0, p.1)) (pair_in ds)
 
 -- a list of three
 abbrev pub three_of : {A B C : Type 0} → (Data → Option A) → (Data → Option B) → (Data → Option C) → Data → Option (A × B × C)
-three_of f g h d = given (as_array d) (three_items f g h)
+three_of f g h d =
+    given (given (as_array d) triple_in) (λ t.
+    given (f t.0) (λ x. given (g t.1) (λ y. given (h t.2) (λ z. Some (x, y, z)))))

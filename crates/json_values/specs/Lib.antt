@@ -4,7 +4,6 @@ pub mod Variants
 pub mod Reads
 pub mod ReadsFields
 pub mod ReadsVariants
-pub mod ReadsSets
 pub mod Numbers
 pub mod Sets
 pub mod Document

@@ -1,9 +1,6 @@
 -- What a reading answers.
 use Rattle.std.specs.Borrow.{Bor}
 use Rattle.std.specs.Prelude.{◌≡◌, ℕ, List, map, Option, Some, None, Result, Ok, Err}
-use Rattle.serde_json.specs.Data.{Items}
-use Rattle.serde_json.specs.View.{items_view}
-use Rattle.serde_json.specs.declared.value.Value.{Value}
 use Rattle.json_values.specs.declared.read.error.ReadError.{ReadError}
 use Rattle.json_values.specs.Failures.{IsUnreadable}
 
@@ -12,10 +9,10 @@ abbrev pub ReadsMeaning : {T : Type 0} → Option T → Result T ReadError → T
 ReadsMeaning o (Ok x) = o ≡ Some x
 ReadsMeaning o (Err e) = IsUnreadable e → o ≡ None
 
--- the same of the values of a list
-abbrev pub ReadsElements : Option Items → Result (Bor (List Value)) ReadError → Type 0
-ReadsElements o (Ok x) = o ≡ Some (items_view x.now)
-ReadsElements o (Err e) = IsUnreadable e → o ≡ None
+-- the same, where what is read has this meaning
+abbrev pub ReadsAs : {A B : Type 0} → (B → A) → Option A → Result B ReadError → Type 0
+ReadsAs meaning o (Ok x) = o ≡ Some (meaning x)
+ReadsAs meaning o (Err e) = IsUnreadable e → o ≡ None
 
 -- the texts of a list
 abbrev pub texts_of : List (Bor (List ℕ)) → List (List ℕ)

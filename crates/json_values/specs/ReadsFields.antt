@@ -1,9 +1,5 @@
 -- What the reading of objects answers.
-use Rattle.std.specs.Borrow.{Bor}
 use Rattle.std.specs.Prelude.{◌≡◌, Bool, true, false, Option, Some, None, Result, Ok, Err, ⊤}
-use Rattle.serde_json.specs.Data.{Data}
-use Rattle.serde_json.specs.View.{view}
-use Rattle.serde_json.specs.declared.value.Value.{Value}
 use Rattle.json_values.specs.declared.read.error.ReadError.{ReadError}
 use Rattle.json_values.specs.Failures.{IsUnreadable}
 use Rattle.json_values.specs.Form.{given}
@@ -12,10 +8,6 @@ use Rattle.json_values.specs.Form.{given}
 abbrev pub ReadsFields : Bool → Result ⊤ ReadError → Type 0
 ReadsFields has (Ok x) = has ≡ true
 ReadsFields has (Err e) = IsUnreadable e → has ≡ false
-
-abbrev pub ReadsValue : Option Data → Result (Bor Value) ReadError → Type 0
-ReadsValue o (Ok value) = o ≡ Some (view value.now)
-ReadsValue o (Err e) = IsUnreadable e → o ≡ None
 
 -- all that some fields stand for, if each stands for something
 abbrev pub two : {A B : Type 0} → Option A → Option B → Option (A × B)

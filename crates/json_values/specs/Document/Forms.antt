@@ -1,8 +1,9 @@
 -- The named forms of the expressions that have operands. A form is a list of fields. Each field gives up to two operands, and
 -- counts something in `detail`: the operands stand in the order of the fields, and `detail` is the sum.
-use Rattle.std.specs.Prelude.{ℕ, ◌+◌, ◌*◌, ◌%◌, ◌^◌, ◌==◌, List, [], ◌∷◌, ◌++◌, length, Bool, true, false, codes, Option, None, Some, option_map, if◌then◌else◌, ⊤}
+use Rattle.std.specs.Prelude.{ℕ, ◌+◌, ◌*◌, ◌%◌, ◌^◌, ◌==◌, List, [], ◌∷◌, ◌++◌, map, Bool, codes, Option, None, Some, option_map, if◌then◌else◌, ⊤}
 use Rattle.serde_json.specs.Data.{Data, Items, no_items, item}
 use Rattle.serde_json.specs.Find.{as_array, as_bool}
+use Rattle.json_nodes.specs.Fields.{has_no_other}
 use Rattle.json_values.specs.declared.read.expressions.Parts.{Parts}
 use Rattle.json_values.specs.declared.read.expressions.PartsName.{PartsName}
 use Rattle.json_values.specs.declared.read.expressions.PartsName.TheVariants as parts_name
@@ -11,9 +12,8 @@ use Rattle.json_values.specs.declared.read.forms.Field.TheVariants as field
 use Rattle.json_values.specs.declared.read.forms.LevelName.{LevelName}
 use Rattle.json_values.specs.declared.read.forms.LevelName.TheVariants as level_name
 use Rattle.json_values.specs.declared.read.forms.Piece.{Piece}
-use Rattle.json_values.specs.declared.read.forms.Table.{Table}
 use Rattle.json_values.specs.declared.read.forms.Table.TheVariants as table
-use Rattle.json_values.specs.Form.{given, field_of, has_count, made_of_three, made_of_two, named, one_field, optional, three_fields, two_fields}
+use Rattle.json_values.specs.Form.{given, field_of, made_of_three, made_of_two, named, one_field, optional, three_fields, triple_in, two_fields}
 use Rattle.json_values.specs.Numbers.{u8_of, u32_of}
 use Rattle.json_values.specs.Variants.{Variant, plain, holding, variant_of}
 use Rattle.json_values.specs.Document.FormNames.{names_of, components, levels, level_names, queries, sizes_asked}
@@ -59,21 +59,22 @@ width_from (Some n) = if n == 0 then None else Some (counted n)
 abbrev pub width_of : Data → Option Piece
 width_of d = given (optional u8_of d) width_from
 
--- four components, each of which counts four times as much as the one before it
+-- two components, of which the second counts four times as much as the first
 abbrev pub two_components : Data → Data → Option ℕ
 two_components a b = given (named components a) (λ x. given (named components b) (λ y. Some (x + 4 * y)))
 
-abbrev pub four_components : Items → Option ℕ
-four_components no_items = None
-four_components (item a no_items) = None
-four_components (item a (item b no_items)) = None
-four_components (item a (item b (item c no_items))) = None
-four_components (item a (item b (item c (item d no_items)))) =
-    given (two_components a b) (λ x. given (two_components c d) (λ y. Some (x + 16 * y)))
-four_components (item a (item b (item c (item d (item e ds))))) = None
+-- four, each of which counts four times as much as the one before it
+abbrev pub four_components : Data × Data × Data × Data → Option ℕ
+four_components four = given (two_components four.0 four.1) (λ x. given (two_components four.2 four.3) (λ y. Some (x + 16 * y)))
 
+-- the items, if there are four
+abbrev pub four_in : Items → Option (Data × Data × Data × Data)
+four_in no_items = None
+four_in (item a ds) = option_map (λ t. (a, t.0, t.1, t.2)) (triple_in ds)
+
+-- the pattern of a swizzle
 abbrev pub pattern_of : Data → Option Piece
-pattern_of d = option_map counted (given (as_array d) four_components)
+pattern_of d = option_map counted (given (given (as_array d) four_in) four_components)
 
 -- the level of a sample
 abbrev pub level_held : LevelName → Data → Option Piece
@@ -139,9 +140,13 @@ unfoldable pub parts_from : Parts → List (List ℕ × Field) → Data → Opti
 parts_from parts [] d = Some parts
 parts_from parts (row ∷ rows) d = given (with_field parts row.0 row.1 d) (λ more. parts_from more rows d)
 
+-- the names of the fields of a form
+abbrev pub names_in : List (List ℕ × Field) → List (List ℕ)
+names_in rows = map (λ row. row.0) rows
+
 -- what an object with exactly these fields gives
 unfoldable pub form_of : List (List ℕ × Field) → Data → Option Parts
-form_of rows d = if has_count (length rows) d then parts_from no_parts rows d else None
+form_of rows d = if has_no_other (names_in rows) d then parts_from no_parts rows d else None
 
 -- ---- the forms
 

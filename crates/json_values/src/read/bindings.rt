@@ -1,6 +1,6 @@
 //! What inputs and outputs of stages are bound to.
 
-ghost use Rattle.serde_json.specs.View.{view};
+ghost use Rattle.json_nodes.specs.Nodes.{data_of};
 ghost use Rattle.json_values.specs.Reads.{ReadsMeaning};
 ghost use Rattle.json_values.specs.Document.Bindings.{binding_from, binding_of, built_in_from, built_in_of, interpolation_of, location_of, sampling_of};
 
@@ -8,7 +8,7 @@ use crate::read::error::ReadError;
 use crate::read::from_json::{FromJson, Held};
 use crate::read::variant::{Holding, read_either, read_holding, read_name};
 use ir_types::{Binding, BuiltIn, Interpolation, Sampling};
-use serde_json::Value;
+use json_nodes::Node;
 use std::alloc::Global;
 
 /// The built-ins of which no more is said.
@@ -95,7 +95,7 @@ impl Holding<BuiltInName> for BuiltIn {
 impl FromJson for BuiltIn {
     ghost stands_for = { built_in_of };
 
-    fn from_json(alloc: Global, value: &Value) -> Result<Self, ReadError> {
+    fn from_json(alloc: Global, value: &Node) -> Result<Self, ReadError> {
         read_either(alloc, value, &BUILT_INS, &HOLDING_BUILT_INS)
     }
 }
@@ -111,7 +111,7 @@ const INTERPOLATIONS: [(&str, Interpolation); 4] = [
 impl FromJson for Interpolation {
     ghost stands_for = { interpolation_of };
 
-    fn from_json(alloc: Global, value: &Value) -> Result<Self, ReadError> {
+    fn from_json(alloc: Global, value: &Node) -> Result<Self, ReadError> {
         read_name(alloc, value, &INTERPOLATIONS)
     }
 }
@@ -128,7 +128,7 @@ const SAMPLINGS: [(&str, Sampling); 5] = [
 impl FromJson for Sampling {
     ghost stands_for = { sampling_of };
 
-    fn from_json(alloc: Global, value: &Value) -> Result<Self, ReadError> {
+    fn from_json(alloc: Global, value: &Node) -> Result<Self, ReadError> {
         read_name(alloc, value, &SAMPLINGS)
     }
 }
@@ -147,7 +147,7 @@ const BINDINGS: [(&str, BindingName); 2] = [
 ];
 
 fn read_location(held: Held) -> Result<Binding, ReadError>
-    ensures { ReadsMeaning (location_of (view held.entry.value.now)) result }
+    ensures { ReadsMeaning (location_of (data_of held.entry.value.now)) result }
 {
     match held.five(&(
         "location",
@@ -186,7 +186,7 @@ impl Holding<BindingName> for Binding {
 impl FromJson for Binding {
     ghost stands_for = { binding_of };
 
-    fn from_json(alloc: Global, value: &Value) -> Result<Self, ReadError> {
+    fn from_json(alloc: Global, value: &Node) -> Result<Self, ReadError> {
         read_holding(alloc, value, &BINDINGS)
     }
 }

@@ -9,7 +9,7 @@ use ir_module::{
     Constant, EarlyDepthTest, EntryPoint, GlobalVariable, MeshOutputTopology, MeshStageInfo,
     Override, ShaderStage, SpecialTypes,
 };
-use serde_json::Value;
+use json_nodes::Node;
 use std::alloc::Global;
 
 /// The stages.
@@ -28,7 +28,7 @@ const SHADER_STAGES: [(&str, ShaderStage); 9] = [
 impl FromJson for ShaderStage {
     ghost stands_for = { shader_stage_of };
 
-    fn from_json(alloc: Global, value: &Value) -> Result<Self, ReadError> {
+    fn from_json(alloc: Global, value: &Node) -> Result<Self, ReadError> {
         read_name(alloc, value, &SHADER_STAGES)
     }
 }
@@ -43,7 +43,7 @@ const MESH_OUTPUT_TOPOLOGIES: [(&str, MeshOutputTopology); 3] = [
 impl FromJson for MeshOutputTopology {
     ghost stands_for = { mesh_output_topology_of };
 
-    fn from_json(alloc: Global, value: &Value) -> Result<Self, ReadError> {
+    fn from_json(alloc: Global, value: &Node) -> Result<Self, ReadError> {
         read_name(alloc, value, &MESH_OUTPUT_TOPOLOGIES)
     }
 }
@@ -51,7 +51,7 @@ impl FromJson for MeshOutputTopology {
 impl FromJson for MeshStageInfo {
     ghost stands_for = { mesh_stage_info_of };
 
-    fn from_json(alloc: Global, value: &Value) -> Result<Self, ReadError> {
+    fn from_json(alloc: Global, value: &Node) -> Result<Self, ReadError> {
         let held = Held {
             alloc,
             value,
@@ -96,7 +96,7 @@ impl FromJson for MeshStageInfo {
 impl FromJson for Constant {
     ghost stands_for = { constant_of };
 
-    fn from_json(alloc: Global, value: &Value) -> Result<Self, ReadError> {
+    fn from_json(alloc: Global, value: &Node) -> Result<Self, ReadError> {
         let held = Held {
             alloc,
             value,
@@ -112,7 +112,7 @@ impl FromJson for Constant {
 impl FromJson for Override {
     ghost stands_for = { override_of };
 
-    fn from_json(alloc: Global, value: &Value) -> Result<Self, ReadError> {
+    fn from_json(alloc: Global, value: &Node) -> Result<Self, ReadError> {
         let held = Held {
             alloc,
             value,
@@ -128,7 +128,7 @@ impl FromJson for Override {
 impl FromJson for SpecialTypes {
     ghost stands_for = { special_types_of };
 
-    fn from_json(alloc: Global, value: &Value) -> Result<Self, ReadError> {
+    fn from_json(alloc: Global, value: &Node) -> Result<Self, ReadError> {
         let held = Held {
             alloc,
             value,
@@ -144,7 +144,7 @@ impl FromJson for SpecialTypes {
 impl FromJson for GlobalVariable {
     ghost stands_for = { global_variable_of };
 
-    fn from_json(alloc: Global, value: &Value) -> Result<Self, ReadError> {
+    fn from_json(alloc: Global, value: &Node) -> Result<Self, ReadError> {
         let held = Held {
             alloc,
             value,
@@ -166,7 +166,7 @@ impl FromJson for GlobalVariable {
 impl FromJson for EarlyDepthTest {
     ghost stands_for = { early_depth_test_of };
 
-    fn from_json(alloc: Global, value: &Value) -> Result<Self, ReadError> {
+    fn from_json(alloc: Global, value: &Node) -> Result<Self, ReadError> {
         match u32::from_json(alloc, value) {
             Ok(test) => Ok(EarlyDepthTest(test)),
             Err(error) => Err(error),
@@ -177,7 +177,7 @@ impl FromJson for EarlyDepthTest {
 impl FromJson for EntryPoint {
     ghost stands_for = { entry_point_of };
 
-    fn from_json(alloc: Global, value: &Value) -> Result<Self, ReadError> {
+    fn from_json(alloc: Global, value: &Node) -> Result<Self, ReadError> {
         let held = Held {
             alloc,
             value,

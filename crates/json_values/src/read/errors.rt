@@ -1,6 +1,6 @@
 //! Faults of expressions and functions that a lower layer finds.
 
-ghost use Rattle.serde_json.specs.View.{view};
+ghost use Rattle.json_nodes.specs.Nodes.{data_of};
 ghost use Rattle.json_values.specs.Reads.{ReadsMeaning};
 ghost use Rattle.json_values.specs.Document.Errors.{control_flow_of, coordinate_of, error_in_expression_of, expression_error_from, expression_error_of, lower_function_error_from, lower_function_error_of, output_types_of, payloads_of, uniform_load_of};
 
@@ -9,12 +9,12 @@ use crate::read::from_json::{FromJson, Held};
 use crate::read::variant::{Holding, read_either, read_holding};
 use check_errors::{UniformityDisruptor, UniformityRequirements};
 use ir_facts::ExpressionError;
+use json_nodes::Node;
 use naga_layers::LowerFunctionError;
-use serde_json::Value;
 use std::alloc::Global;
 
 fn read_coordinate(held: Held) -> Result<ExpressionError, ReadError>
-    ensures { ReadsMeaning (coordinate_of (view held.entry.value.now)) result }
+    ensures { ReadsMeaning (coordinate_of (data_of held.entry.value.now)) result }
 {
     match held.read() {
         Ok((dim, coordinate)) => Ok(ExpressionError::InvalidImageCoordinateType(dim, coordinate)),
@@ -116,7 +116,7 @@ impl Holding<ExpressionErrorName> for ExpressionError {
 impl FromJson for ExpressionError {
     ghost stands_for = { expression_error_of };
 
-    fn from_json(alloc: Global, value: &Value) -> Result<Self, ReadError> {
+    fn from_json(alloc: Global, value: &Node) -> Result<Self, ReadError> {
         read_either(alloc, value, &BARE_ERRORS, &EXPRESSION_ERRORS)
     }
 }
@@ -168,7 +168,7 @@ const LOWER_ERRORS: [(&str, LowerErrorName); 8] = [
 ];
 
 fn read_expression(held: Held) -> Result<LowerFunctionError, ReadError>
-    ensures { ReadsMeaning (error_in_expression_of (view held.entry.value.now)) result }
+    ensures { ReadsMeaning (error_in_expression_of (data_of held.entry.value.now)) result }
 {
     match held.two(&("handle", "source")) {
         Ok((handle, source)) => Ok(LowerFunctionError::Expression { handle, source }),
@@ -177,7 +177,7 @@ fn read_expression(held: Held) -> Result<LowerFunctionError, ReadError>
 }
 
 fn read_control_flow(held: Held) -> Result<LowerFunctionError, ReadError>
-    ensures { ReadsMeaning (control_flow_of (view held.entry.value.now)) result }
+    ensures { ReadsMeaning (control_flow_of (data_of held.entry.value.now)) result }
 {
     match held.read() {
         Ok((requirements, at, disruptor)) => Ok(LowerFunctionError::NonUniformControlFlow(
@@ -190,7 +190,7 @@ fn read_control_flow(held: Held) -> Result<LowerFunctionError, ReadError>
 }
 
 fn read_uniform_load(held: Held) -> Result<LowerFunctionError, ReadError>
-    ensures { ReadsMeaning (uniform_load_of (view held.entry.value.now)) result }
+    ensures { ReadsMeaning (uniform_load_of (data_of held.entry.value.now)) result }
 {
     match held.read() {
         Ok(disruptor) => Ok(LowerFunctionError::NonUniformWorkgroupUniformLoad(UniformityDisruptor(
@@ -201,7 +201,7 @@ fn read_uniform_load(held: Held) -> Result<LowerFunctionError, ReadError>
 }
 
 fn read_output_types(held: Held) -> Result<LowerFunctionError, ReadError>
-    ensures { ReadsMeaning (output_types_of (view held.entry.value.now)) result }
+    ensures { ReadsMeaning (output_types_of (data_of held.entry.value.now)) result }
 {
     match held.read() {
         Ok((one, other)) => Ok(LowerFunctionError::ConflictingMeshOutputTypes(one, other)),
@@ -210,7 +210,7 @@ fn read_output_types(held: Held) -> Result<LowerFunctionError, ReadError>
 }
 
 fn read_payloads(held: Held) -> Result<LowerFunctionError, ReadError>
-    ensures { ReadsMeaning (payloads_of (view held.entry.value.now)) result }
+    ensures { ReadsMeaning (payloads_of (data_of held.entry.value.now)) result }
 {
     match held.read() {
         Ok((one, other)) => Ok(LowerFunctionError::ConflictingTaskPayloadVariables(one, other)),
@@ -247,7 +247,7 @@ impl Holding<LowerErrorName> for LowerFunctionError {
 impl FromJson for LowerFunctionError {
     ghost stands_for = { lower_function_error_of };
 
-    fn from_json(alloc: Global, value: &Value) -> Result<Self, ReadError> {
+    fn from_json(alloc: Global, value: &Node) -> Result<Self, ReadError> {
         read_holding(alloc, value, &LOWER_ERRORS)
     }
 }

@@ -2,7 +2,7 @@
 
 use crate::read::error::ReadError;
 use bitflags::Flags;
-use serde_json::{Map, Value};
+use json_nodes::Node;
 use std::alloc::Global;
 use std::fmt;
 
@@ -16,28 +16,8 @@ fn write_names<W: fmt::Write>(out: &mut W, names: &[&'static str]) -> fmt::Resul
     Ok(())
 }
 
-/// Whether a name is among these.
-fn is_among(name: &str, names: &[&'static str]) -> bool {
-    for known in names {
-        if name == *known {
-            return true;
-        }
-    }
-    false
-}
-
-/// The first field, by its name, that isn't among these.
-fn unknown_field<'v>(map: &'v Map<String, Value>, names: &[&'static str]) -> Option<&'v str> {
-    for (name, _) in map {
-        if !is_among(name.as_str(), names) {
-            return Some(name.as_str());
-        }
-    }
-    None
-}
-
 /// The first of these fields that isn't there.
-fn missing_field(value: &Value, names: &[&'static str]) -> Option<&'static str> {
+fn missing_field(value: &Node, names: &[&'static str]) -> Option<&'static str> {
     for name in names {
         if value.get(*name).is_none() {
             return Some(*name);
@@ -48,13 +28,13 @@ fn missing_field(value: &Value, names: &[&'static str]) -> Option<&'static str> 
 
 /// Writes what keeps a value from being an object with exactly these fields: a field that is one too many, or else the
 /// first that is missing.
-fn write_fields<W: fmt::Write>(out: &mut W, value: &Value, names: &[&'static str]) -> fmt::Result {
+fn write_fields<W: fmt::Write>(out: &mut W, value: &Node, names: &[&'static str]) -> fmt::Result {
     let ending = if names.len() == 1 { "" } else { "s" };
-    let Some(map) = value.as_object() else {
+    if !value.is_object() {
         write!(out, "an object with the field{ending} ")?;
         return write_names(out, names);
-    };
-    if let Some(name) = unknown_field(map, names) {
+    }
+    if let Some(name) = value.other_name(names) {
         let verb = if names.len() == 1 { "is" } else { "are" };
         write!(out, "no field {name:?}: the field{ending} {verb} ")?;
         return write_names(out, names);
@@ -107,7 +87,7 @@ fn told(alloc: Global, text: String, written: fmt::Result) -> ReadError {
 }
 
 /// An object with exactly these fields was expected.
-pub fn expected_fields(alloc: Global, value: &Value, names: &[&'static str]) -> ReadError {
+pub fn expected_fields(alloc: Global, value: &Node, names: &[&'static str]) -> ReadError {
     let mut text = String::new(alloc);
     let written = write_fields(&mut text, value, names);
     told(alloc, text, written)

@@ -1,7 +1,7 @@
 //! Expressions.
 
 ghost use Rattle.std.specs.Prelude.{◌≡◌};
-ghost use Rattle.serde_json.specs.View.{view};
+ghost use Rattle.json_nodes.specs.Nodes.{data_of};
 ghost use Rattle.json_values.specs.Reads.{ReadsMeaning};
 ghost use Rattle.json_values.specs.Variants.{holding};
 ghost use Rattle.json_values.specs.Document.Expressions.{access_index_of, access_of, any_literal_of, any_parts_of, atomic_result_of, compose_of, expression_from, expression_of, literal_of, load_of, parts_of, subgroup_operation_result_of, with_index, with_parts, work_group_uniform_load_result_of};
@@ -13,12 +13,12 @@ use crate::read::named::read_named_parts;
 use crate::read::variant::{Variant, read_variant};
 use ir_arena::Handle;
 use ir_module::{Expression, Literal, Operands};
-use serde_json::Value;
+use json_nodes::Node;
 use std::alloc::Global;
 
 /// A literal by its bits.
-fn read_literal_by_bits(alloc: Global, value: &Value) -> Result<Literal, ReadError>
-    ensures { ReadsMeaning (literal_of (view value.now)) result }
+fn read_literal_by_bits(alloc: Global, value: &Node) -> Result<Literal, ReadError>
+    ensures { ReadsMeaning (literal_of (data_of value.now)) result }
 {
     let held = Held {
         alloc,
@@ -34,7 +34,7 @@ fn read_literal_by_bits(alloc: Global, value: &Value) -> Result<Literal, ReadErr
 impl FromJson for Literal {
     ghost stands_for = { any_literal_of };
 
-    fn from_json(alloc: Global, value: &Value) -> Result<Self, ReadError> {
+    fn from_json(alloc: Global, value: &Node) -> Result<Self, ReadError> {
         if has_field(value, "scalar") {
             read_literal_by_bits(alloc, value)
         } else {
@@ -53,7 +53,7 @@ pub struct Parts {
 impl FromJson for Parts {
     ghost stands_for = { parts_of };
 
-    fn from_json(alloc: Global, value: &Value) -> Result<Self, ReadError> {
+    fn from_json(alloc: Global, value: &Node) -> Result<Self, ReadError> {
         let held = Held {
             alloc,
             value,
@@ -124,7 +124,7 @@ fn with_parts(kind: PartsName, parts: Parts) -> Expression
 
 /// The parts of an expression of a kind, as they are or by its named form.
 fn read_parts(kind: PartsName, held: Held) -> Result<Parts, ReadError>
-    ensures { ReadsMeaning (any_parts_of kind (view held.entry.value.now)) result }
+    ensures { ReadsMeaning (any_parts_of kind (data_of held.entry.value.now)) result }
 {
     if has_field(held.value, "operands") {
         held.read()
@@ -251,7 +251,7 @@ const EXPRESSIONS: [(&str, ExpressionName); 32] = [
 ];
 
 fn read_compose(held: Held) -> Result<Expression, ReadError>
-    ensures { ReadsMeaning (compose_of (view held.entry.value.now)) result }
+    ensures { ReadsMeaning (compose_of (data_of held.entry.value.now)) result }
 {
     match held.two(&("ty", "components")) {
         Ok((ty, components)) => Ok(Expression::Compose { ty, components }),
@@ -260,7 +260,7 @@ fn read_compose(held: Held) -> Result<Expression, ReadError>
 }
 
 fn read_access(held: Held) -> Result<Expression, ReadError>
-    ensures { ReadsMeaning (access_of (view held.entry.value.now)) result }
+    ensures { ReadsMeaning (access_of (data_of held.entry.value.now)) result }
 {
     match held.two(&("base", "index")) {
         Ok((base, index)) => Ok(Expression::Access { base, index }),
@@ -269,7 +269,7 @@ fn read_access(held: Held) -> Result<Expression, ReadError>
 }
 
 fn read_access_index(held: Held) -> Result<Expression, ReadError>
-    ensures { ReadsMeaning (access_index_of (view held.entry.value.now)) result }
+    ensures { ReadsMeaning (access_index_of (data_of held.entry.value.now)) result }
 {
     match held.two(&("base", "index")) {
         Ok((base, index)) => Ok(Expression::AccessIndex { base, index }),
@@ -278,7 +278,7 @@ fn read_access_index(held: Held) -> Result<Expression, ReadError>
 }
 
 fn read_load(held: Held) -> Result<Expression, ReadError>
-    ensures { ReadsMeaning (load_of (view held.entry.value.now)) result }
+    ensures { ReadsMeaning (load_of (data_of held.entry.value.now)) result }
 {
     match held.one("pointer") {
         Ok(pointer) => Ok(Expression::Load { pointer }),
@@ -287,7 +287,7 @@ fn read_load(held: Held) -> Result<Expression, ReadError>
 }
 
 fn read_atomic_result(held: Held) -> Result<Expression, ReadError>
-    ensures { ReadsMeaning (atomic_result_of (view held.entry.value.now)) result }
+    ensures { ReadsMeaning (atomic_result_of (data_of held.entry.value.now)) result }
 {
     match held.two(&("ty", "comparison")) {
         Ok((ty, comparison)) => Ok(Expression::AtomicResult { ty, comparison }),
@@ -296,7 +296,7 @@ fn read_atomic_result(held: Held) -> Result<Expression, ReadError>
 }
 
 fn read_work_group_uniform_load_result(held: Held) -> Result<Expression, ReadError>
-    ensures { ReadsMeaning (work_group_uniform_load_result_of (view held.entry.value.now)) result }
+    ensures { ReadsMeaning (work_group_uniform_load_result_of (data_of held.entry.value.now)) result }
 {
     match held.one("ty") {
         Ok(ty) => Ok(Expression::WorkGroupUniformLoadResult { ty }),
@@ -305,7 +305,7 @@ fn read_work_group_uniform_load_result(held: Held) -> Result<Expression, ReadErr
 }
 
 fn read_subgroup_operation_result(held: Held) -> Result<Expression, ReadError>
-    ensures { ReadsMeaning (subgroup_operation_result_of (view held.entry.value.now)) result }
+    ensures { ReadsMeaning (subgroup_operation_result_of (data_of held.entry.value.now)) result }
 {
     match held.one("ty") {
         Ok(ty) => Ok(Expression::SubgroupOperationResult { ty }),
@@ -314,7 +314,7 @@ fn read_subgroup_operation_result(held: Held) -> Result<Expression, ReadError>
 }
 
 fn read_held_expression(name: ExpressionName, held: Held) -> Result<Expression, ReadError>
-    ensures { ReadsMeaning (expression_from (holding name (view held.entry.value.now))) result }
+    ensures { ReadsMeaning (expression_from (holding name (data_of held.entry.value.now))) result }
 {
     match name {
         ExpressionName::Parts(kind) => match read_parts(kind, held) {
@@ -342,7 +342,7 @@ fn read_held_expression(name: ExpressionName, held: Held) -> Result<Expression, 
 impl FromJson for Expression {
     ghost stands_for = { expression_of };
 
-    fn from_json(alloc: Global, value: &Value) -> Result<Self, ReadError> {
+    fn from_json(alloc: Global, value: &Node) -> Result<Self, ReadError> {
         match read_variant(alloc, value, &BARE_EXPRESSIONS, &EXPRESSIONS) {
             Ok(Variant::Plain(BareName::RayQueryProceedResult)) => Ok(
                 Expression::RayQueryProceedResult,
@@ -350,7 +350,14 @@ impl FromJson for Expression {
             Ok(Variant::Plain(BareName::SubgroupBallotResult)) => Ok(
                 Expression::SubgroupBallotResult,
             ),
-            Ok(Variant::Holding(name, held)) => read_held_expression(name, held),
+            Ok(Variant::Holding(found, name, inner)) => {
+                let held = Held {
+                    alloc,
+                    value: &inner,
+                    variant: Some(name),
+                };
+                read_held_expression(found, held)
+            }
             Err(error) => Err(error),
         }
     }

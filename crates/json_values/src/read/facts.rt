@@ -9,8 +9,8 @@ use crate::read::variant::{Holding, read_holding, read_name};
 use check_errors::MeshFault;
 use ir_arena::{Handle, tag};
 use ir_facts::{Disalignment, ImmediateError, TypeInfo};
+use json_nodes::Node;
 use naga_layers::{ExpressionFact, FunctionFact, InfoFact, MeshAnalysisFact};
-use serde_json::Value;
 use std::alloc::Global;
 
 /// The faults of outputs of mesh shaders.
@@ -22,7 +22,7 @@ const MESH_FAULTS: [(&str, MeshFault); 2] = [
 impl FromJson for MeshFault {
     ghost stands_for = { mesh_fault_of };
 
-    fn from_json(alloc: Global, value: &Value) -> Result<Self, ReadError> {
+    fn from_json(alloc: Global, value: &Node) -> Result<Self, ReadError> {
         read_name(alloc, value, &MESH_FAULTS)
     }
 }
@@ -41,7 +41,7 @@ const OUTCOMES: [(&str, OutcomeName); 2] = [("Ok", OutcomeName::Ok), ("Err", Out
 impl FromJson for Result<u32, (Handle<tag::Type>, Disalignment)> {
     ghost stands_for = { layout_of };
 
-    fn from_json(alloc: Global, value: &Value) -> Result<Self, ReadError> {
+    fn from_json(alloc: Global, value: &Node) -> Result<Self, ReadError> {
         read_holding(alloc, value, &OUTCOMES)
     }
 }
@@ -67,7 +67,7 @@ impl Holding<OutcomeName> for Result<u32, (Handle<tag::Type>, Disalignment)> {
 impl FromJson for Result<(), ImmediateError> {
     ghost stands_for = { immediates_of };
 
-    fn from_json(alloc: Global, value: &Value) -> Result<Self, ReadError> {
+    fn from_json(alloc: Global, value: &Node) -> Result<Self, ReadError> {
         read_holding(alloc, value, &OUTCOMES)
     }
 }
@@ -93,7 +93,7 @@ impl Holding<OutcomeName> for Result<(), ImmediateError> {
 impl FromJson for () {
     ghost stands_for = { as_null };
 
-    fn from_json(alloc: Global, value: &Value) -> Result<Self, ReadError> {
+    fn from_json(alloc: Global, value: &Node) -> Result<Self, ReadError> {
         match value.is_null() {
             true => Ok(()),
             false => Err(ReadError::expected(alloc, "null")),
@@ -104,7 +104,7 @@ impl FromJson for () {
 impl FromJson for TypeInfo {
     ghost stands_for = { type_info_of };
 
-    fn from_json(alloc: Global, value: &Value) -> Result<Self, ReadError> {
+    fn from_json(alloc: Global, value: &Node) -> Result<Self, ReadError> {
         let held = Held {
             alloc,
             value,
@@ -130,7 +130,7 @@ impl FromJson for TypeInfo {
 impl FromJson for MeshAnalysisFact {
     ghost stands_for = { mesh_analysis_fact_of };
 
-    fn from_json(alloc: Global, value: &Value) -> Result<Self, ReadError> {
+    fn from_json(alloc: Global, value: &Node) -> Result<Self, ReadError> {
         let held = Held {
             alloc,
             value,
@@ -167,7 +167,7 @@ const EXPRESSION_FACTS: [(&str, ExpressionFactName); 2] = [
 impl FromJson for ExpressionFact {
     ghost stands_for = { expression_fact_of };
 
-    fn from_json(alloc: Global, value: &Value) -> Result<Self, ReadError> {
+    fn from_json(alloc: Global, value: &Node) -> Result<Self, ReadError> {
         read_holding(alloc, value, &EXPRESSION_FACTS)
     }
 }
@@ -192,7 +192,7 @@ impl Holding<ExpressionFactName> for ExpressionFact {
 impl FromJson for InfoFact {
     ghost stands_for = { info_fact_of };
 
-    fn from_json(alloc: Global, value: &Value) -> Result<Self, ReadError> {
+    fn from_json(alloc: Global, value: &Node) -> Result<Self, ReadError> {
         let held = Held {
             alloc,
             value,
@@ -233,7 +233,7 @@ const FUNCTION_FACTS: [(&str, FunctionFactName); 2] = [
 impl FromJson for FunctionFact {
     ghost stands_for = { function_fact_of };
 
-    fn from_json(alloc: Global, value: &Value) -> Result<Self, ReadError> {
+    fn from_json(alloc: Global, value: &Node) -> Result<Self, ReadError> {
         read_holding(alloc, value, &FUNCTION_FACTS)
     }
 }

@@ -2,7 +2,7 @@
 
 ghost use Rattle.std.specs.Prelude.{◌≡◌, option_and_then};
 ghost use Rattle.serde_json.specs.Find.{as_str};
-ghost use Rattle.serde_json.specs.View.{view};
+ghost use Rattle.json_nodes.specs.Nodes.{data_of};
 ghost use Rattle.json_values.specs.Form.{lookup, named};
 ghost use Rattle.json_values.specs.Reads.{ReadsMeaning, rows_of};
 ghost use Rattle.json_values.specs.Document.FormNames.{math_functions, names_of};
@@ -10,7 +10,7 @@ ghost use Rattle.json_values.specs.Document.FormNames.{math_functions, names_of}
 use crate::read::error::ReadError;
 use crate::read::forms::Table;
 use crate::read::variant::read_name;
-use serde_json::Value;
+use json_nodes::Node;
 use std::alloc::Global;
 
 const VECTOR_SIZES: [(&str, u32); 3] = [("Bi", 0), ("Tri", 1), ("Quad", 2)];
@@ -151,15 +151,15 @@ fn math_functions<'a>() -> &'a [(&'static str, u32)]
 }
 
 /// The function of WGSL that a text names.
-fn read_math_function(alloc: Global, value: &Value) -> Result<u32, ReadError>
-    ensures { ReadsMeaning (named math_functions (view value.now)) result }
+fn read_math_function(alloc: Global, value: &Node) -> Result<u32, ReadError>
+    ensures { ReadsMeaning (named math_functions (data_of value.now)) result }
 {
     read_name(alloc, value, math_functions())
 }
 
 /// What a text that is one of the names of a table counts.
-pub fn read_form_name(alloc: Global, value: &Value, table: Table) -> Result<u32, ReadError>
-    ensures { ReadsMeaning (named (names_of table) (view value.now)) result }
+pub fn read_form_name(alloc: Global, value: &Node, table: Table) -> Result<u32, ReadError>
+    ensures { ReadsMeaning (named (names_of table) (data_of value.now)) result }
 {
     match table {
         Table::VectorSize => read_name(alloc, value, &VECTOR_SIZES),

@@ -1,25 +1,26 @@
 //! The named forms of the expressions that have operands: what each field gives, and what all fields give.
 
-ghost use Rattle.std.specs.Prelude.{◌≡◌, ◌+◌, ◌*◌, Some, OnOk, option_map};
+ghost use Rattle.std.specs.Prelude.{◌≡◌, ◌≤◌, Some, OnOk, length, option_map};
 ghost use Rattle.serde_json.specs.Find.{as_bool};
-ghost use Rattle.serde_json.specs.View.{view};
-ghost use Rattle.json_values.specs.Form.{named};
+ghost use Rattle.json_nodes.specs.Fields.{has_no_other};
+ghost use Rattle.json_nodes.specs.Nodes.{data_of, items_of};
+ghost use Rattle.json_values.specs.Form.{has_each, named};
 ghost use Rattle.json_values.specs.Numbers.{u32_of};
 ghost use Rattle.json_values.specs.Reads.{ReadsMeaning, rows_of};
 ghost use Rattle.json_values.specs.Document.FormNames.{names_of};
-ghost use Rattle.json_values.specs.Document.Forms.{count_if, counted, form_of, gather_of, level_held, level_of, maybe, maybe_of, operand, pattern_of, piece_of, place_of, query_of, two_components, width_from, width_of, with_field, with_operand, with_piece};
+ghost use Rattle.json_values.specs.Document.Forms.{count_if, counted, form_of, four_components, four_in, gather_of, level_held, level_of, maybe, maybe_of, names_in, no_parts, operand, parts_from, pattern_of, piece_of, place_of, query_of, two_components, width_from, width_of, with_field, with_operand, with_piece};
 
 use crate::read::error::ReadError;
 use crate::read::expected::expected_fields;
 use crate::read::expressions::Parts;
 use crate::read::form_names::read_form_name;
-use crate::read::from_json::{Held, has_count};
-use crate::read::list::elements;
+use crate::read::from_json::{Held, has_field};
+use crate::read::list::{elements, triple_in};
 use crate::read::number::byte;
 use crate::read::variant::{Variant, read_name, read_variant};
 use ir_arena::{Handle, tag};
 use ir_module::Operands;
-use serde_json::Value;
+use json_nodes::{Items, Node};
 use std::alloc::{AllocError, Global};
 
 /// The names that a field chooses from.
@@ -113,7 +114,7 @@ fn count_if(count: u32, truth: bool) -> u32
 
 /// An operand.
 fn read_operand(held: Held, count: u32) -> Result<Piece, ReadError>
-    ensures { ReadsMeaning (option_map (operand count) (u32_of (view held.entry.value.now))) result }
+    ensures { ReadsMeaning (option_map (operand count) (u32_of (data_of held.entry.value.now))) result }
 {
     match held.read() {
         Ok(handle) => Ok(operand(count, handle)),
@@ -123,7 +124,7 @@ fn read_operand(held: Held, count: u32) -> Result<Piece, ReadError>
 
 /// An operand, or null.
 fn read_maybe(held: Held, count: u32) -> Result<Piece, ReadError>
-    ensures { ReadsMeaning (maybe_of count (view held.entry.value.now)) result }
+    ensures { ReadsMeaning (maybe_of count (data_of held.entry.value.now)) result }
 {
     match held.read() {
         Ok(found) => Ok(maybe(count, found)),
@@ -133,7 +134,7 @@ fn read_maybe(held: Held, count: u32) -> Result<Piece, ReadError>
 
 /// True or false.
 fn read_flag(held: Held, count: u32) -> Result<Piece, ReadError>
-    ensures { ReadsMeaning (option_map (λ truth. counted (count_if count truth)) (as_bool (view held.entry.value.now))) result }
+    ensures { ReadsMeaning (option_map (λ truth. counted (count_if count truth)) (as_bool (data_of held.entry.value.now))) result }
 {
     match held.read() {
         Ok(truth) => Ok(counted(count_if(count, truth))),
@@ -145,7 +146,7 @@ const COMPONENTS: [(&str, u8); 4] = [("X", 0), ("Y", 1), ("Z", 2), ("W", 3)];
 
 /// The component that is gathered, or null.
 fn read_gather(held: Held) -> Result<Piece, ReadError>
-    ensures { ReadsMeaning (gather_of (view held.entry.value.now)) result }
+    ensures { ReadsMeaning (gather_of (data_of held.entry.value.now)) result }
 {
     if held.value.is_null() {
         return Ok(counted(0));
@@ -168,8 +169,8 @@ fn width(bytes: Option<u8>) -> Option<Piece>
 }
 
 /// What the width that a value is counts.
-fn width_at(value: &Value) -> Option<Piece>
-    ensures { result ≡ width_of (view value.now) }
+fn width_at(value: &Node) -> Option<Piece>
+    ensures { result ≡ width_of (data_of value.now) }
 {
     if value.is_null() {
         return width(None);
@@ -182,7 +183,7 @@ fn width_at(value: &Value) -> Option<Piece>
 
 /// A width in bytes, or null.
 fn read_width(held: Held) -> Result<Piece, ReadError>
-    ensures { ReadsMeaning (width_of (view held.entry.value.now)) result }
+    ensures { ReadsMeaning (width_of (data_of held.entry.value.now)) result }
 {
     match width_at(held.value) {
         Some(piece) => Ok(piece),
@@ -193,9 +194,20 @@ fn read_width(held: Held) -> Result<Piece, ReadError>
     }
 }
 
+/// The items, if there are four.
+fn four_in<'v>(mut items: Items<'v>) -> Option<(Node<'v>, Node<'v>, Node<'v>, Node<'v>)>
+    ensures { option_map (λ q. (data_of q.0, data_of q.1, data_of q.2, data_of q.3)) result ≡ four_in (items_of items.entry) }
+{
+    let first = items.next()?;
+    match triple_in(items) {
+        Some((second, third, fourth)) => Some((first, second, third, fourth)),
+        None => None,
+    }
+}
+
 /// Two components, of which the second counts four times as much as the first.
-fn read_two_components(alloc: Global, first: &Value, second: &Value) -> Result<u16, ReadError>
-    ensures { ReadsMeaning (two_components (view first.now) (view second.now)) result }
+fn read_two_components(alloc: Global, first: &Node, second: &Node) -> Result<u16, ReadError>
+    ensures { ReadsMeaning (two_components (data_of first.now) (data_of second.now)) result }
 {
     match read_name(alloc, first, &COMPONENTS) {
         Ok(a) => match read_name(alloc, second, &COMPONENTS) {
@@ -207,22 +219,32 @@ fn read_two_components(alloc: Global, first: &Value, second: &Value) -> Result<u
 }
 
 /// Four components, each of which counts four times as much as the one before it.
+fn read_four_components(alloc: Global, four: &(Node, Node, Node, Node)) -> Result<u32, ReadError>
+    ensures { ReadsMeaning (four_components (data_of four.now.0, data_of four.now.1, data_of four.now.2, data_of four.now.3)) result }
+{
+    match read_two_components(alloc, &four.0, &four.1) {
+        Ok(low) => match read_two_components(alloc, &four.2, &four.3) {
+            Ok(high) => Ok(u32::from(low) + 16 * u32::from(high)),
+            Err(error) => Err(error),
+        },
+        Err(error) => Err(error),
+    }
+}
+
+/// The pattern of a swizzle: four components.
 fn read_pattern(held: Held) -> Result<Piece, ReadError>
-    ensures { ReadsMeaning (pattern_of (view held.entry.value.now)) result }
+    ensures { ReadsMeaning (pattern_of (data_of held.entry.value.now)) result }
 {
     let items = match elements(held.alloc, held.value) {
         Ok(items) => items,
         Err(error) => return Err(error),
     };
-    if items.len() != 4 {
-        return Err(ReadError::expected(held.alloc, "a list of four"));
-    }
-    match read_two_components(held.alloc, &items[0], &items[1]) {
-        Ok(low) => match read_two_components(held.alloc, &items[2], &items[3]) {
-            Ok(high) => Ok(counted(u32::from(low) + 16 * u32::from(high))),
+    match four_in(items) {
+        Some(four) => match read_four_components(held.alloc, &four) {
+            Ok(count) => Ok(counted(count)),
             Err(error) => Err(error),
         },
-        Err(error) => Err(error),
+        None => Err(ReadError::expected(held.alloc, "a list of four")),
     }
 }
 
@@ -245,7 +267,7 @@ const LEVEL_NAMES: [(&str, LevelName); 3] = [
 ];
 
 fn read_held_level(name: LevelName, held: Held) -> Result<Piece, ReadError>
-    ensures { ReadsMeaning (level_held name (view held.entry.value.now)) result }
+    ensures { ReadsMeaning (level_held name (data_of held.entry.value.now)) result }
 {
     match name {
         LevelName::Exact => read_operand(held, 10),
@@ -263,11 +285,18 @@ fn read_held_level(name: LevelName, held: Held) -> Result<Piece, ReadError>
 
 /// The level of a sample.
 fn read_level(held: Held) -> Result<Piece, ReadError>
-    ensures { ReadsMeaning (level_of (view held.entry.value.now)) result }
+    ensures { ReadsMeaning (level_of (data_of held.entry.value.now)) result }
 {
     match read_variant(held.alloc, held.value, &LEVELS, &LEVEL_NAMES) {
         Ok(Variant::Plain(count)) => Ok(counted(count)),
-        Ok(Variant::Holding(name, held)) => read_held_level(name, held),
+        Ok(Variant::Holding(found, name, inner)) => {
+            let within = Held {
+                alloc: held.alloc,
+                value: &inner,
+                variant: Some(name),
+            };
+            read_held_level(found, within)
+        }
         Err(error) => Err(error),
     }
 }
@@ -280,21 +309,28 @@ const SIZES_ASKED: [(&str, ()); 1] = [("Size", ())];
 
 /// What is asked of an image.
 fn read_query(held: Held) -> Result<Piece, ReadError>
-    ensures { ReadsMeaning (query_of (view held.entry.value.now)) result }
+    ensures { ReadsMeaning (query_of (data_of held.entry.value.now)) result }
 {
     match read_variant(held.alloc, held.value, &QUERIES, &SIZES_ASKED) {
         Ok(Variant::Plain(count)) => Ok(counted(count)),
-        Ok(Variant::Holding(_, held)) => match held.one("level") {
-            Ok(level) => Ok(maybe(0, level)),
-            Err(error) => Err(error),
-        },
+        Ok(Variant::Holding(_, name, inner)) => {
+            let within = Held {
+                alloc: held.alloc,
+                value: &inner,
+                variant: Some(name),
+            };
+            match within.one("level") {
+                Ok(level) => Ok(maybe(0, level)),
+                Err(error) => Err(error),
+            }
+        }
         Err(error) => Err(error),
     }
 }
 
 /// Where a cooperative matrix lies.
 fn read_place(held: Held) -> Result<Piece, ReadError>
-    ensures { ReadsMeaning (place_of (view held.entry.value.now)) result }
+    ensures { ReadsMeaning (place_of (data_of held.entry.value.now)) result }
 {
     match held.three(&("pointer", "stride", "row_major")) {
         Ok((pointer, stride, by_rows)) => Ok(Piece {
@@ -308,7 +344,7 @@ fn read_place(held: Held) -> Result<Piece, ReadError>
 
 /// One of the names of a table.
 fn read_named(held: Held, table: Table) -> Result<Piece, ReadError>
-    ensures { ReadsMeaning (option_map counted (named (names_of table) (view held.entry.value.now))) result }
+    ensures { ReadsMeaning (option_map counted (named (names_of table) (data_of held.entry.value.now))) result }
 {
     match read_form_name(held.alloc, held.value, table) {
         Ok(count) => Ok(counted(count)),
@@ -318,7 +354,7 @@ fn read_named(held: Held, table: Table) -> Result<Piece, ReadError>
 
 /// What a field gives, by its value.
 fn read_piece(held: Held, field: Field) -> Result<Piece, ReadError>
-    ensures { ReadsMeaning (piece_of field (view held.entry.value.now)) result }
+    ensures { ReadsMeaning (piece_of field (data_of held.entry.value.now)) result }
 {
     match field {
         Field::Operand => read_operand(held, 0),
@@ -363,6 +399,75 @@ pub fn with_piece(parts: Parts, piece: Piece) -> Result<Parts, ReadError>
     })
 }
 
+/// These parts, and what a field gives.
+fn with_field(
+    held: Held,
+    parts: Parts,
+    name: &'static str,
+    field: Field,
+) -> Result<Parts, ReadError>
+    ensures { ReadsMeaning (with_field parts name.now field (data_of held.entry.value.now)) result }
+{
+    let value = match held.member(name) {
+        Ok(value) => value,
+        Err(error) => return Err(error),
+    };
+    let within = Held {
+        alloc: held.alloc,
+        value: &value,
+        variant: None,
+    };
+    match read_piece(within, field) {
+        Ok(piece) => with_piece(parts, piece),
+        Err(error) => Err(held.in_field(error, name)),
+    }
+}
+
+/// What these fields give, in their order.
+#[tactic(auto, unfolding(crate::specs::Document::Forms::parts_from))]
+fn read_fields(held: Held, form: &[(&'static str, Field)]) -> Result<Parts, ReadError>
+    ensures { ReadsMeaning (parts_from no_parts (rows_of form.now) (data_of held.entry.value.now)) result }
+{
+    let mut parts = Parts {
+        operands: Operands::new(held.alloc),
+        detail: 0,
+    };
+    for row in form {
+        parts = match with_field(held, parts, row.0, row.1) {
+            Ok(more) => more,
+            Err(error) => return Err(error),
+        };
+    }
+    Ok(parts)
+}
+
+/// The most fields that a form has.
+pub const MOST_FIELDS: usize = 9;
+
+/// Whether it is an object, each of whose fields is one of this form.
+fn has_no_other(value: &Node, form: &[(&'static str, Field)]) -> bool
+    requires { length form.now ≤ MOST_FIELDS }
+    ensures { result ≡ has_no_other (names_in (rows_of form.now)) (data_of value.now) }
+{
+    let mut names = [""; MOST_FIELDS];
+    for (index, row) in form.iter().enumerate() {
+        names[index] = row.0;
+    }
+    value.has_no_other(&names[..form.len()])
+}
+
+/// Whether each field of this form is there.
+fn has_each(value: &Node, form: &[(&'static str, Field)]) -> bool
+    ensures { result ≡ has_each (names_in (rows_of form.now)) (data_of value.now) }
+{
+    for row in form {
+        if !has_field(value, row.0) {
+            return false;
+        }
+    }
+    true
+}
+
 /// An object with exactly the fields of this form was expected.
 fn no_form(held: Held, form: &[(&'static str, Field)]) -> ReadError {
     let mut names = Vec::new(held.alloc);
@@ -374,48 +479,22 @@ fn no_form(held: Held, form: &[(&'static str, Field)]) -> ReadError {
     held.outside(expected_fields(held.alloc, held.value, names.as_slice()))
 }
 
-/// These parts, and what a field of this form gives.
-fn with_field(
-    held: Held,
-    parts: Parts,
-    form: &[(&'static str, Field)],
-    name: &'static str,
-    field: Field,
-) -> Result<Parts, ReadError>
-    ensures { ReadsMeaning (with_field parts name.now field (view held.entry.value.now)) result }
-{
-    let value = match held.value.get(name) {
-        Some(value) => value,
-        None => return Err(no_form(held, form)),
-    };
-    let inside = Held {
-        alloc: held.alloc,
-        value,
-        variant: None,
-    };
-    match read_piece(inside, field) {
-        Ok(piece) => with_piece(parts, piece),
-        Err(error) => Err(held.in_field(error, name)),
-    }
-}
-
-/// What the fields of an object with exactly these give.
-#[tactic(auto, unfolding(crate::specs::Document::Forms::form_of, crate::specs::Document::Forms::parts_from))]
+/// What the fields of an object with exactly these give. That one is missing is told before what is wrong in another.
+#[tactic(auto, using(crate::proofs::Names::missing), unfolding(crate::specs::Document::Forms::form_of))]
 pub fn read_form(held: Held, form: &[(&'static str, Field)]) -> Result<Parts, ReadError>
-    ensures { ReadsMeaning (form_of (rows_of form.now) (view held.entry.value.now)) result }
+    requires { length form.now ≤ MOST_FIELDS }
+    ensures { ReadsMeaning (form_of (rows_of form.now) (data_of held.entry.value.now)) result }
 {
-    if !has_count(held.value, form.len()) {
+    if !has_no_other(held.value, form) {
         return Err(no_form(held, form));
     }
-    let mut parts = Parts {
-        operands: Operands::new(held.alloc),
-        detail: 0,
-    };
-    for row in form {
-        parts = match with_field(held, parts, form, row.0, row.1) {
-            Ok(more) => more,
-            Err(error) => return Err(error),
-        };
+    match read_fields(held, form) {
+        Ok(parts) => Ok(parts),
+        Err(error) => {
+            if !has_each(held.value, form) {
+                return Err(no_form(held, form));
+            }
+            Err(error)
+        }
     }
-    Ok(parts)
 }

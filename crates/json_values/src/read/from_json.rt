@@ -2,15 +2,15 @@
 
 ghost use Rattle.std.specs.Prelude.{◌≡◌, is_some};
 ghost use Rattle.serde_json.specs.Find.{get};
-ghost use Rattle.serde_json.specs.View.{view};
+ghost use Rattle.json_nodes.specs.Nodes.{data_of};
 ghost use Rattle.json_values.specs.Failures.{IsUnreadable};
-ghost use Rattle.json_values.specs.Form.{field_of, has_field, has_each, has_count, has_only, one_field, two_fields, three_fields, four_fields, five_fields, six_fields, eight_fields};
-ghost use Rattle.json_values.specs.Reads.{ReadsMeaning, texts_of};
-ghost use Rattle.json_values.specs.ReadsFields.{ReadsFields, ReadsValue, ReadsTwo, ReadsThree, ReadsFour};
+ghost use Rattle.json_values.specs.Form.{field_of, has_field, has_each, has_only, one_field, two_fields, three_fields, four_fields, five_fields, six_fields, eight_fields};
+ghost use Rattle.json_values.specs.Reads.{ReadsMeaning, ReadsAs, texts_of};
+ghost use Rattle.json_values.specs.ReadsFields.{ReadsFields, ReadsTwo, ReadsThree, ReadsFour};
 
 use crate::read::error::{ReadError, Step};
 use crate::read::expected::expected_fields;
-use serde_json::Value;
+use json_nodes::Node;
 use std::alloc::Global;
 
 /// What can be read from a value of the document.
@@ -22,13 +22,13 @@ pub trait FromJson: Drop {
     ghost stands_for: { Data → Option Self };
 
     /// What the value stands for, or where reading stopped.
-    fn from_json(alloc: Global, value: &Value) -> Result<Self, ReadError>
-        ensures { ReadsMeaning (stands_for (view value.now)) result };
+    fn from_json(alloc: Global, value: &Node) -> Result<Self, ReadError>
+        ensures { ReadsMeaning (stands_for (data_of value.now)) result };
 }
 
 /// What stands a step away.
-pub fn read_at<T: FromJson>(alloc: Global, step: Step, value: &Value) -> Result<T, ReadError>
-    ensures { ReadsMeaning (T.stands_for (view value.now)) result }
+pub fn read_at<T: FromJson>(alloc: Global, step: Step, value: &Node) -> Result<T, ReadError>
+    ensures { ReadsMeaning (T.stands_for (data_of value.now)) result }
 {
     match T::from_json(alloc, value) {
         Ok(read) => Ok(read),
@@ -37,15 +37,15 @@ pub fn read_at<T: FromJson>(alloc: Global, step: Step, value: &Value) -> Result<
 }
 
 /// Whether it is an object with this field.
-pub fn has_field(value: &Value, name: &str) -> bool
-    ensures { result ≡ has_field name.now (view value.now) }
+pub fn has_field(value: &Node, name: &str) -> bool
+    ensures { result ≡ has_field name.now (data_of value.now) }
 {
     value.get(name).is_some()
 }
 
 /// Whether each of these is a field.
-fn has_each(value: &Value, names: &[&'static str]) -> bool
-    ensures { result ≡ has_each (texts_of names.now) (view value.now) }
+fn has_each(value: &Node, names: &[&'static str]) -> bool
+    ensures { result ≡ has_each (texts_of names.now) (data_of value.now) }
 {
     for name in names {
         if !has_field(value, *name) {
@@ -55,32 +55,22 @@ fn has_each(value: &Value, names: &[&'static str]) -> bool
     true
 }
 
-/// Whether it is an object with so many fields.
-pub fn has_count(value: &Value, count: usize) -> bool
-    ensures { result ≡ has_count count (view value.now) }
-{
-    match value.as_object() {
-        Some(map) => map.len() == count,
-        None => false,
-    }
-}
-
 /// Whether it is an object with exactly these fields.
-fn has_only(value: &Value, names: &[&'static str]) -> bool
-    ensures { result ≡ has_only (texts_of names.now) (view value.now) }
+fn has_only(value: &Node, names: &[&'static str]) -> bool
+    ensures { result ≡ has_only (texts_of names.now) (data_of value.now) }
 {
-    has_count(value, names.len()) && has_each(value, names)
+    value.has_no_other(names) && has_each(value, names)
 }
 
 /// A value that is to be read, and the name of the variant that holds it, where one does.
 #[derive(Clone, Copy)]
-pub struct Held<'v> {
+pub struct Held<'h, 'v> {
     pub alloc: Global,
-    pub value: &'v Value,
+    pub value: &'h Node<'v>,
     pub variant: Option<&'static str>,
 }
 
-impl<'v> Held<'v> {
+impl<'h, 'v> Held<'h, 'v> {
     /// The error of this value, seen from the variant that holds it.
     pub fn outside(self, error: ReadError) -> ReadError
         ensures { IsUnreadable result → IsUnreadable error }
@@ -93,7 +83,7 @@ impl<'v> Held<'v> {
 
     /// What it stands for.
     pub fn read<T: FromJson>(self) -> Result<T, ReadError>
-        ensures { ReadsMeaning (T.stands_for (view self.entry.value.now)) result }
+        ensures { ReadsMeaning (T.stands_for (data_of self.entry.value.now)) result }
     {
         match T::from_json(self.alloc, self.value) {
             Ok(read) => Ok(read),
@@ -110,7 +100,7 @@ impl<'v> Held<'v> {
 
     /// Makes sure that it is an object with exactly these fields.
     pub fn fields(self, names: &[&'static str]) -> Result<(), ReadError>
-        ensures { ReadsFields (has_only (texts_of names.now) (view self.entry.value.now)) result }
+        ensures { ReadsFields (has_only (texts_of names.now) (data_of self.entry.value.now)) result }
     {
         if has_only(self.value, names) {
             return Ok(());
@@ -119,8 +109,8 @@ impl<'v> Held<'v> {
     }
 
     /// The value of a field.
-    pub fn member(self, name: &'static str) -> Result<&'v Value, ReadError>
-        ensures { ReadsValue (get name.now (view self.entry.value.now)) result }
+    pub fn member(self, name: &'static str) -> Result<Node<'v>, ReadError>
+        ensures { ReadsAs data_of (get name.now (data_of self.entry.value.now)) result }
     {
         match self.value.get(name) {
             Some(value) => Ok(value),
@@ -130,10 +120,10 @@ impl<'v> Held<'v> {
 
     /// What a field stands for.
     pub fn get<T: FromJson>(self, name: &'static str) -> Result<T, ReadError>
-        ensures { ReadsMeaning (field_of T.stands_for name.now (view self.entry.value.now)) result }
+        ensures { ReadsMeaning (field_of T.stands_for name.now (data_of self.entry.value.now)) result }
     {
         match self.value.get(name) {
-            Some(value) => match T::from_json(self.alloc, value) {
+            Some(value) => match T::from_json(self.alloc, &value) {
                 Ok(read) => Ok(read),
                 Err(error) => Err(self.in_field(error, name)),
             },
@@ -147,7 +137,7 @@ impl<'v> Held<'v> {
         first: &'static str,
         second: &'static str,
     ) -> Result<(A, B), ReadError>
-        ensures { ReadsTwo (field_of A.stands_for first.now (view self.entry.value.now)) (field_of B.stands_for second.now (view self.entry.value.now)) result }
+        ensures { ReadsTwo (field_of A.stands_for first.now (data_of self.entry.value.now)) (field_of B.stands_for second.now (data_of self.entry.value.now)) result }
     {
         match self.get(first) {
             Ok(a) => match self.get(second) {
@@ -165,7 +155,7 @@ impl<'v> Held<'v> {
         second: &'static str,
         third: &'static str,
     ) -> Result<(A, B, C), ReadError>
-        ensures { ReadsThree (field_of A.stands_for first.now (view self.entry.value.now)) (field_of B.stands_for second.now (view self.entry.value.now)) (field_of C.stands_for third.now (view self.entry.value.now)) result }
+        ensures { ReadsThree (field_of A.stands_for first.now (data_of self.entry.value.now)) (field_of B.stands_for second.now (data_of self.entry.value.now)) (field_of C.stands_for third.now (data_of self.entry.value.now)) result }
     {
         match self.pair(first, second) {
             Ok((a, b)) => match self.get(third) {
@@ -184,7 +174,7 @@ impl<'v> Held<'v> {
         third: &'static str,
         fourth: &'static str,
     ) -> Result<(A, B, C, D), ReadError>
-        ensures { ReadsFour (field_of A.stands_for first.now (view self.entry.value.now)) (field_of B.stands_for second.now (view self.entry.value.now)) (field_of C.stands_for third.now (view self.entry.value.now)) (field_of D.stands_for fourth.now (view self.entry.value.now)) result }
+        ensures { ReadsFour (field_of A.stands_for first.now (data_of self.entry.value.now)) (field_of B.stands_for second.now (data_of self.entry.value.now)) (field_of C.stands_for third.now (data_of self.entry.value.now)) (field_of D.stands_for fourth.now (data_of self.entry.value.now)) result }
     {
         match self.pair(first, second) {
             Ok((a, b)) => match self.pair(third, fourth) {
@@ -198,7 +188,7 @@ impl<'v> Held<'v> {
     /// What the field of an object with exactly this one stands for.
     #[tactic(auto, unfolding(crate::specs::Form::one_field))]
     pub fn one<A: FromJson>(self, name: &'static str) -> Result<A, ReadError>
-        ensures { ReadsMeaning (one_field name.now A.stands_for (view self.entry.value.now)) result }
+        ensures { ReadsMeaning (one_field name.now A.stands_for (data_of self.entry.value.now)) result }
     {
         match self.fields(&[name]) {
             Ok(()) => self.get(name),
@@ -212,7 +202,7 @@ impl<'v> Held<'v> {
         self,
         names: &(&'static str, &'static str),
     ) -> Result<(A, B), ReadError>
-        ensures { ReadsMeaning (two_fields names.now.0.now A.stands_for names.now.1.now B.stands_for (view self.entry.value.now)) result }
+        ensures { ReadsMeaning (two_fields names.now.0.now A.stands_for names.now.1.now B.stands_for (data_of self.entry.value.now)) result }
     {
         match self.fields(&[names.0, names.1]) {
             Ok(()) => self.pair(names.0, names.1),
@@ -226,7 +216,7 @@ impl<'v> Held<'v> {
         self,
         names: &(&'static str, &'static str, &'static str),
     ) -> Result<(A, B, C), ReadError>
-        ensures { ReadsMeaning (three_fields names.now.0.now A.stands_for names.now.1.now B.stands_for names.now.2.now C.stands_for (view self.entry.value.now)) result }
+        ensures { ReadsMeaning (three_fields names.now.0.now A.stands_for names.now.1.now B.stands_for names.now.2.now C.stands_for (data_of self.entry.value.now)) result }
     {
         match self.fields(&[names.0, names.1, names.2]) {
             Ok(()) => self.triple(names.0, names.1, names.2),
@@ -240,7 +230,7 @@ impl<'v> Held<'v> {
         self,
         names: &(&'static str, &'static str, &'static str, &'static str),
     ) -> Result<(A, B, C, D), ReadError>
-        ensures { ReadsMeaning (four_fields names.now.0.now A.stands_for names.now.1.now B.stands_for names.now.2.now C.stands_for names.now.3.now D.stands_for (view self.entry.value.now)) result }
+        ensures { ReadsMeaning (four_fields names.now.0.now A.stands_for names.now.1.now B.stands_for names.now.2.now C.stands_for names.now.3.now D.stands_for (data_of self.entry.value.now)) result }
     {
         match self.fields(&[names.0, names.1, names.2, names.3]) {
             Ok(()) => self.quad(names.0, names.1, names.2, names.3),
@@ -260,7 +250,7 @@ impl<'v> Held<'v> {
             &'static str,
         ),
     ) -> Result<(A, B, C, D, E), ReadError>
-        ensures { ReadsMeaning (five_fields names.now.0.now A.stands_for names.now.1.now B.stands_for names.now.2.now C.stands_for names.now.3.now D.stands_for names.now.4.now E.stands_for (view self.entry.value.now)) result }
+        ensures { ReadsMeaning (five_fields names.now.0.now A.stands_for names.now.1.now B.stands_for names.now.2.now C.stands_for names.now.3.now D.stands_for names.now.4.now E.stands_for (data_of self.entry.value.now)) result }
     {
         match self.fields(&[names.0, names.1, names.2, names.3, names.4]) {
             Ok(()) => match self.quad(names.0, names.1, names.2, names.3) {
@@ -287,7 +277,7 @@ impl<'v> Held<'v> {
             &'static str,
         ),
     ) -> Result<(A, B, C, D, E, F), ReadError>
-        ensures { ReadsMeaning (six_fields names.now.0.now A.stands_for names.now.1.now B.stands_for names.now.2.now C.stands_for names.now.3.now D.stands_for names.now.4.now E.stands_for names.now.5.now F.stands_for (view self.entry.value.now)) result }
+        ensures { ReadsMeaning (six_fields names.now.0.now A.stands_for names.now.1.now B.stands_for names.now.2.now C.stands_for names.now.3.now D.stands_for names.now.4.now E.stands_for names.now.5.now F.stands_for (data_of self.entry.value.now)) result }
     {
         match self.fields(&[names.0, names.1, names.2, names.3, names.4, names.5]) {
             Ok(()) => match self.triple(names.0, names.1, names.2) {
@@ -325,7 +315,7 @@ impl<'v> Held<'v> {
             &'static str,
         ),
     ) -> Result<(A, B, C, D, E, F, G, H), ReadError>
-        ensures { ReadsMeaning (eight_fields names.now.0.now A.stands_for names.now.1.now B.stands_for names.now.2.now C.stands_for names.now.3.now D.stands_for names.now.4.now E.stands_for names.now.5.now F.stands_for names.now.6.now G.stands_for names.now.7.now H.stands_for (view self.entry.value.now)) result }
+        ensures { ReadsMeaning (eight_fields names.now.0.now A.stands_for names.now.1.now B.stands_for names.now.2.now C.stands_for names.now.3.now D.stands_for names.now.4.now E.stands_for names.now.5.now F.stands_for names.now.6.now G.stands_for names.now.7.now H.stands_for (data_of self.entry.value.now)) result }
     {
         match self.fields(&[
             names.0, names.1, names.2, names.3, names.4, names.5, names.6, names.7,

@@ -5,13 +5,13 @@ ghost use Rattle.json_values.specs.Document.Functions.{function_argument_of, fun
 use crate::read::error::ReadError;
 use crate::read::from_json::{FromJson, Held};
 use ir_module::{Function, FunctionArgument, FunctionResult, LocalVariable};
-use serde_json::Value;
+use json_nodes::Node;
 use std::alloc::Global;
 
 impl FromJson for LocalVariable {
     ghost stands_for = { local_variable_of };
 
-    fn from_json(alloc: Global, value: &Value) -> Result<Self, ReadError> {
+    fn from_json(alloc: Global, value: &Node) -> Result<Self, ReadError> {
         let held = Held {
             alloc,
             value,
@@ -27,7 +27,7 @@ impl FromJson for LocalVariable {
 impl FromJson for FunctionArgument {
     ghost stands_for = { function_argument_of };
 
-    fn from_json(alloc: Global, value: &Value) -> Result<Self, ReadError> {
+    fn from_json(alloc: Global, value: &Node) -> Result<Self, ReadError> {
         let held = Held {
             alloc,
             value,
@@ -43,7 +43,7 @@ impl FromJson for FunctionArgument {
 impl FromJson for FunctionResult {
     ghost stands_for = { function_result_of };
 
-    fn from_json(alloc: Global, value: &Value) -> Result<Self, ReadError> {
+    fn from_json(alloc: Global, value: &Node) -> Result<Self, ReadError> {
         let held = Held {
             alloc,
             value,
@@ -59,7 +59,7 @@ impl FromJson for FunctionResult {
 impl FromJson for Function {
     ghost stands_for = { function_of };
 
-    fn from_json(alloc: Global, value: &Value) -> Result<Self, ReadError> {
+    fn from_json(alloc: Global, value: &Node) -> Result<Self, ReadError> {
         let held = Held {
             alloc,
             value,

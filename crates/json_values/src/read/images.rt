@@ -6,7 +6,7 @@ use crate::read::error::ReadError;
 use crate::read::from_json::{FromJson, Held};
 use crate::read::variant::{Holding, read_either, read_name};
 use ir_types::{ImageClass, ImageDimension, StorageFormat};
-use serde_json::Value;
+use json_nodes::Node;
 use std::alloc::Global;
 
 /// The dimensions of images.
@@ -20,7 +20,7 @@ const IMAGE_DIMENSIONS: [(&str, ImageDimension); 4] = [
 impl FromJson for ImageDimension {
     ghost stands_for = { image_dimension_of };
 
-    fn from_json(alloc: Global, value: &Value) -> Result<Self, ReadError> {
+    fn from_json(alloc: Global, value: &Node) -> Result<Self, ReadError> {
         read_name(alloc, value, &IMAGE_DIMENSIONS)
     }
 }
@@ -73,7 +73,7 @@ const STORAGE_FORMATS: [(&str, StorageFormat); 41] = [
 impl FromJson for StorageFormat {
     ghost stands_for = { storage_format_of };
 
-    fn from_json(alloc: Global, value: &Value) -> Result<Self, ReadError> {
+    fn from_json(alloc: Global, value: &Node) -> Result<Self, ReadError> {
         read_name(alloc, value, &STORAGE_FORMATS)
     }
 }
@@ -120,7 +120,7 @@ impl Holding<ClassName> for ImageClass {
 impl FromJson for ImageClass {
     ghost stands_for = { image_class_of };
 
-    fn from_json(alloc: Global, value: &Value) -> Result<Self, ReadError> {
+    fn from_json(alloc: Global, value: &Node) -> Result<Self, ReadError> {
         read_either(alloc, value, &IMAGE_CLASSES, &HOLDING_CLASSES)
     }
 }

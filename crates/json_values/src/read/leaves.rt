@@ -1,6 +1,6 @@
 //! Statements that hold no others.
 
-ghost use Rattle.serde_json.specs.View.{view};
+ghost use Rattle.json_nodes.specs.Nodes.{data_of};
 ghost use Rattle.json_values.specs.Reads.{ReadsMeaning};
 ghost use Rattle.json_values.specs.Document.Leaves.{atomic_of, call_of, cooperative_store_of, image_atomic_of, image_store_of, leaf_from, ray_query_statement_of, return_of, store_of, subgroup_ballot_of, subgroup_collective_operation_of, subgroup_gather_of, work_group_uniform_load_of};
 
@@ -30,7 +30,7 @@ pub enum LeafName {
 }
 
 fn read_return(held: Held) -> Result<Statement, ReadError>
-    ensures { ReadsMeaning (return_of (view held.entry.value.now)) result }
+    ensures { ReadsMeaning (return_of (data_of held.entry.value.now)) result }
 {
     match held.one("value") {
         Ok(value) => Ok(Statement::Return { value }),
@@ -39,7 +39,7 @@ fn read_return(held: Held) -> Result<Statement, ReadError>
 }
 
 fn read_store(held: Held) -> Result<Statement, ReadError>
-    ensures { ReadsMeaning (store_of (view held.entry.value.now)) result }
+    ensures { ReadsMeaning (store_of (data_of held.entry.value.now)) result }
 {
     match held.two(&("pointer", "value")) {
         Ok((pointer, value)) => Ok(Statement::Store { pointer, value }),
@@ -48,7 +48,7 @@ fn read_store(held: Held) -> Result<Statement, ReadError>
 }
 
 fn read_image_store(held: Held) -> Result<Statement, ReadError>
-    ensures { ReadsMeaning (image_store_of (view held.entry.value.now)) result }
+    ensures { ReadsMeaning (image_store_of (data_of held.entry.value.now)) result }
 {
     match held.four(&("image", "coordinate", "array_index", "value")) {
         Ok((image, coordinate, array_index, value)) => Ok(Statement::ImageStore {
@@ -62,7 +62,7 @@ fn read_image_store(held: Held) -> Result<Statement, ReadError>
 }
 
 fn read_atomic(held: Held) -> Result<Statement, ReadError>
-    ensures { ReadsMeaning (atomic_of (view held.entry.value.now)) result }
+    ensures { ReadsMeaning (atomic_of (data_of held.entry.value.now)) result }
 {
     match held.four(&("pointer", "fun", "value", "result")) {
         Ok((pointer, fun, value, result)) => Ok(Statement::Atomic {
@@ -76,7 +76,7 @@ fn read_atomic(held: Held) -> Result<Statement, ReadError>
 }
 
 fn read_image_atomic(held: Held) -> Result<Statement, ReadError>
-    ensures { ReadsMeaning (image_atomic_of (view held.entry.value.now)) result }
+    ensures { ReadsMeaning (image_atomic_of (data_of held.entry.value.now)) result }
 {
     match held.five(&("image", "coordinate", "array_index", "fun", "value")) {
         Ok((image, coordinate, array_index, fun, value)) => Ok(Statement::ImageAtomic {
@@ -91,7 +91,7 @@ fn read_image_atomic(held: Held) -> Result<Statement, ReadError>
 }
 
 fn read_work_group_uniform_load(held: Held) -> Result<Statement, ReadError>
-    ensures { ReadsMeaning (work_group_uniform_load_of (view held.entry.value.now)) result }
+    ensures { ReadsMeaning (work_group_uniform_load_of (data_of held.entry.value.now)) result }
 {
     match held.two(&("pointer", "result")) {
         Ok((pointer, result)) => Ok(Statement::WorkGroupUniformLoad { pointer, result }),
@@ -100,7 +100,7 @@ fn read_work_group_uniform_load(held: Held) -> Result<Statement, ReadError>
 }
 
 fn read_call(held: Held) -> Result<Statement, ReadError>
-    ensures { ReadsMeaning (call_of (view held.entry.value.now)) result }
+    ensures { ReadsMeaning (call_of (data_of held.entry.value.now)) result }
 {
     match held.three(&("function", "arguments", "result")) {
         Ok((function, arguments, result)) => Ok(Statement::Call {
@@ -113,7 +113,7 @@ fn read_call(held: Held) -> Result<Statement, ReadError>
 }
 
 fn read_ray_query(held: Held) -> Result<Statement, ReadError>
-    ensures { ReadsMeaning (ray_query_statement_of (view held.entry.value.now)) result }
+    ensures { ReadsMeaning (ray_query_statement_of (data_of held.entry.value.now)) result }
 {
     match held.two(&("query", "fun")) {
         Ok((query, fun)) => Ok(Statement::RayQuery { query, fun }),
@@ -122,7 +122,7 @@ fn read_ray_query(held: Held) -> Result<Statement, ReadError>
 }
 
 fn read_subgroup_ballot(held: Held) -> Result<Statement, ReadError>
-    ensures { ReadsMeaning (subgroup_ballot_of (view held.entry.value.now)) result }
+    ensures { ReadsMeaning (subgroup_ballot_of (data_of held.entry.value.now)) result }
 {
     match held.two(&("result", "predicate")) {
         Ok((result, predicate)) => Ok(Statement::SubgroupBallot { result, predicate }),
@@ -131,7 +131,7 @@ fn read_subgroup_ballot(held: Held) -> Result<Statement, ReadError>
 }
 
 fn read_subgroup_collective_operation(held: Held) -> Result<Statement, ReadError>
-    ensures { ReadsMeaning (subgroup_collective_operation_of (view held.entry.value.now)) result }
+    ensures { ReadsMeaning (subgroup_collective_operation_of (data_of held.entry.value.now)) result }
 {
     match held.four(&("op", "collective_op", "argument", "result")) {
         Ok((op, collective_op, argument, result)) => Ok(Statement::SubgroupCollectiveOperation {
@@ -145,7 +145,7 @@ fn read_subgroup_collective_operation(held: Held) -> Result<Statement, ReadError
 }
 
 fn read_subgroup_gather(held: Held) -> Result<Statement, ReadError>
-    ensures { ReadsMeaning (subgroup_gather_of (view held.entry.value.now)) result }
+    ensures { ReadsMeaning (subgroup_gather_of (data_of held.entry.value.now)) result }
 {
     match held.three(&("mode", "argument", "result")) {
         Ok((mode, argument, result)) => Ok(Statement::SubgroupGather {
@@ -158,7 +158,7 @@ fn read_subgroup_gather(held: Held) -> Result<Statement, ReadError>
 }
 
 fn read_cooperative_store(held: Held) -> Result<Statement, ReadError>
-    ensures { ReadsMeaning (cooperative_store_of (view held.entry.value.now)) result }
+    ensures { ReadsMeaning (cooperative_store_of (data_of held.entry.value.now)) result }
 {
     match held.two(&("target", "source")) {
         Ok((target, source)) => Ok(Statement::CooperativeStore { target, source }),
@@ -168,7 +168,7 @@ fn read_cooperative_store(held: Held) -> Result<Statement, ReadError>
 
 /// The statement of this kind, by what it holds.
 pub fn read_leaf(kind: LeafName, held: Held) -> Result<Statement, ReadError>
-    ensures { ReadsMeaning (leaf_from kind (view held.entry.value.now)) result }
+    ensures { ReadsMeaning (leaf_from kind (data_of held.entry.value.now)) result }
 {
     match kind {
         LeafName::Emit => match held.read() {

@@ -1,24 +1,24 @@
 //! Lists, arrays of a fixed length, and what may be null.
 
-ghost use Rattle.std.specs.Prelude.{◌≡◌};
+ghost use Rattle.std.specs.Prelude.{◌≡◌, option_map};
 ghost use Rattle.serde_json.specs.Find.{as_array};
-ghost use Rattle.serde_json.specs.View.{view};
-ghost use Rattle.json_values.specs.Form.{list_of, optional, two_of, three_of};
-ghost use Rattle.json_values.specs.Reads.{ReadsMeaning, ReadsElements};
-ghost use Rattle.json_values.specs.ReadsFields.{ReadsTwo};
+ghost use Rattle.json_nodes.specs.Nodes.{data_of, items_of};
+ghost use Rattle.json_values.specs.Form.{list_of, optional, pair_in, triple_in, two_of, three_of};
+ghost use Rattle.json_values.specs.Reads.{ReadsMeaning, ReadsAs};
+ghost use Rattle.json_values.specs.ReadsFields.{ReadsTwo, ReadsThree};
 
 use crate::read::error::{ReadError, Step};
 use crate::read::from_json::{FromJson, read_at};
 use ir_arena::{Arena, Sequence, Span, Tagged};
-use serde_json::Value;
+use json_nodes::{Items, Node};
 use std::alloc::Global;
 
 /// The values of a list.
-pub fn elements<'v>(alloc: Global, value: &'v Value) -> Result<&'v [Value], ReadError>
-    ensures { ReadsElements (as_array (view value.now)) result }
+pub fn elements<'v>(alloc: Global, value: &Node<'v>) -> Result<Items<'v>, ReadError>
+    ensures { ReadsAs items_of (as_array (data_of value.now)) result }
 {
-    match value.as_array() {
-        Some(items) => Ok(items.as_slice()),
+    match value.items() {
+        Some(items) => Ok(items),
         None => Err(ReadError::expected(alloc, "a list")),
     }
 }
@@ -27,14 +27,14 @@ pub fn elements<'v>(alloc: Global, value: &'v Value) -> Result<&'v [Value], Read
 impl<T: FromJson> FromJson for Sequence<T> {
     ghost stands_for = { list_of T.stands_for };
 
-    fn from_json(alloc: Global, value: &Value) -> Result<Self, ReadError> {
-        let items = match elements(alloc, value) {
+    fn from_json(alloc: Global, value: &Node) -> Result<Self, ReadError> {
+        let mut items = match elements(alloc, value) {
             Ok(items) => items,
             Err(error) => return Err(error),
         };
         let mut list = Sequence::new(alloc);
-        for (index, value) in items.iter().enumerate() {
-            match read_at(alloc, Step::Index(index), value) {
+        while let Some(item) = items.next() {
+            match read_at(alloc, Step::Index(list.len()), &item) {
                 Ok(read) => list.push(read)?,
                 Err(error) => return Err(error),
             }
@@ -47,14 +47,14 @@ impl<T: FromJson> FromJson for Sequence<T> {
 impl<T: FromJson + Tagged> FromJson for Arena<T> {
     ghost stands_for = { list_of T.stands_for };
 
-    fn from_json(alloc: Global, value: &Value) -> Result<Self, ReadError> {
-        let items = match elements(alloc, value) {
+    fn from_json(alloc: Global, value: &Node) -> Result<Self, ReadError> {
+        let mut items = match elements(alloc, value) {
             Ok(items) => items,
             Err(error) => return Err(error),
         };
         let mut arena = Arena::new(alloc);
-        for (index, value) in items.iter().enumerate() {
-            match read_at(alloc, Step::Index(index), value) {
+        while let Some(item) = items.next() {
+            match read_at(alloc, Step::Index(arena.len()), &item) {
                 Ok(read) => {
                     if arena.is_full() {
                         return Err(ReadError::Memory);
@@ -72,7 +72,7 @@ impl<T: FromJson + Tagged> FromJson for Arena<T> {
 impl<T: FromJson> FromJson for Option<T> {
     ghost stands_for = { optional T.stands_for };
 
-    fn from_json(alloc: Global, value: &Value) -> Result<Self, ReadError> {
+    fn from_json(alloc: Global, value: &Node) -> Result<Self, ReadError> {
         if value.is_null() {
             return Ok(None);
         }
@@ -83,13 +83,36 @@ impl<T: FromJson> FromJson for Option<T> {
     }
 }
 
+/// The items, if there are two.
+fn pair_in<'v>(mut items: Items<'v>) -> Option<(Node<'v>, Node<'v>)>
+    ensures { option_map (λ p. (data_of p.0, data_of p.1)) result ≡ pair_in (items_of items.entry) }
+{
+    let first = items.next()?;
+    let second = items.next()?;
+    match items.next() {
+        Some(_) => None,
+        None => Some((first, second)),
+    }
+}
+
+/// The items, if there are three.
+pub fn triple_in<'v>(mut items: Items<'v>) -> Option<(Node<'v>, Node<'v>, Node<'v>)>
+    ensures { option_map (λ t. (data_of t.0, data_of t.1, data_of t.2)) result ≡ triple_in (items_of items.entry) }
+{
+    let first = items.next()?;
+    match pair_in(items) {
+        Some((second, third)) => Some((first, second, third)),
+        None => None,
+    }
+}
+
 /// What two items stand for.
 fn read_pair<A: FromJson, B: FromJson>(
     alloc: Global,
-    first: &Value,
-    second: &Value,
+    first: &Node,
+    second: &Node,
 ) -> Result<(A, B), ReadError>
-    ensures { ReadsTwo (A.stands_for (view first.now)) (B.stands_for (view second.now)) result }
+    ensures { ReadsTwo (A.stands_for (data_of first.now)) (B.stands_for (data_of second.now)) result }
 {
     match read_at(alloc, Step::Index(0), first) {
         Ok(a) => match read_at(alloc, Step::Index(1), second) {
@@ -104,15 +127,32 @@ fn read_pair<A: FromJson, B: FromJson>(
 impl<A: FromJson, B: FromJson> FromJson for (A, B) {
     ghost stands_for = { two_of A.stands_for B.stands_for };
 
-    fn from_json(alloc: Global, value: &Value) -> Result<Self, ReadError> {
-        let items = match elements(alloc, value) {
-            Ok(items) => items,
-            Err(error) => return Err(error),
-        };
-        if items.len() != 2 {
-            return Err(ReadError::expected(alloc, "a list of two"));
+    fn from_json(alloc: Global, value: &Node) -> Result<Self, ReadError> {
+        match elements(alloc, value) {
+            Ok(items) => match pair_in(items) {
+                Some((first, second)) => read_pair(alloc, &first, &second),
+                None => Err(ReadError::expected(alloc, "a list of two")),
+            },
+            Err(error) => Err(error),
         }
-        read_pair(alloc, &items[0], &items[1])
+    }
+}
+
+/// What three items stand for.
+fn read_triple<A: FromJson, B: FromJson, C: FromJson>(
+    alloc: Global,
+    first: &Node,
+    second: &Node,
+    third: &Node,
+) -> Result<(A, B, C), ReadError>
+    ensures { ReadsThree (A.stands_for (data_of first.now)) (B.stands_for (data_of second.now)) (C.stands_for (data_of third.now)) result }
+{
+    match read_pair(alloc, first, second) {
+        Ok((a, b)) => match read_at(alloc, Step::Index(2), third) {
+            Ok(c) => Ok((a, b, c)),
+            Err(error) => Err(error),
+        },
+        Err(error) => Err(error),
     }
 }
 
@@ -120,18 +160,11 @@ impl<A: FromJson, B: FromJson> FromJson for (A, B) {
 impl<A: FromJson, B: FromJson, C: FromJson> FromJson for (A, B, C) {
     ghost stands_for = { three_of A.stands_for B.stands_for C.stands_for };
 
-    fn from_json(alloc: Global, value: &Value) -> Result<Self, ReadError> {
-        let items = match elements(alloc, value) {
-            Ok(items) => items,
-            Err(error) => return Err(error),
-        };
-        if items.len() != 3 {
-            return Err(ReadError::expected(alloc, "a list of three"));
-        }
-        match read_pair(alloc, &items[0], &items[1]) {
-            Ok((first, second)) => match read_at(alloc, Step::Index(2), &items[2]) {
-                Ok(third) => Ok((first, second, third)),
-                Err(error) => Err(error),
+    fn from_json(alloc: Global, value: &Node) -> Result<Self, ReadError> {
+        match elements(alloc, value) {
+            Ok(items) => match triple_in(items) {
+                Some((first, second, third)) => read_triple(alloc, &first, &second, &third),
+                None => Err(ReadError::expected(alloc, "a list of three")),
             },
             Err(error) => Err(error),
         }

@@ -3,7 +3,7 @@
 ghost use Rattle.std.specs.Int.{w32, w64, cast_unsigned};
 ghost use Rattle.std.specs.Prelude.{◌≡◌, option_map};
 ghost use Rattle.serde_json.specs.Find.{as_bool, as_number, to_float};
-ghost use Rattle.serde_json.specs.View.{view};
+ghost use Rattle.json_nodes.specs.Nodes.{data_of};
 ghost use Rattle.json_values.specs.Form.{given};
 ghost use Rattle.json_values.specs.Numbers.{i32_of, u32_of};
 ghost use Rattle.json_values.specs.Reads.{ReadsMeaning};
@@ -14,7 +14,7 @@ use crate::read::from_json::{FromJson, Held};
 use crate::read::variant::{Holding, read_holding};
 use ir_module::Literal;
 use ir_types::{Scalar, ScalarKind};
-use serde_json::Value;
+use json_nodes::Node;
 use std::alloc::Global;
 use std::num::nearest_f64_to_f32_with_nan;
 
@@ -70,7 +70,7 @@ fn scalar_of(name: LiteralName) -> Scalar
 }
 
 fn read_u32(held: Held) -> Result<u64, ReadError>
-    ensures { ReadsMeaning (u32_of (view held.entry.value.now)) result }
+    ensures { ReadsMeaning (u32_of (data_of held.entry.value.now)) result }
 {
     match u32::from_json(held.alloc, held.value) {
         Ok(number) => Ok(u64::from(number)),
@@ -79,7 +79,7 @@ fn read_u32(held: Held) -> Result<u64, ReadError>
 }
 
 fn read_i32(held: Held) -> Result<u64, ReadError>
-    ensures { ReadsMeaning (option_map (cast_unsigned w32) (i32_of (view held.entry.value.now))) result }
+    ensures { ReadsMeaning (option_map (cast_unsigned w32) (i32_of (data_of held.entry.value.now))) result }
 {
     match i32::from_json(held.alloc, held.value) {
         Ok(number) => Ok(u64::from(number.cast_unsigned())),
@@ -88,7 +88,7 @@ fn read_i32(held: Held) -> Result<u64, ReadError>
 }
 
 fn read_i64(held: Held) -> Result<u64, ReadError>
-    ensures { ReadsMeaning (option_map (cast_unsigned w64) (i64_of (view held.entry.value.now))) result }
+    ensures { ReadsMeaning (option_map (cast_unsigned w64) (i64_of (data_of held.entry.value.now))) result }
 {
     match held.value.as_i64() {
         Some(number) => Ok(number.cast_unsigned()),
@@ -100,7 +100,7 @@ fn read_i64(held: Held) -> Result<u64, ReadError>
 }
 
 fn read_bool(held: Held) -> Result<u64, ReadError>
-    ensures { ReadsMeaning (option_map bit (as_bool (view held.entry.value.now))) result }
+    ensures { ReadsMeaning (option_map bit (as_bool (data_of held.entry.value.now))) result }
 {
     match bool::from_json(held.alloc, held.value) {
         Ok(truth) => Ok(if truth { 1 } else { 0 }),
@@ -132,7 +132,7 @@ fn double_bits(number: f64) -> Option<u64>
 }
 
 fn read_f32(held: Held) -> Result<u64, ReadError>
-    ensures { ReadsMeaning (given (option_map to_float (as_number (view held.entry.value.now))) single_bits) result }
+    ensures { ReadsMeaning (given (option_map to_float (as_number (data_of held.entry.value.now))) single_bits) result }
 {
     if let Some(number) = held.value.as_f64() {
         if let Some(bits) = single_bits(number) {
@@ -146,7 +146,7 @@ fn read_f32(held: Held) -> Result<u64, ReadError>
 }
 
 fn read_f64(held: Held) -> Result<u64, ReadError>
-    ensures { ReadsMeaning (given (option_map to_float (as_number (view held.entry.value.now))) double_bits) result }
+    ensures { ReadsMeaning (given (option_map to_float (as_number (data_of held.entry.value.now))) double_bits) result }
 {
     if let Some(number) = held.value.as_f64() {
         if let Some(bits) = double_bits(number) {
@@ -158,7 +158,7 @@ fn read_f64(held: Held) -> Result<u64, ReadError>
 
 /// The bits of a value.
 fn read_bits(name: LiteralName, held: Held) -> Result<u64, ReadError>
-    ensures { ReadsMeaning (bits_of name (view held.entry.value.now)) result }
+    ensures { ReadsMeaning (bits_of name (data_of held.entry.value.now)) result }
 {
     match name {
         LiteralName::U32 => read_u32(held),
@@ -188,8 +188,8 @@ impl Holding<LiteralName> for Literal {
 }
 
 /// A literal by its scalar's name and its value.
-pub fn read_literal_by_value(alloc: Global, value: &Value) -> Result<Literal, ReadError>
-    ensures { ReadsMeaning (literal_by_value (view value.now)) result }
+pub fn read_literal_by_value(alloc: Global, value: &Node) -> Result<Literal, ReadError>
+    ensures { ReadsMeaning (literal_by_value (data_of value.now)) result }
 {
     read_holding(alloc, value, &LITERAL_NAMES)
 }

@@ -7,14 +7,14 @@ use crate::read::from_json::{FromJson, Held};
 use ir_arena::{Sequence, Span};
 use ir_module::Module;
 use ir_types::{Type, UniqueArena};
-use serde_json::Value;
+use json_nodes::Node;
 use std::alloc::Global;
 
 /// The types of a module, of which no two are equal, each with the span 0..0. A second equal one is met once all are read.
 impl FromJson for UniqueArena<Type> {
     ghost stands_for = { types_of };
 
-    fn from_json(alloc: Global, value: &Value) -> Result<Self, ReadError> {
+    fn from_json(alloc: Global, value: &Node) -> Result<Self, ReadError> {
         let types: Sequence<Type> = Sequence::from_json(alloc, value)?;
         let mut arena = UniqueArena::new(alloc);
         for (index, ty) in types.as_slice().iter().enumerate() {
@@ -34,7 +34,7 @@ impl FromJson for UniqueArena<Type> {
 impl FromJson for Module {
     ghost stands_for = { module_of };
 
-    fn from_json(alloc: Global, value: &Value) -> Result<Self, ReadError> {
+    fn from_json(alloc: Global, value: &Node) -> Result<Self, ReadError> {
         let held = Held {
             alloc,
             value,

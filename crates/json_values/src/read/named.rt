@@ -1,6 +1,6 @@
 //! The named form of each kind of expression that has operands.
 
-ghost use Rattle.serde_json.specs.View.{view};
+ghost use Rattle.json_nodes.specs.Nodes.{data_of};
 ghost use Rattle.json_values.specs.Reads.{ReadsMeaning};
 ghost use Rattle.json_values.specs.Document.Forms.{length_of, named_parts};
 
@@ -102,7 +102,7 @@ const MULTIPLY_ADD: [(&str, Field); 3] = [
 
 /// An ArrayLength: its operand alone.
 fn read_length(held: Held) -> Result<Parts, ReadError>
-    ensures { ReadsMeaning (length_of (view held.entry.value.now)) result }
+    ensures { ReadsMeaning (length_of (data_of held.entry.value.now)) result }
 {
     match held.read() {
         Ok(handle) => {
@@ -118,7 +118,7 @@ fn read_length(held: Held) -> Result<Parts, ReadError>
 
 /// What the form of a kind gives.
 pub fn read_named_parts(kind: PartsName, held: Held) -> Result<Parts, ReadError>
-    ensures { ReadsMeaning (named_parts kind (view held.entry.value.now)) result }
+    ensures { ReadsMeaning (named_parts kind (data_of held.entry.value.now)) result }
 {
     match kind {
         PartsName::Splat => read_form(held, &SPLAT),

@@ -11,7 +11,7 @@ use ir_module::{
     AtomicFunction, CollectiveOperation, CooperativeData, GatherMode, RayPipelineFunction,
     RayQueryFunction, SubgroupOperation, SwitchValue,
 };
-use serde_json::Value;
+use json_nodes::Node;
 use std::alloc::Global;
 
 /// The atomic operations of which no more is said.
@@ -31,7 +31,7 @@ const EXCHANGE: [(&str, ()); 1] = [("Exchange", ())];
 impl FromJson for AtomicFunction {
     ghost stands_for = { atomic_function_of };
 
-    fn from_json(alloc: Global, value: &Value) -> Result<Self, ReadError> {
+    fn from_json(alloc: Global, value: &Node) -> Result<Self, ReadError> {
         read_either(alloc, value, &ATOMIC_FUNCTIONS, &EXCHANGE)
     }
 }
@@ -63,7 +63,7 @@ const SUBGROUP_OPERATIONS: [(&str, SubgroupOperation); 9] = [
 impl FromJson for SubgroupOperation {
     ghost stands_for = { subgroup_operation_of };
 
-    fn from_json(alloc: Global, value: &Value) -> Result<Self, ReadError> {
+    fn from_json(alloc: Global, value: &Node) -> Result<Self, ReadError> {
         read_name(alloc, value, &SUBGROUP_OPERATIONS)
     }
 }
@@ -78,7 +78,7 @@ const COLLECTIVE_OPERATIONS: [(&str, CollectiveOperation); 3] = [
 impl FromJson for CollectiveOperation {
     ghost stands_for = { collective_operation_of };
 
-    fn from_json(alloc: Global, value: &Value) -> Result<Self, ReadError> {
+    fn from_json(alloc: Global, value: &Node) -> Result<Self, ReadError> {
         read_name(alloc, value, &COLLECTIVE_OPERATIONS)
     }
 }
@@ -152,7 +152,7 @@ impl Holding<GatherName> for GatherMode {
 impl FromJson for GatherMode {
     ghost stands_for = { gather_mode_of };
 
-    fn from_json(alloc: Global, value: &Value) -> Result<Self, ReadError> {
+    fn from_json(alloc: Global, value: &Node) -> Result<Self, ReadError> {
         read_either(alloc, value, &BARE_GATHERS, &GATHER_MODES)
     }
 }
@@ -205,7 +205,7 @@ impl Holding<RayQueryName> for RayQueryFunction {
 impl FromJson for RayQueryFunction {
     ghost stands_for = { ray_query_function_of };
 
-    fn from_json(alloc: Global, value: &Value) -> Result<Self, ReadError> {
+    fn from_json(alloc: Global, value: &Node) -> Result<Self, ReadError> {
         read_either(alloc, value, &BARE_QUERIES, &RAY_QUERIES)
     }
 }
@@ -216,7 +216,7 @@ const RAY_PIPELINES: [(&str, ()); 1] = [("TraceRay", ())];
 impl FromJson for RayPipelineFunction {
     ghost stands_for = { ray_pipeline_function_of };
 
-    fn from_json(alloc: Global, value: &Value) -> Result<Self, ReadError> {
+    fn from_json(alloc: Global, value: &Node) -> Result<Self, ReadError> {
         read_holding(alloc, value, &RAY_PIPELINES)
     }
 }
@@ -241,7 +241,7 @@ impl Holding<()> for RayPipelineFunction {
 impl FromJson for CooperativeData {
     ghost stands_for = { cooperative_data_of };
 
-    fn from_json(alloc: Global, value: &Value) -> Result<Self, ReadError> {
+    fn from_json(alloc: Global, value: &Node) -> Result<Self, ReadError> {
         let held = Held {
             alloc,
             value,
@@ -270,7 +270,7 @@ const SWITCH_VALUES: [(&str, ValueName); 2] = [("I32", ValueName::I32), ("U32", 
 impl FromJson for SwitchValue {
     ghost stands_for = { switch_value_of };
 
-    fn from_json(alloc: Global, value: &Value) -> Result<Self, ReadError> {
+    fn from_json(alloc: Global, value: &Node) -> Result<Self, ReadError> {
         read_either(alloc, value, &BARE_VALUES, &SWITCH_VALUES)
     }
 }
@@ -295,7 +295,7 @@ impl Holding<ValueName> for SwitchValue {
 impl FromJson for Range {
     ghost stands_for = { range_of };
 
-    fn from_json(alloc: Global, value: &Value) -> Result<Self, ReadError> {
+    fn from_json(alloc: Global, value: &Node) -> Result<Self, ReadError> {
         let held = Held {
             alloc,
             value,

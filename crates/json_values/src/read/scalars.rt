@@ -6,7 +6,7 @@ use crate::read::error::ReadError;
 use crate::read::from_json::{FromJson, Held};
 use crate::read::variant::read_name;
 use ir_types::{Scalar, ScalarKind, VectorSize};
-use serde_json::Value;
+use json_nodes::Node;
 use std::alloc::Global;
 
 /// The kinds of scalars.
@@ -22,7 +22,7 @@ const SCALAR_KINDS: [(&str, ScalarKind); 6] = [
 impl FromJson for ScalarKind {
     ghost stands_for = { scalar_kind_of };
 
-    fn from_json(alloc: Global, value: &Value) -> Result<Self, ReadError> {
+    fn from_json(alloc: Global, value: &Node) -> Result<Self, ReadError> {
         read_name(alloc, value, &SCALAR_KINDS)
     }
 }
@@ -30,7 +30,7 @@ impl FromJson for ScalarKind {
 impl FromJson for Scalar {
     ghost stands_for = { scalar_of };
 
-    fn from_json(alloc: Global, value: &Value) -> Result<Self, ReadError> {
+    fn from_json(alloc: Global, value: &Node) -> Result<Self, ReadError> {
         let held = Held {
             alloc,
             value,
@@ -53,7 +53,7 @@ const VECTOR_SIZES: [(&str, VectorSize); 3] = [
 impl FromJson for VectorSize {
     ghost stands_for = { vector_size_of };
 
-    fn from_json(alloc: Global, value: &Value) -> Result<Self, ReadError> {
+    fn from_json(alloc: Global, value: &Node) -> Result<Self, ReadError> {
         read_name(alloc, value, &VECTOR_SIZES)
     }
 }

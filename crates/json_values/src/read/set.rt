@@ -1,10 +1,10 @@
 //! Sets of named bits: lists of names, each at most once.
 
 ghost use Rattle.std.specs.Prelude.{◌≡◌};
-ghost use Rattle.serde_json.specs.View.{view};
+ghost use Rattle.json_nodes.specs.Nodes.{data_of};
 ghost use Rattle.json_values.specs.Sets.{bits_of, bit_of};
 ghost use Rattle.json_values.specs.Sets as sets;
-ghost use Rattle.json_values.specs.ReadsSets.{ReadsBits};
+ghost use Rattle.json_values.specs.Reads.{ReadsAs};
 
 use crate::read::error::{ReadError, Step};
 use crate::read::expected::expected_bit;
@@ -15,15 +15,15 @@ use ir_flags::{
     Barrier, Capabilities, GlobalUse, MemoryDecorations, ShaderStages, StorageAccess,
     SubgroupOperationSet, TypeFlags, ValidationFlags,
 };
-use serde_json::Value;
+use json_nodes::Node;
 use std::alloc::Global;
 
 /// What is expected where a set of stages is.
 const STAGES: &str = "a list of stages, or \"ALL\"";
 
 /// The bit that a text names. A name of several bits, which may be given, is none.
-fn read_bit<B: Flags + Copy>(alloc: Global, value: &Value, joined: &str) -> Result<B, ReadError>
-    ensures { B.exact → ReadsBits B.set_of (bit_of B.table joined.now (view value.now)) result }
+fn read_bit<B: Flags + Copy>(alloc: Global, value: &Node, joined: &str) -> Result<B, ReadError>
+    ensures { B.exact → ReadsAs B.set_of (bit_of B.table joined.now (data_of value.now)) result }
 {
     if let Some(name) = value.as_str() {
         if name != joined {
@@ -36,16 +36,17 @@ fn read_bit<B: Flags + Copy>(alloc: Global, value: &Value, joined: &str) -> Resu
 }
 
 /// The set of the bits that a list names.
-fn read_set<B: Flags + Copy>(alloc: Global, value: &Value, joined: &str) -> Result<B, ReadError>
-    ensures { B.exact → ReadsBits B.set_of (bits_of B.table joined.now (view value.now)) result }
+fn read_set<B: Flags + Copy>(alloc: Global, value: &Node, joined: &str) -> Result<B, ReadError>
+    ensures { B.exact → ReadsAs B.set_of (bits_of B.table joined.now (data_of value.now)) result }
 {
-    let items = match elements(alloc, value) {
+    let mut items = match elements(alloc, value) {
         Ok(items) => items,
         Err(error) => return Err(error),
     };
     let mut set = B::empty();
-    for (index, value) in items.iter().enumerate() {
-        match read_bit(alloc, value, joined) {
+    let mut index: usize = 0;
+    while let Some(item) = items.next() {
+        match read_bit(alloc, &item, joined) {
             Ok(bit) => {
                 if set.contains(bit) {
                     let error = ReadError::expected(alloc, "a name that the set doesn't have yet");
@@ -55,6 +56,7 @@ fn read_set<B: Flags + Copy>(alloc: Global, value: &Value, joined: &str) -> Resu
             }
             Err(error) => return Err(error.within(Step::Index(index))),
         }
+        index = index.saturating_add(1);
     }
     Ok(set)
 }
@@ -62,7 +64,7 @@ fn read_set<B: Flags + Copy>(alloc: Global, value: &Value, joined: &str) -> Resu
 impl FromJson for ValidationFlags {
     ghost stands_for = { sets.validation_flags_of };
 
-    fn from_json(alloc: Global, value: &Value) -> Result<Self, ReadError> {
+    fn from_json(alloc: Global, value: &Node) -> Result<Self, ReadError> {
         read_set(alloc, value, "")
     }
 }
@@ -70,7 +72,7 @@ impl FromJson for ValidationFlags {
 impl FromJson for Capabilities {
     ghost stands_for = { sets.capabilities_of };
 
-    fn from_json(alloc: Global, value: &Value) -> Result<Self, ReadError> {
+    fn from_json(alloc: Global, value: &Node) -> Result<Self, ReadError> {
         read_set(alloc, value, "")
     }
 }
@@ -78,7 +80,7 @@ impl FromJson for Capabilities {
 impl FromJson for SubgroupOperationSet {
     ghost stands_for = { sets.subgroup_operations_of };
 
-    fn from_json(alloc: Global, value: &Value) -> Result<Self, ReadError> {
+    fn from_json(alloc: Global, value: &Node) -> Result<Self, ReadError> {
         read_set(alloc, value, "")
     }
 }
@@ -86,7 +88,7 @@ impl FromJson for SubgroupOperationSet {
 impl FromJson for TypeFlags {
     ghost stands_for = { sets.type_flags_of };
 
-    fn from_json(alloc: Global, value: &Value) -> Result<Self, ReadError> {
+    fn from_json(alloc: Global, value: &Node) -> Result<Self, ReadError> {
         read_set(alloc, value, "")
     }
 }
@@ -94,7 +96,7 @@ impl FromJson for TypeFlags {
 impl FromJson for GlobalUse {
     ghost stands_for = { sets.global_use_of };
 
-    fn from_json(alloc: Global, value: &Value) -> Result<Self, ReadError> {
+    fn from_json(alloc: Global, value: &Node) -> Result<Self, ReadError> {
         read_set(alloc, value, "")
     }
 }
@@ -102,7 +104,7 @@ impl FromJson for GlobalUse {
 impl FromJson for StorageAccess {
     ghost stands_for = { sets.storage_access_of };
 
-    fn from_json(alloc: Global, value: &Value) -> Result<Self, ReadError> {
+    fn from_json(alloc: Global, value: &Node) -> Result<Self, ReadError> {
         read_set(alloc, value, "")
     }
 }
@@ -110,7 +112,7 @@ impl FromJson for StorageAccess {
 impl FromJson for Barrier {
     ghost stands_for = { sets.barrier_of };
 
-    fn from_json(alloc: Global, value: &Value) -> Result<Self, ReadError> {
+    fn from_json(alloc: Global, value: &Node) -> Result<Self, ReadError> {
         read_set(alloc, value, "")
     }
 }
@@ -118,7 +120,7 @@ impl FromJson for Barrier {
 impl FromJson for MemoryDecorations {
     ghost stands_for = { sets.memory_decorations_of };
 
-    fn from_json(alloc: Global, value: &Value) -> Result<Self, ReadError> {
+    fn from_json(alloc: Global, value: &Node) -> Result<Self, ReadError> {
         read_set(alloc, value, "")
     }
 }
@@ -138,14 +140,14 @@ fn all_stages(text: &str) -> Option<ShaderStages>
 impl FromJson for ShaderStages {
     ghost stands_for = { sets.stages_of };
 
-    fn from_json(alloc: Global, value: &Value) -> Result<Self, ReadError> {
+    fn from_json(alloc: Global, value: &Node) -> Result<Self, ReadError> {
         if let Some(text) = value.as_str() {
             return match all_stages(text) {
                 Some(all) => Ok(all),
                 None => Err(ReadError::expected(alloc, STAGES)),
             };
         }
-        match value.as_array() {
+        match value.items() {
             Some(_) => read_set(alloc, value, "COMPUTE_LIKE"),
             None => Err(ReadError::expected(alloc, STAGES)),
         }

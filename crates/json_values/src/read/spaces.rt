@@ -7,7 +7,7 @@ use crate::read::from_json::{FromJson, Held};
 use crate::read::variant::{Holding, read_either};
 use ir_module::ResourceBinding;
 use ir_types::AddressSpace;
-use serde_json::Value;
+use json_nodes::Node;
 use std::alloc::Global;
 
 /// The spaces of which no more is said.
@@ -29,7 +29,7 @@ const STORAGE_SPACE: [(&str, ()); 1] = [("Storage", ())];
 impl FromJson for AddressSpace {
     ghost stands_for = { address_space_of };
 
-    fn from_json(alloc: Global, value: &Value) -> Result<Self, ReadError> {
+    fn from_json(alloc: Global, value: &Node) -> Result<Self, ReadError> {
         read_either(alloc, value, &ADDRESS_SPACES, &STORAGE_SPACE)
     }
 }
@@ -48,7 +48,7 @@ impl Holding<()> for AddressSpace {
 impl FromJson for ResourceBinding {
     ghost stands_for = { resource_binding_of };
 
-    fn from_json(alloc: Global, value: &Value) -> Result<Self, ReadError> {
+    fn from_json(alloc: Global, value: &Node) -> Result<Self, ReadError> {
         let held = Held {
             alloc,
             value,

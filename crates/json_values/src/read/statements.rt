@@ -1,6 +1,6 @@
 //! Statements that hold others, and blocks.
 
-ghost use Rattle.serde_json.specs.View.{view};
+ghost use Rattle.json_nodes.specs.Nodes.{data_of};
 ghost use Rattle.std.specs.Prelude.{◌≡◌};
 ghost use Rattle.json_values.specs.Form.{field_of, list_of};
 ghost use Rattle.json_values.specs.Reads.{ReadsMeaning};
@@ -15,7 +15,7 @@ use crate::read::list::elements;
 use crate::read::variant::{Variant, read_variant};
 use ir_arena::{Sequence, Span};
 use ir_module::{Block, Located, Statement, SwitchCase};
-use serde_json::Value;
+use json_nodes::Node;
 use std::alloc::Global;
 
 /// How deep blocks may nest at most. The brackets of a document nest no deeper.
@@ -25,7 +25,7 @@ pub const MOST_LEVELS: usize = 127;
 impl FromJson for Span {
     ghost stands_for = { span_of };
 
-    fn from_json(alloc: Global, value: &Value) -> Result<Self, ReadError> {
+    fn from_json(alloc: Global, value: &Node) -> Result<Self, ReadError> {
         match FromJson::from_json(alloc, value) {
             Ok((start, end)) => Ok(Span { start, end }),
             Err(error) => Err(error),
@@ -36,7 +36,7 @@ impl FromJson for Span {
 impl FromJson for Block {
     ghost stands_for = { block_of };
 
-    fn from_json(alloc: Global, value: &Value) -> Result<Self, ReadError> {
+    fn from_json(alloc: Global, value: &Node) -> Result<Self, ReadError> {
         read_block(alloc, MOST_LEVELS, value)
     }
 }
@@ -127,8 +127,8 @@ fn bare_statement(name: BareName) -> Statement
 /// A list of statements, whose blocks nest at most so deep, itself included.
 #[cycle(block)]
 #[tactic(auto, using(crate::proofs::Blocks::no_level, crate::proofs::Blocks::block_refused, crate::proofs::Blocks::block_read))]
-fn read_block(alloc: Global, levels: usize, value: &Value) -> Result<Block, ReadError>
-    ensures { ReadsMeaning (block_at levels (view value.now)) result }
+fn read_block(alloc: Global, levels: usize, value: &Node) -> Result<Block, ReadError>
+    ensures { ReadsMeaning (block_at levels (data_of value.now)) result }
 {
     if levels == 0 {
         return Err(ReadError::expected(alloc, "a block that nests less deep"));
@@ -144,19 +144,19 @@ fn read_block(alloc: Global, levels: usize, value: &Value) -> Result<Block, Read
 fn read_statements(
     alloc: Global,
     levels: usize,
-    value: &Value,
+    value: &Node,
 ) -> Result<Sequence<Located>, ReadError>
-    ensures { ReadsMeaning (list_of (located_with (block_at levels)) (view value.now)) result }
+    ensures { ReadsMeaning (list_of (located_with (block_at levels)) (data_of value.now)) result }
 {
-    let items = match elements(alloc, value) {
+    let mut items = match elements(alloc, value) {
         Ok(items) => items,
         Err(error) => return Err(error),
     };
     let mut list = Sequence::new(alloc);
-    for (index, value) in items.iter().enumerate() {
-        match read_located(alloc, levels, value) {
+    while let Some(item) = items.next() {
+        match read_located(alloc, levels, &item) {
             Ok(located) => list.push(located)?,
-            Err(error) => return Err(error.within(Step::Index(index))),
+            Err(error) => return Err(error.within(Step::Index(list.len()))),
         }
     }
     Ok(list)
@@ -164,8 +164,8 @@ fn read_statements(
 
 /// A statement with its span, or without one, which is 0..0.
 #[cycle(block)]
-fn read_located(alloc: Global, levels: usize, value: &Value) -> Result<Located, ReadError>
-    ensures { ReadsMeaning (located_with (block_at levels) (view value.now)) result }
+fn read_located(alloc: Global, levels: usize, value: &Node) -> Result<Located, ReadError>
+    ensures { ReadsMeaning (located_with (block_at levels) (data_of value.now)) result }
 {
     if has_field(value, "span") {
         return read_long(alloc, levels, value);
@@ -181,8 +181,8 @@ fn read_located(alloc: Global, levels: usize, value: &Value) -> Result<Located, 
 
 /// A statement with its span.
 #[cycle(block)]
-fn read_long(alloc: Global, levels: usize, value: &Value) -> Result<Located, ReadError>
-    ensures { ReadsMeaning (long_with (block_at levels) (view value.now)) result }
+fn read_long(alloc: Global, levels: usize, value: &Node) -> Result<Located, ReadError>
+    ensures { ReadsMeaning (long_with (block_at levels) (data_of value.now)) result }
 {
     let held = Held {
         alloc,
@@ -194,7 +194,7 @@ fn read_long(alloc: Global, levels: usize, value: &Value) -> Result<Located, Rea
     }
     match held.get("span") {
         Ok(span) => match held.member("statement") {
-            Ok(inner) => match read_statement(alloc, levels, inner) {
+            Ok(inner) => match read_statement(alloc, levels, &inner) {
                 Ok(statement) => Ok(Located { statement, span }),
                 Err(error) => Err(held.in_field(error, "statement")),
             },
@@ -207,10 +207,10 @@ fn read_long(alloc: Global, levels: usize, value: &Value) -> Result<Located, Rea
 /// A block in a field.
 #[cycle(block)]
 fn block_in(levels: usize, held: Held, name: &'static str) -> Result<Block, ReadError>
-    ensures { ReadsMeaning (field_of (block_at levels) name.now (view held.entry.value.now)) result }
+    ensures { ReadsMeaning (field_of (block_at levels) name.now (data_of held.entry.value.now)) result }
 {
     match held.member(name) {
-        Ok(value) => match read_block(held.alloc, levels, value) {
+        Ok(value) => match read_block(held.alloc, levels, &value) {
             Ok(block) => Ok(block),
             Err(error) => Err(held.in_field(error, name)),
         },
@@ -226,7 +226,7 @@ fn blocks_in(
     first: &'static str,
     second: &'static str,
 ) -> Result<(Block, Block), ReadError>
-    ensures { ReadsTwo (field_of (block_at levels) first.now (view held.entry.value.now)) (field_of (block_at levels) second.now (view held.entry.value.now)) result }
+    ensures { ReadsTwo (field_of (block_at levels) first.now (data_of held.entry.value.now)) (field_of (block_at levels) second.now (data_of held.entry.value.now)) result }
 {
     match block_in(levels, held, first) {
         Ok(one) => match block_in(levels, held, second) {
@@ -239,12 +239,19 @@ fn blocks_in(
 
 /// A statement, whatever it holds.
 #[cycle(block)]
-fn read_statement(alloc: Global, levels: usize, value: &Value) -> Result<Statement, ReadError>
-    ensures { ReadsMeaning (statement_with (block_at levels) (view value.now)) result }
+fn read_statement(alloc: Global, levels: usize, value: &Node) -> Result<Statement, ReadError>
+    ensures { ReadsMeaning (statement_with (block_at levels) (data_of value.now)) result }
 {
     match read_variant(alloc, value, &BARE_STATEMENTS, &STATEMENTS) {
         Ok(Variant::Plain(name)) => Ok(bare_statement(name)),
-        Ok(Variant::Holding(name, held)) => read_held_statement(levels, name, held),
+        Ok(Variant::Holding(found, name, inner)) => {
+            let held = Held {
+                alloc,
+                value: &inner,
+                variant: Some(name),
+            };
+            read_held_statement(levels, found, held)
+        }
         Err(error) => Err(error),
     }
 }
@@ -256,7 +263,7 @@ fn read_held_statement(
     name: StatementName,
     held: Held,
 ) -> Result<Statement, ReadError>
-    ensures { ReadsMeaning (statement_from (block_at levels) (holding name (view held.entry.value.now))) result }
+    ensures { ReadsMeaning (statement_from (block_at levels) (holding name (data_of held.entry.value.now))) result }
 {
     match name {
         StatementName::Block => match read_block(held.alloc, levels, held.value) {
@@ -272,7 +279,7 @@ fn read_held_statement(
 
 #[cycle(block)]
 fn read_if(levels: usize, held: Held) -> Result<Statement, ReadError>
-    ensures { ReadsMeaning (if_with (block_at levels) (view held.entry.value.now)) result }
+    ensures { ReadsMeaning (if_with (block_at levels) (data_of held.entry.value.now)) result }
 {
     if let Err(error) = held.fields(&["condition", "accept", "reject"]) {
         return Err(error);
@@ -292,7 +299,7 @@ fn read_if(levels: usize, held: Held) -> Result<Statement, ReadError>
 
 #[cycle(block)]
 fn read_loop(levels: usize, held: Held) -> Result<Statement, ReadError>
-    ensures { ReadsMeaning (loop_with (block_at levels) (view held.entry.value.now)) result }
+    ensures { ReadsMeaning (loop_with (block_at levels) (data_of held.entry.value.now)) result }
 {
     if let Err(error) = held.fields(&["body", "continuing", "break_if"]) {
         return Err(error);
@@ -312,14 +319,14 @@ fn read_loop(levels: usize, held: Held) -> Result<Statement, ReadError>
 
 #[cycle(block)]
 fn read_switch(levels: usize, held: Held) -> Result<Statement, ReadError>
-    ensures { ReadsMeaning (switch_with (block_at levels) (view held.entry.value.now)) result }
+    ensures { ReadsMeaning (switch_with (block_at levels) (data_of held.entry.value.now)) result }
 {
     if let Err(error) = held.fields(&["selector", "cases"]) {
         return Err(error);
     }
     match held.get("selector") {
         Ok(selector) => match held.member("cases") {
-            Ok(value) => match read_cases(held.alloc, levels, value) {
+            Ok(value) => match read_cases(held.alloc, levels, &value) {
                 Ok(cases) => Ok(Statement::Switch { selector, cases }),
                 Err(error) => Err(held.in_field(error, "cases")),
             },
@@ -331,30 +338,26 @@ fn read_switch(levels: usize, held: Held) -> Result<Statement, ReadError>
 
 /// The cases of a switch.
 #[cycle(block)]
-fn read_cases(
-    alloc: Global,
-    levels: usize,
-    value: &Value,
-) -> Result<Sequence<SwitchCase>, ReadError>
-    ensures { ReadsMeaning (list_of (case_with (block_at levels)) (view value.now)) result }
+fn read_cases(alloc: Global, levels: usize, value: &Node) -> Result<Sequence<SwitchCase>, ReadError>
+    ensures { ReadsMeaning (list_of (case_with (block_at levels)) (data_of value.now)) result }
 {
-    let items = match elements(alloc, value) {
+    let mut items = match elements(alloc, value) {
         Ok(items) => items,
         Err(error) => return Err(error),
     };
     let mut cases = Sequence::new(alloc);
-    for (index, value) in items.iter().enumerate() {
-        match read_case(alloc, levels, value) {
+    while let Some(item) = items.next() {
+        match read_case(alloc, levels, &item) {
             Ok(case) => cases.push(case)?,
-            Err(error) => return Err(error.within(Step::Index(index))),
+            Err(error) => return Err(error.within(Step::Index(cases.len()))),
         }
     }
     Ok(cases)
 }
 
 #[cycle(block)]
-fn read_case(alloc: Global, levels: usize, value: &Value) -> Result<SwitchCase, ReadError>
-    ensures { ReadsMeaning (case_with (block_at levels) (view value.now)) result }
+fn read_case(alloc: Global, levels: usize, value: &Node) -> Result<SwitchCase, ReadError>
+    ensures { ReadsMeaning (case_with (block_at levels) (data_of value.now)) result }
 {
     let held = Held {
         alloc,

@@ -1,6 +1,6 @@
 //! Types.
 
-ghost use Rattle.serde_json.specs.View.{view};
+ghost use Rattle.json_nodes.specs.Nodes.{data_of};
 ghost use Rattle.json_values.specs.Reads.{ReadsMeaning};
 ghost use Rattle.json_values.specs.Document.Types.{acceleration_structure_of, array_of, array_size_from, array_size_of, binding_array_of, cooperative_matrix_of, image_of, matrix_of, pointer_of, ray_query_of, sampler_of, struct_member_of, struct_of, type_inner_from, type_inner_of, type_of, type_resolution_from, type_resolution_of, value_pointer_of, vector_of};
 
@@ -8,7 +8,7 @@ use crate::read::error::ReadError;
 use crate::read::from_json::{FromJson, Held};
 use crate::read::variant::{Holding, read_either, read_holding};
 use ir_types::{ArraySize, StructMember, Type, TypeInner, TypeResolution};
-use serde_json::Value;
+use json_nodes::Node;
 use std::alloc::Global;
 
 /// The size that holds nothing.
@@ -30,7 +30,7 @@ const HOLDING_SIZES: [(&str, SizeName); 2] = [
 impl FromJson for ArraySize {
     ghost stands_for = { array_size_of };
 
-    fn from_json(alloc: Global, value: &Value) -> Result<Self, ReadError> {
+    fn from_json(alloc: Global, value: &Node) -> Result<Self, ReadError> {
         read_either(alloc, value, &ARRAY_SIZES, &HOLDING_SIZES)
     }
 }
@@ -55,7 +55,7 @@ impl Holding<SizeName> for ArraySize {
 impl FromJson for StructMember {
     ghost stands_for = { struct_member_of };
 
-    fn from_json(alloc: Global, value: &Value) -> Result<Self, ReadError> {
+    fn from_json(alloc: Global, value: &Node) -> Result<Self, ReadError> {
         let held = Held {
             alloc,
             value,
@@ -111,7 +111,7 @@ const TYPE_NAMES: [(&str, TypeName); 14] = [
 ];
 
 fn read_vector(held: Held) -> Result<TypeInner, ReadError>
-    ensures { ReadsMeaning (vector_of (view held.entry.value.now)) result }
+    ensures { ReadsMeaning (vector_of (data_of held.entry.value.now)) result }
 {
     match held.two(&("size", "scalar")) {
         Ok((size, scalar)) => Ok(TypeInner::Vector { size, scalar }),
@@ -120,7 +120,7 @@ fn read_vector(held: Held) -> Result<TypeInner, ReadError>
 }
 
 fn read_matrix(held: Held) -> Result<TypeInner, ReadError>
-    ensures { ReadsMeaning (matrix_of (view held.entry.value.now)) result }
+    ensures { ReadsMeaning (matrix_of (data_of held.entry.value.now)) result }
 {
     match held.three(&("columns", "rows", "scalar")) {
         Ok((columns, rows, scalar)) => Ok(TypeInner::Matrix {
@@ -133,7 +133,7 @@ fn read_matrix(held: Held) -> Result<TypeInner, ReadError>
 }
 
 fn read_cooperative_matrix(held: Held) -> Result<TypeInner, ReadError>
-    ensures { ReadsMeaning (cooperative_matrix_of (view held.entry.value.now)) result }
+    ensures { ReadsMeaning (cooperative_matrix_of (data_of held.entry.value.now)) result }
 {
     match held.two(&("scalar", "detail")) {
         Ok((scalar, detail)) => Ok(TypeInner::CooperativeMatrix { scalar, detail }),
@@ -142,7 +142,7 @@ fn read_cooperative_matrix(held: Held) -> Result<TypeInner, ReadError>
 }
 
 fn read_pointer(held: Held) -> Result<TypeInner, ReadError>
-    ensures { ReadsMeaning (pointer_of (view held.entry.value.now)) result }
+    ensures { ReadsMeaning (pointer_of (data_of held.entry.value.now)) result }
 {
     match held.two(&("base", "space")) {
         Ok((base, space)) => Ok(TypeInner::Pointer { base, space }),
@@ -151,7 +151,7 @@ fn read_pointer(held: Held) -> Result<TypeInner, ReadError>
 }
 
 fn read_value_pointer(held: Held) -> Result<TypeInner, ReadError>
-    ensures { ReadsMeaning (value_pointer_of (view held.entry.value.now)) result }
+    ensures { ReadsMeaning (value_pointer_of (data_of held.entry.value.now)) result }
 {
     match held.three(&("size", "scalar", "space")) {
         Ok((size, scalar, space)) => Ok(TypeInner::ValuePointer {
@@ -164,7 +164,7 @@ fn read_value_pointer(held: Held) -> Result<TypeInner, ReadError>
 }
 
 fn read_array(held: Held) -> Result<TypeInner, ReadError>
-    ensures { ReadsMeaning (array_of (view held.entry.value.now)) result }
+    ensures { ReadsMeaning (array_of (data_of held.entry.value.now)) result }
 {
     match held.three(&("base", "size", "stride")) {
         Ok((base, size, stride)) => Ok(TypeInner::Array { base, size, stride }),
@@ -173,7 +173,7 @@ fn read_array(held: Held) -> Result<TypeInner, ReadError>
 }
 
 fn read_struct(held: Held) -> Result<TypeInner, ReadError>
-    ensures { ReadsMeaning (struct_of (view held.entry.value.now)) result }
+    ensures { ReadsMeaning (struct_of (data_of held.entry.value.now)) result }
 {
     match held.two(&("members", "span")) {
         Ok((members, span)) => Ok(TypeInner::Struct { members, span }),
@@ -182,7 +182,7 @@ fn read_struct(held: Held) -> Result<TypeInner, ReadError>
 }
 
 fn read_image(held: Held) -> Result<TypeInner, ReadError>
-    ensures { ReadsMeaning (image_of (view held.entry.value.now)) result }
+    ensures { ReadsMeaning (image_of (data_of held.entry.value.now)) result }
 {
     match held.three(&("dim", "arrayed", "class")) {
         Ok((dim, arrayed, class)) => Ok(TypeInner::Image {
@@ -195,7 +195,7 @@ fn read_image(held: Held) -> Result<TypeInner, ReadError>
 }
 
 fn read_sampler(held: Held) -> Result<TypeInner, ReadError>
-    ensures { ReadsMeaning (sampler_of (view held.entry.value.now)) result }
+    ensures { ReadsMeaning (sampler_of (data_of held.entry.value.now)) result }
 {
     match held.one("comparison") {
         Ok(comparison) => Ok(TypeInner::Sampler { comparison }),
@@ -204,7 +204,7 @@ fn read_sampler(held: Held) -> Result<TypeInner, ReadError>
 }
 
 fn read_acceleration_structure(held: Held) -> Result<TypeInner, ReadError>
-    ensures { ReadsMeaning (acceleration_structure_of (view held.entry.value.now)) result }
+    ensures { ReadsMeaning (acceleration_structure_of (data_of held.entry.value.now)) result }
 {
     match held.one("vertex_return") {
         Ok(vertex_return) => Ok(TypeInner::AccelerationStructure { vertex_return }),
@@ -213,7 +213,7 @@ fn read_acceleration_structure(held: Held) -> Result<TypeInner, ReadError>
 }
 
 fn read_ray_query(held: Held) -> Result<TypeInner, ReadError>
-    ensures { ReadsMeaning (ray_query_of (view held.entry.value.now)) result }
+    ensures { ReadsMeaning (ray_query_of (data_of held.entry.value.now)) result }
 {
     match held.one("vertex_return") {
         Ok(vertex_return) => Ok(TypeInner::RayQuery { vertex_return }),
@@ -222,7 +222,7 @@ fn read_ray_query(held: Held) -> Result<TypeInner, ReadError>
 }
 
 fn read_binding_array(held: Held) -> Result<TypeInner, ReadError>
-    ensures { ReadsMeaning (binding_array_of (view held.entry.value.now)) result }
+    ensures { ReadsMeaning (binding_array_of (data_of held.entry.value.now)) result }
 {
     match held.two(&("base", "size")) {
         Ok((base, size)) => Ok(TypeInner::BindingArray { base, size }),
@@ -262,7 +262,7 @@ impl Holding<TypeName> for TypeInner {
 impl FromJson for TypeInner {
     ghost stands_for = { type_inner_of };
 
-    fn from_json(alloc: Global, value: &Value) -> Result<Self, ReadError> {
+    fn from_json(alloc: Global, value: &Node) -> Result<Self, ReadError> {
         read_holding(alloc, value, &TYPE_NAMES)
     }
 }
@@ -270,7 +270,7 @@ impl FromJson for TypeInner {
 impl FromJson for Type {
     ghost stands_for = { type_of };
 
-    fn from_json(alloc: Global, value: &Value) -> Result<Self, ReadError> {
+    fn from_json(alloc: Global, value: &Node) -> Result<Self, ReadError> {
         let held = Held {
             alloc,
             value,
@@ -299,7 +299,7 @@ const RESOLUTIONS: [(&str, ResolutionName); 2] = [
 impl FromJson for TypeResolution {
     ghost stands_for = { type_resolution_of };
 
-    fn from_json(alloc: Global, value: &Value) -> Result<Self, ReadError> {
+    fn from_json(alloc: Global, value: &Node) -> Result<Self, ReadError> {
         read_holding(alloc, value, &RESOLUTIONS)
     }
 }

@@ -2,8 +2,8 @@
 
 ghost use Rattle.std.specs.Prelude.{◌≡◌, [], option_map, option_and_then};
 ghost use Rattle.serde_json.specs.Find.{as_str};
-ghost use Rattle.serde_json.specs.View.{view, members_view};
-ghost use Rattle.json_values.specs.Form.{given, lookup, only_member, tagged_of};
+ghost use Rattle.json_nodes.specs.Nodes.{data_of};
+ghost use Rattle.json_values.specs.Form.{given, lookup, tagged_of};
 ghost use Rattle.json_values.specs.Reads.{ReadsMeaning, rows_of};
 ghost use Rattle.json_values.specs.Variants.{either, variant_of};
 ghost use Rattle.json_values.specs.ReadsVariants.{ReadsVariant, tag_of};
@@ -11,7 +11,7 @@ ghost use Rattle.json_values.specs.ReadsVariants.{ReadsVariant, tag_of};
 use crate::read::error::ReadError;
 use crate::read::expected::{expected_name, expected_variant};
 use crate::read::from_json::Held;
-use serde_json::{Map, Value};
+use json_nodes::Node;
 use std::alloc::Global;
 
 /// What stands beside a name in a table, the first time, with the name as the table has it.
@@ -29,10 +29,10 @@ fn look_up<T: Copy>(table: &[(&'static str, T)], name: &str) -> Option<(&'static
 /// What a text names in a table.
 pub fn read_name<T: Copy>(
     alloc: Global,
-    value: &Value,
+    value: &Node,
     table: &[(&'static str, T)],
 ) -> Result<T, ReadError>
-    ensures { ReadsMeaning (option_and_then (lookup (rows_of table.now)) (as_str (view value.now))) result }
+    ensures { ReadsMeaning (option_and_then (lookup (rows_of table.now)) (as_str (data_of value.now))) result }
 {
     match value.as_str() {
         Some(name) => match look_up(table, name) {
@@ -44,54 +44,41 @@ pub fn read_name<T: Copy>(
 }
 
 /// A variant before its name is looked up.
-#[derive(Clone, Copy)]
+#[derive(Drop)]
 pub enum Tagged<'v> {
     Plain(&'v str),
-    Holding(&'v str, &'v Value),
-}
-
-/// The only member of an object.
-fn only_member<'v>(map: &'v Map<String, Value>) -> Option<Tagged<'v>>
-    ensures { option_map tag_of result ≡ only_member (members_view map.now.entries) }
-{
-    if map.len() != 1 {
-        return None;
-    }
-    match map.first_key_value() {
-        Some((name, value)) => Some(Tagged::Holding(name.as_str(), value)),
-        None => None,
-    }
+    Holding(&'v str, Node<'v>),
 }
 
 /// The variant that a value is, if it can be one.
-fn tag<'v>(value: &'v Value) -> Option<Tagged<'v>>
-    ensures { option_map tag_of result ≡ tagged_of (view value.now) }
+fn tag<'v>(value: &Node<'v>) -> Option<Tagged<'v>>
+    ensures { option_map tag_of result ≡ tagged_of (data_of value.now) }
 {
     if let Some(name) = value.as_str() {
         return Some(Tagged::Plain(name));
     }
-    match value.as_object() {
-        Some(map) => only_member(map),
+    match value.only_field() {
+        Some((name, inner)) => Some(Tagged::Holding(name, inner)),
         None => None,
     }
 }
 
 /// A variant: one that holds nothing, as the table of these has it, or one that holds something, which is still to be
-/// read.
+/// read, with its name.
 #[derive(Drop)]
 pub enum Variant<'v, P, H> {
     Plain(P),
-    Holding(H, Held<'v>),
+    Holding(H, &'static str, Node<'v>),
 }
 
 /// The variant that a value is, by a table of those that hold nothing and one of those that hold something.
 pub fn read_variant<'v, P: Copy, H: Copy>(
     alloc: Global,
-    value: &'v Value,
+    value: &Node<'v>,
     plain: &[(&'static str, P)],
     holding: &[(&'static str, H)],
 ) -> Result<Variant<'v, P, H>, ReadError>
-    ensures { ReadsVariant (variant_of (rows_of plain.now) (rows_of holding.now) (view value.now)) result }
+    ensures { ReadsVariant (variant_of (rows_of plain.now) (rows_of holding.now) (data_of value.now)) result }
 {
     match tag(value) {
         Some(Tagged::Plain(name)) => {
@@ -99,14 +86,9 @@ pub fn read_variant<'v, P: Copy, H: Copy>(
                 return Ok(Variant::Plain(found));
             }
         }
-        Some(Tagged::Holding(name, value)) => {
+        Some(Tagged::Holding(name, inner)) => {
             if let Some((name, found)) = look_up(holding, name) {
-                let held = Held {
-                    alloc,
-                    value,
-                    variant: Some(name),
-                };
-                return Ok(Variant::Holding(found, held));
+                return Ok(Variant::Holding(found, name, inner));
             }
         }
         None => {}
@@ -124,21 +106,28 @@ pub trait Holding<N>: Drop {
 
     /// The variant of this name.
     fn read_held(name: N, held: Held) -> Result<Self, ReadError>
-        ensures { ReadsMeaning (held_of name (view held.entry.value.now)) result };
+        ensures { ReadsMeaning (held_of name (data_of held.entry.value.now)) result };
 }
 
 /// A variant by its name alone, which a table has with the variant, or by its name and what it holds.
 pub fn read_either<E: Holding<N> + Copy, N: Copy>(
     alloc: Global,
-    value: &Value,
+    value: &Node,
     plain: &[(&'static str, E)],
     holding: &[(&'static str, N)],
 ) -> Result<E, ReadError>
-    ensures { ReadsMeaning (given (variant_of (rows_of plain.now) (rows_of holding.now) (view value.now)) (either E.held_of)) result }
+    ensures { ReadsMeaning (given (variant_of (rows_of plain.now) (rows_of holding.now) (data_of value.now)) (either E.held_of)) result }
 {
     match read_variant(alloc, value, plain, holding) {
         Ok(Variant::Plain(found)) => Ok(found),
-        Ok(Variant::Holding(name, held)) => E::read_held(name, held),
+        Ok(Variant::Holding(found, name, inner)) => {
+            let held = Held {
+                alloc,
+                value: &inner,
+                variant: Some(name),
+            };
+            E::read_held(found, held)
+        }
         Err(error) => Err(error),
     }
 }
@@ -146,16 +135,16 @@ pub fn read_either<E: Holding<N> + Copy, N: Copy>(
 /// A variant by its name and what it holds, of an enum that has no others.
 pub fn read_holding<E: Holding<N>, N: Copy>(
     alloc: Global,
-    value: &Value,
+    value: &Node,
     holding: &[(&'static str, N)],
 ) -> Result<E, ReadError>
-    ensures { ReadsMeaning (given (variant_of [] (rows_of holding.now) (view value.now)) (either E.held_of)) result }
+    ensures { ReadsMeaning (given (variant_of [] (rows_of holding.now) (data_of value.now)) (either E.held_of)) result }
 {
-    if let Some(Tagged::Holding(name, value)) = tag(value) {
+    if let Some(Tagged::Holding(name, inner)) = tag(value) {
         if let Some((name, found)) = look_up(holding, name) {
             let held = Held {
                 alloc,
-                value,
+                value: &inner,
                 variant: Some(name),
             };
             return E::read_held(found, held);

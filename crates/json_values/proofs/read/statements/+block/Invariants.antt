@@ -1,6 +1,6 @@
-use Rattle.std.proofs.Common.{◌≡◌, ◌+◌, ◌*◌, drop}
-use Rattle.serde_json.specs.View.{items_view}
-use Rattle.json_values.specs.Form.{each_of}
+use Rattle.std.proofs.Common.{◌≡◌, ◌+◌, ◌*◌, length}
+use Rattle.json_nodes.specs.Nodes.{data_of, items_of}
+use Rattle.json_values.specs.Form.{list_of}
 use Rattle.json_values.specs.Document.Statements.{block_at, located_with, case_with}
 use Rattle.json_values.proofs.Lists.{each_behind}
 use Rattle.json_values.proofs.read.statements.+block.Given as goal
@@ -44,8 +44,14 @@ decreases-read_located l = l.levels * 10 + 8
 abbrev pub decreases-read_statements : goal.decreases-read_statements
 decreases-read_statements l = l.levels * 10 + 9
 
-abbrev pub invariant-read_statements-loop-index : goal.invariant-read_statements-loop-index
-invariant-read_statements-loop-index l = each_behind (located_with (block_at l.levels)) l.list (items_view (drop l.index l.items)) ≡ each_of (located_with (block_at l.levels)) (items_view l.items)
+abbrev pub invariant-read_statements-loop-item : goal.invariant-read_statements-loop-item
+invariant-read_statements-loop-item l = each_behind (located_with (block_at l.levels)) l.list (items_of l.items) ≡ list_of (located_with (block_at l.levels)) (data_of l.value)
 
-abbrev pub invariant-read_cases-loop-index : goal.invariant-read_cases-loop-index
-invariant-read_cases-loop-index l = each_behind (case_with (block_at l.levels)) l.cases (items_view (drop l.index l.items)) ≡ each_of (case_with (block_at l.levels)) (items_view l.items)
+abbrev pub decreases-read_statements-loop-item : goal.decreases-read_statements-loop-item
+decreases-read_statements-loop-item l = length l.items
+
+abbrev pub invariant-read_cases-loop-item : goal.invariant-read_cases-loop-item
+invariant-read_cases-loop-item l = each_behind (case_with (block_at l.levels)) l.cases (items_of l.items) ≡ list_of (case_with (block_at l.levels)) (data_of l.value)
+
+abbrev pub decreases-read_cases-loop-item : goal.decreases-read_cases-loop-item
+decreases-read_cases-loop-item l = length l.items

@@ -1,0 +1,14 @@
+//! Reads a JSON text as a tree whose values are read where they lie.
+//! Part of `naga_judge`; no promise to users.
+#![tactic(auto)]
+
+mod check;
+mod fields;
+mod items;
+mod node;
+mod number;
+mod tree;
+
+pub use crate::items::Items;
+pub use crate::node::Node;
+pub use crate::tree::{TextError, Tree, read_tree};
