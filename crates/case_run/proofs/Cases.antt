@@ -15,7 +15,7 @@ use Rattle.case_run.specs.CaseJudgement.{IsPlainAnswer, IsJudgementOf, module_of
 use Rattle.case_run.specs.Line.{Replies, IsDue, Writes, IsLine, IsLineOf, reply_line, reply_status}
 use Rattle.case_notation.specs.Case.{Case, HoldsBlock, Reads, case_of}
 use Rattle.naga_module.specs.ModuleJudgement.{Answer}
-use Rattle.naga_module.specs.declared.check.ModuleFault.TheVariants as told
+use Rattle.check_faults.specs.declared.module.ModuleFault.TheVariants as told
 use Rattle.case_notation.specs.declared.case.Case as declared
 use Rattle.case_run.specs.declared.line.Reply.{Reply}
 use Rattle.case_run.specs.declared.line.Reply.TheVariants.{Accepted, Fault, Unreadable, Memory}

@@ -8,7 +8,7 @@ use Rattle.case_run.specs.FaultNames.{fault_name, inner_text, fault_handle}
 use Rattle.case_run.specs.CaseJudgement.{IsJudgementOf, stages_of_last}
 use Rattle.case_notation.specs.Case.{Case, Reads}
 use Rattle.naga_module.specs.ModuleJudgement.{Answer}
-use Rattle.naga_module.specs.declared.check.ModuleFault.TheVariants as told
+use Rattle.check_faults.specs.declared.module.ModuleFault.TheVariants as told
 use Rattle.case_run.specs.declared.line.Reply.{Reply}
 use Rattle.case_run.specs.declared.line.Reply.TheVariants.{Accepted, Fault, Unreadable, Memory}
 

@@ -11,13 +11,14 @@ use crate::bench_module::bench_module;
 use crate::line::Reply;
 use bitflags::Flags;
 use case_notation::case::{Case, ReadError, read_case};
+use check_faults::ModuleFault;
 use ir_facts::valid::info::{FunctionInfo, ModuleInfo};
 use ir_facts::valid::settings::Settings;
 use ir_facts::valid::types::TypeInfo;
 use ir_flags::capabilities::Capabilities;
 use ir_flags::valid::{ShaderStages, SubgroupOperationSet, TypeFlags, ValidationFlags};
 use naga_layers::plain::Plain;
-use naga_module::check::{Given, ModuleFault, check_module};
+use naga_module::check::{Given, check_module};
 use naga_module::laws::module_law;
 use std::alloc::{AllocError, Global};
 

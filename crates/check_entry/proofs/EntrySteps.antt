@@ -10,10 +10,10 @@ use Rattle.check_varyings.specs.VaryingFaults.{VaryingFault, varying_fault_of}
 use Rattle.check_errors.specs.declared.interface.VaryingError.{VaryingError}
 use Rattle.check_entry.specs.EntryFaults.{EntryFault, OfArgument, OfResult, fault_of}
 use Rattle.check_entry.specs.EntryAnswers.{EntryPoints}
-use Rattle.check_entry.specs.declared.error.EntryPointError.{EntryPointError}
-use Rattle.check_entry.specs.declared.error.EntryPointError.TheVariants as fault
+use Rattle.check_faults.specs.declared.entry.EntryPointError.{EntryPointError}
+use Rattle.check_faults.specs.declared.entry.EntryPointError.TheVariants as fault
 use Rattle.check_scope.proofs.Refusals.{fault_first, fault_second}
-use Rattle.check_entry.specs.RefusedEntries.{IsRefusalFor}
+use Rattle.check_faults.specs.RefusedEntries.{IsRefusalFor}
 use Rattle.check_errors.specs.Answers.{Answers, FirstOf, IsFirstFault, read_by, refusal_read_by}
 
 pub ruleset finding = (fault_first, fault_second)

@@ -1,7 +1,7 @@
 -- Check points of an entry point.
 use Rattle.std.specs.Prelude.{List}
 use Rattle.ir_facts.specs.Points.{Point}
-use Rattle.check_entry.specs.declared.error.EntryPointError.{EntryPointError}
+use Rattle.check_faults.specs.declared.entry.EntryPointError.{EntryPointError}
 
 abbrev pub EntryPoints : Type 0
 EntryPoints = List (Point EntryPointError)

@@ -20,8 +20,8 @@ use Rattle.check_entry.specs.Start.{start_points}
 use Rattle.check_entry.specs.EntryUses.{payload_points, with_own_uses, stage_points}
 use Rattle.check_entry.specs.EntryVaryings.{argument_points, result_points, with_blending}
 use Rattle.check_statement.specs.FunctionJudgement.{FunctionOutcome, function_judgement}
-use Rattle.check_entry.specs.declared.error.EntryPointError.{EntryPointError}
-use Rattle.check_entry.specs.declared.error.EntryPointError.TheVariants as fault
+use Rattle.check_faults.specs.declared.entry.EntryPointError.{EntryPointError}
+use Rattle.check_faults.specs.declared.entry.EntryPointError.TheVariants as fault
 use Rattle.check_scope.specs.declared.trace.TraceState.{TraceState}
 
 -- the lower layer knows the size of the type of each global that may be a task payload

@@ -16,7 +16,7 @@ use Rattle.ir_facts.specs.declared.valid.info.FunctionInfo.{FunctionInfo}
 use Rattle.check_variables.specs.AllowedUses.{join}
 use Rattle.check_variables.specs.Spaces.{is_task_payload}
 use Rattle.check_entry.specs.EntryAnswers.{EntryPoints}
-use Rattle.check_entry.specs.declared.error.EntryPointError.TheVariants as fault
+use Rattle.check_faults.specs.declared.entry.EntryPointError.TheVariants as fault
 
 -- the space of work groups, and that of immediates
 abbrev pub is_work_group : AddressSpace → Bool

@@ -28,7 +28,7 @@ use Rattle.check_varyings.specs.declared.varying.MeshOutputType.TheVariants.{Nei
 use Rattle.check_varyings.specs.declared.varying.VaryingPlace.{VaryingPlace}
 use Rattle.check_entry.specs.EntryFaults.{EntryFault, OfArgument, OfResult, Other, fault_of}
 use Rattle.check_entry.specs.EntryAnswers.{EntryPoints}
-use Rattle.check_entry.specs.declared.error.EntryPointError.TheVariants as fault
+use Rattle.check_faults.specs.declared.entry.EntryPointError.TheVariants as fault
 
 -- a struct
 abbrev pub is_struct : TypeInner → Bool

@@ -3,7 +3,6 @@ pub mod Start
 pub mod EntryUses
 pub mod UsedGlobals
 pub mod EntryFaults
-pub mod RefusedEntries
 pub mod EntryVaryings
 pub mod Mesh
 pub mod EntryJudgement

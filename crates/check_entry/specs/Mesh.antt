@@ -22,8 +22,8 @@ use Rattle.check_entry.specs.EntryFaults.{EntryFault, fault_of}
 use Rattle.check_entry.specs.EntryAnswers.{EntryPoints}
 use Rattle.check_entry.specs.EntryUses.{is_work_group, lies_in}
 use Rattle.check_entry.specs.EntryVaryings.{outputs_points}
-use Rattle.check_entry.specs.declared.error.EntryPointError.{EntryPointError}
-use Rattle.check_entry.specs.declared.error.EntryPointError.TheVariants as fault
+use Rattle.check_faults.specs.declared.entry.EntryPointError.{EntryPointError}
+use Rattle.check_faults.specs.declared.entry.EntryPointError.TheVariants as fault
 
 -- what is wrong with the output variable, as a fault of the entry point
 abbrev pub mesh_error : MeshFault → EntryPointError

@@ -11,7 +11,7 @@ use Rattle.ir_module.specs.declared.module.ShaderStage.TheVariants as stage
 use Rattle.ir_flags.specs.declared.capabilities.Capabilities.{Capabilities}
 use Rattle.check_errors.specs.declared.interface.VaryingError.TheVariants as varying
 use Rattle.check_entry.specs.EntryAnswers.{EntryPoints}
-use Rattle.check_entry.specs.declared.error.EntryPointError.TheVariants as fault
+use Rattle.check_faults.specs.declared.entry.EntryPointError.TheVariants as fault
 
 -- what the target must have for a stage
 abbrev pub needed_by : ShaderStage → Option Capabilities

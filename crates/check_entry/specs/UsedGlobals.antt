@@ -23,7 +23,7 @@ use Rattle.check_errors.specs.WhatIsChecked.{checks_bindings}
 use Rattle.check_errors.specs.Meaning.{Meaning}
 use Rattle.check_entry.specs.EntryAnswers.{EntryPoints}
 use Rattle.check_entry.specs.EntryUses.{is_immediate}
-use Rattle.check_entry.specs.declared.error.EntryPointError.TheVariants as fault
+use Rattle.check_faults.specs.declared.entry.EntryPointError.TheVariants as fault
 
 -- some use is made of a global
 abbrev pub is_some_use : Option GlobalUse → Bool

@@ -7,12 +7,12 @@ ghost use Rattle.check_errors.specs.declared.function.FunctionError.{FunctionErr
 ghost use Rattle.check_entry.specs.EntryFaults.{fault_of};
 ghost use Rattle.check_entry.specs.EntryJudgement.{of_function};
 ghost use Rattle.check_entry.specs.EntryAnswers.{EntryPoints};
-ghost use Rattle.check_entry.specs.RefusedEntries.{IsRefusalFor};
+ghost use Rattle.check_faults.specs.RefusedEntries.{IsRefusalFor};
 ghost use Rattle.check_statement.specs.FunctionJudgement.{FunctionOutcome as Outcome};
 
-use crate::error::EntryPointError;
-use crate::refused::RefusedEntry;
 use check_errors::function::FunctionError;
+use check_faults::entry::EntryPointError;
+use check_faults::refused::RefusedEntry;
 use ir_arena::span::{Refusal, WithSpan};
 use std::alloc::Global;
 

@@ -8,8 +8,8 @@ ghost use Rattle.check_entry.specs.TakenBindings.{AreTaken};
 ghost use Rattle.check_entry.specs.UsedGlobals.{binding_at, binding_points};
 ghost use Rattle.check_errors.specs.Answers.{Finds, FirstOf};
 
-use crate::error::EntryPointError;
 use crate::globals::is_used;
+use check_faults::entry::EntryPointError;
 use ir_arena::handle::Handle;
 use ir_arena::tag;
 use ir_facts::valid::info::FunctionInfo;

@@ -8,8 +8,8 @@ ghost use Rattle.check_entry.specs.UsedGlobals.{is_used, is_used_immediate, used
 ghost use Rattle.check_variables.specs.Spaces.{is_task_payload};
 ghost use Rattle.check_errors.specs.Answers.{Finds, FirstOf};
 
-use crate::error::EntryPointError;
 use bitflags::Flags;
+use check_faults::entry::EntryPointError;
 use check_variables::allowed::{allowed_use, hands_payload, takes_payload};
 use ir_arena::handle::Handle;
 use ir_arena::tag;

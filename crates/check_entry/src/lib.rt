@@ -1,16 +1,12 @@
-//! The steps of an entry point, its errors, and the definition of its judgement: naga 30.0.1's `validate_entry_point`.
+//! The steps of an entry point, and the definition of its judgement: naga 30.0.1's `validate_entry_point`.
 //! Part of the validator; no promise to users.
 #![tactic(auto)]
 
 pub mod answers;
 pub mod bindings;
-pub mod error;
 pub mod globals;
 pub mod mesh;
 pub mod outcome;
-pub mod refused;
 pub mod start;
 pub mod uses;
 pub mod varyings;
-
-pub use crate::error::EntryPointError;

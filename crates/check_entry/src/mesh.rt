@@ -5,8 +5,8 @@ ghost use Rattle.check_entry.specs.Mesh.{mesh_error, override_at, is_implied, wi
 ghost use Rattle.check_entry.specs.EntryUses.{is_work_group, lies_in};
 ghost use Rattle.check_errors.specs.Answers.{Finds, FirstOf};
 
-use crate::error::EntryPointError;
 use check_errors::mesh::MeshFault;
+use check_faults::entry::EntryPointError;
 use ir_arena::handle::Handle;
 use ir_arena::tag;
 use ir_flags::capabilities::Capabilities;

@@ -7,8 +7,8 @@ ghost use Rattle.std.specs.List.{list_all};
 ghost use Rattle.check_entry.specs.Start.{needed_by, needed_points, is_fragment, depth_points, has_work_groups, is_group_size, is_zero, size_points, mesh_info_points, start_points};
 ghost use Rattle.check_errors.specs.Answers.{Finds, FirstOf};
 
-use crate::error::EntryPointError;
 use check_errors::interface::VaryingError;
+use check_faults::entry::EntryPointError;
 use ir_flags::capabilities::Capabilities;
 use ir_module::module::{EarlyDepthTest, EntryPoint, MeshStageInfo, ShaderStage};
 

@@ -9,9 +9,9 @@ ghost use Rattle.check_entry.specs.EntryUses.{lies_in, place_points, made_points
 ghost use Rattle.check_errors.specs.Answers.{Answers, Finds, FirstOf, read_by};
 
 use crate::answers::{answer, refusal};
-use crate::error::EntryPointError;
-use crate::refused::RefusedEntry;
 use bitflags::Flags;
+use check_faults::entry::EntryPointError;
+use check_faults::refused::RefusedEntry;
 use ir_arena::handle::Handle;
 use ir_arena::tag;
 use ir_facts::valid::info::FunctionInfo;

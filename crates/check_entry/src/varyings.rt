@@ -16,10 +16,10 @@ ghost use Rattle.check_entry.specs.EntryVaryings.{is_struct, is_three_counts, re
 ghost use Rattle.check_errors.specs.Answers.{Answers, Finds, FirstOf, IsFirstFault, read_by, refusal_read_by};
 
 use crate::answers::{answer, refusal};
-use crate::error::EntryPointError;
 use crate::globals::inner_at;
-use crate::refused::RefusedEntry;
 use check_errors::interface::VaryingError;
+use check_faults::entry::EntryPointError;
+use check_faults::refused::RefusedEntry;
 use check_varyings::varying::VaryingState;
 use ir_arena::handle::Handle;
 use ir_arena::span::Refusal;

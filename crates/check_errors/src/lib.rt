@@ -1,4 +1,4 @@
-//! The errors of validation with their messages, and the lower layer that a validator asks (the trait `Below`).
+//! The errors of functions and globals with their names, and the lower layer that a validator asks (the trait `Below`).
 //! Users import these from `naga_rules`.
 #![tactic(auto)]
 
@@ -7,7 +7,6 @@ pub mod below;
 pub mod function;
 pub mod interface;
 pub mod mesh;
-pub mod sentences;
 
 pub use crate::analyzer::{UniformityDisruptor, UniformityRequirements};
 pub use crate::below::Below;
@@ -16,4 +15,3 @@ pub use crate::function::{
 };
 pub use crate::interface::{GlobalVariableError, VaryingError};
 pub use crate::mesh::{MeshAnalysis, MeshFault};
-pub use crate::sentences::{Explain, explain_inside};

@@ -5,8 +5,8 @@ use Rattle.check_errors.specs.declared.interface.GlobalVariableError.{GlobalVari
 use Rattle.check_errors.specs.declared.interface.GlobalVariableError.TheVariants as globals
 use Rattle.check_errors.specs.declared.interface.VaryingError.{VaryingError}
 use Rattle.check_errors.specs.declared.interface.VaryingError.TheVariants as varyings
-use Rattle.check_entry.specs.declared.error.EntryPointError.{EntryPointError}
-use Rattle.check_entry.specs.declared.error.EntryPointError.TheVariants as entries
+use Rattle.check_faults.specs.declared.entry.EntryPointError.{EntryPointError}
+use Rattle.check_faults.specs.declared.entry.EntryPointError.TheVariants as entries
 use Rattle.json_faults.specs.BuiltIns.{built_in_form}
 use Rattle.json_faults.specs.Faults.{function_error_form}
 use Rattle.json_faults.specs.Form.{holding, number_form, one_field, three_items, two_fields, two_items}

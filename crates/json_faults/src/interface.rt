@@ -5,8 +5,8 @@ ghost use Rattle.json_faults.specs.Interfaces.{global_error_form, varying_error_
 use crate::parts::{holding, holding_field, holding_pair, holding_triple, holding_two};
 use crate::to_json::ToJson;
 use crate::writer::JsonWriter;
-use check_entry::error::EntryPointError;
 use check_errors::{GlobalVariableError, VaryingError};
+use check_faults::entry::EntryPointError;
 use std::alloc::AllocError;
 
 impl ToJson for GlobalVariableError {

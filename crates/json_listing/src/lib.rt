@@ -1,4 +1,4 @@
-//! Judges files for people: verdicts with places, and listings of what was refused.
+//! Listings of what was refused, for people: its declarations, expressions and statements, with the reason of the fault.
 //! Part of `naga_judge`; no promise to users.
 #![tactic(auto)]
 
@@ -7,7 +7,5 @@ pub mod declarations;
 pub mod kept;
 pub mod listing;
 pub mod marks;
-pub mod run;
-pub mod text;
 pub mod why;
 pub mod words;

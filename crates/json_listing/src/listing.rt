@@ -7,12 +7,10 @@ use crate::marks::{Marks, user_in};
 use crate::why::{
     Earlier, earlier_of, write_cases, write_cures, write_earlier, write_reason, write_twin,
 };
-use json_places::find::unseen;
-use json_places::{Found, Node, Position, Reason, Spot, nodes_of};
+use check_faults::{EntryPointError, ModuleFault};
+use json_places::{Found, Node, Position, Reason, Spot, nodes_of, unseen};
 use naga_below::{Function, Handle, Module, Statement, tag};
-use naga_module::ModuleFault;
 use naga_rules::FunctionError;
-use naga_valid::EntryPointError;
 use std::alloc::{AllocError, Global};
 use std::fmt;
 

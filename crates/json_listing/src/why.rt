@@ -1,13 +1,13 @@
 //! Why a statement or a declaration is refused, where the body or the declarations show it.
 
 use crate::kept::{Kept, Stored};
+use check_faults::EntryPointError;
 use json_places::nodes::result_of;
 use json_places::parts::{Bound, Group, bounds_of, first_of};
 use json_places::scope::first_emission;
 use json_places::{Inside, Node, Part, Position, Reason, Spot};
 use naga_below::{EntryPoint, Function, Handle, Module, Statement, SwitchCase, SwitchValue, tag};
 use naga_rules::{AtomicError, CallError, FunctionError, VaryingError};
-use naga_valid::EntryPointError;
 use std::alloc::{AllocError, Global};
 use std::fmt;
 

@@ -2,8 +2,7 @@
 //! Part of `naga_judge`; no promise to users.
 #![tactic(auto)]
 
-pub mod find;
-pub mod lent;
+pub mod found;
 pub mod misfits;
 pub mod nodes;
 pub mod numbered;
@@ -12,8 +11,7 @@ pub mod place;
 pub mod scope;
 pub mod spot;
 
-pub use crate::find::{Found, locate};
-pub use crate::lent::Lent;
+pub use crate::found::{Found, unseen};
 pub use crate::misfits::locate_misfit;
 pub use crate::nodes::{Inside, Node, Part, Position, nodes_of};
 pub use crate::place::Place;

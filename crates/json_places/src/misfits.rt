@@ -1,14 +1,14 @@
 //! Where in a document that stands which doesn't fit.
 
-use crate::find::Found;
+use crate::found::Found;
 use crate::nodes::{Position, nodes_of};
 use crate::place::{Place, add, add_position};
 use crate::spot::Spot;
-use json_document::Step;
-use naga_below::{Block, Module};
-use naga_module::{
+use ir_misfits::{
     EntryField, Misfit, Owner, Place as MisfitPlace, StatementField, TypeField, TypeOwner,
 };
+use json_values::Step;
+use naga_below::{Block, Module};
 use std::alloc::{AllocError, Global};
 
 /// Finds where what doesn't fit stands: the statement, break condition, expression, variable, argument, result, member, type

@@ -2,9 +2,9 @@
 
 use crate::nodes::{Inside, Node, Part, Position, way_to};
 use crate::spot::Spot;
-use json_document::Step;
+use check_faults::{Shortage, Subject};
+use json_values::Step;
 use naga_below::Span;
-use naga_module::{Shortage, Subject};
 use std::alloc::{AllocError, Global};
 use std::fmt;
 

@@ -2,13 +2,12 @@
 
 use crate::nodes::{Node, Position};
 use crate::parts::{Bound, Group, bounds_of, first_of, members_of, second_of};
+use check_faults::{EntryPointError, Shortage};
 use naga_below::{
     Capabilities, EntryPoint, Function, Handle, MeshStageInfo, Module, ShaderStage, Span,
     Statement, TypeInner, tag,
 };
-use naga_module::Shortage;
 use naga_rules::{FunctionError, VaryingError};
-use naga_valid::EntryPointError;
 use std::alloc::{AllocError, Global};
 
 /// A field of an entry point.
@@ -316,7 +315,7 @@ fn is_struct(module: &Module, ty: Handle<tag::Type>) -> bool {
 }
 
 /// The number that the first span of a fault is, in a module whose spans are numbers.
-pub(crate) fn number_in(spans: &[Span]) -> Option<usize> {
+pub fn number_in(spans: &[Span]) -> Option<usize> {
     match spans.first() {
         Some(span) => Some(span.start as usize),
         None => None,

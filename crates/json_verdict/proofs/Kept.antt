@@ -2,17 +2,17 @@
 use Rattle.std.proofs.Common.{◌≡◌, ◌≤◌, ◌<◌, ℕ, true, List, [], ◌∷◌, ◌++◌, length, take, Option, None, Some, sym, ap, ◌∙◌, subst, inl, inr, arith}
 use Rattle.std.proofs.lemmas.List.{length-take, length-append, take_all, take-append-le}
 use Rattle.ir_misfits.specs.declared.misfit.Misfit.{Misfit}
-use Rattle.naga_module.specs.declared.check.ModuleFault.{ModuleFault}
+use Rattle.check_faults.specs.declared.module.ModuleFault.{ModuleFault}
 use Rattle.json_document.specs.declared.document.Document.{Document}
 use Rattle.json_document.specs.declared.id.Id.{Id}
 use Rattle.json_document.specs.Ids.{HasId, IsIdOf}
 use Rattle.json_document.specs.ReadsDocument.{IsDocument}
 use Rattle.json_verdict.specs.Judges.{HasMisfit, Judges, Refuses}
-use Rattle.json_verdict.specs.Named.{HasItsId}
-use Rattle.json_verdict.specs.declared.judge.Verdict as judge
+use Rattle.json_answers.specs.Named.{HasItsId}
+use Rattle.json_answers.specs.declared.verdict.Verdict as judge
 use Rattle.json_verdict.specs.declared.text.Bytes.{Bytes}
 use Rattle.json_verdict.specs.walk.Stream.{Holds, most}
-use Rattle.json_verdict.specs.declared.judge.Verdict.TheVariants as verdicts
+use Rattle.json_answers.specs.declared.verdict.Verdict.TheVariants as verdicts
 
 -- nothing has come in
 pub kept_none : (n : ℕ) (kept : List ℕ) → kept ≡ [] → kept ≡ take n []

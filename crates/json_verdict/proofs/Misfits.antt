@@ -6,16 +6,16 @@ use Rattle.ir_misfits.specs.declared.misfit.Misfit.{Misfit}
 use Rattle.ir_module.specs.declared.module.Module.{Module}
 use Rattle.naga_module.specs.Misfits.{module_points}
 use Rattle.naga_module.specs.ModuleJudgement.{IsJudgementOrMemory}
-use Rattle.naga_module.specs.declared.check.ModuleFault.{ModuleFault}
-use Rattle.naga_module.specs.declared.check.ModuleFault.TheVariants as faults
+use Rattle.check_faults.specs.declared.module.ModuleFault.{ModuleFault}
+use Rattle.check_faults.specs.declared.module.ModuleFault.TheVariants as faults
 use Rattle.json_document.specs.ReadsDocument.{IsDocument}
 use Rattle.json_document.specs.declared.document.Document.{Document}
 use Rattle.json_values.specs.declared.read.error.Unreadable.{Unreadable}
 use Rattle.json_verdict.specs.Basis.{IsBasis, meaning_of}
 use Rattle.json_verdict.specs.Judges.{HasMisfit, IsJudged, Judges, first_misfit}
 use Rattle.json_verdict.specs.declared.basis.Basis.{Basis}
-use Rattle.json_verdict.specs.declared.judge.Verdict as judge
-use Rattle.json_verdict.specs.declared.judge.Verdict.TheVariants as verdicts
+use Rattle.json_answers.specs.declared.verdict.Verdict as judge
+use Rattle.json_answers.specs.declared.verdict.Verdict.TheVariants as verdicts
 
 not_accepted : (m : Module) (infos : ModuleInfo) → verdicts.Accepted m infos ≡ verdicts.Refused faults.NotFit → ⊥
 not_accepted m infos e = cc

@@ -2,14 +2,14 @@
 use Rattle.std.proofs.Common.{ℕ, List, Option, None, Result, Ok, Err, refl, inl, inr}
 use Rattle.std.specs.Prelude.{IfOk}
 use Rattle.ir_misfits.specs.declared.misfit.Misfit.{Misfit}
-use Rattle.naga_module.specs.declared.check.ModuleFault.TheVariants as faults
+use Rattle.check_faults.specs.declared.module.ModuleFault.TheVariants as faults
 use Rattle.json_verdict.proofs.Misfits.{memory_fits}
 use Rattle.json_document.specs.declared.id.Id.{Id}
 use Rattle.json_verdict.specs.Judges.{HasMisfit, Judges}
-use Rattle.json_verdict.specs.Named.{HasItsId}
+use Rattle.json_answers.specs.Named.{HasItsId}
 use Rattle.json_verdict.specs.Runs.{IsReply, Replies}
-use Rattle.json_verdict.specs.declared.judge.Verdict as judge
-use Rattle.json_verdict.specs.declared.judge.Verdict.TheVariants as verdicts
+use Rattle.json_answers.specs.declared.verdict.Verdict as judge
+use Rattle.json_answers.specs.declared.verdict.Verdict.TheVariants as verdicts
 use Rattle.json_verdict.specs.declared.reply.Form.{Form}
 use Rattle.json_verdict.specs.declared.text.Bytes.{Bytes}
 use Rattle.json_verdict.specs.walk.Stream.{Holds, Tells}

@@ -15,13 +15,13 @@ use Rattle.layer_typed.specs.Meaning.{typed_meaning}
 use Rattle.naga_module.specs.Misfits.{module_points}
 use Rattle.naga_module.specs.ModuleJudgement.{IsJudgementOrMemory}
 use Rattle.naga_layers.specs.Recorded.Meaning.{recorded_meaning}
-use Rattle.naga_module.specs.declared.check.ModuleFault.{ModuleFault}
-use Rattle.naga_module.specs.declared.check.ModuleFault.TheVariants as fault
+use Rattle.check_faults.specs.declared.module.ModuleFault.{ModuleFault}
+use Rattle.check_faults.specs.declared.module.ModuleFault.TheVariants as fault
 use Rattle.naga_layers.specs.declared.recorded.Recorded.{Recorded}
 use Rattle.json_document.specs.declared.document.Document.{Document}
 use Rattle.json_document.specs.declared.document.Known.{Known}
-use Rattle.json_verdict.specs.declared.judge.Verdict as judge
-use Rattle.json_verdict.specs.declared.judge.Verdict.TheVariants as verdict
+use Rattle.json_answers.specs.declared.verdict.Verdict as judge
+use Rattle.json_answers.specs.declared.verdict.Verdict.TheVariants as verdict
 use Rattle.json_document.specs.ReadsDocument.{IsDocument}
 
 -- the layer that answers these facts
@@ -80,13 +80,3 @@ Judges text (verdict.Unreadable unreadable) = (d : Document) → IsDocument text
 abbrev pub HasMisfit : List ℕ → judge.Verdict → Option Misfit → Type 0
 HasMisfit text v misfit =
     v ≡ verdict.Refused fault.NotFit → (d : Document) × IsDocument text d × IsJudged d (Err fault.NotFit) × (misfit ≡ first_misfit d)
-
--- the exit status that says a verdict
-abbrev pub status_of : judge.Verdict → ℕ
-status_of (verdict.Accepted m infos) = 0
-status_of (verdict.Refused fault.Memory) = 3
-status_of (verdict.Refused fault.NotFit) = 1
-status_of (verdict.Refused (fault.Global place inner)) = 1
-status_of (verdict.Refused (fault.Function place inner)) = 1
-status_of (verdict.Refused (fault.EntryPoint place inner)) = 1
-status_of (verdict.Unreadable unreadable) = 2

@@ -1,6 +1,4 @@
 pub mod Basis
 pub mod Judges
-pub mod Named
 pub mod Runs
-pub mod VerdictJson
 pub mod walk

@@ -3,9 +3,10 @@ use Rattle.std.specs.Prelude.{◌≡◌, ℕ, ◌==◌, List, [], ◌∷◌, ◌
 use Rattle.std.specs.Io.KnownBytes.{Appends}
 use Rattle.ir_misfits.specs.declared.misfit.Misfit.{Misfit}
 use Rattle.json_document.specs.declared.id.Id.{Id}
-use Rattle.json_verdict.specs.Judges.{HasMisfit, Judges, status_of}
-use Rattle.json_verdict.specs.Named.{HasItsId, IsJsonOfNamed}
-use Rattle.json_verdict.specs.declared.judge.Verdict as judge
+use Rattle.json_verdict.specs.Judges.{HasMisfit, Judges}
+use Rattle.json_answers.specs.Status.{status_of}
+use Rattle.json_answers.specs.Named.{HasItsId, IsJsonOfNamed}
+use Rattle.json_answers.specs.declared.verdict.Verdict as judge
 use Rattle.json_verdict.specs.declared.reply.Form.{Form}
 use Rattle.json_verdict.specs.declared.reply.Form.TheVariants as forms
 

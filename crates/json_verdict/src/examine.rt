@@ -3,62 +3,20 @@
 ghost use Rattle.std.specs.Prelude.{◌≡◌, None};
 ghost use Rattle.ir_facts.specs.Points.{first_fault};
 ghost use Rattle.naga_module.specs.Misfits.{module_points};
-ghost use Rattle.naga_module.specs.declared.check.ModuleFault.TheVariants as faults;
+ghost use Rattle.check_faults.specs.declared.module.ModuleFault.TheVariants as faults;
 ghost use Rattle.json_verdict.specs.Basis.{meaning_of};
 ghost use Rattle.json_verdict.specs.Judges.{HasMisfit, Judges};
-ghost use Rattle.json_verdict.specs.Named.{HasItsId};
-ghost use Rattle.json_verdict.specs.declared.judge.Verdict.TheVariants as verdicts;
+ghost use Rattle.json_answers.specs.Named.{HasItsId};
+ghost use Rattle.json_answers.specs.declared.verdict.Verdict.TheVariants as verdicts;
 
 use crate::basis::{Basis, copy_of};
-use crate::judge::Verdict;
+use crate::find::locate;
+use json_answers::{Examined, Refused, Verdict, alone};
 use json_document::{Document, Id, ReadError, Reading, read_text};
-use json_places::{Found, locate, locate_misfit};
+use json_places::{Found, locate_misfit};
 use naga_below::{Module, Settings};
 use naga_module::{Misfit, ModuleFault};
 use std::alloc::Global;
-
-/// A text that was judged.
-#[derive(Drop)]
-pub struct Examined {
-    /// What its document is called, where the text says so. Out of memory may have none.
-    pub id: Option<Id>,
-    pub verdict: Verdict,
-    /// Where the verdict is `NotFit`, the first thing that doesn't fit.
-    pub misfit: Option<Misfit>,
-    /// Of a module that was judged and refused.
-    pub refused: Option<Refused>,
-}
-
-/// A refused module, and where its fault stands.
-#[derive(Drop)]
-pub struct Refused {
-    pub module: Module,
-    /// Whether its facts were computed.
-    pub is_computed: bool,
-    /// None where it couldn't be found, out of memory.
-    pub found: Option<Found>,
-}
-
-impl Examined {
-    /// What was found of the fault.
-    pub fn found(&self) -> Option<&Found> {
-        self.refused.as_ref()?.found.as_ref()
-    }
-}
-
-/// A verdict of which there is no more to tell.
-pub fn alone(id: Option<Id>, verdict: Verdict) -> Examined
-    ensures id { result.id ≡ id }
-    ensures verdict { result.verdict ≡ verdict }
-    ensures misfit { result.misfit ≡ None }
-{
-    Examined {
-        id,
-        verdict,
-        misfit: None,
-        refused: None,
-    }
-}
 
 /// The first thing that doesn't fit in a module, if that is the fault.
 fn misfit_of(module: &Module, basis: &Basis, fault: &ModuleFault) -> Option<Misfit>

@@ -2,15 +2,16 @@
 //! The verdict of a document is what `check_module` answers for its module, over its facts, with its settings.
 #![tactic(auto)]
 
+pub mod answered;
 mod basis;
 pub mod examine;
+pub mod files;
+mod find;
 pub mod judge;
-pub mod line;
-pub mod named;
-mod pointer;
+mod lent;
 mod reply;
 pub mod run;
 mod stream;
 mod text;
-mod untyped;
-pub mod verdict;
+
+pub use json_answers::{Examined, Refused, Verdict};

@@ -1,16 +1,16 @@
 //! The reply to a text: its verdict, written in a form.
 
 ghost use Rattle.std.specs.Prelude.{ℕ, List, None, IfOk, IfSome, string_bytes};
-ghost use Rattle.naga_module.specs.declared.check.ModuleFault.TheVariants as faults;
-ghost use Rattle.json_verdict.specs.declared.judge.Verdict.TheVariants as verdicts;
+ghost use Rattle.check_faults.specs.declared.module.ModuleFault.TheVariants as faults;
+ghost use Rattle.json_answers.specs.declared.verdict.Verdict.TheVariants as verdicts;
 ghost use Rattle.json_verdict.specs.declared.reply.Form.TheVariants as forms;
 ghost use Rattle.json_verdict.specs.Runs.{IsLineOf, Replies};
 ghost use Rattle.json_verdict.specs.walk.Stream.{Holds, Tells};
 
-use crate::examine::Examined;
-use crate::named::named_line;
 use crate::text::Bytes;
-use crate::verdict::write_examined;
+use json_answers::Examined;
+use json_answers::lines::write_examined;
+use json_answers::named::named_line;
 use std::alloc::{AllocError, Global};
 use std::io::Write;
 use std::{fmt, io};

@@ -3,11 +3,11 @@
 ghost use Rattle.std.specs.Prelude.{◌≡◌, ◌++◌, ◌∷◌, [], ℕ, List, true, false};
 ghost use Rattle.std.specs.Bool.{OnTrue};
 ghost use Rattle.json_verdict.specs.Judges.{HasMisfit, Judges};
-ghost use Rattle.json_verdict.specs.Named.{HasItsId};
+ghost use Rattle.json_answers.specs.Named.{HasItsId};
 ghost use Rattle.json_verdict.specs.walk.Stream.{Holds};
 
-use crate::examine::{Examined, alone, examine};
-use crate::judge::Verdict;
+use crate::examine::examine;
+use json_answers::{Examined, Verdict, alone};
 use json_document::MOST_BYTES;
 use naga_module::ModuleFault;
 use std::alloc::Global;

@@ -2,11 +2,12 @@
 use Rattle.std.specs.Prelude.{◌≡◌, ◌⊎◌, ◌++◌, ℕ, List, [], ◌∷◌, Option, None, length, take, drop, ⊤}
 use Rattle.ir_misfits.specs.declared.misfit.Misfit.{Misfit}
 use Rattle.json_document.specs.declared.id.Id.{Id}
-use Rattle.json_verdict.specs.Judges.{HasMisfit, Judges, status_of}
-use Rattle.json_verdict.specs.Named.{HasItsId, IsJsonOfNamed}
-use Rattle.json_verdict.specs.declared.judge.Verdict as judge
-use Rattle.json_verdict.specs.declared.judge.Verdict.TheVariants as verdict
-use Rattle.naga_module.specs.declared.check.ModuleFault.TheVariants as fault
+use Rattle.json_verdict.specs.Judges.{HasMisfit, Judges}
+use Rattle.json_answers.specs.Status.{status_of}
+use Rattle.json_answers.specs.Named.{HasItsId, IsJsonOfNamed}
+use Rattle.json_answers.specs.declared.verdict.Verdict as judge
+use Rattle.json_answers.specs.declared.verdict.Verdict.TheVariants as verdict
+use Rattle.check_faults.specs.declared.module.ModuleFault.TheVariants as fault
 use Rattle.leafnurd.specs.declared.reply.Answer.{Answer}
 use Rattle.leafnurd.specs.declared.reply.Form.{Form}
 use Rattle.leafnurd.specs.declared.reply.Form.TheVariants as forms

@@ -1,13 +1,14 @@
 //! What the exports answer, and how a text is written into the caller's memory.
 
 ghost use Rattle.std.specs.Prelude.{◌≡◌, None, IfSome, length, string_bytes};
-ghost use Rattle.naga_module.specs.declared.check.ModuleFault.TheVariants as faults;
-ghost use Rattle.json_verdict.specs.declared.judge.Verdict.TheVariants as verdicts;
+ghost use Rattle.check_faults.specs.declared.module.ModuleFault.TheVariants as faults;
+ghost use Rattle.json_answers.specs.declared.verdict.Verdict.TheVariants as verdicts;
 ghost use Rattle.leafnurd.specs.Replies.{IsAnswered, IsTextOf, IsTold, laid};
 
-use json_verdict::examine::{Examined, examine};
-use json_verdict::named::named_line;
-use json_verdict::verdict::write_examined;
+use json_answers::Examined;
+use json_answers::lines::write_examined;
+use json_answers::named::named_line;
+use json_verdict::examine::examine;
 use std::alloc::Global;
 use std::fmt;
 

@@ -1,7 +1,7 @@
 //! The command line.
 
 use clap::{Arg, ArgAction, ArgMatches, Command, Error};
-use json_listing::run::Output;
+use json_verdict::files::Output;
 use std::alloc::Global;
 
 /// What the program is asked for.

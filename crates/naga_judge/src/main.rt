@@ -9,7 +9,7 @@ mod arguments;
 
 use crate::arguments::{Request, request_of};
 use clap::error::ErrorKind;
-use json_listing::run::{MEMORY, Output, failure, run_files, run_reader};
+use json_verdict::files::{MEMORY, Output, failure, run_files, run_reader};
 use json_verdict::run::{Form, run_document};
 use std::alloc::Global;
 use std::io;

@@ -23,8 +23,8 @@ use Rattle.naga_valid.proofs.EntryFacts.{accepted_position}
 use Rattle.naga_module.specs.ModuleInfos.{infos_before, IsJudgedEntry}
 use Rattle.naga_module.specs.ModuleJudgement.{Answer, Tested, Step, with_entry, first_infos, IsOfFunction, IsOfEntryPoint, EntriesAnswer, BehindFunctions, FunctionsAnswer, Fits, globals_step}
 use Rattle.naga_module.specs.ModuleLaw.{AcceptedModuleIsJudged}
-use Rattle.naga_module.specs.declared.check.ModuleFault.{ModuleFault}
-use Rattle.naga_module.specs.declared.check.ModuleFault.TheVariants as fault
+use Rattle.check_faults.specs.declared.module.ModuleFault.{ModuleFault}
+use Rattle.check_faults.specs.declared.module.ModuleFault.TheVariants as fault
 
 -- a test that came out well held
 passed : (P : Type 0) (Next : Answer → Type 0) (out : ModuleInfo) → Tested P Next (Ok out) → P × Next (Ok out)

@@ -19,12 +19,12 @@ use Rattle.check_entry.specs.EntryFaults.{fault_of}
 use Rattle.check_entry.specs.EntryJudgement.{entry_judgement}
 use Rattle.check_body.specs.InOrder.{with_info}
 use Rattle.check_statement.specs.FunctionJudgement.{FunctionOutcome, function_judgement}
-use Rattle.check_entry.specs.declared.error.EntryPointError.{EntryPointError}
+use Rattle.check_faults.specs.declared.entry.EntryPointError.{EntryPointError}
 use Rattle.check_scope.specs.declared.trace.TraceState.{TraceState}
 use Rattle.naga_module.specs.CodeModule.{Leads, Stops, EntriesLead, EntriesStop}
 use Rattle.naga_module.specs.ModuleJudgement.{Answer, Step, with_entry, IsOfFunction, IsOfEntryPoint, EntriesAnswer, FunctionsAnswer}
-use Rattle.naga_module.specs.declared.check.ModuleFault.{ModuleFault}
-use Rattle.naga_module.specs.declared.check.ModuleFault.TheVariants as fault
+use Rattle.check_faults.specs.declared.module.ModuleFault.{ModuleFault}
+use Rattle.check_faults.specs.declared.module.ModuleFault.TheVariants as fault
 
 module _ (below : Meaning) (settings : Settings) (types : List TypeInfo) (m : Module) (trace : TraceState) (infos : ModuleInfo) (i : ℕ) (f : Function)
     (at : slice_get m.functions i ≡ Some f) (lt : i < length m.functions) where

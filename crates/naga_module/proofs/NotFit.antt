@@ -25,8 +25,8 @@ use Rattle.check_statement.specs.FunctionJudgement.{FunctionOutcome, function_ju
 use Rattle.check_statement.specs.ValidatorParts.{no_traces}
 use Rattle.naga_module.specs.Misfits.{AllFits}
 use Rattle.naga_module.specs.ModuleJudgement.{Answer, Step, with_entry, first_infos, IsOfFunction, IsOfEntryPoint, EntriesAnswer, FunctionsAnswer, Fits, IsJudgement, globals_step, points_of_global}
-use Rattle.naga_module.specs.declared.check.ModuleFault.{ModuleFault}
-use Rattle.naga_module.specs.declared.check.ModuleFault.TheVariants as fault
+use Rattle.check_faults.specs.declared.module.ModuleFault.{ModuleFault}
+use Rattle.check_faults.specs.declared.module.ModuleFault.TheVariants as fault
 
 -- neither a step nor what comes next is NotFit
 step_is_other : {A E : Type 0} (o : Result A E) (Makes : E → ModuleFault → Type 0) (Next : A → Answer → Type 0) →

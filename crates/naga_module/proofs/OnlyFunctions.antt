@@ -22,8 +22,8 @@ use Rattle.check_entry.specs.EntryJudgement.{HasPayloadSizes}
 use Rattle.check_scope.specs.declared.trace.TraceState.{TraceState}
 use Rattle.naga_module.specs.ModuleJudgement.{Answer, Step, IsOfFunction, first_infos, globals_step, points_of_global, EntriesAnswer, FunctionsAnswer}
 use Rattle.naga_module.specs.ModuleLaw.{IsToldOfFunctions, FunctionsAloneAreTold}
-use Rattle.naga_module.specs.declared.check.ModuleFault.{ModuleFault}
-use Rattle.naga_module.specs.declared.check.ModuleFault.TheVariants as fault
+use Rattle.check_faults.specs.declared.module.ModuleFault.{ModuleFault}
+use Rattle.check_faults.specs.declared.module.ModuleFault.TheVariants as fault
 
 -- a step tells the fault of a function, or what the next one tells
 step_tells : {A : Type 0} (o : Result A FunctionError) (handle : ℕ) (Next : A → Answer → Type 0) (told : ModuleFault) →

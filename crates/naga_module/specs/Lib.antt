@@ -28,6 +28,6 @@ pub use Rattle.naga_module.specs.Misfits.{module_points, AllFits}
 pub use Rattle.naga_module.specs.ModuleJudgement.{Fits, IsJudgement, IsJudgementOrMemory}
 pub use Rattle.naga_module.specs.ModuleLaw.{IsSoundFunction, ModuleHolds, ModuleFillsOnce, ModuleBindsApart, AcceptedModuleIsJudged, AcceptedModuleHolds, AcceptedModuleFillsOnce, AcceptedModuleBindsApart, IsToldOfFunctions, FunctionsAloneAreTold}
 pub use Rattle.naga_module.specs.OneJudgement.{IsSameFault, IsSameAnswer, ModuleHasOneJudgement}
-pub use Rattle.naga_module.specs.declared.check.ModuleFault.{ModuleFault}
-pub use Rattle.naga_module.specs.declared.check.ModuleFault.TheVariants as module_fault
+pub use Rattle.check_faults.specs.declared.module.ModuleFault.{ModuleFault}
+pub use Rattle.check_faults.specs.declared.module.ModuleFault.TheVariants as module_fault
 pub use Rattle.naga_runs.specs.Soundness.{RunsAreSure}

@@ -21,8 +21,8 @@ use Rattle.check_body.specs.InOrder.{with_info}
 use Rattle.check_statement.specs.FunctionJudgement.{function_judgement}
 use Rattle.check_statement.specs.ValidatorParts.{AreInfosOf, no_traces}
 use Rattle.check_scope.specs.declared.trace.TraceState.{TraceState}
-use Rattle.naga_module.specs.declared.check.ModuleFault.{ModuleFault}
-use Rattle.naga_module.specs.declared.check.ModuleFault.TheVariants as fault
+use Rattle.check_faults.specs.declared.module.ModuleFault.{ModuleFault}
+use Rattle.check_faults.specs.declared.module.ModuleFault.TheVariants as fault
 
 -- an answer about a module: its infos, or the first fault
 abbrev pub Answer : Type 0

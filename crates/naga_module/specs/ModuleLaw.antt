@@ -21,8 +21,8 @@ use Rattle.check_errors.specs.WhatIsChecked.{checks_blocks, checks_expressions, 
 use Rattle.naga_valid.specs.EntryFacts.{BindingsAreDistinct, GroupsAreDistinct}
 use Rattle.naga_module.specs.ModuleInfos.{infos_before, OfFunctions, OfEntryPoints, ModuleIsJudged}
 use Rattle.naga_module.specs.ModuleJudgement.{Fits, IsJudgement, IsJudgementOrMemory}
-use Rattle.naga_module.specs.declared.check.ModuleFault.{ModuleFault}
-use Rattle.naga_module.specs.declared.check.ModuleFault.TheVariants as fault
+use Rattle.check_faults.specs.declared.module.ModuleFault.{ModuleFault}
+use Rattle.check_faults.specs.declared.module.ModuleFault.TheVariants as fault
 
 -- all runs of a function's body are sound
 abbrev pub IsSoundFunction : Function → Type 0

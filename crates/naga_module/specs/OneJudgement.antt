@@ -8,8 +8,8 @@ use Rattle.ir_types.specs.declared.typifier.TypeResolution.{TypeResolution}
 use Rattle.check_entry.specs.EntryFaults.{fault_of}
 use Rattle.check_errors.specs.Meaning.{Meaning}
 use Rattle.naga_module.specs.ModuleJudgement.{Answer, IsJudgement}
-use Rattle.naga_module.specs.declared.check.ModuleFault.{ModuleFault}
-use Rattle.naga_module.specs.declared.check.ModuleFault.TheVariants as fault
+use Rattle.check_faults.specs.declared.module.ModuleFault.{ModuleFault}
+use Rattle.check_faults.specs.declared.module.ModuleFault.TheVariants as fault
 
 -- the same fault, up to the addresses of the texts that one of an entry point holds
 abbrev pub IsSameFault : ModuleFault → ModuleFault → Type 0

@@ -13,8 +13,8 @@ use Rattle.naga_layers.specs.declared.facts.Facts.{Facts}
 use Rattle.naga_layers.specs.declared.facts.FunctionFact.{FunctionFact}
 use Rattle.naga_layers.specs.declared.facts.FunctionFact.TheVariants.{Info, Error}
 use Rattle.naga_layers.specs.declared.facts.InfoFact.{InfoFact}
-use Rattle.naga_module.specs.declared.short.Shortage.{Shortage}
-use Rattle.naga_module.specs.declared.short.Shortage.TheVariants as short
+use Rattle.check_faults.specs.declared.shortage.Shortage.{Shortage}
+use Rattle.check_faults.specs.declared.shortage.Shortage.TheVariants as short
 
 abbrev pub Shortages : Type 0
 Shortages = List (Point Shortage)

@@ -4,7 +4,7 @@ ghost use Rattle.std.specs.Prelude.{◌≡◌, ◌↔◌, ◌⊎◌, [], Ok, Err
 ghost use Rattle.naga_module.specs.ModuleJudgement.{Fits, BehindTests, first_infos, IsJudgementOrMemory};
 ghost use Rattle.naga_module.specs.ModuleInfos.{ModuleIsJudged};
 ghost use Rattle.naga_module.specs.ModuleLaw.{ModuleHolds, ModuleFillsOnce, ModuleBindsApart};
-ghost use Rattle.naga_module.specs.declared.check.ModuleFault.TheVariants as fault;
+ghost use Rattle.check_faults.specs.declared.module.ModuleFault.TheVariants as fault;
 ghost use Rattle.check_statement.specs.ValidatorParts.{AreInfosOf, no_traces};
 ghost use Rattle.ir_facts.specs.Fits.{FitsTypes, FitsGlobals};
 ghost use Rattle.check_errors.specs.WhatIsChecked.{checks_blocks, checks_expressions, checks_bindings};
@@ -16,10 +16,10 @@ mod globals;
 use crate::check::entries::validate_entry_points;
 use crate::check::functions::validate_functions;
 use crate::check::globals::validate_globals;
-use check_entry::error::EntryPointError;
 use check_errors::below::Below;
 use check_errors::function::FunctionError;
 use check_errors::interface::GlobalVariableError;
+use check_faults::module::ModuleFault;
 use ir_arena::handle::Handle;
 use ir_arena::sequence::Sequence;
 use ir_arena::span::WithSpan;
@@ -40,33 +40,6 @@ pub struct Given {
     pub types: Vec<TypeInfo>,
     /// The type of each global expression of the module, indexed by its handle.
     pub global_types: Vec<TypeResolution>,
-}
-
-/// What is wrong with a module: the first fault in the order of its judgement.
-#[derive(PartialEq, Debug, Drop)]
-pub enum ModuleFault {
-    /// What is named doesn't exist or comes too late, lists that belong together differ in length, or the size of a
-    /// task payload isn't known.
-    NotFit,
-    /// A global variable has this fault.
-    Global(Handle<tag::GlobalVariable>, GlobalVariableError),
-    /// A function has this fault.
-    Function(Handle<tag::Function>, WithSpan<FunctionError>),
-    /// An entry point, counted from 0, has this fault.
-    EntryPoint(usize, WithSpan<EntryPointError>),
-    /// Out of memory.
-    Memory,
-}
-
-impl From<AllocError> for ModuleFault {
-    ghost use Rattle.naga_module.specs.declared.check.ModuleFault.TheVariants as fault;
-    ghost use Rattle.std.specs.Prelude.{◌≡◌};
-
-    ghost from_gives = { λ refused made. made ≡ fault.Memory };
-
-    fn from(_refused: AllocError) -> Self {
-        ModuleFault::Memory
-    }
 }
 
 /// A validator with these settings and type infos that has seen no function yet.

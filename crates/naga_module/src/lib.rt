@@ -5,17 +5,17 @@
 pub mod check;
 pub mod laws;
 pub mod misfit;
-pub mod report;
 pub mod short;
 pub mod worked;
 
-pub use crate::check::{Given, ModuleFault, check_module};
+pub use crate::check::{Given, check_module};
 pub use crate::laws::module_law;
 pub use crate::misfit::find_misfit;
-pub use crate::report::{
-    Subject, Whereabouts, write_fault, write_module_fault, write_module_fault_lines, write_refusal,
+pub use crate::short::find_short_fact;
+pub use check_faults::{
+    ModuleFault, Shortage, Subject, Whereabouts, write_fault, write_module_fault,
+    write_module_fault_lines, write_refusal,
 };
-pub use crate::short::{Shortage, find_short_fact};
 pub use ir_misfits::{
     EntryField, HandleOf, Misfit, Owner, Place, Problem, StatementField, TypeField, TypeOwner,
     VariableField,

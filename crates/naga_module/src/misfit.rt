@@ -4,7 +4,7 @@ ghost use Rattle.std.specs.Prelude.{◌≡◌, ◌↔◌, ◌∷◌, [], None, E
 ghost use Rattle.std.specs.Result.{result_err};
 ghost use Rattle.ir_facts.specs.Points.{first_fault, points_of_each};
 ghost use Rattle.ir_facts.specs.declared.valid.settings.Settings.{Settings};
-ghost use Rattle.naga_module.specs.declared.check.ModuleFault.TheVariants as fault;
+ghost use Rattle.check_faults.specs.declared.module.ModuleFault.TheVariants as fault;
 ghost use Rattle.naga_module.specs.Misfits.{layout_points, info_points, one_info_each, infos_points, module_function_points, entry_point_points, size_points, module_points, AllFits};
 ghost use Rattle.naga_module.specs.ModuleJudgement.{IsJudgement};
 

@@ -4,51 +4,16 @@ ghost use Rattle.std.specs.Prelude.{◌≡◌, ◌∷◌, ◌==◌, [], nat_lt, 
 ghost use Rattle.std.specs.Option.{option_copied};
 ghost use Rattle.std.specs.Result.{result_err};
 ghost use Rattle.ir_facts.specs.Points.{first_fault, points_of_each};
-ghost use Rattle.naga_module.specs.declared.short.Shortage.TheVariants.{Types, Uses, UnknownType, Expressions};
+ghost use Rattle.check_faults.specs.declared.shortage.Shortage.TheVariants.{Types, Uses, UnknownType, Expressions};
 ghost use Rattle.naga_module.specs.ShortFacts.{type_points, info_points, fact_points, function_shortages, entry_shortages, shortages};
 
+use check_faults::shortage::Shortage;
 use ir_misfits::misfit::Owner;
 use ir_module::functions::Function;
 use ir_module::module::Module;
 use ir_types::types::TypeInner;
 use ir_types::typifier::TypeResolution;
 use naga_layers::facts::{Facts, FunctionFact, InfoFact};
-use std::fmt;
-
-/// What is missing in the facts about a function, or breaks a law. Lists of an info go by their names in `InfoFact`.
-#[derive(Clone, Copy, PartialEq, Eq, Debug)]
-pub enum Shortage {
-    /// The list of the facts of functions, or of entry points, has no item for it.
-    NoFact {
-        found: usize,
-        wanted: usize,
-    },
-    /// `types` hasn't one item for each expression.
-    Types {
-        found: usize,
-        wanted: usize,
-    },
-    /// `uses` hasn't one item for each global.
-    Uses {
-        found: usize,
-        wanted: usize,
-    },
-    /// In `types` that of this expression names a type which the module, with `below` types, hasn't.
-    UnknownType {
-        expression: usize,
-        ty: usize,
-        below: usize,
-    },
-    /// In `types` that of this expression is a struct as a value.
-    StructValue {
-        expression: usize,
-    },
-    /// `expressions` has fewer items than there are expressions. They are read with EXPRESSIONS alone.
-    Expressions {
-        found: usize,
-        wanted: usize,
-    },
-}
 
 /// What is missing in the facts about a function, or about the function of an entry point, or breaks a law: the first in the
 /// order of [`Shortage`], but that `expressions` is last. It takes no memory.
@@ -193,37 +158,4 @@ fn check_known(expression: usize, ty: usize, below: usize) -> Result<(), Shortag
         ty,
         below,
     })
-}
-
-/// Writes what is short: `types has 3 items, and 5 are wanted`.
-impl fmt::Display for Shortage {
-    fn fmt<W: fmt::Write>(&self, f: &mut fmt::Formatter<W>) -> fmt::Result {
-        match self {
-            Shortage::NoFact { found, wanted } => write!(
-                f,
-                "there is no fact: the list has {found} items, and {wanted} are wanted"
-            ),
-            Shortage::Types { found, wanted } => {
-                write!(f, "types has {found} items, and {wanted} are wanted")
-            }
-            Shortage::Uses { found, wanted } => {
-                write!(f, "uses has {found} items, and {wanted} are wanted")
-            }
-            Shortage::UnknownType {
-                expression,
-                ty,
-                below,
-            } => write!(
-                f,
-                "types gives expression {expression} type {ty}, and there are {below} types"
-            ),
-            Shortage::StructValue { expression } => write!(
-                f,
-                "types gives expression {expression} a struct as a value, and not by its handle"
-            ),
-            Shortage::Expressions { found, wanted } => {
-                write!(f, "expressions has {found} items, and {wanted} are wanted")
-            }
-        }
-    }
 }

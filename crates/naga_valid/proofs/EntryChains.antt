@@ -26,7 +26,7 @@ use Rattle.check_entry.specs.UsedGlobals.{globals_points}
 use Rattle.check_entry.specs.Mesh.{mesh_points}
 use Rattle.check_entry.specs.EntryUses.{only, stage_points, payload_points, with_use_of, with_uses_at, with_own_uses, output_variable_of}
 use Rattle.check_entry.specs.EntryVaryings.{argument_points, result_points}
-use Rattle.check_entry.specs.declared.error.EntryPointError.TheVariants as fault
+use Rattle.check_faults.specs.declared.entry.EntryPointError.TheVariants as fault
 use Rattle.check_body.proofs.Chains.{chains_are_kept}
 use Rattle.naga_valid.proofs.EntryAccepted.{accepted_entry}
 use Rattle.check_body.proofs.FunctionLaw.{is_sound}

@@ -41,7 +41,7 @@ use Rattle.check_entry.specs.EntryUses.{payload_points, stage_points, with_own_u
 use Rattle.naga_valid.specs.EntryFacts.{IsUsedAt, BindingsAreDistinct, IsPosition, HasPositionMember, IsReturnedPosition, ReturnsPosition, AcceptedBindingsAreDistinct, AcceptedVertexHasPosition, AcceptedHasAcceptedFunction}
 use Rattle.check_entry.specs.EntryVaryings.{are_blend_sources, argument_points, declared_points, has_built_in, result_parts, result_points, returned_points}
 use Rattle.check_statement.specs.FunctionJudgement.{FunctionOutcome}
-use Rattle.check_entry.specs.declared.error.EntryPointError.TheVariants.{MissingVertexOutputPosition}
+use Rattle.check_faults.specs.declared.entry.EntryPointError.TheVariants.{MissingVertexOutputPosition}
 use Rattle.naga_valid.proofs.EntryAccepted.{accepted_entry, stages_are}
 use Rattle.naga_valid.proofs.EntryGlobals.{points_are}
 

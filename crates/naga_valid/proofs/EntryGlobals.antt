@@ -10,7 +10,7 @@ use Rattle.ir_flags.specs.declared.valid.GlobalUse.{GlobalUse}
 use Rattle.ir_flags.specs.declared.valid.ValidationFlags.{ValidationFlags}
 use Rattle.check_errors.specs.Meaning.{Meaning}
 use Rattle.check_entry.specs.UsedGlobals.{binding_points, use_points, used_global_points, points_if_used, global_points}
-use Rattle.check_entry.specs.declared.error.EntryPointError.{EntryPointError}
+use Rattle.check_faults.specs.declared.entry.EntryPointError.{EntryPointError}
 use Rattle.check_scope.proofs.Refusals.{fault_first, fault_second}
 use Rattle.check_errors.specs.Answers.{Finds, FirstOf}
 

@@ -17,7 +17,7 @@ use Rattle.check_entry.specs.EntryFaults.{EntryFault, fault_of}
 use Rattle.check_entry.specs.EntryJudgement.{entry_judgement, of_function, interface_step, AnswersAfter}
 use Rattle.check_entry.specs.Start.{start_points}
 use Rattle.check_statement.specs.FunctionJudgement.{FunctionOutcome, function_judgement}
-use Rattle.check_entry.specs.declared.error.EntryPointError.{EntryPointError}
+use Rattle.check_faults.specs.declared.entry.EntryPointError.{EntryPointError}
 use Rattle.check_scope.specs.declared.trace.TraceState.{TraceState}
 use Rattle.check_errors.specs.Answers.{Answers, FirstOf, Exactly, read_by, refusal_read_by}
 

@@ -24,8 +24,8 @@ use Rattle.check_varyings.specs.declared.varying.MeshOutputType.TheVariants.{Nei
 use Rattle.check_varyings.specs.declared.varying.VaryingPlace.{VaryingPlace}
 use Rattle.check_entry.specs.EntryFaults.{EntryFault, OfResult, Other, fault_of}
 use Rattle.check_entry.specs.EntryVaryings.{declared_points, is_struct, output_points, place_of, result_item}
-use Rattle.check_entry.specs.declared.error.EntryPointError.{EntryPointError}
-use Rattle.check_entry.specs.declared.error.EntryPointError.TheVariants as fault
+use Rattle.check_faults.specs.declared.entry.EntryPointError.{EntryPointError}
+use Rattle.check_faults.specs.declared.entry.EntryPointError.TheVariants as fault
 use Rattle.check_errors.specs.Answers.{Answers, FirstOf, read_by}
 
 module _ (types : List IrType) (infos : List TypeInfo) where

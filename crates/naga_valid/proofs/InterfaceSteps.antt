@@ -16,7 +16,7 @@ use Rattle.check_entry.specs.EntryUses.{stage_points}
 use Rattle.check_entry.specs.EntryVaryings.{argument_points, result_points}
 use Rattle.check_entry.specs.Mesh.{mesh_points}
 use Rattle.check_entry.specs.UsedGlobals.{globals_points}
-use Rattle.check_entry.specs.declared.error.EntryPointError.{EntryPointError}
+use Rattle.check_faults.specs.declared.entry.EntryPointError.{EntryPointError}
 use Rattle.check_entry.proofs.EntrySteps.{judges_first, judges_second}
 
 module _ (below : Meaning) (settings : Settings) (infos : List TypeInfo) (program : Module) (ep : EntryPoint) (info : FunctionInfo) where

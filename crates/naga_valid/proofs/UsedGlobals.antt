@@ -11,7 +11,7 @@ use Rattle.ir_flags.specs.declared.valid.ValidationFlags.{ValidationFlags}
 use Rattle.check_errors.specs.Meaning.{Meaning}
 use Rattle.check_entry.specs.UsedGlobals.{binding_points, global_points, globals_points, immediate_points, points_if_used, use_points, used_global_points, used_immediates}
 use Rattle.check_entry.proofs.EntrySteps.{both_pass}
-use Rattle.check_entry.specs.declared.error.EntryPointError.TheVariants as fault
+use Rattle.check_faults.specs.declared.entry.EntryPointError.TheVariants as fault
 
 module _ (below : Meaning) (flags : ValidationFlags) (program : Module) (ep : EntryPoint) (uses : List GlobalUse) where
   -- a global without uses, with none of them, and one that is used

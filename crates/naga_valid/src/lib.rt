@@ -7,5 +7,5 @@ pub mod validator;
 pub use crate::laws::entry_law;
 pub use crate::validator::Validator;
 pub use check_body::laws::{chains_law, function_law};
-pub use check_entry::error::EntryPointError;
+pub use check_faults::EntryPointError;
 pub use check_scope::trace::{TraceRayVertexReturnState, TraceState};

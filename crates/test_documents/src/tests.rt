@@ -3,8 +3,8 @@
 use case_run::run_case;
 use json::Scratch;
 use json_document::{FromJson, ReadError};
-use json_listing::run::{Output, run_reader};
 use json_nodes::read_tree;
+use json_verdict::files::{Output, run_reader};
 use naga_below::{FunctionResult, Name, Sampling};
 use naga_rules::MeshFault;
 use std::alloc::{AllocError, Global};

@@ -2,13 +2,13 @@
 use Rattle.std.specs.Prelude.{◌≡◌, ◌⊎◌, ℕ, false, List, Option, None, take}
 use Rattle.std.specs.Io.KnownBytes.{Appends}
 use Rattle.ir_misfits.specs.declared.misfit.Misfit.{Misfit}
-use Rattle.naga_module.specs.declared.check.ModuleFault.TheVariants as faults
+use Rattle.check_faults.specs.declared.module.ModuleFault.TheVariants as faults
 use Rattle.json_document.specs.declared.id.Id.{Id}
-use Rattle.json_verdict.specs.Judges.{status_of}
+use Rattle.json_answers.specs.Status.{status_of}
 use Rattle.json_verdict.specs.Runs.{IsLineOf}
 use Rattle.json_verdict.specs.declared.text.Bytes.{Bytes}
-use Rattle.json_verdict.specs.declared.judge.Verdict as judge
-use Rattle.json_verdict.specs.declared.judge.Verdict.TheVariants as verdicts
+use Rattle.json_answers.specs.declared.verdict.Verdict as judge
+use Rattle.json_answers.specs.declared.verdict.Verdict.TheVariants as verdicts
 use Rattle.json_verdict.specs.declared.reply.Form.{Form}
 
 -- how much of a text is kept: one byte more than a document may have

@@ -5,8 +5,8 @@ ghost use Rattle.ir_facts.specs.Fits.{FitsTypes};
 ghost use Rattle.naga_module.specs.CodeModule.{Leads, Stops};
 ghost use Rattle.check_statement.specs.ValidatorParts.{AreInfosOf};
 
-use crate::check::ModuleFault;
 use check_errors::below::Below;
+use check_faults::module::ModuleFault;
 use ir_arena::handle::Handle;
 use ir_arena::span::Refusal;
 use ir_arena::tag;

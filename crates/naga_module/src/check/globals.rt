@@ -3,11 +3,11 @@
 ghost use Rattle.std.specs.Prelude.{◌≡◌, ◌⊎◌, Ok, Err, OnOk, IfErr};
 ghost use Rattle.ir_facts.specs.Fits.{FitsTypes, FitsGlobals};
 ghost use Rattle.naga_module.specs.ModuleJudgement.{globals_step};
-ghost use Rattle.naga_module.specs.declared.check.ModuleFault.TheVariants as fault;
+ghost use Rattle.check_faults.specs.declared.module.ModuleFault.TheVariants as fault;
 ghost use Rattle.check_statement.specs.ValidatorParts.{AreInfosOf};
 
-use crate::check::ModuleFault;
 use check_errors::below::Below;
+use check_faults::module::ModuleFault;
 use ir_arena::handle::Handle;
 use ir_facts::valid::info::ModuleInfo;
 use ir_module::module::Module;

@@ -22,8 +22,8 @@ ghost use Rattle.check_entry.specs.EntryFaults.{fault_of};
 
 use crate::validator::Validator;
 use crate::validator::entry::EntryContext;
-use check_entry::error::EntryPointError;
 use check_errors::below::Below;
+use check_faults::entry::EntryPointError;
 use ir_arena::span::Refusal;
 use ir_facts::valid::info::{FunctionInfo, ModuleInfo};
 use ir_module::module::{EntryPoint, Module};

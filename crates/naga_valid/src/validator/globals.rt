@@ -14,12 +14,12 @@ use crate::validator::entry::InterfaceContext;
 use bitflags::Flags;
 use check_entry::answers::answer;
 use check_entry::bindings::{binding_holds, check_binding, take_binding};
-use check_entry::error::EntryPointError;
 use check_entry::globals::{
     check_allowed, check_immediates, is_task_payload, is_used_immediate, use_holds, uses_of,
 };
-use check_entry::refused::RefusedEntry;
 use check_errors::below::Below;
+use check_faults::entry::EntryPointError;
+use check_faults::refused::RefusedEntry;
 use ir_arena::handle::Handle;
 use ir_arena::tag;
 use ir_flags::valid::GlobalUse;

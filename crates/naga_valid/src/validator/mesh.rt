@@ -10,9 +10,9 @@ use crate::validator::Validator;
 use crate::validator::entry::InterfaceContext;
 use check_entry::answers::answer;
 use check_entry::mesh::{check_stated, mesh_error};
-use check_entry::refused::RefusedEntry;
 use check_errors::below::Below;
 use check_errors::mesh::MeshAnalysis;
+use check_faults::refused::RefusedEntry;
 use ir_module::module::MeshStageInfo;
 
 impl<B: Below> Validator<B> {

@@ -8,8 +8,7 @@ use naga_below::{
     fits_function, fits_types,
 };
 use naga_layers::plain::Plain;
-use naga_module::check::{Given, ModuleFault, check_module};
-use naga_module::report::{Subject, write_module_fault, write_refusal};
+use naga_module::{Given, ModuleFault, Subject, check_module, write_module_fault, write_refusal};
 use naga_rules::{Below, Explain, MeshAnalysis};
 use naga_valid::TraceState;
 use naga_valid::validator::Validator;

@@ -2,7 +2,7 @@ use Rattle.std.proofs.Common.{◌≡◌, Some, sym, ap, ◌∙◌}
 use Rattle.ir_facts.specs.Points.{first_fault, within}
 use Rattle.check_varyings.specs.VaryingFaults.{varying_fault_of}
 use Rattle.check_entry.specs.EntryFaults.{OfArgument, fault_of}
-use Rattle.check_entry.specs.declared.error.EntryPointError.TheVariants as fault
+use Rattle.check_faults.specs.declared.entry.EntryPointError.TheVariants as fault
 use Rattle.check_entry.proofs.EntrySteps.{argument_fault, refuses_as}
 use Rattle.check_entry.proofs.varyings.argument_refused.Goals as goal
 

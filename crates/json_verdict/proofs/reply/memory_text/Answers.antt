@@ -1,5 +1,5 @@
 use Rattle.std.proofs.Common.{refl}
-use Rattle.json_verdict.proofs.Memory.{memory_json}
+use Rattle.json_answers.proofs.Memory.{memory_json}
 use Rattle.json_verdict.specs.Runs.{IsLineOf}
 use Rattle.json_verdict.proofs.reply.memory_text.Goals as goal
 

@@ -1,7 +1,7 @@
 use Rattle.std.proofs.Common.{None, inl, inr, refl}
 use Rattle.json_verdict.proofs.Misfits.{memory_fits}
-use Rattle.json_verdict.specs.declared.judge.Verdict.TheVariants as verdict
-use Rattle.naga_module.specs.declared.check.ModuleFault.TheVariants as fault
+use Rattle.json_answers.specs.declared.verdict.Verdict.TheVariants as verdict
+use Rattle.check_faults.specs.declared.module.ModuleFault.TheVariants as fault
 use Rattle.leafnurd.proofs.reply.judge_into.Goals as goal
 
 pub returns : goal.returns

@@ -1,4 +1,4 @@
-use Rattle.json_verdict.proofs.Memory.{memory_json}
+use Rattle.json_answers.proofs.Memory.{memory_json}
 use Rattle.leafnurd.specs.Replies.{IsTextOf}
 use Rattle.leafnurd.proofs.reply.memory_text.Goals as goal
 

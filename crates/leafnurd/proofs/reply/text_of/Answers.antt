@@ -1,7 +1,7 @@
 use Rattle.std.proofs.Common.{Option, Some, None, Result, Ok, Err}
 use Rattle.std.specs.Prelude.{IfOk, IfSome, ⊤, string_bytes}
 use Rattle.std.specs.Result.{result_ok}
-use Rattle.json_verdict.specs.Named.{IsJsonOfNamed}
+use Rattle.json_answers.specs.Named.{IsJsonOfNamed}
 use Rattle.leafnurd.specs.Replies.{IsTextOf}
 use Rattle.leafnurd.proofs.reply.text_of.Goals as goal
 

@@ -8,7 +8,7 @@ use Rattle.check_entry.specs.EntryJudgement.{HasPayloadSizes, entry_judgement}
 use Rattle.check_statement.specs.FunctionJudgement.{FunctionOutcome}
 use Rattle.check_statement.specs.ValidatorParts.{Parts, AreInfosOf}
 use Rattle.naga_module.specs.CodeModule.{EntriesLead, EntriesStop}
-use Rattle.naga_module.specs.declared.check.ModuleFault.TheVariants as fault
+use Rattle.check_faults.specs.declared.module.ModuleFault.TheVariants as fault
 use Rattle.naga_module.proofs.Modules.{entry_unfit, entry_faulty, entry_passes, entries_judged, none_left}
 use Rattle.naga_module.proofs.check.entries.validate_entry_points.Goals as goal
 

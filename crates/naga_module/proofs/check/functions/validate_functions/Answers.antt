@@ -7,7 +7,7 @@ use Rattle.ir_module.specs.declared.functions.Function.{Function}
 use Rattle.check_statement.specs.FunctionJudgement.{FunctionOutcome, function_judgement}
 use Rattle.check_statement.specs.ValidatorParts.{Parts, AreInfosOf}
 use Rattle.naga_module.specs.CodeModule.{Leads, Stops}
-use Rattle.naga_module.specs.declared.check.ModuleFault.TheVariants as fault
+use Rattle.check_faults.specs.declared.module.ModuleFault.TheVariants as fault
 use Rattle.naga_module.proofs.Modules.{function_unfit, function_faulty, function_passes, none_left}
 use Rattle.naga_module.proofs.check.functions.validate_functions.Goals as goal
 

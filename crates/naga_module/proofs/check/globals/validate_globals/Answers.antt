@@ -6,7 +6,7 @@ use Rattle.ir_facts.proofs.Points.{first_within}
 use Rattle.ir_facts.specs.Points.{answer, first_fault, points_of_each}
 use Rattle.check_entry.specs.GlobalPoints.{module_global_points}
 use Rattle.naga_module.specs.ModuleJudgement.{points_of_global}
-use Rattle.naga_module.specs.declared.check.ModuleFault.TheVariants as fault
+use Rattle.check_faults.specs.declared.module.ModuleFault.TheVariants as fault
 use Rattle.naga_module.proofs.Modules.{item_stops, item_passes}
 use Rattle.naga_module.proofs.check.globals.validate_globals.Goals as goal
 

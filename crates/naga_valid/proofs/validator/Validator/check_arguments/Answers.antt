@@ -8,7 +8,7 @@ use Rattle.check_varyings.proofs.Seeing.{leaves_the_next}
 use Rattle.ir_facts.specs.declared.valid.types.TypeInfo.{TypeInfo}
 use Rattle.ir_arena.specs.declared.span.Refusal.{Refusal}
 use Rattle.check_varyings.specs.Seen.{Seen}
-use Rattle.check_entry.specs.declared.error.EntryPointError.{EntryPointError}
+use Rattle.check_faults.specs.declared.entry.EntryPointError.{EntryPointError}
 use Rattle.check_varyings.specs.Varyings.{group_points, parts_of, points_from, seen_at, seen_in, seen_with, group_parts}
 use Rattle.check_varyings.specs.declared.varying.MeshOutputType.TheVariants.{Neither}
 use Rattle.check_varyings.specs.declared.varying.VaryingPlace.{VaryingPlace}

@@ -8,7 +8,7 @@ use Rattle.check_varyings.specs.Varyings.{points_from, parts_of, seen_in, seen_w
 use Rattle.check_varyings.specs.declared.varying.VaryingPlace.{VaryingPlace}
 use Rattle.check_entry.specs.EntryFaults.{OfResult, fault_of}
 use Rattle.check_entry.specs.EntryVaryings.{declared_points, has_built_in, result_parts}
-use Rattle.check_entry.specs.declared.error.EntryPointError.{EntryPointError}
+use Rattle.check_faults.specs.declared.entry.EntryPointError.{EntryPointError}
 use Rattle.check_entry.proofs.EntrySteps.{passes_within}
 use Rattle.naga_valid.proofs.Groups.{result_decides}
 use Rattle.naga_valid.proofs.validator.Validator.check_declared.Goals as goal

@@ -8,8 +8,8 @@ use Rattle.check_varyings.specs.Varyings.{points_from, parts_of, seen_in, seen_w
 use Rattle.check_varyings.specs.declared.varying.VaryingPlace.{VaryingPlace}
 use Rattle.check_entry.specs.EntryFaults.{OfResult, Other, fault_of}
 use Rattle.check_entry.specs.EntryVaryings.{is_struct, place_of}
-use Rattle.check_entry.specs.declared.error.EntryPointError.{EntryPointError}
-use Rattle.check_entry.specs.declared.error.EntryPointError.TheVariants as fault
+use Rattle.check_faults.specs.declared.entry.EntryPointError.{EntryPointError}
+use Rattle.check_faults.specs.declared.entry.EntryPointError.TheVariants as fault
 use Rattle.check_entry.proofs.EntrySteps.{passes_within}
 use Rattle.naga_valid.proofs.validator.Validator.check_output.Goals as goal
 use Rattle.check_errors.specs.Answers.{Answers, FirstOf, IsFirstFault, read_by, refusal_read_by}

@@ -9,7 +9,7 @@ use Rattle.check_varyings.specs.Varyings.{parts_of, placed_parts, points_from, s
 use Rattle.check_varyings.specs.declared.varying.MeshOutputType.TheVariants.{VertexOutput, PrimitiveOutput}
 use Rattle.check_entry.specs.EntryFaults.{OfResult, Other, fault_of}
 use Rattle.check_entry.specs.EntryVaryings.{has_one_of_indices, is_one_of_three, is_struct, output_item, output_points, place_of}
-use Rattle.check_entry.specs.declared.error.EntryPointError.TheVariants as fault
+use Rattle.check_faults.specs.declared.entry.EntryPointError.TheVariants as fault
 use Rattle.check_entry.proofs.EntrySteps.{judges_first, refuses_as}
 use Rattle.naga_valid.proofs.Groups.{last_fails, last_holds, output_by_position}
 use Rattle.naga_valid.proofs.validator.Validator.check_primitive_output.Goals as goal

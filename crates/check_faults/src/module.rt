@@ -1,0 +1,36 @@
+//! What is wrong with a module.
+
+use crate::entry::EntryPointError;
+use check_errors::function::FunctionError;
+use check_errors::interface::GlobalVariableError;
+use ir_arena::handle::Handle;
+use ir_arena::span::WithSpan;
+use ir_arena::tag;
+use std::alloc::AllocError;
+
+/// What is wrong with a module: the first fault in the order of its judgement.
+#[derive(PartialEq, Debug, Drop)]
+pub enum ModuleFault {
+    /// What is named doesn't exist or comes too late, lists that belong together differ in length, or the size of a
+    /// task payload isn't known.
+    NotFit,
+    /// A global variable has this fault.
+    Global(Handle<tag::GlobalVariable>, GlobalVariableError),
+    /// A function has this fault.
+    Function(Handle<tag::Function>, WithSpan<FunctionError>),
+    /// An entry point, counted from 0, has this fault.
+    EntryPoint(usize, WithSpan<EntryPointError>),
+    /// Out of memory.
+    Memory,
+}
+
+impl From<AllocError> for ModuleFault {
+    ghost use Rattle.check_faults.specs.declared.module.ModuleFault.TheVariants as fault;
+    ghost use Rattle.std.specs.Prelude.{◌≡◌};
+
+    ghost from_gives = { λ refused made. made ≡ fault.Memory };
+
+    fn from(_refused: AllocError) -> Self {
+        ModuleFault::Memory
+    }
+}

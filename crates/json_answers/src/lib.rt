@@ -1,0 +1,12 @@
+//! The verdict of a document, written as JSON or for a person.
+//! Part of `naga_judge`; no promise to users.
+#![tactic(auto)]
+
+pub mod line;
+pub mod lines;
+pub mod named;
+mod pointer;
+mod untyped;
+pub mod verdict;
+
+pub use crate::verdict::{Examined, Refused, Verdict, alone};

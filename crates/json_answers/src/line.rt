@@ -1,0 +1,249 @@
+//! Verdicts as JSON.
+
+ghost use Rattle.std.specs.Prelude.{IfOk, string_bytes};
+ghost use Rattle.json_faults.specs.Form.{Writes, list_form, span_form};
+ghost use Rattle.json_answers.specs.VerdictJson.{IsJsonOf, WritesFault, WritesPlaced, WritesVerdict, function_form, infos_form, part_form, placed_form, unreadable_at, unreadable_form};
+
+use crate::pointer::{pointer_text, push_step};
+use crate::verdict::{Examined, Verdict};
+use check_faults::ModuleFault;
+use ir_misfits::Misfit;
+use json_document::Unreadable;
+use json_faults::parts::{four_fields, holding, holding_two, two_fields};
+use json_faults::to_json::{ToJson, write_list};
+use json_faults::writer::JsonWriter;
+use json_places::Found;
+use naga_below::{FunctionInfo, ModuleInfo, Span};
+use std::alloc::{AllocError, Global};
+
+/// The verdict as JSON, on one line, without white space and without a newline at the end. An Err is out of memory.
+pub fn json_line(alloc: Global, examined: &Examined) -> Result<String, AllocError>
+    ensures { IfOk result (λ text. IsJsonOf examined.now.verdict examined.now.misfit (string_bytes text)) }
+{
+    let mut out = JsonWriter::new(alloc);
+    write_verdict(alloc, &mut out, examined)?;
+    Ok(out.into_text())
+}
+
+/// Writes the verdict as a JSON value. An Err is out of memory.
+pub fn write_verdict(
+    alloc: Global,
+    out: &mut JsonWriter,
+    examined: &Examined,
+) -> Result<(), AllocError>
+    ensures { WritesVerdict result out.old out.new examined.now.verdict examined.now.misfit }
+{
+    match &examined.verdict {
+        Verdict::Accepted { infos, .. } => write_infos(out, infos),
+        Verdict::Refused(fault) => write_found(alloc, out, fault, examined),
+        Verdict::Unreadable(unreadable) => write_unreadable(alloc, out, unreadable),
+    }
+}
+
+/// Writes the fault of a module with its place, if that is known.
+fn write_found(
+    alloc: Global,
+    out: &mut JsonWriter,
+    fault: &ModuleFault,
+    examined: &Examined,
+) -> Result<(), AllocError>
+    ensures { WritesFault result out.old out.new examined.now.misfit fault.now }
+{
+    match place_text(alloc, examined.found()) {
+        Ok(place) => write_refused(out, fault, &examined.misfit, &place),
+        Err(error) => Err(error),
+    }
+}
+
+/// The place of a fault, if it is known.
+fn place_text(alloc: Global, found: Option<&Found>) -> Result<Option<String>, AllocError> {
+    let Some(found) = found else {
+        return Ok(None);
+    };
+    let mut text = String::new(alloc);
+    for step in found.place.steps.as_slice() {
+        push_step(&mut text, *step)?;
+    }
+    Ok(Some(text))
+}
+
+/// What is known of functions: the stages that the body of each could run in.
+#[derive(Clone, Copy)]
+struct Functions<'a>(&'a [FunctionInfo]);
+
+impl ToJson for Functions<'_> {
+    ghost form = { λ functions. list_form function_form functions.0.now };
+
+    #[tactic(auto, unfolding(json_faults::specs::Form::list_form))]
+    fn write_json(&self, out: &mut JsonWriter) -> Result<(), AllocError> {
+        out.begin_array()?;
+        for function in self.0 {
+            function.available_stages.write_json(out)?;
+        }
+        out.end_array()
+    }
+}
+
+/// What is known of each function, and of each entry point.
+#[tactic(auto, unfolding(crate::specs::VerdictJson::infos_form, json_faults::specs::Form::holding))]
+fn write_infos(out: &mut JsonWriter, infos: &ModuleInfo) -> Result<(), AllocError>
+    ensures { Writes result out.old out.new (infos_form infos.now) }
+{
+    let functions = Functions(infos.functions.as_slice());
+    out.open("ok")?;
+    two_fields(
+        out,
+        &("functions", "entry_points"),
+        &functions,
+        &infos.entry_points,
+    )?;
+    out.end_object()
+}
+
+/// A part of a module: its kind, and its index.
+#[derive(Clone, Copy)]
+struct Part {
+    kind: &'static str,
+    index: usize,
+}
+
+impl ToJson for Part {
+    ghost form = { λ part. part_form part.kind.now part.index };
+
+    #[tactic(auto, unfolding(crate::specs::VerdictJson::part_form))]
+    fn write_json(&self, out: &mut JsonWriter) -> Result<(), AllocError> {
+        holding(out, self.kind, &self.index)
+    }
+}
+
+/// The spans of a fault.
+#[derive(Clone, Copy)]
+struct Spans<'a>(&'a [Span]);
+
+impl ToJson for Spans<'_> {
+    ghost form = { λ spans. list_form span_form spans.0.now };
+
+    fn write_json(&self, out: &mut JsonWriter) -> Result<(), AllocError> {
+        write_list(out, self.0)
+    }
+}
+
+/// What has the fault, the fault, its spans, and its place, which may be null.
+#[tactic(auto, unfolding(crate::specs::VerdictJson::placed_form, json_faults::specs::Form::holding))]
+fn write_placed<P: ToJson, F: ToJson, L: ToJson>(
+    out: &mut JsonWriter,
+    at: &P,
+    fault: &F,
+    spans: &[Span],
+    place: &L,
+) -> Result<(), AllocError>
+    ensures { Writes result out.old out.new (placed_form (P.form at.now) (F.form fault.now) spans.now (L.form place.now)) }
+{
+    out.open("refused")?;
+    four_fields(
+        out,
+        &("at", "fault", "spans", "place"),
+        at,
+        fault,
+        &Spans(spans),
+        place,
+    )?;
+    out.end_object()
+}
+
+/// The same of a place that is known, or of none.
+fn write_fault<P: ToJson, F: ToJson>(
+    out: &mut JsonWriter,
+    at: &P,
+    fault: &F,
+    spans: &[Span],
+    place: &Option<String>,
+) -> Result<(), AllocError>
+    ensures { WritesPlaced result out.old out.new (P.form at.now) (F.form fault.now) spans.now }
+{
+    match place {
+        Some(text) => write_placed(out, at, fault, spans, &text.as_str()),
+        None => {
+            let nothing: Option<usize> = None;
+            write_placed(out, at, fault, spans, &nothing)
+        }
+    }
+}
+
+/// A part of a module with this kind and index, its fault and its spans.
+fn write_part<F: ToJson>(
+    out: &mut JsonWriter,
+    kind: &'static str,
+    index: usize,
+    fault: &F,
+    spans: &[Span],
+    place: &Option<String>,
+) -> Result<(), AllocError>
+    ensures { WritesPlaced result out.old out.new (part_form kind.now index) (F.form fault.now) spans.now }
+{
+    write_fault(out, &Part { kind, index }, fault, spans, place)
+}
+
+/// The fault of a module, or out of memory.
+#[tactic(auto, unfolding(crate::specs::VerdictJson::refused_form))]
+fn write_refused(
+    out: &mut JsonWriter,
+    fault: &ModuleFault,
+    misfit: &Option<Misfit>,
+    place: &Option<String>,
+) -> Result<(), AllocError>
+    ensures { WritesFault result out.old out.new misfit.now fault.now }
+{
+    match fault {
+        ModuleFault::NotFit => write_fault(out, &"NotFit", misfit, &[], place),
+        ModuleFault::Global(global, error) => {
+            write_part(out, "Global", global.index(), error, &[], place)
+        }
+        ModuleFault::Function(function, error) => write_part(
+            out,
+            "Function",
+            function.index(),
+            error.as_inner(),
+            error.spans(),
+            place,
+        ),
+        ModuleFault::EntryPoint(index, error) => write_part(
+            out,
+            "EntryPoint",
+            *index,
+            error.as_inner(),
+            error.spans(),
+            place,
+        ),
+        ModuleFault::Memory => out.string("memory"),
+    }
+}
+
+/// Where reading stopped, as a pointer, and what was expected there.
+#[tactic(auto, unfolding(crate::specs::VerdictJson::unreadable_at))]
+fn write_unreadable_at(
+    out: &mut JsonWriter,
+    pointer: &str,
+    expected: &str,
+) -> Result<(), AllocError>
+    ensures { Writes result out.old out.new (unreadable_at pointer.now expected.now) }
+{
+    holding_two(
+        out,
+        &("unreadable", "pointer", "expected"),
+        &pointer,
+        &expected,
+    )
+}
+
+/// Where reading stopped, and what was expected there.
+fn write_unreadable(
+    alloc: Global,
+    out: &mut JsonWriter,
+    unreadable: &Unreadable,
+) -> Result<(), AllocError>
+    ensures { Writes result out.old out.new (unreadable_form unreadable.now) }
+{
+    let pointer = pointer_text(alloc, unreadable.steps.as_slice())?;
+    write_unreadable_at(out, pointer.as_str(), unreadable.expected.as_str())
+}
