@@ -14,4 +14,5 @@ pub mod run;
 mod stream;
 mod text;
 
+pub use json_answers::lines::{write_examined, write_lines};
 pub use json_answers::{Examined, Refused, Verdict};
