@@ -13,7 +13,7 @@ use ir_types::TypeResolution;
 use json_nodes::Node;
 use json_values::read::error::ReadError;
 use json_values::read::from_json::{FromJson, Held, has_field};
-use naga_layers::Facts;
+use layer_facts::Facts;
 use std::alloc::Global;
 
 /// What a document says is known of its module: infos of its types, types of its global expressions, and the facts that a

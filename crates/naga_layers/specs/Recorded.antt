@@ -1,5 +1,4 @@
 -- What a lower layer answers that is made of recorded facts.
-pub mod Facts
 pub mod Asked
 pub mod Infos
 pub mod Meaning

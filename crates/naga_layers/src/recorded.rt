@@ -4,11 +4,10 @@ ghost use Rattle.std.specs.Prelude.{◌≡◌, IfOk};
 ghost use Rattle.std.specs.List.{list_all};
 ghost use Rattle.std.specs.Option.{option_copied};
 ghost use Rattle.check_errors.specs.Answers.{Answers, Exactly};
-ghost use Rattle.naga_layers.specs.Recorded.Facts.{info_of, fault_of, unknown_analysis, analysis_at};
+ghost use Rattle.layer_facts.specs.Facts.{info_of, fault_of, unknown_analysis, analysis_at};
 ghost use Rattle.naga_layers.specs.Recorded.Asked.{fact_asked};
 ghost use Rattle.naga_layers.specs.Recorded.Infos.{is_lawful_type, is_lawful_info, expression_said, USELESS, recorded_info, recorded_stages};
 
-use crate::facts::{ExpressionFact, Facts, FunctionFact, InfoFact, MeshAnalysisFact};
 use check_errors::below::Below;
 use check_errors::function::FunctionError;
 use check_errors::mesh::{MeshAnalysis, MeshFault};
@@ -28,6 +27,7 @@ use ir_module::functions::Function;
 use ir_module::module::{MeshOutputTopology, MeshStageInfo, Module};
 use ir_types::types::TypeInner;
 use ir_types::typifier::TypeResolution;
+use layer_facts::facts::{ExpressionFact, Facts, FunctionFact, InfoFact, MeshAnalysisFact};
 use layer_uses::kinds_of;
 use std::alloc::{AllocError, Global};
 

@@ -13,7 +13,7 @@ use ir_module::functions::Function;
 use ir_module::module::Module;
 use ir_types::types::TypeInner;
 use ir_types::typifier::TypeResolution;
-use naga_layers::facts::{Facts, FunctionFact, InfoFact};
+use layer_facts::{Facts, FunctionFact, InfoFact};
 
 /// What is missing in the facts about a function, or about the function of an entry point, or breaks a law: the first in the
 /// order of [`Shortage`], but that `expressions` is last. It takes no memory.

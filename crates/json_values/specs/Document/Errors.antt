@@ -5,8 +5,8 @@ use Rattle.ir_facts.specs.declared.valid.expression_error.ExpressionError.{Expre
 use Rattle.ir_facts.specs.declared.valid.expression_error.ExpressionError.TheVariants as expression_error
 use Rattle.json_values.specs.declared.read.errors.ExpressionErrorName.{ExpressionErrorName}
 use Rattle.json_values.specs.declared.read.errors.ExpressionErrorName.TheVariants as expression_error_name
-use Rattle.naga_layers.specs.declared.facts.LowerFunctionError.{LowerFunctionError}
-use Rattle.naga_layers.specs.declared.facts.LowerFunctionError.TheVariants as lower_function_error
+use Rattle.layer_facts.specs.declared.facts.LowerFunctionError.{LowerFunctionError}
+use Rattle.layer_facts.specs.declared.facts.LowerFunctionError.TheVariants as lower_function_error
 use Rattle.json_values.specs.declared.read.errors.LowerErrorName.{LowerErrorName}
 use Rattle.json_values.specs.declared.read.errors.LowerErrorName.TheVariants as lower_error_name
 use Rattle.json_values.specs.Form.{given, made_of_two, three_of, two_fields, two_of}

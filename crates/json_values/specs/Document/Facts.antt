@@ -10,14 +10,14 @@ use Rattle.json_values.specs.declared.read.facts.OutcomeName.TheVariants as outc
 use Rattle.ir_facts.specs.declared.valid.types.Disalignment.{Disalignment}
 use Rattle.ir_facts.specs.declared.valid.types.ImmediateError.{ImmediateError}
 use Rattle.ir_facts.specs.declared.valid.types.TypeInfo.{TypeInfo}
-use Rattle.naga_layers.specs.declared.facts.MeshAnalysisFact.{MeshAnalysisFact}
-use Rattle.naga_layers.specs.declared.facts.ExpressionFact.{ExpressionFact}
-use Rattle.naga_layers.specs.declared.facts.ExpressionFact.TheVariants as expression_fact
+use Rattle.layer_facts.specs.declared.facts.MeshAnalysisFact.{MeshAnalysisFact}
+use Rattle.layer_facts.specs.declared.facts.ExpressionFact.{ExpressionFact}
+use Rattle.layer_facts.specs.declared.facts.ExpressionFact.TheVariants as expression_fact
 use Rattle.json_values.specs.declared.read.facts.ExpressionFactName.{ExpressionFactName}
 use Rattle.json_values.specs.declared.read.facts.ExpressionFactName.TheVariants as expression_fact_name
-use Rattle.naga_layers.specs.declared.facts.InfoFact.{InfoFact}
-use Rattle.naga_layers.specs.declared.facts.FunctionFact.{FunctionFact}
-use Rattle.naga_layers.specs.declared.facts.FunctionFact.TheVariants as function_fact
+use Rattle.layer_facts.specs.declared.facts.InfoFact.{InfoFact}
+use Rattle.layer_facts.specs.declared.facts.FunctionFact.{FunctionFact}
+use Rattle.layer_facts.specs.declared.facts.FunctionFact.TheVariants as function_fact
 use Rattle.json_values.specs.declared.read.facts.FunctionFactName.{FunctionFactName}
 use Rattle.json_values.specs.declared.read.facts.FunctionFactName.TheVariants as function_fact_name
 use Rattle.json_values.specs.Form.{five_fields, four_fields, given, list_of, made_of_five, made_of_four, made_of_three, named, optional, three_fields, two_of}

@@ -10,7 +10,7 @@ use crate::read::variant::{Holding, read_either, read_holding};
 use check_errors::{UniformityDisruptor, UniformityRequirements};
 use ir_facts::ExpressionError;
 use json_nodes::Node;
-use naga_layers::LowerFunctionError;
+use layer_facts::LowerFunctionError;
 use std::alloc::Global;
 
 fn read_coordinate(held: Held) -> Result<ExpressionError, ReadError>

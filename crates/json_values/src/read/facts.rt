@@ -10,7 +10,7 @@ use check_errors::MeshFault;
 use ir_arena::{Handle, tag};
 use ir_facts::{Disalignment, ImmediateError, TypeInfo};
 use json_nodes::Node;
-use naga_layers::{ExpressionFact, FunctionFact, InfoFact, MeshAnalysisFact};
+use layer_facts::{ExpressionFact, FunctionFact, InfoFact, MeshAnalysisFact};
 use std::alloc::Global;
 
 /// The faults of outputs of mesh shaders.

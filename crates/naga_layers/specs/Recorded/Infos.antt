@@ -12,12 +12,12 @@ use Rattle.ir_flags.specs.declared.valid.ShaderStages.{ShaderStages}
 use Rattle.ir_facts.specs.declared.valid.info.FunctionInfo.{FunctionInfo}
 use Rattle.check_errors.specs.declared.function.FunctionError.{FunctionError}
 use Rattle.check_errors.specs.declared.function.FunctionError.TheVariants.{Expression as InExpression}
-use Rattle.naga_layers.specs.Recorded.Facts.{fault_of, info_of}
-use Rattle.naga_layers.specs.declared.facts.ExpressionFact.{ExpressionFact}
-use Rattle.naga_layers.specs.declared.facts.ExpressionFact.TheVariants.{Stages, Error as ExpressionRefused}
-use Rattle.naga_layers.specs.declared.facts.FunctionFact.{FunctionFact}
-use Rattle.naga_layers.specs.declared.facts.FunctionFact.TheVariants.{Info, Error as FunctionRefused}
-use Rattle.naga_layers.specs.declared.facts.InfoFact.{InfoFact}
+use Rattle.layer_facts.specs.Facts.{fault_of, info_of}
+use Rattle.layer_facts.specs.declared.facts.ExpressionFact.{ExpressionFact}
+use Rattle.layer_facts.specs.declared.facts.ExpressionFact.TheVariants.{Stages, Error as ExpressionRefused}
+use Rattle.layer_facts.specs.declared.facts.FunctionFact.{FunctionFact}
+use Rattle.layer_facts.specs.declared.facts.FunctionFact.TheVariants.{Info, Error as FunctionRefused}
+use Rattle.layer_facts.specs.declared.facts.InfoFact.{InfoFact}
 
 -- what the type names is one of n types, also inside a value, and it is no struct as a value
 abbrev pub is_lawful_type : ℕ → TypeResolution → Bool

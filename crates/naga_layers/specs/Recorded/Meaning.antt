@@ -4,7 +4,7 @@ use Rattle.std.specs.Option.{option_flatten}
 use Rattle.check_errors.specs.Meaning.{Meaning}
 use Rattle.layer_uses.specs.Kinds.{kinds_from}
 use Rattle.naga_layers.specs.Recorded.Asked.{fact_asked}
-use Rattle.naga_layers.specs.Recorded.Facts.{analysis_of, analysis_at}
+use Rattle.layer_facts.specs.Facts.{analysis_of, analysis_at}
 use Rattle.naga_layers.specs.Recorded.Infos.{recorded_info, recorded_stages}
 use Rattle.naga_layers.specs.declared.recorded.Recorded.{Recorded}
 

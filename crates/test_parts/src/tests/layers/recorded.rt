@@ -9,8 +9,8 @@ use naga_below::{
     ExpressionError, Function, FunctionInfo, Handle, MeshOutputTopology, MeshStageInfo, Module,
     ModuleInfo, Refusal, Scalar, Sequence, ShaderStages, TypeInner,
 };
-use naga_layers::facts::{Facts, FunctionFact, LowerFunctionError, MeshAnalysisFact};
 use naga_layers::recorded::Recorded;
+use naga_layers::{Facts, FunctionFact, LowerFunctionError, MeshAnalysisFact};
 use naga_rules::{Below, MeshAnalysis, MeshFault};
 use std::alloc::Global;
 use std::process::Abort;

@@ -1,7 +1,7 @@
-//! Facts: what a lower layer knows of one module, in plain lists. [`Recorded`](crate::recorded::Recorded) answers them.
+//! Facts: what a lower layer knows of one module, in plain lists. `Recorded` of `naga_layers` answers them.
 
 ghost use Rattle.std.specs.Prelude.{◌≡◌};
-ghost use Rattle.naga_layers.specs.Recorded.Facts.{no_facts, fault_of, info_of, analysis_of};
+ghost use Rattle.layer_facts.specs.Facts.{no_facts, fault_of, info_of, analysis_of};
 
 use check_errors::analyzer::{UniformityDisruptor, UniformityRequirements};
 use check_errors::function::FunctionError;
@@ -18,7 +18,7 @@ use std::alloc::Global;
 
 /// What a lower layer knows of a module. They are believed.
 ///
-/// A list may have any length. [`Recorded`](crate::recorded::Recorded) says what a missing fact means. Surplus facts
+/// A list may have any length. `Recorded` of `naga_layers` says what a missing fact means. Surplus facts
 /// aren't read.
 #[derive(PartialEq, Debug, Drop)]
 pub struct Facts {

@@ -7,11 +7,11 @@ use Rattle.check_errors.specs.declared.function.FunctionError.{FunctionError}
 use Rattle.check_errors.specs.declared.function.FunctionError.TheVariants as fault
 use Rattle.check_errors.specs.declared.mesh.MeshAnalysis.{MeshAnalysis}
 use Rattle.check_errors.specs.declared.mesh.MeshFault.TheVariants.{OutputType}
-use Rattle.naga_layers.specs.declared.facts.Facts.{Facts}
-use Rattle.naga_layers.specs.declared.facts.InfoFact.{InfoFact}
-use Rattle.naga_layers.specs.declared.facts.LowerFunctionError.{LowerFunctionError}
-use Rattle.naga_layers.specs.declared.facts.LowerFunctionError.TheVariants as lower
-use Rattle.naga_layers.specs.declared.facts.MeshAnalysisFact.{MeshAnalysisFact}
+use Rattle.layer_facts.specs.declared.facts.Facts.{Facts}
+use Rattle.layer_facts.specs.declared.facts.InfoFact.{InfoFact}
+use Rattle.layer_facts.specs.declared.facts.LowerFunctionError.{LowerFunctionError}
+use Rattle.layer_facts.specs.declared.facts.LowerFunctionError.TheVariants as lower
+use Rattle.layer_facts.specs.declared.facts.MeshAnalysisFact.{MeshAnalysisFact}
 
 -- nothing is recorded
 abbrev pub no_facts : Facts
