@@ -16,7 +16,7 @@ use ir_types::unique_arena::UniqueArena;
 use std::alloc::{AllocError, Global};
 
 /// The binding of a resource: its group, and its number in the group.
-#[derive(Clone, Copy, PartialEq, Eq, PartialOrd, Ord, Hash, Debug)]
+#[derive(Clone, Copy, PartialEq, Eq, PartialOrd, Ord, Debug)]
 pub struct ResourceBinding {
     pub group: u32,
     pub binding: u32,
@@ -26,7 +26,7 @@ pub struct ResourceBinding {
 ///
 /// In a module that was accepted with the flag BINDINGS, it has a `binding` exactly if it is in Storage, Uniform or
 /// Handle.
-#[derive(Clone, Copy, PartialEq, Eq, Hash, Debug)]
+#[derive(Clone, Copy, PartialEq, Eq, Debug)]
 pub struct GlobalVariable {
     pub space: AddressSpace,
     pub binding: Option<ResourceBinding>,
@@ -41,7 +41,7 @@ impl Tagged for GlobalVariable {
 }
 
 /// A constant of a module: its type alone. Its value is not kept.
-#[derive(Clone, Copy, PartialEq, Eq, Hash, Debug)]
+#[derive(Clone, Copy, PartialEq, Eq, Debug)]
 pub struct Constant {
     pub ty: Handle<tag::Type>,
 }
@@ -51,7 +51,7 @@ impl Tagged for Constant {
 }
 
 /// A constant that the pipeline may override: its type alone.
-#[derive(Clone, Copy, PartialEq, Eq, Hash, Debug)]
+#[derive(Clone, Copy, PartialEq, Eq, Debug)]
 pub struct Override {
     pub ty: Handle<tag::Type>,
 }
@@ -61,14 +61,14 @@ impl Tagged for Override {
 }
 
 /// Types of the module with a special use.
-#[derive(Clone, Copy, PartialEq, Eq, Hash, Debug)]
+#[derive(Clone, Copy, PartialEq, Eq, Debug)]
 pub struct SpecialTypes {
     /// The type of the descriptor of a ray.
     pub ray_desc: Option<Handle<tag::Type>>,
 }
 
 /// A stage of a pipeline.
-#[derive(Clone, Copy, PartialEq, Eq, PartialOrd, Ord, Hash, Debug)]
+#[derive(Clone, Copy, PartialEq, Eq, Debug)]
 pub enum ShaderStage {
     Vertex,
     Fragment,
@@ -82,11 +82,11 @@ pub enum ShaderStage {
 }
 
 /// A request to test depth before the fragment stage runs. The number stands for its kind, which isn't read.
-#[derive(Clone, Copy, PartialEq, Eq, PartialOrd, Ord, Hash, Debug)]
+#[derive(Clone, Copy, PartialEq, Eq, Debug)]
 pub struct EarlyDepthTest(pub u32);
 
 /// The primitives of a mesh.
-#[derive(Clone, Copy, PartialEq, Eq, PartialOrd, Ord, Hash, Debug)]
+#[derive(Clone, Copy, PartialEq, Eq, Debug)]
 pub enum MeshOutputTopology {
     Points,
     Lines,
@@ -97,7 +97,7 @@ pub enum MeshOutputTopology {
 ///
 /// An override takes the place of a maximum. It is one of the module's global expressions. In an accepted module all
 /// of this is what the type of the output variable implies.
-#[derive(Clone, Copy, PartialEq, Eq, Hash, Debug)]
+#[derive(Clone, Copy, PartialEq, Eq, Debug)]
 pub struct MeshStageInfo {
     pub topology: MeshOutputTopology,
     pub max_vertices: u32,

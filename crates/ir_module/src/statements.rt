@@ -17,7 +17,7 @@ use ir_flags::ir::Barrier;
 use std::alloc::{AllocError, Global};
 
 /// The value of a case. A signed value never equals an unsigned one.
-#[derive(Clone, Copy, PartialEq, Eq, PartialOrd, Ord, Hash, Debug)]
+#[derive(Clone, Copy, PartialEq, Eq, PartialOrd, Ord, Debug)]
 pub enum SwitchValue {
     I32(i32),
     U32(u32),
