@@ -44,6 +44,27 @@ impl<T: Tagged + Drop> Arena<T> {
         }
     }
 
+    /// Adds a value at the end, and returns its handle. The arena must not be full.
+    ///
+    /// An Err is out of memory. It leaves the arena as it was.
+    pub fn append(&mut self, value: T, span: Span) -> Result<Handle<T::Tag>, AllocError>
+        requires { length self.old < max_len }
+        ensures appended { OnOk result (self.new ≡ self.old ++ value ∷ []) }
+        ensures place { IfOk result (λ h. h ≡ length self.old) }
+        ensures err { OnErr result (self.new ≡ self.old) }
+    {
+        let index = self.values.len() as u32;
+        self.spans.push(span)?;
+        if let Err(refused) = self.values.push(value) {
+            let _ = self.spans.pop();
+            return Err(AllocError::from(refused));
+        }
+        Ok(Handle::new(index))
+    }
+}
+
+// Reading needs no `Drop`: with it each crate that reads an arena would have the drop of its values to prove.
+impl<T: Tagged> Arena<T> {
     /// How many values there are; a handle of the arena has a lower index.
     pub fn len(&self) -> usize
         ensures len { result ≡ length self.now }
@@ -64,24 +85,6 @@ impl<T: Tagged + Drop> Arena<T> {
         ensures { IsTrue result ↔ (max_len ≤ length self.now) }
     {
         self.len() >= MAX_LEN
-    }
-
-    /// Adds a value at the end, and returns its handle. The arena must not be full.
-    ///
-    /// An Err is out of memory. It leaves the arena as it was.
-    pub fn append(&mut self, value: T, span: Span) -> Result<Handle<T::Tag>, AllocError>
-        requires { length self.old < max_len }
-        ensures appended { OnOk result (self.new ≡ self.old ++ value ∷ []) }
-        ensures place { IfOk result (λ h. h ≡ length self.old) }
-        ensures err { OnErr result (self.new ≡ self.old) }
-    {
-        let index = self.values.len() as u32;
-        self.spans.push(span)?;
-        if let Err(refused) = self.values.push(value) {
-            let _ = self.spans.pop();
-            return Err(AllocError::from(refused));
-        }
-        Ok(Handle::new(index))
     }
 
     /// The span that the value was given.
@@ -111,7 +114,7 @@ impl<T: Tagged + Duplicate> Arena<T> {
     }
 }
 
-impl<T: Tagged + Drop> Index<Handle<T::Tag>> for Arena<T> {
+impl<T: Tagged> Index<Handle<T::Tag>> for Arena<T> {
     type Output = T;
 
     ghost can_index = { λ a h. h < length a };

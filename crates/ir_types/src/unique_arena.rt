@@ -56,7 +56,10 @@ impl<T: Tagged + Eq + Hash + Drop> UniqueArena<T> {
             spans: Vec::new(alloc),
         }
     }
+}
 
+// Reading needs no `Drop`: with it each crate that reads an arena would have the drop of its values to prove.
+impl<T: Tagged + Eq + Hash> UniqueArena<T> {
     /// How many values there are; a handle of the arena has a lower index.
     pub fn len(&self) -> usize
         ensures len { result ≡ length self.now }
@@ -112,7 +115,9 @@ impl<T: Tagged + Identical + Hash + Drop> UniqueArena<T> {
             }
         }
     }
+}
 
+impl<T: Tagged + Identical + Hash> UniqueArena<T> {
     /// The values in the order of their first insertion, indexed by their handles.
     pub fn as_slice(&self) -> &[T]
         ensures values { result.now ≡ self.now }
@@ -137,7 +142,7 @@ impl UniqueArena<Type> {
     }
 }
 
-impl<T: Tagged + Eq + Hash + Drop> Index<Handle<T::Tag>> for UniqueArena<T> {
+impl<T: Tagged + Eq + Hash> Index<Handle<T::Tag>> for UniqueArena<T> {
     type Output = T;
 
     ghost can_index = { λ a h. h < length a };
