@@ -17,7 +17,7 @@ use std::alloc::{AllocError, Global};
 use std::collections::BTreeSet;
 
 /// Which output of a mesh an item is, if it is one.
-#[derive(Clone, Copy, PartialEq, Eq, Hash, Debug)]
+#[derive(Clone, Copy, PartialEq, Eq, Debug)]
 pub enum MeshOutputType {
     Neither,
     VertexOutput,
@@ -28,7 +28,7 @@ pub enum MeshOutputType {
 ///
 /// It also has what the checks need: whether the entry point has a task payload, the workgroup size (invocations in
 /// each dimension), the target's capabilities, and which checks run.
-#[derive(Clone, Copy, PartialEq, Eq, Hash, Debug)]
+#[derive(Clone, Copy, PartialEq, Eq, Debug)]
 pub struct VaryingPlace {
     pub stage: ShaderStage,
     pub output: bool,
