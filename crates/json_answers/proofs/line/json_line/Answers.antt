@@ -2,7 +2,7 @@ use Rattle.std.proofs.Common.{◌++◌, ap, ◌∙◌}
 use Rattle.json.specs.Print.{print}
 use Rattle.json.specs.Tree.{json_tokens}
 use Rattle.json_answers.specs.VerdictJson.{verdict_form}
-use Rattle.json_verdict.proofs.line.json_line.Goals as goal
+use Rattle.json_answers.proofs.line.json_line.Goals as goal
 
 pub returns : goal.returns
 returns c =

@@ -1,6 +1,6 @@
 use Rattle.std.proofs.Common.{[], None}
 use Rattle.json_answers.specs.VerdictJson.{refused_form}
-use Rattle.json_verdict.proofs.line.write_refused.Goals as goal
+use Rattle.json_answers.proofs.line.write_refused.Goals as goal
 
 pub returns-in-NotFit : goal.returns-in-NotFit
 unfolding refused_form

@@ -1,6 +1,6 @@
 use Rattle.std.proofs.Common.{[], None}
 use Rattle.json_answers.specs.VerdictJson.{verdict_form}
-use Rattle.json_verdict.proofs.line.write_verdict.Goals as goal
+use Rattle.json_answers.proofs.line.write_verdict.Goals as goal
 
 pub returns-in-Accepted : goal.returns-in-Accepted
 unfolding verdict_form

@@ -2,7 +2,7 @@ use Rattle.std.proofs.Common.{◌≡◌, ◌+◌, ◌-◌, ◌++◌, take, arith
 use Rattle.std.specs.Prelude.{string_bytes}
 use Rattle.json_answers.proofs.Pointers.{pointer_on}
 use Rattle.json_answers.specs.VerdictJson.{pointer_text}
-use Rattle.json_verdict.proofs.pointer.pointer_text.Goals as goal
+use Rattle.json_answers.proofs.pointer.pointer_text.Goals as goal
 
 pub loop-left-preserved : goal.loop-left-preserved
 loop-left-preserved c =

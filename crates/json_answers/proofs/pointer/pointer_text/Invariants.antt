@@ -1,7 +1,7 @@
 use Rattle.std.proofs.Common.{◌≡◌, ◌≤◌, ◌++◌, length, take}
 use Rattle.std.specs.Prelude.{string_bytes}
 use Rattle.json_answers.specs.VerdictJson.{pointer_text}
-use Rattle.json_verdict.proofs.pointer.pointer_text.Given as goal
+use Rattle.json_answers.proofs.pointer.pointer_text.Given as goal
 
 abbrev pub invariant-loop-left : goal.invariant-loop-left
 invariant-loop-left l = record {

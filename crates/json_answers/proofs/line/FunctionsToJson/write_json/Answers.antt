@@ -1,7 +1,7 @@
 use Rattle.std.proofs.Common.{arith}
 use Rattle.json_faults.proofs.Lists.{list_on}
 use Rattle.json_answers.specs.VerdictJson.{function_form}
-use Rattle.json_verdict.proofs.line.FunctionsToJson.write_json.Goals as goal
+use Rattle.json_answers.proofs.line.FunctionsToJson.write_json.Goals as goal
 
 pub loop-function-preserved : goal.loop-function-preserved
 loop-function-preserved c =

@@ -2,7 +2,7 @@ use Rattle.std.proofs.Common.{◌≡◌, ◌++◌, drop}
 use Rattle.json.specs.Tree.{items_tokens}
 use Rattle.json_faults.specs.Form.{each}
 use Rattle.json_answers.specs.VerdictJson.{function_form}
-use Rattle.json_verdict.proofs.line.FunctionsToJson.write_json.Given as goal
+use Rattle.json_answers.proofs.line.FunctionsToJson.write_json.Given as goal
 
 abbrev pub invariant-loop-function : goal.invariant-loop-function
 invariant-loop-function l =
