@@ -4,11 +4,10 @@ use crate::tests::bench::{Bench, make_bench};
 use crate::tests::judged::{layer, text_of, validator_over};
 use crate::tests::parts::{HERE, expect_text, made};
 use crate::tests::rows::{MISLED, function};
-use check_faults::module::ModuleFault;
 use naga_below::{
     Function, FunctionInfo, Handle, Refusal, Span, WithSpan, fits_function, fits_types,
 };
-use naga_module::{Subject, write_fault, write_module_fault, write_refusal};
+use naga_module::{ModuleFault, Subject, write_fault, write_module_fault, write_refusal};
 use naga_rules::{Explain, FunctionError, GlobalVariableError};
 use naga_valid::EntryPointError;
 use std::process::Abort;
