@@ -1,6 +1,7 @@
 //! Values that are their names.
 
-ghost use Rattle.json_faults.specs.Names.{scalar_kind_form, vector_size_form, image_dimension_form, storage_format_form, interpolation_form, sampling_form, shader_stage_form};
+ghost use Rattle.std.specs.Prelude.{◌≡◌};
+ghost use Rattle.json_faults.specs.Names.{scalar_kind_form, vector_size_form, image_dimension_form, storage_format_name, storage_format_form, interpolation_form, sampling_form, shader_stage_form};
 
 use crate::to_json::ToJson;
 use crate::writer::JsonWriter;
@@ -51,54 +52,62 @@ impl ToJson for ImageDimension {
     }
 }
 
+/// The name of a format of storage images.
+#[tactic(auto, unfolding(crate::specs::Names::storage_format_name))]
+fn format_name(format: StorageFormat) -> &'static str
+    ensures { result.now ≡ storage_format_name format }
+{
+    match format {
+        StorageFormat::R8Unorm => "R8Unorm",
+        StorageFormat::R8Snorm => "R8Snorm",
+        StorageFormat::R8Uint => "R8Uint",
+        StorageFormat::R8Sint => "R8Sint",
+        StorageFormat::R16Uint => "R16Uint",
+        StorageFormat::R16Sint => "R16Sint",
+        StorageFormat::R16Unorm => "R16Unorm",
+        StorageFormat::R16Snorm => "R16Snorm",
+        StorageFormat::R16Float => "R16Float",
+        StorageFormat::Rg8Unorm => "Rg8Unorm",
+        StorageFormat::Rg8Snorm => "Rg8Snorm",
+        StorageFormat::Rg8Uint => "Rg8Uint",
+        StorageFormat::Rg8Sint => "Rg8Sint",
+        StorageFormat::R32Uint => "R32Uint",
+        StorageFormat::R32Sint => "R32Sint",
+        StorageFormat::R32Float => "R32Float",
+        StorageFormat::Rg16Uint => "Rg16Uint",
+        StorageFormat::Rg16Sint => "Rg16Sint",
+        StorageFormat::Rg16Unorm => "Rg16Unorm",
+        StorageFormat::Rg16Snorm => "Rg16Snorm",
+        StorageFormat::Rg16Float => "Rg16Float",
+        StorageFormat::Rgba8Unorm => "Rgba8Unorm",
+        StorageFormat::Rgba8Snorm => "Rgba8Snorm",
+        StorageFormat::Rgba8Uint => "Rgba8Uint",
+        StorageFormat::Rgba8Sint => "Rgba8Sint",
+        StorageFormat::Bgra8Unorm => "Bgra8Unorm",
+        StorageFormat::Rgb10a2Uint => "Rgb10a2Uint",
+        StorageFormat::Rgb10a2Unorm => "Rgb10a2Unorm",
+        StorageFormat::Rg11b10Ufloat => "Rg11b10Ufloat",
+        StorageFormat::R64Uint => "R64Uint",
+        StorageFormat::Rg32Uint => "Rg32Uint",
+        StorageFormat::Rg32Sint => "Rg32Sint",
+        StorageFormat::Rg32Float => "Rg32Float",
+        StorageFormat::Rgba16Uint => "Rgba16Uint",
+        StorageFormat::Rgba16Sint => "Rgba16Sint",
+        StorageFormat::Rgba16Unorm => "Rgba16Unorm",
+        StorageFormat::Rgba16Snorm => "Rgba16Snorm",
+        StorageFormat::Rgba16Float => "Rgba16Float",
+        StorageFormat::Rgba32Uint => "Rgba32Uint",
+        StorageFormat::Rgba32Sint => "Rgba32Sint",
+        StorageFormat::Rgba32Float => "Rgba32Float",
+    }
+}
+
 impl ToJson for StorageFormat {
     ghost form = { storage_format_form };
 
     #[tactic(auto, unfolding(crate::specs::Names::storage_format_form))]
     fn write_json(&self, out: &mut JsonWriter) -> Result<(), AllocError> {
-        match self {
-            StorageFormat::R8Unorm => out.string("R8Unorm"),
-            StorageFormat::R8Snorm => out.string("R8Snorm"),
-            StorageFormat::R8Uint => out.string("R8Uint"),
-            StorageFormat::R8Sint => out.string("R8Sint"),
-            StorageFormat::R16Uint => out.string("R16Uint"),
-            StorageFormat::R16Sint => out.string("R16Sint"),
-            StorageFormat::R16Unorm => out.string("R16Unorm"),
-            StorageFormat::R16Snorm => out.string("R16Snorm"),
-            StorageFormat::R16Float => out.string("R16Float"),
-            StorageFormat::Rg8Unorm => out.string("Rg8Unorm"),
-            StorageFormat::Rg8Snorm => out.string("Rg8Snorm"),
-            StorageFormat::Rg8Uint => out.string("Rg8Uint"),
-            StorageFormat::Rg8Sint => out.string("Rg8Sint"),
-            StorageFormat::R32Uint => out.string("R32Uint"),
-            StorageFormat::R32Sint => out.string("R32Sint"),
-            StorageFormat::R32Float => out.string("R32Float"),
-            StorageFormat::Rg16Uint => out.string("Rg16Uint"),
-            StorageFormat::Rg16Sint => out.string("Rg16Sint"),
-            StorageFormat::Rg16Unorm => out.string("Rg16Unorm"),
-            StorageFormat::Rg16Snorm => out.string("Rg16Snorm"),
-            StorageFormat::Rg16Float => out.string("Rg16Float"),
-            StorageFormat::Rgba8Unorm => out.string("Rgba8Unorm"),
-            StorageFormat::Rgba8Snorm => out.string("Rgba8Snorm"),
-            StorageFormat::Rgba8Uint => out.string("Rgba8Uint"),
-            StorageFormat::Rgba8Sint => out.string("Rgba8Sint"),
-            StorageFormat::Bgra8Unorm => out.string("Bgra8Unorm"),
-            StorageFormat::Rgb10a2Uint => out.string("Rgb10a2Uint"),
-            StorageFormat::Rgb10a2Unorm => out.string("Rgb10a2Unorm"),
-            StorageFormat::Rg11b10Ufloat => out.string("Rg11b10Ufloat"),
-            StorageFormat::R64Uint => out.string("R64Uint"),
-            StorageFormat::Rg32Uint => out.string("Rg32Uint"),
-            StorageFormat::Rg32Sint => out.string("Rg32Sint"),
-            StorageFormat::Rg32Float => out.string("Rg32Float"),
-            StorageFormat::Rgba16Uint => out.string("Rgba16Uint"),
-            StorageFormat::Rgba16Sint => out.string("Rgba16Sint"),
-            StorageFormat::Rgba16Unorm => out.string("Rgba16Unorm"),
-            StorageFormat::Rgba16Snorm => out.string("Rgba16Snorm"),
-            StorageFormat::Rgba16Float => out.string("Rgba16Float"),
-            StorageFormat::Rgba32Uint => out.string("Rgba32Uint"),
-            StorageFormat::Rgba32Sint => out.string("Rgba32Sint"),
-            StorageFormat::Rgba32Float => out.string("Rgba32Float"),
-        }
+        out.string(format_name(*self))
     }
 }
 
