@@ -19,21 +19,36 @@ use Rattle.json_faults.specs.Sets.{capabilities_form, storage_access_form, subgr
 use Rattle.json_faults.specs.Types.{atomic_function_form, image_class_form, space_form, switch_value_form, type_form}
 
 -- a fault of an expression
+unfoldable pub expression_error_name : ExpressionError → List ℕ
+expression_error_name expressions.NotInScope = codes "NotInScope"
+expression_error_name expressions.ExpectedGlobalVariable = codes "ExpectedGlobalVariable"
+expression_error_name (expressions.ExpectedBindingArrayType _) = codes "ExpectedBindingArrayType"
+expression_error_name (expressions.ExpectedImageType _) = codes "ExpectedImageType"
+expression_error_name (expressions.InvalidImageClass _) = codes "InvalidImageClass"
+expression_error_name (expressions.InvalidImageCoordinateType _ _) = codes "InvalidImageCoordinateType"
+expression_error_name expressions.InvalidImageArrayIndex = codes "InvalidImageArrayIndex"
+expression_error_name (expressions.InvalidImageArrayIndexType _) = codes "InvalidImageArrayIndexType"
+expression_error_name (expressions.InvalidImageStorageAccess _) = codes "InvalidImageStorageAccess"
+expression_error_name (expressions.InvalidImageFormat _) = codes "InvalidImageFormat"
+expression_error_name (expressions.Lower _) = codes "Lower"
+
+-- what it holds
+unfoldable pub expression_error_held : ExpressionError → Option Json
+expression_error_held expressions.NotInScope = None
+expression_error_held expressions.ExpectedGlobalVariable = None
+expression_error_held (expressions.ExpectedBindingArrayType ty) = Some (number_form ty)
+expression_error_held (expressions.ExpectedImageType ty) = Some (number_form ty)
+expression_error_held (expressions.InvalidImageClass class) = Some (image_class_form class)
+expression_error_held (expressions.InvalidImageCoordinateType dimension coordinate) =
+    Some (two_items (image_dimension_form dimension) (number_form coordinate))
+expression_error_held expressions.InvalidImageArrayIndex = None
+expression_error_held (expressions.InvalidImageArrayIndexType index) = Some (number_form index)
+expression_error_held (expressions.InvalidImageStorageAccess access) = Some (storage_access_form access)
+expression_error_held (expressions.InvalidImageFormat format) = Some (storage_format_form format)
+expression_error_held (expressions.Lower reason) = Some (number_form reason)
+
 unfoldable pub expression_error_form : ExpressionError → Json
-expression_error_form expressions.NotInScope = string (codes "NotInScope")
-expression_error_form expressions.ExpectedGlobalVariable = string (codes "ExpectedGlobalVariable")
-expression_error_form (expressions.ExpectedBindingArrayType ty) = holding (codes "ExpectedBindingArrayType") (number_form ty)
-expression_error_form (expressions.ExpectedImageType ty) = holding (codes "ExpectedImageType") (number_form ty)
-expression_error_form (expressions.InvalidImageClass class) = holding (codes "InvalidImageClass") (image_class_form class)
-expression_error_form (expressions.InvalidImageCoordinateType dimension coordinate) =
-    holding (codes "InvalidImageCoordinateType") (two_items (image_dimension_form dimension) (number_form coordinate))
-expression_error_form expressions.InvalidImageArrayIndex = string (codes "InvalidImageArrayIndex")
-expression_error_form (expressions.InvalidImageArrayIndexType index) =
-    holding (codes "InvalidImageArrayIndexType") (number_form index)
-expression_error_form (expressions.InvalidImageStorageAccess access) =
-    holding (codes "InvalidImageStorageAccess") (storage_access_form access)
-expression_error_form (expressions.InvalidImageFormat format) = holding (codes "InvalidImageFormat") (storage_format_form format)
-expression_error_form (expressions.Lower reason) = holding (codes "Lower") (number_form reason)
+expression_error_form error = variant (expression_error_name error) (expression_error_held error)
 
 -- a fault of a call
 unfoldable pub call_error_form : CallError → Json

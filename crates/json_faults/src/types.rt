@@ -1,6 +1,7 @@
 //! Types, and what they are made from.
 
-ghost use Rattle.json_faults.specs.Types.{scalar_form, member_form, space_form, image_class_form, array_size_form, atomic_function_form, switch_value_form, binding_form, type_form};
+ghost use Rattle.std.specs.Prelude.{◌≡◌};
+ghost use Rattle.json_faults.specs.Types.{scalar_form, member_form, space_form, image_class_name, image_class_form, array_size_form, atomic_function_form, switch_value_form, binding_form, inner_name, type_form};
 
 use crate::parts::{
     four_fields, holding, holding_field, holding_five, holding_three, holding_two, two_fields,
@@ -40,23 +41,37 @@ impl ToJson for AddressSpace {
     }
 }
 
+/// The name of a class of images.
+#[tactic(auto, unfolding(crate::specs::Types::image_class_name))]
+fn image_class_name(class: &ImageClass) -> &'static str
+    ensures { result.now ≡ image_class_name class.now }
+{
+    match class {
+        ImageClass::Sampled { .. } => "Sampled",
+        ImageClass::Depth { .. } => "Depth",
+        ImageClass::External => "External",
+        ImageClass::Storage { .. } => "Storage",
+    }
+}
+
 impl ToJson for ImageClass {
     ghost form = { image_class_form };
 
-    #[tactic(auto, unfolding(crate::specs::Types::image_class_form))]
+    #[tactic(auto, unfolding(crate::specs::Types::image_class_form, crate::specs::Types::image_class_held, crate::specs::Form::variant))]
     fn write_json(&self, out: &mut JsonWriter) -> Result<(), AllocError> {
+        let variant = image_class_name(self);
         match self {
             ImageClass::Sampled { kind, multi } => holding_two(
                 out,
-                &("Sampled", "kind", "multi"),
+                &(variant, "kind", "multi"),
                 kind,
                 multi,
             ),
-            ImageClass::Depth { multi } => holding_field(out, &("Depth", "multi"), multi),
-            ImageClass::External => out.string("External"),
+            ImageClass::Depth { multi } => holding_field(out, &(variant, "multi"), multi),
+            ImageClass::External => out.string(variant),
             ImageClass::Storage { format, access } => holding_two(
                 out,
-                &("Storage", "format", "access"),
+                &(variant, "format", "access"),
                 format,
                 access,
             ),
@@ -161,16 +176,40 @@ impl ToJson for StructMember {
     }
 }
 
+/// The name of a kind of type.
+#[tactic(auto, unfolding(crate::specs::Types::inner_name))]
+fn inner_name(inner: &TypeInner) -> &'static str
+    ensures { result.now ≡ inner_name inner.now }
+{
+    match inner {
+        TypeInner::Scalar(..) => "Scalar",
+        TypeInner::Vector { .. } => "Vector",
+        TypeInner::Matrix { .. } => "Matrix",
+        TypeInner::CooperativeMatrix { .. } => "CooperativeMatrix",
+        TypeInner::Atomic(..) => "Atomic",
+        TypeInner::Pointer { .. } => "Pointer",
+        TypeInner::ValuePointer { .. } => "ValuePointer",
+        TypeInner::Array { .. } => "Array",
+        TypeInner::Struct { .. } => "Struct",
+        TypeInner::Image { .. } => "Image",
+        TypeInner::Sampler { .. } => "Sampler",
+        TypeInner::AccelerationStructure { .. } => "AccelerationStructure",
+        TypeInner::RayQuery { .. } => "RayQuery",
+        TypeInner::BindingArray { .. } => "BindingArray",
+    }
+}
+
 impl ToJson for TypeInner {
     ghost form = { type_form };
 
-    #[tactic(auto, unfolding(crate::specs::Types::type_form))]
+    #[tactic(auto, unfolding(crate::specs::Types::type_form, crate::specs::Types::inner_held))]
     fn write_json(&self, out: &mut JsonWriter) -> Result<(), AllocError> {
+        let variant = inner_name(self);
         match self {
-            TypeInner::Scalar(scalar) => holding(out, "Scalar", scalar),
+            TypeInner::Scalar(scalar) | TypeInner::Atomic(scalar) => holding(out, variant, scalar),
             TypeInner::Vector { size, scalar } => holding_two(
                 out,
-                &("Vector", "size", "scalar"),
+                &(variant, "size", "scalar"),
                 size,
                 scalar,
             ),
@@ -180,21 +219,20 @@ impl ToJson for TypeInner {
                 scalar,
             } => holding_three(
                 out,
-                &("Matrix", "columns", "rows", "scalar"),
+                &(variant, "columns", "rows", "scalar"),
                 columns,
                 rows,
                 scalar,
             ),
             TypeInner::CooperativeMatrix { scalar, detail } => holding_two(
                 out,
-                &("CooperativeMatrix", "scalar", "detail"),
+                &(variant, "scalar", "detail"),
                 scalar,
                 detail,
             ),
-            TypeInner::Atomic(scalar) => holding(out, "Atomic", scalar),
             TypeInner::Pointer { base, space } => holding_two(
                 out,
-                &("Pointer", "base", "space"),
+                &(variant, "base", "space"),
                 base,
                 space,
             ),
@@ -204,21 +242,21 @@ impl ToJson for TypeInner {
                 space,
             } => holding_three(
                 out,
-                &("ValuePointer", "size", "scalar", "space"),
+                &(variant, "size", "scalar", "space"),
                 size,
                 scalar,
                 space,
             ),
             TypeInner::Array { base, size, stride } => holding_three(
                 out,
-                &("Array", "base", "size", "stride"),
+                &(variant, "base", "size", "stride"),
                 base,
                 size,
                 stride,
             ),
             TypeInner::Struct { members, span } => holding_two(
                 out,
-                &("Struct", "members", "span"),
+                &(variant, "members", "span"),
                 members,
                 span,
             ),
@@ -228,29 +266,25 @@ impl ToJson for TypeInner {
                 class,
             } => holding_three(
                 out,
-                &("Image", "dim", "arrayed", "class"),
+                &(variant, "dim", "arrayed", "class"),
                 dim,
                 arrayed,
                 class,
             ),
             TypeInner::Sampler { comparison } => holding_field(
                 out,
-                &("Sampler", "comparison"),
+                &(variant, "comparison"),
                 comparison,
             ),
-            TypeInner::AccelerationStructure { vertex_return } => holding_field(
+            TypeInner::AccelerationStructure { vertex_return }
+            | TypeInner::RayQuery { vertex_return } => holding_field(
                 out,
-                &("AccelerationStructure", "vertex_return"),
-                vertex_return,
-            ),
-            TypeInner::RayQuery { vertex_return } => holding_field(
-                out,
-                &("RayQuery", "vertex_return"),
+                &(variant, "vertex_return"),
                 vertex_return,
             ),
             TypeInner::BindingArray { base, size } => holding_two(
                 out,
-                &("BindingArray", "base", "size"),
+                &(variant, "base", "size"),
                 base,
                 size,
             ),
