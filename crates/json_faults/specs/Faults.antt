@@ -94,7 +94,7 @@ local_error_form (locals.InvalidType ty) = holding (codes "InvalidType") (number
 local_error_form locals.InitializerType = string (codes "InitializerType")
 local_error_form locals.NonConstOrOverrideInitializer = string (codes "NonConstOrOverrideInitializer")
 
--- a fault of a function: its name
+-- a fault of a function
 unfoldable pub function_error_name : FunctionError → List ℕ
 function_error_name (functions.Expression _ _) = codes "Expression"
 function_error_name (functions.ExpressionAlreadyInScope _) = codes "ExpressionAlreadyInScope"

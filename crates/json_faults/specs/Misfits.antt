@@ -77,13 +77,16 @@ statement_field_form (statement_fields.CallArgument index) = holding (codes "Cal
 statement_field_form field = string (statement_field_name field)
 
 -- which field of an entry point, or of its mesh
+unfoldable pub entry_field_name : EntryField → List ℕ
+entry_field_name entry_fields.TaskPayload = codes "TaskPayload"
+entry_field_name entry_fields.MaxVerticesOverride = codes "MaxVerticesOverride"
+entry_field_name entry_fields.MaxPrimitivesOverride = codes "MaxPrimitivesOverride"
+entry_field_name entry_fields.VertexOutputType = codes "VertexOutputType"
+entry_field_name entry_fields.PrimitiveOutputType = codes "PrimitiveOutputType"
+entry_field_name entry_fields.OutputVariable = codes "OutputVariable"
+
 unfoldable pub entry_field_form : EntryField → Json
-entry_field_form entry_fields.TaskPayload = string (codes "TaskPayload")
-entry_field_form entry_fields.MaxVerticesOverride = string (codes "MaxVerticesOverride")
-entry_field_form entry_fields.MaxPrimitivesOverride = string (codes "MaxPrimitivesOverride")
-entry_field_form entry_fields.VertexOutputType = string (codes "VertexOutputType")
-entry_field_form entry_fields.PrimitiveOutputType = string (codes "PrimitiveOutputType")
-entry_field_form entry_fields.OutputVariable = string (codes "OutputVariable")
+entry_field_form field = string (entry_field_name field)
 
 -- where it stands
 unfoldable pub place_name : Place → List ℕ
@@ -132,15 +135,18 @@ unfoldable pub place_form : Place → Json
 place_form place = variant (place_name place) (place_held place)
 
 -- what the handle is of
+unfoldable pub handle_of_name : HandleOf → List ℕ
+handle_of_name handle_ofs.Types = codes "Types"
+handle_of_name handle_ofs.Constants = codes "Constants"
+handle_of_name handle_ofs.Overrides = codes "Overrides"
+handle_of_name handle_ofs.GlobalVariables = codes "GlobalVariables"
+handle_of_name handle_ofs.GlobalExpressions = codes "GlobalExpressions"
+handle_of_name handle_ofs.Functions = codes "Functions"
+handle_of_name handle_ofs.LocalVariables = codes "LocalVariables"
+handle_of_name handle_ofs.Expressions = codes "Expressions"
+
 unfoldable pub handle_of_form : HandleOf → Json
-handle_of_form handle_ofs.Types = string (codes "Types")
-handle_of_form handle_ofs.Constants = string (codes "Constants")
-handle_of_form handle_ofs.Overrides = string (codes "Overrides")
-handle_of_form handle_ofs.GlobalVariables = string (codes "GlobalVariables")
-handle_of_form handle_ofs.GlobalExpressions = string (codes "GlobalExpressions")
-handle_of_form handle_ofs.Functions = string (codes "Functions")
-handle_of_form handle_ofs.LocalVariables = string (codes "LocalVariables")
-handle_of_form handle_ofs.Expressions = string (codes "Expressions")
+handle_of_form of = string (handle_of_name of)
 
 -- what is wrong there
 unfoldable pub problem_name : Problem → List ℕ

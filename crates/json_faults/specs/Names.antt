@@ -17,13 +17,16 @@ use Rattle.ir_module.specs.declared.module.ShaderStage.{ShaderStage}
 use Rattle.ir_module.specs.declared.module.ShaderStage.TheVariants as shader_stages
 
 -- the kinds of scalars
+unfoldable pub scalar_kind_name : ScalarKind → List ℕ
+scalar_kind_name kinds.Sint = codes "Sint"
+scalar_kind_name kinds.Uint = codes "Uint"
+scalar_kind_name kinds.Float = codes "Float"
+scalar_kind_name kinds.Bool = codes "Bool"
+scalar_kind_name kinds.AbstractInt = codes "AbstractInt"
+scalar_kind_name kinds.AbstractFloat = codes "AbstractFloat"
+
 unfoldable pub scalar_kind_form : ScalarKind → Json
-scalar_kind_form kinds.Sint = string (codes "Sint")
-scalar_kind_form kinds.Uint = string (codes "Uint")
-scalar_kind_form kinds.Float = string (codes "Float")
-scalar_kind_form kinds.Bool = string (codes "Bool")
-scalar_kind_form kinds.AbstractInt = string (codes "AbstractInt")
-scalar_kind_form kinds.AbstractFloat = string (codes "AbstractFloat")
+scalar_kind_form kind = string (scalar_kind_name kind)
 
 -- the sizes of vectors
 unfoldable pub vector_size_form : VectorSize → Json
@@ -93,21 +96,27 @@ interpolation_form interpolations.Flat = string (codes "Flat")
 interpolation_form interpolations.PerVertex = string (codes "PerVertex")
 
 -- where within a pixel it is taken
+unfoldable pub sampling_name : Sampling → List ℕ
+sampling_name samplings.Center = codes "Center"
+sampling_name samplings.Centroid = codes "Centroid"
+sampling_name samplings.Sample = codes "Sample"
+sampling_name samplings.First = codes "First"
+sampling_name samplings.Either = codes "Either"
+
 unfoldable pub sampling_form : Sampling → Json
-sampling_form samplings.Center = string (codes "Center")
-sampling_form samplings.Centroid = string (codes "Centroid")
-sampling_form samplings.Sample = string (codes "Sample")
-sampling_form samplings.First = string (codes "First")
-sampling_form samplings.Either = string (codes "Either")
+sampling_form sampling = string (sampling_name sampling)
 
 -- the stage of an entry point
+unfoldable pub shader_stage_name : ShaderStage → List ℕ
+shader_stage_name shader_stages.Vertex = codes "Vertex"
+shader_stage_name shader_stages.Fragment = codes "Fragment"
+shader_stage_name shader_stages.Compute = codes "Compute"
+shader_stage_name shader_stages.Mesh = codes "Mesh"
+shader_stage_name shader_stages.Task = codes "Task"
+shader_stage_name shader_stages.RayGeneration = codes "RayGeneration"
+shader_stage_name shader_stages.AnyHit = codes "AnyHit"
+shader_stage_name shader_stages.ClosestHit = codes "ClosestHit"
+shader_stage_name shader_stages.Miss = codes "Miss"
+
 unfoldable pub shader_stage_form : ShaderStage → Json
-shader_stage_form shader_stages.Vertex = string (codes "Vertex")
-shader_stage_form shader_stages.Fragment = string (codes "Fragment")
-shader_stage_form shader_stages.Compute = string (codes "Compute")
-shader_stage_form shader_stages.Mesh = string (codes "Mesh")
-shader_stage_form shader_stages.Task = string (codes "Task")
-shader_stage_form shader_stages.RayGeneration = string (codes "RayGeneration")
-shader_stage_form shader_stages.AnyHit = string (codes "AnyHit")
-shader_stage_form shader_stages.ClosestHit = string (codes "ClosestHit")
-shader_stage_form shader_stages.Miss = string (codes "Miss")
+shader_stage_form stage = string (shader_stage_name stage)

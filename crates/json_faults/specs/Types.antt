@@ -27,17 +27,21 @@ unfoldable pub scalar_form : Scalar → Json
 scalar_form scalar = two_fields (codes "kind") (scalar_kind_form scalar.kind) (codes "width") (number_form scalar.width)
 
 -- where a variable lies
+unfoldable pub space_name : AddressSpace → List ℕ
+space_name spaces.Function = codes "Function"
+space_name spaces.Private = codes "Private"
+space_name spaces.WorkGroup = codes "WorkGroup"
+space_name spaces.Uniform = codes "Uniform"
+space_name (spaces.Storage _) = codes "Storage"
+space_name spaces.Handle = codes "Handle"
+space_name spaces.Immediate = codes "Immediate"
+space_name spaces.TaskPayload = codes "TaskPayload"
+space_name spaces.RayPayload = codes "RayPayload"
+space_name spaces.IncomingRayPayload = codes "IncomingRayPayload"
+
 unfoldable pub space_form : AddressSpace → Json
-space_form spaces.Function = string (codes "Function")
-space_form spaces.Private = string (codes "Private")
-space_form spaces.WorkGroup = string (codes "WorkGroup")
-space_form spaces.Uniform = string (codes "Uniform")
 space_form (spaces.Storage access) = holding (codes "Storage") (one_field (codes "access") (storage_access_form access))
-space_form spaces.Handle = string (codes "Handle")
-space_form spaces.Immediate = string (codes "Immediate")
-space_form spaces.TaskPayload = string (codes "TaskPayload")
-space_form spaces.RayPayload = string (codes "RayPayload")
-space_form spaces.IncomingRayPayload = string (codes "IncomingRayPayload")
+space_form space = string (space_name space)
 
 -- the class of an image
 unfoldable pub image_class_name : ImageClass → List ℕ
@@ -65,16 +69,20 @@ array_size_form (array_sizes.Pending size) = holding (codes "Pending") (number_f
 array_size_form array_sizes.Dynamic = string (codes "Dynamic")
 
 -- what an atomic operation does
+unfoldable pub atomic_function_name : AtomicFunction → List ℕ
+atomic_function_name atomic_functions.Add = codes "Add"
+atomic_function_name atomic_functions.Subtract = codes "Subtract"
+atomic_function_name atomic_functions.And = codes "And"
+atomic_function_name atomic_functions.ExclusiveOr = codes "ExclusiveOr"
+atomic_function_name atomic_functions.InclusiveOr = codes "InclusiveOr"
+atomic_function_name atomic_functions.Min = codes "Min"
+atomic_function_name atomic_functions.Max = codes "Max"
+atomic_function_name (atomic_functions.Exchange _) = codes "Exchange"
+
 unfoldable pub atomic_function_form : AtomicFunction → Json
-atomic_function_form atomic_functions.Add = string (codes "Add")
-atomic_function_form atomic_functions.Subtract = string (codes "Subtract")
-atomic_function_form atomic_functions.And = string (codes "And")
-atomic_function_form atomic_functions.ExclusiveOr = string (codes "ExclusiveOr")
-atomic_function_form atomic_functions.InclusiveOr = string (codes "InclusiveOr")
-atomic_function_form atomic_functions.Min = string (codes "Min")
-atomic_function_form atomic_functions.Max = string (codes "Max")
 atomic_function_form (atomic_functions.Exchange compare) =
     holding (codes "Exchange") (one_field (codes "compare") (optional number_form compare))
+atomic_function_form function = string (atomic_function_name function)
 
 -- the value of a case
 unfoldable pub switch_value_form : SwitchValue → Json

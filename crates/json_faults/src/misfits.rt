@@ -1,7 +1,7 @@
 //! What doesn't fit in a module.
 
 ghost use Rattle.std.specs.Prelude.{◌≡◌};
-ghost use Rattle.json_faults.specs.Misfits.{owner_form, type_owner_form, type_field_form, variable_field_form, statement_field_name, statement_field_form, entry_field_form, place_name, place_form, handle_of_form, problem_name, problem_form, misfit_form};
+ghost use Rattle.json_faults.specs.Misfits.{owner_form, type_owner_form, type_field_form, variable_field_form, statement_field_name, statement_field_form, entry_field_name, entry_field_form, place_name, place_form, handle_of_name, handle_of_form, problem_name, problem_form, misfit_form};
 
 use crate::parts::{
     holding, holding_field, holding_pair, holding_three, holding_triple, holding_two, two_fields,
@@ -135,19 +135,27 @@ impl ToJson for StatementField {
     }
 }
 
+/// The name of a field of an entry point.
+#[tactic(auto, unfolding(crate::specs::Misfits::entry_field_name))]
+fn entry_field_name(field: &EntryField) -> &'static str
+    ensures { result.now ≡ entry_field_name field.now }
+{
+    match field {
+        EntryField::TaskPayload => "TaskPayload",
+        EntryField::MaxVerticesOverride => "MaxVerticesOverride",
+        EntryField::MaxPrimitivesOverride => "MaxPrimitivesOverride",
+        EntryField::VertexOutputType => "VertexOutputType",
+        EntryField::PrimitiveOutputType => "PrimitiveOutputType",
+        EntryField::OutputVariable => "OutputVariable",
+    }
+}
+
 impl ToJson for EntryField {
     ghost form = { entry_field_form };
 
     #[tactic(auto, unfolding(crate::specs::Misfits::entry_field_form))]
     fn write_json(&self, out: &mut JsonWriter) -> Result<(), AllocError> {
-        match self {
-            EntryField::TaskPayload => out.string("TaskPayload"),
-            EntryField::MaxVerticesOverride => out.string("MaxVerticesOverride"),
-            EntryField::MaxPrimitivesOverride => out.string("MaxPrimitivesOverride"),
-            EntryField::VertexOutputType => out.string("VertexOutputType"),
-            EntryField::PrimitiveOutputType => out.string("PrimitiveOutputType"),
-            EntryField::OutputVariable => out.string("OutputVariable"),
-        }
+        out.string(entry_field_name(self))
     }
 }
 
@@ -209,21 +217,29 @@ impl ToJson for Place {
     }
 }
 
+/// The name of what a handle is of.
+#[tactic(auto, unfolding(crate::specs::Misfits::handle_of_name))]
+fn handle_of_name(of: &HandleOf) -> &'static str
+    ensures { result.now ≡ handle_of_name of.now }
+{
+    match of {
+        HandleOf::Types => "Types",
+        HandleOf::Constants => "Constants",
+        HandleOf::Overrides => "Overrides",
+        HandleOf::GlobalVariables => "GlobalVariables",
+        HandleOf::GlobalExpressions => "GlobalExpressions",
+        HandleOf::Functions => "Functions",
+        HandleOf::LocalVariables => "LocalVariables",
+        HandleOf::Expressions => "Expressions",
+    }
+}
+
 impl ToJson for HandleOf {
     ghost form = { handle_of_form };
 
     #[tactic(auto, unfolding(crate::specs::Misfits::handle_of_form))]
     fn write_json(&self, out: &mut JsonWriter) -> Result<(), AllocError> {
-        match self {
-            HandleOf::Types => out.string("Types"),
-            HandleOf::Constants => out.string("Constants"),
-            HandleOf::Overrides => out.string("Overrides"),
-            HandleOf::GlobalVariables => out.string("GlobalVariables"),
-            HandleOf::GlobalExpressions => out.string("GlobalExpressions"),
-            HandleOf::Functions => out.string("Functions"),
-            HandleOf::LocalVariables => out.string("LocalVariables"),
-            HandleOf::Expressions => out.string("Expressions"),
-        }
+        out.string(handle_of_name(self))
     }
 }
 

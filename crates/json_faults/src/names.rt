@@ -1,7 +1,7 @@
 //! Values that are their names.
 
 ghost use Rattle.std.specs.Prelude.{◌≡◌};
-ghost use Rattle.json_faults.specs.Names.{scalar_kind_form, vector_size_form, image_dimension_form, storage_format_name, storage_format_form, interpolation_form, sampling_form, shader_stage_form};
+ghost use Rattle.json_faults.specs.Names.{scalar_kind_name, scalar_kind_form, vector_size_form, image_dimension_form, storage_format_name, storage_format_form, interpolation_form, sampling_name, sampling_form, shader_stage_name, shader_stage_form};
 
 use crate::to_json::ToJson;
 use crate::writer::JsonWriter;
@@ -9,19 +9,27 @@ use ir_module::ShaderStage;
 use ir_types::{ImageDimension, Interpolation, Sampling, ScalarKind, StorageFormat, VectorSize};
 use std::alloc::AllocError;
 
+/// The name of a kind of scalars.
+#[tactic(auto, unfolding(crate::specs::Names::scalar_kind_name))]
+fn scalar_kind_name(kind: ScalarKind) -> &'static str
+    ensures { result.now ≡ scalar_kind_name kind }
+{
+    match kind {
+        ScalarKind::Sint => "Sint",
+        ScalarKind::Uint => "Uint",
+        ScalarKind::Float => "Float",
+        ScalarKind::Bool => "Bool",
+        ScalarKind::AbstractInt => "AbstractInt",
+        ScalarKind::AbstractFloat => "AbstractFloat",
+    }
+}
+
 impl ToJson for ScalarKind {
     ghost form = { scalar_kind_form };
 
     #[tactic(auto, unfolding(crate::specs::Names::scalar_kind_form))]
     fn write_json(&self, out: &mut JsonWriter) -> Result<(), AllocError> {
-        match self {
-            ScalarKind::Sint => out.string("Sint"),
-            ScalarKind::Uint => out.string("Uint"),
-            ScalarKind::Float => out.string("Float"),
-            ScalarKind::Bool => out.string("Bool"),
-            ScalarKind::AbstractInt => out.string("AbstractInt"),
-            ScalarKind::AbstractFloat => out.string("AbstractFloat"),
-        }
+        out.string(scalar_kind_name(*self))
     }
 }
 
@@ -54,7 +62,7 @@ impl ToJson for ImageDimension {
 
 /// The name of a format of storage images.
 #[tactic(auto, unfolding(crate::specs::Names::storage_format_name))]
-fn format_name(format: StorageFormat) -> &'static str
+fn storage_format_name(format: StorageFormat) -> &'static str
     ensures { result.now ≡ storage_format_name format }
 {
     match format {
@@ -107,7 +115,7 @@ impl ToJson for StorageFormat {
 
     #[tactic(auto, unfolding(crate::specs::Names::storage_format_form))]
     fn write_json(&self, out: &mut JsonWriter) -> Result<(), AllocError> {
-        out.string(format_name(*self))
+        out.string(storage_format_name(*self))
     }
 }
 
@@ -125,18 +133,44 @@ impl ToJson for Interpolation {
     }
 }
 
+/// The name of a sampling.
+#[tactic(auto, unfolding(crate::specs::Names::sampling_name))]
+fn sampling_name(sampling: Sampling) -> &'static str
+    ensures { result.now ≡ sampling_name sampling }
+{
+    match sampling {
+        Sampling::Center => "Center",
+        Sampling::Centroid => "Centroid",
+        Sampling::Sample => "Sample",
+        Sampling::First => "First",
+        Sampling::Either => "Either",
+    }
+}
+
 impl ToJson for Sampling {
     ghost form = { sampling_form };
 
     #[tactic(auto, unfolding(crate::specs::Names::sampling_form))]
     fn write_json(&self, out: &mut JsonWriter) -> Result<(), AllocError> {
-        match self {
-            Sampling::Center => out.string("Center"),
-            Sampling::Centroid => out.string("Centroid"),
-            Sampling::Sample => out.string("Sample"),
-            Sampling::First => out.string("First"),
-            Sampling::Either => out.string("Either"),
-        }
+        out.string(sampling_name(*self))
+    }
+}
+
+/// The name of a stage.
+#[tactic(auto, unfolding(crate::specs::Names::shader_stage_name))]
+fn shader_stage_name(stage: ShaderStage) -> &'static str
+    ensures { result.now ≡ shader_stage_name stage }
+{
+    match stage {
+        ShaderStage::Vertex => "Vertex",
+        ShaderStage::Fragment => "Fragment",
+        ShaderStage::Compute => "Compute",
+        ShaderStage::Mesh => "Mesh",
+        ShaderStage::Task => "Task",
+        ShaderStage::RayGeneration => "RayGeneration",
+        ShaderStage::AnyHit => "AnyHit",
+        ShaderStage::ClosestHit => "ClosestHit",
+        ShaderStage::Miss => "Miss",
     }
 }
 
@@ -145,16 +179,6 @@ impl ToJson for ShaderStage {
 
     #[tactic(auto, unfolding(crate::specs::Names::shader_stage_form))]
     fn write_json(&self, out: &mut JsonWriter) -> Result<(), AllocError> {
-        match self {
-            ShaderStage::Vertex => out.string("Vertex"),
-            ShaderStage::Fragment => out.string("Fragment"),
-            ShaderStage::Compute => out.string("Compute"),
-            ShaderStage::Mesh => out.string("Mesh"),
-            ShaderStage::Task => out.string("Task"),
-            ShaderStage::RayGeneration => out.string("RayGeneration"),
-            ShaderStage::AnyHit => out.string("AnyHit"),
-            ShaderStage::ClosestHit => out.string("ClosestHit"),
-            ShaderStage::Miss => out.string("Miss"),
-        }
+        out.string(shader_stage_name(*self))
     }
 }

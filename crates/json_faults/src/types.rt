@@ -1,7 +1,7 @@
 //! Types, and what they are made from.
 
 ghost use Rattle.std.specs.Prelude.{◌≡◌};
-ghost use Rattle.json_faults.specs.Types.{scalar_form, member_form, space_form, image_class_name, image_class_form, array_size_form, atomic_function_form, switch_value_form, binding_form, inner_name, type_form};
+ghost use Rattle.json_faults.specs.Types.{scalar_form, member_form, space_name, space_form, image_class_name, image_class_form, array_size_form, atomic_function_name, atomic_function_form, switch_value_form, binding_form, inner_name, type_form};
 
 use crate::parts::{
     four_fields, holding, holding_field, holding_five, holding_three, holding_two, two_fields,
@@ -21,22 +21,41 @@ impl ToJson for Scalar {
     }
 }
 
+/// The name of an address space.
+#[tactic(auto, unfolding(crate::specs::Types::space_name))]
+fn space_name(space: &AddressSpace) -> &'static str
+    ensures { result.now ≡ space_name space.now }
+{
+    match space {
+        AddressSpace::Function => "Function",
+        AddressSpace::Private => "Private",
+        AddressSpace::WorkGroup => "WorkGroup",
+        AddressSpace::Uniform => "Uniform",
+        AddressSpace::Storage { .. } => "Storage",
+        AddressSpace::Handle => "Handle",
+        AddressSpace::Immediate => "Immediate",
+        AddressSpace::TaskPayload => "TaskPayload",
+        AddressSpace::RayPayload => "RayPayload",
+        AddressSpace::IncomingRayPayload => "IncomingRayPayload",
+    }
+}
+
 impl ToJson for AddressSpace {
     ghost form = { space_form };
 
     #[tactic(auto, unfolding(crate::specs::Types::space_form))]
     fn write_json(&self, out: &mut JsonWriter) -> Result<(), AllocError> {
         match self {
-            AddressSpace::Function => out.string("Function"),
-            AddressSpace::Private => out.string("Private"),
-            AddressSpace::WorkGroup => out.string("WorkGroup"),
-            AddressSpace::Uniform => out.string("Uniform"),
             AddressSpace::Storage { access } => holding_field(out, &("Storage", "access"), access),
-            AddressSpace::Handle => out.string("Handle"),
-            AddressSpace::Immediate => out.string("Immediate"),
-            AddressSpace::TaskPayload => out.string("TaskPayload"),
-            AddressSpace::RayPayload => out.string("RayPayload"),
-            AddressSpace::IncomingRayPayload => out.string("IncomingRayPayload"),
+            AddressSpace::Function
+            | AddressSpace::Private
+            | AddressSpace::WorkGroup
+            | AddressSpace::Uniform
+            | AddressSpace::Handle
+            | AddressSpace::Immediate
+            | AddressSpace::TaskPayload
+            | AddressSpace::RayPayload
+            | AddressSpace::IncomingRayPayload => out.string(space_name(self)),
         }
     }
 }
@@ -92,24 +111,41 @@ impl ToJson for ArraySize {
     }
 }
 
+/// The name of an atomic function.
+#[tactic(auto, unfolding(crate::specs::Types::atomic_function_name))]
+fn atomic_function_name(function: &AtomicFunction) -> &'static str
+    ensures { result.now ≡ atomic_function_name function.now }
+{
+    match function {
+        AtomicFunction::Add => "Add",
+        AtomicFunction::Subtract => "Subtract",
+        AtomicFunction::And => "And",
+        AtomicFunction::ExclusiveOr => "ExclusiveOr",
+        AtomicFunction::InclusiveOr => "InclusiveOr",
+        AtomicFunction::Min => "Min",
+        AtomicFunction::Max => "Max",
+        AtomicFunction::Exchange { .. } => "Exchange",
+    }
+}
+
 impl ToJson for AtomicFunction {
     ghost form = { atomic_function_form };
 
     #[tactic(auto, unfolding(crate::specs::Types::atomic_function_form))]
     fn write_json(&self, out: &mut JsonWriter) -> Result<(), AllocError> {
         match self {
-            AtomicFunction::Add => out.string("Add"),
-            AtomicFunction::Subtract => out.string("Subtract"),
-            AtomicFunction::And => out.string("And"),
-            AtomicFunction::ExclusiveOr => out.string("ExclusiveOr"),
-            AtomicFunction::InclusiveOr => out.string("InclusiveOr"),
-            AtomicFunction::Min => out.string("Min"),
-            AtomicFunction::Max => out.string("Max"),
             AtomicFunction::Exchange { compare } => holding_field(
                 out,
                 &("Exchange", "compare"),
                 compare,
             ),
+            AtomicFunction::Add
+            | AtomicFunction::Subtract
+            | AtomicFunction::And
+            | AtomicFunction::ExclusiveOr
+            | AtomicFunction::InclusiveOr
+            | AtomicFunction::Min
+            | AtomicFunction::Max => out.string(atomic_function_name(self)),
         }
     }
 }
