@@ -1,5 +1,5 @@
 -- Faults of expressions and functions.
-use Rattle.std.specs.Prelude.{codes}
+use Rattle.std.specs.Prelude.{ℕ, List, Option, None, Some, codes}
 use Rattle.json.specs.Json.{Json, string}
 use Rattle.ir_facts.specs.declared.valid.expression_error.ExpressionError.{ExpressionError}
 use Rattle.ir_facts.specs.declared.valid.expression_error.ExpressionError.TheVariants as expressions
@@ -13,27 +13,42 @@ use Rattle.check_errors.specs.declared.function.LocalVariableError.{LocalVariabl
 use Rattle.check_errors.specs.declared.function.LocalVariableError.TheVariants as locals
 use Rattle.check_errors.specs.declared.function.FunctionError.{FunctionError}
 use Rattle.check_errors.specs.declared.function.FunctionError.TheVariants as functions
-use Rattle.json_faults.specs.Form.{holding, number_form, one_field, optional, three_fields, three_items, two_fields, two_items}
+use Rattle.json_faults.specs.Form.{holding, number_form, one_field, optional, three_fields, three_items, two_fields, two_items, variant}
 use Rattle.json_faults.specs.Names.{image_dimension_form, storage_format_form}
 use Rattle.json_faults.specs.Sets.{capabilities_form, storage_access_form, subgroup_operations_form}
 use Rattle.json_faults.specs.Types.{atomic_function_form, image_class_form, space_form, switch_value_form, type_form}
 
 -- a fault of an expression
+unfoldable pub expression_error_name : ExpressionError → List ℕ
+expression_error_name expressions.NotInScope = codes "NotInScope"
+expression_error_name expressions.ExpectedGlobalVariable = codes "ExpectedGlobalVariable"
+expression_error_name (expressions.ExpectedBindingArrayType _) = codes "ExpectedBindingArrayType"
+expression_error_name (expressions.ExpectedImageType _) = codes "ExpectedImageType"
+expression_error_name (expressions.InvalidImageClass _) = codes "InvalidImageClass"
+expression_error_name (expressions.InvalidImageCoordinateType _ _) = codes "InvalidImageCoordinateType"
+expression_error_name expressions.InvalidImageArrayIndex = codes "InvalidImageArrayIndex"
+expression_error_name (expressions.InvalidImageArrayIndexType _) = codes "InvalidImageArrayIndexType"
+expression_error_name (expressions.InvalidImageStorageAccess _) = codes "InvalidImageStorageAccess"
+expression_error_name (expressions.InvalidImageFormat _) = codes "InvalidImageFormat"
+expression_error_name (expressions.Lower _) = codes "Lower"
+
+-- what it holds
+unfoldable pub expression_error_held : ExpressionError → Option Json
+expression_error_held expressions.NotInScope = None
+expression_error_held expressions.ExpectedGlobalVariable = None
+expression_error_held (expressions.ExpectedBindingArrayType ty) = Some (number_form ty)
+expression_error_held (expressions.ExpectedImageType ty) = Some (number_form ty)
+expression_error_held (expressions.InvalidImageClass class) = Some (image_class_form class)
+expression_error_held (expressions.InvalidImageCoordinateType dimension coordinate) =
+    Some (two_items (image_dimension_form dimension) (number_form coordinate))
+expression_error_held expressions.InvalidImageArrayIndex = None
+expression_error_held (expressions.InvalidImageArrayIndexType index) = Some (number_form index)
+expression_error_held (expressions.InvalidImageStorageAccess access) = Some (storage_access_form access)
+expression_error_held (expressions.InvalidImageFormat format) = Some (storage_format_form format)
+expression_error_held (expressions.Lower reason) = Some (number_form reason)
+
 unfoldable pub expression_error_form : ExpressionError → Json
-expression_error_form expressions.NotInScope = string (codes "NotInScope")
-expression_error_form expressions.ExpectedGlobalVariable = string (codes "ExpectedGlobalVariable")
-expression_error_form (expressions.ExpectedBindingArrayType ty) = holding (codes "ExpectedBindingArrayType") (number_form ty)
-expression_error_form (expressions.ExpectedImageType ty) = holding (codes "ExpectedImageType") (number_form ty)
-expression_error_form (expressions.InvalidImageClass class) = holding (codes "InvalidImageClass") (image_class_form class)
-expression_error_form (expressions.InvalidImageCoordinateType dimension coordinate) =
-    holding (codes "InvalidImageCoordinateType") (two_items (image_dimension_form dimension) (number_form coordinate))
-expression_error_form expressions.InvalidImageArrayIndex = string (codes "InvalidImageArrayIndex")
-expression_error_form (expressions.InvalidImageArrayIndexType index) =
-    holding (codes "InvalidImageArrayIndexType") (number_form index)
-expression_error_form (expressions.InvalidImageStorageAccess access) =
-    holding (codes "InvalidImageStorageAccess") (storage_access_form access)
-expression_error_form (expressions.InvalidImageFormat format) = holding (codes "InvalidImageFormat") (storage_format_form format)
-expression_error_form (expressions.Lower reason) = holding (codes "Lower") (number_form reason)
+expression_error_form error = variant (expression_error_name error) (expression_error_held error)
 
 -- a fault of a call
 unfoldable pub call_error_form : CallError → Json
@@ -80,91 +95,134 @@ local_error_form locals.InitializerType = string (codes "InitializerType")
 local_error_form locals.NonConstOrOverrideInitializer = string (codes "NonConstOrOverrideInitializer")
 
 -- a fault of a function
-unfoldable pub function_error_form : FunctionError → Json
-function_error_form (functions.Expression handle source) =
-    holding (codes "Expression") (two_fields (codes "handle") (number_form handle)
-    (codes "source") (expression_error_form source))
-function_error_form (functions.ExpressionAlreadyInScope handle) = holding (codes "ExpressionAlreadyInScope") (number_form handle)
-function_error_form (functions.LocalVariable handle name source) =
-    holding (codes "LocalVariable") (three_fields (codes "handle") (number_form handle) (codes "name") (string name)
+unfoldable pub function_error_name : FunctionError → List ℕ
+function_error_name (functions.Expression _ _) = codes "Expression"
+function_error_name (functions.ExpressionAlreadyInScope _) = codes "ExpressionAlreadyInScope"
+function_error_name (functions.LocalVariable _ _ _) = codes "LocalVariable"
+function_error_name (functions.InvalidArgumentType _ _) = codes "InvalidArgumentType"
+function_error_name functions.NonConstructibleReturnType = codes "NonConstructibleReturnType"
+function_error_name (functions.InvalidArgumentPointerSpace _ _ _) = codes "InvalidArgumentPointerSpace"
+function_error_name functions.BreakOutsideOfLoopOrSwitch = codes "BreakOutsideOfLoopOrSwitch"
+function_error_name functions.ContinueOutsideOfLoop = codes "ContinueOutsideOfLoop"
+function_error_name functions.InvalidReturnSpot = codes "InvalidReturnSpot"
+function_error_name (functions.InvalidReturnType _ _) = codes "InvalidReturnType"
+function_error_name (functions.InvalidIfType _) = codes "InvalidIfType"
+function_error_name (functions.InvalidSwitchType _) = codes "InvalidSwitchType"
+function_error_name (functions.ConflictingSwitchCase _) = codes "ConflictingSwitchCase"
+function_error_name functions.ConflictingCaseType = codes "ConflictingCaseType"
+function_error_name functions.MissingDefaultCase = codes "MissingDefaultCase"
+function_error_name functions.MultipleDefaultCases = codes "MultipleDefaultCases"
+function_error_name functions.LastCaseFallTrough = codes "LastCaseFallTrough"
+function_error_name (functions.InvalidStorePointer _) = codes "InvalidStorePointer"
+function_error_name (functions.InvalidStoreTexture _ _) = codes "InvalidStoreTexture"
+function_error_name (functions.InvalidStoreValue _ _ _) = codes "InvalidStoreValue"
+function_error_name (functions.InvalidStoreTypes _ _) = codes "InvalidStoreTypes"
+function_error_name (functions.InvalidImageStore _) = codes "InvalidImageStore"
+function_error_name (functions.InvalidImageAtomic _) = codes "InvalidImageAtomic"
+function_error_name (functions.InvalidImageAtomicFunction _) = codes "InvalidImageAtomicFunction"
+function_error_name (functions.InvalidImageAtomicValue _) = codes "InvalidImageAtomicValue"
+function_error_name (functions.InvalidCall _ _) = codes "InvalidCall"
+function_error_name (functions.InvalidAtomic _) = codes "InvalidAtomic"
+function_error_name (functions.InvalidRayQueryExpression _) = codes "InvalidRayQueryExpression"
+function_error_name (functions.InvalidAccelerationStructure _) = codes "InvalidAccelerationStructure"
+function_error_name (functions.MissingAccelerationStructureVertexReturn _ _) = codes "MissingAccelerationStructureVertexReturn"
+function_error_name (functions.MissingRayQueryVertexReturn _) = codes "MissingRayQueryVertexReturn"
+function_error_name (functions.InvalidRayDescriptor _) = codes "InvalidRayDescriptor"
+function_error_name (functions.InvalidRayQueryType _) = codes "InvalidRayQueryType"
+function_error_name (functions.InvalidHitDistanceType _) = codes "InvalidHitDistanceType"
+function_error_name (functions.MissingCapability _) = codes "MissingCapability"
+function_error_name (functions.NonUniformControlFlow _ _ _) = codes "NonUniformControlFlow"
+function_error_name (functions.PipelineInputRegularFunction _) = codes "PipelineInputRegularFunction"
+function_error_name functions.PipelineOutputRegularFunction = codes "PipelineOutputRegularFunction"
+function_error_name (functions.NonUniformWorkgroupUniformLoad _) = codes "NonUniformWorkgroupUniformLoad"
+function_error_name (functions.WorkgroupUniformLoadExpressionMismatch _) = codes "WorkgroupUniformLoadExpressionMismatch"
+function_error_name (functions.WorkgroupUniformLoadInvalidPointer _) = codes "WorkgroupUniformLoadInvalidPointer"
+function_error_name (functions.InvalidSubgroup _) = codes "InvalidSubgroup"
+function_error_name (functions.InvalidCooperativeStoreTarget _) = codes "InvalidCooperativeStoreTarget"
+function_error_name (functions.InvalidCooperativeDataPointer _) = codes "InvalidCooperativeDataPointer"
+function_error_name (functions.EmitResult _) = codes "EmitResult"
+function_error_name (functions.UnvisitedExpression _) = codes "UnvisitedExpression"
+function_error_name (functions.InvalidMeshFunctionCall _) = codes "InvalidMeshFunctionCall"
+function_error_name (functions.ConflictingMeshOutputTypes _ _) = codes "ConflictingMeshOutputTypes"
+function_error_name (functions.ConflictingTaskPayloadVariables _ _) = codes "ConflictingTaskPayloadVariables"
+function_error_name (functions.InvalidMeshShaderOutputType _) = codes "InvalidMeshShaderOutputType"
+function_error_name functions.InvalidPayloadType = codes "InvalidPayloadType"
+function_error_name (functions.InvalidPayloadAddressSpace _) = codes "InvalidPayloadAddressSpace"
+function_error_name (functions.MismatchedPayloadType _ _) = codes "MismatchedPayloadType"
+function_error_name functions.PayloadPointerNotGlobal = codes "PayloadPointerNotGlobal"
+
+-- what it holds
+unfoldable pub function_error_held : FunctionError → Option Json
+function_error_held (functions.Expression handle source) =
+    Some (two_fields (codes "handle") (number_form handle) (codes "source") (expression_error_form source))
+function_error_held (functions.ExpressionAlreadyInScope handle) = Some (number_form handle)
+function_error_held (functions.LocalVariable handle name source) =
+    Some (three_fields (codes "handle") (number_form handle) (codes "name") (string name)
     (codes "source") (local_error_form source))
-function_error_form (functions.InvalidArgumentType index name) =
-    holding (codes "InvalidArgumentType") (two_fields (codes "index") (number_form index) (codes "name") (string name))
-function_error_form functions.NonConstructibleReturnType = string (codes "NonConstructibleReturnType")
-function_error_form (functions.InvalidArgumentPointerSpace index name space) =
-    holding (codes "InvalidArgumentPointerSpace") (three_fields (codes "index") (number_form index) (codes "name") (string name)
-    (codes "space") (space_form space))
-function_error_form functions.BreakOutsideOfLoopOrSwitch = string (codes "BreakOutsideOfLoopOrSwitch")
-function_error_form functions.ContinueOutsideOfLoop = string (codes "ContinueOutsideOfLoop")
-function_error_form functions.InvalidReturnSpot = string (codes "InvalidReturnSpot")
-function_error_form (functions.InvalidReturnType expression expected_ty) =
-    holding (codes "InvalidReturnType") (two_fields (codes "expression") (optional number_form expression)
+function_error_held (functions.InvalidArgumentType index name) =
+    Some (two_fields (codes "index") (number_form index) (codes "name") (string name))
+function_error_held functions.NonConstructibleReturnType = None
+function_error_held (functions.InvalidArgumentPointerSpace index name space) =
+    Some (three_fields (codes "index") (number_form index) (codes "name") (string name) (codes "space") (space_form space))
+function_error_held functions.BreakOutsideOfLoopOrSwitch = None
+function_error_held functions.ContinueOutsideOfLoop = None
+function_error_held functions.InvalidReturnSpot = None
+function_error_held (functions.InvalidReturnType expression expected_ty) =
+    Some (two_fields (codes "expression") (optional number_form expression)
     (codes "expected_ty") (optional number_form expected_ty))
-function_error_form (functions.InvalidIfType handle) = holding (codes "InvalidIfType") (number_form handle)
-function_error_form (functions.InvalidSwitchType handle) = holding (codes "InvalidSwitchType") (number_form handle)
-function_error_form (functions.ConflictingSwitchCase value) = holding (codes "ConflictingSwitchCase") (switch_value_form value)
-function_error_form functions.ConflictingCaseType = string (codes "ConflictingCaseType")
-function_error_form functions.MissingDefaultCase = string (codes "MissingDefaultCase")
-function_error_form functions.MultipleDefaultCases = string (codes "MultipleDefaultCases")
-function_error_form functions.LastCaseFallTrough = string (codes "LastCaseFallTrough")
-function_error_form (functions.InvalidStorePointer handle) = holding (codes "InvalidStorePointer") (number_form handle)
-function_error_form (functions.InvalidStoreTexture actual actual_ty) =
-    holding (codes "InvalidStoreTexture") (two_fields (codes "actual") (number_form actual)
-    (codes "actual_ty") (type_form actual_ty))
-function_error_form (functions.InvalidStoreValue actual actual_ty expected_ty) =
-    holding (codes "InvalidStoreValue") (three_fields (codes "actual") (number_form actual)
-    (codes "actual_ty") (type_form actual_ty) (codes "expected_ty") (type_form expected_ty))
-function_error_form (functions.InvalidStoreTypes pointer value) =
-    holding (codes "InvalidStoreTypes") (two_fields (codes "pointer") (number_form pointer) (codes "value") (number_form value))
-function_error_form (functions.InvalidImageStore error) = holding (codes "InvalidImageStore") (expression_error_form error)
-function_error_form (functions.InvalidImageAtomic error) = holding (codes "InvalidImageAtomic") (expression_error_form error)
-function_error_form (functions.InvalidImageAtomicFunction f) =
-    holding (codes "InvalidImageAtomicFunction") (atomic_function_form f)
-function_error_form (functions.InvalidImageAtomicValue handle) = holding (codes "InvalidImageAtomicValue") (number_form handle)
-function_error_form (functions.InvalidCall f error) =
-    holding (codes "InvalidCall") (two_fields (codes "function") (number_form f) (codes "error") (call_error_form error))
-function_error_form (functions.InvalidAtomic error) = holding (codes "InvalidAtomic") (atomic_error_form error)
-function_error_form (functions.InvalidRayQueryExpression handle) =
-    holding (codes "InvalidRayQueryExpression") (number_form handle)
-function_error_form (functions.InvalidAccelerationStructure handle) =
-    holding (codes "InvalidAccelerationStructure") (number_form handle)
-function_error_form (functions.MissingAccelerationStructureVertexReturn first second) =
-    holding (codes "MissingAccelerationStructureVertexReturn") (two_items (number_form first) (number_form second))
-function_error_form (functions.MissingRayQueryVertexReturn handle) =
-    holding (codes "MissingRayQueryVertexReturn") (number_form handle)
-function_error_form (functions.InvalidRayDescriptor handle) = holding (codes "InvalidRayDescriptor") (number_form handle)
-function_error_form (functions.InvalidRayQueryType ty) = holding (codes "InvalidRayQueryType") (number_form ty)
-function_error_form (functions.InvalidHitDistanceType handle) = holding (codes "InvalidHitDistanceType") (number_form handle)
-function_error_form (functions.MissingCapability capabilities) =
-    holding (codes "MissingCapability") (capabilities_form capabilities)
-function_error_form (functions.NonUniformControlFlow requirements handle disruptor) =
-    holding (codes "NonUniformControlFlow") (three_items (number_form requirements.0) (number_form handle)
-    (number_form disruptor.0))
-function_error_form (functions.PipelineInputRegularFunction name) =
-    holding (codes "PipelineInputRegularFunction") (one_field (codes "name") (string name))
-function_error_form functions.PipelineOutputRegularFunction = string (codes "PipelineOutputRegularFunction")
-function_error_form (functions.NonUniformWorkgroupUniformLoad disruptor) =
-    holding (codes "NonUniformWorkgroupUniformLoad") (number_form disruptor.0)
-function_error_form (functions.WorkgroupUniformLoadExpressionMismatch handle) =
-    holding (codes "WorkgroupUniformLoadExpressionMismatch") (number_form handle)
-function_error_form (functions.WorkgroupUniformLoadInvalidPointer handle) =
-    holding (codes "WorkgroupUniformLoadInvalidPointer") (number_form handle)
-function_error_form (functions.InvalidSubgroup error) = holding (codes "InvalidSubgroup") (subgroup_error_form error)
-function_error_form (functions.InvalidCooperativeStoreTarget handle) =
-    holding (codes "InvalidCooperativeStoreTarget") (number_form handle)
-function_error_form (functions.InvalidCooperativeDataPointer handle) =
-    holding (codes "InvalidCooperativeDataPointer") (number_form handle)
-function_error_form (functions.EmitResult handle) = holding (codes "EmitResult") (number_form handle)
-function_error_form (functions.UnvisitedExpression handle) = holding (codes "UnvisitedExpression") (number_form handle)
-function_error_form (functions.InvalidMeshFunctionCall handle) = holding (codes "InvalidMeshFunctionCall") (number_form handle)
-function_error_form (functions.ConflictingMeshOutputTypes first second) =
-    holding (codes "ConflictingMeshOutputTypes") (two_items (number_form first) (number_form second))
-function_error_form (functions.ConflictingTaskPayloadVariables first second) =
-    holding (codes "ConflictingTaskPayloadVariables") (two_items (number_form first) (number_form second))
-function_error_form (functions.InvalidMeshShaderOutputType handle) =
-    holding (codes "InvalidMeshShaderOutputType") (number_form handle)
-function_error_form functions.InvalidPayloadType = string (codes "InvalidPayloadType")
-function_error_form (functions.InvalidPayloadAddressSpace space) = holding (codes "InvalidPayloadAddressSpace") (space_form space)
-function_error_form (functions.MismatchedPayloadType ty earlier) =
-    holding (codes "MismatchedPayloadType") (two_items (number_form ty) (number_form earlier))
-function_error_form functions.PayloadPointerNotGlobal = string (codes "PayloadPointerNotGlobal")
+function_error_held (functions.InvalidIfType handle) = Some (number_form handle)
+function_error_held (functions.InvalidSwitchType handle) = Some (number_form handle)
+function_error_held (functions.ConflictingSwitchCase value) = Some (switch_value_form value)
+function_error_held functions.ConflictingCaseType = None
+function_error_held functions.MissingDefaultCase = None
+function_error_held functions.MultipleDefaultCases = None
+function_error_held functions.LastCaseFallTrough = None
+function_error_held (functions.InvalidStorePointer handle) = Some (number_form handle)
+function_error_held (functions.InvalidStoreTexture actual actual_ty) =
+    Some (two_fields (codes "actual") (number_form actual) (codes "actual_ty") (type_form actual_ty))
+function_error_held (functions.InvalidStoreValue actual actual_ty expected_ty) =
+    Some (three_fields (codes "actual") (number_form actual) (codes "actual_ty") (type_form actual_ty)
+    (codes "expected_ty") (type_form expected_ty))
+function_error_held (functions.InvalidStoreTypes pointer value) =
+    Some (two_fields (codes "pointer") (number_form pointer) (codes "value") (number_form value))
+function_error_held (functions.InvalidImageStore error) = Some (expression_error_form error)
+function_error_held (functions.InvalidImageAtomic error) = Some (expression_error_form error)
+function_error_held (functions.InvalidImageAtomicFunction f) = Some (atomic_function_form f)
+function_error_held (functions.InvalidImageAtomicValue handle) = Some (number_form handle)
+function_error_held (functions.InvalidCall f error) =
+    Some (two_fields (codes "function") (number_form f) (codes "error") (call_error_form error))
+function_error_held (functions.InvalidAtomic error) = Some (atomic_error_form error)
+function_error_held (functions.InvalidRayQueryExpression handle) = Some (number_form handle)
+function_error_held (functions.InvalidAccelerationStructure handle) = Some (number_form handle)
+function_error_held (functions.MissingAccelerationStructureVertexReturn first second) =
+    Some (two_items (number_form first) (number_form second))
+function_error_held (functions.MissingRayQueryVertexReturn handle) = Some (number_form handle)
+function_error_held (functions.InvalidRayDescriptor handle) = Some (number_form handle)
+function_error_held (functions.InvalidRayQueryType ty) = Some (number_form ty)
+function_error_held (functions.InvalidHitDistanceType handle) = Some (number_form handle)
+function_error_held (functions.MissingCapability capabilities) = Some (capabilities_form capabilities)
+function_error_held (functions.NonUniformControlFlow requirements handle disruptor) =
+    Some (three_items (number_form requirements.0) (number_form handle) (number_form disruptor.0))
+function_error_held (functions.PipelineInputRegularFunction name) = Some (one_field (codes "name") (string name))
+function_error_held functions.PipelineOutputRegularFunction = None
+function_error_held (functions.NonUniformWorkgroupUniformLoad disruptor) = Some (number_form disruptor.0)
+function_error_held (functions.WorkgroupUniformLoadExpressionMismatch handle) = Some (number_form handle)
+function_error_held (functions.WorkgroupUniformLoadInvalidPointer handle) = Some (number_form handle)
+function_error_held (functions.InvalidSubgroup error) = Some (subgroup_error_form error)
+function_error_held (functions.InvalidCooperativeStoreTarget handle) = Some (number_form handle)
+function_error_held (functions.InvalidCooperativeDataPointer handle) = Some (number_form handle)
+function_error_held (functions.EmitResult handle) = Some (number_form handle)
+function_error_held (functions.UnvisitedExpression handle) = Some (number_form handle)
+function_error_held (functions.InvalidMeshFunctionCall handle) = Some (number_form handle)
+function_error_held (functions.ConflictingMeshOutputTypes first second) =
+    Some (two_items (number_form first) (number_form second))
+function_error_held (functions.ConflictingTaskPayloadVariables first second) =
+    Some (two_items (number_form first) (number_form second))
+function_error_held (functions.InvalidMeshShaderOutputType handle) = Some (number_form handle)
+function_error_held functions.InvalidPayloadType = None
+function_error_held (functions.InvalidPayloadAddressSpace space) = Some (space_form space)
+function_error_held (functions.MismatchedPayloadType ty earlier) = Some (two_items (number_form ty) (number_form earlier))
+function_error_held functions.PayloadPointerNotGlobal = None
+
+unfoldable pub function_error_form : FunctionError → Json
+function_error_form error = variant (function_error_name error) (function_error_held error)

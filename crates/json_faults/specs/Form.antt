@@ -1,7 +1,7 @@
 -- How values are written as JSON: a JSON value for each, and its text.
 use Rattle.std.specs.Prelude.{◌≡◌, ℕ, ℤ, List, [], ◌∷◌, ◌++◌, Option, None, Some, Result, OnOk, decimal}
 use Rattle.std.specs.Fmt.{signed_decimal}
-use Rattle.json.specs.Json.{Json, null, number, array, object, Items, no_items, item, no_members, member}
+use Rattle.json.specs.Json.{Json, null, number, string, array, object, Items, no_items, item, no_members, member}
 use Rattle.json.specs.Print.{print}
 use Rattle.json.specs.Token.{Token}
 use Rattle.json.specs.Tree.{json_tokens}
@@ -42,6 +42,11 @@ three_items a b c = array (item a (item b (item c no_items)))
 -- an object with one field, as a variant that holds something: its name is the field
 unfoldable pub holding : List ℕ → Json → Json
 holding name j = object (member name j no_members)
+
+-- a variant by its name: alone, or with what it holds
+unfoldable pub variant : List ℕ → Option Json → Json
+variant name None = string name
+variant name (Some held) = holding name held
 
 unfoldable pub one_field : List ℕ → Json → Json
 one_field f a = object (member f a no_members)

@@ -1,5 +1,5 @@
 -- Faults of globals, of inputs and outputs, and of entry points.
-use Rattle.std.specs.Prelude.{codes}
+use Rattle.std.specs.Prelude.{ℕ, List, Option, None, Some, codes}
 use Rattle.json.specs.Json.{Json, string}
 use Rattle.check_errors.specs.declared.interface.GlobalVariableError.{GlobalVariableError}
 use Rattle.check_errors.specs.declared.interface.GlobalVariableError.TheVariants as globals
@@ -9,110 +9,187 @@ use Rattle.check_faults.specs.declared.entry.EntryPointError.{EntryPointError}
 use Rattle.check_faults.specs.declared.entry.EntryPointError.TheVariants as entries
 use Rattle.json_faults.specs.BuiltIns.{built_in_form}
 use Rattle.json_faults.specs.Faults.{function_error_form}
-use Rattle.json_faults.specs.Form.{holding, number_form, one_field, three_items, two_fields, two_items}
+use Rattle.json_faults.specs.Form.{number_form, one_field, three_items, two_fields, two_items, variant}
 use Rattle.json_faults.specs.Names.{interpolation_form, sampling_form, shader_stage_form}
 use Rattle.json_faults.specs.Sets.{capabilities_form, global_use_form, type_flags_form}
 use Rattle.json_faults.specs.Types.{space_form, type_form}
 
 -- a fault of a global variable
+unfoldable pub global_error_name : GlobalVariableError → List ℕ
+global_error_name (globals.InvalidUsage _) = codes "InvalidUsage"
+global_error_name (globals.InvalidType _) = codes "InvalidType"
+global_error_name (globals.InvalidBindingArray _) = codes "InvalidBindingArray"
+global_error_name (globals.MissingTypeFlags _ _) = codes "MissingTypeFlags"
+global_error_name (globals.UnsupportedCapability _) = codes "UnsupportedCapability"
+global_error_name globals.InvalidBinding = codes "InvalidBinding"
+global_error_name (globals.Alignment _ _ _) = codes "Alignment"
+global_error_name globals.InitializerExprType = codes "InitializerExprType"
+global_error_name globals.InitializerType = codes "InitializerType"
+global_error_name (globals.InitializerNotAllowed _) = codes "InitializerNotAllowed"
+global_error_name globals.StorageAddressSpaceWriteOnlyNotSupported = codes "StorageAddressSpaceWriteOnlyNotSupported"
+global_error_name (globals.InvalidImmediateType _) = codes "InvalidImmediateType"
+global_error_name globals.ZeroSizedTaskPayload = codes "ZeroSizedTaskPayload"
+global_error_name globals.InvalidMemoryDecorationsAddressSpace = codes "InvalidMemoryDecorationsAddressSpace"
+global_error_name globals.CoherentNotSupported = codes "CoherentNotSupported"
+global_error_name globals.VolatileNotSupported = codes "VolatileNotSupported"
+
+-- what it holds
+unfoldable pub global_error_held : GlobalVariableError → Option Json
+global_error_held (globals.InvalidUsage space) = Some (space_form space)
+global_error_held (globals.InvalidType space) = Some (space_form space)
+global_error_held (globals.InvalidBindingArray ty) = Some (number_form ty)
+global_error_held (globals.MissingTypeFlags required seen) =
+    Some (two_fields (codes "required") (type_flags_form required) (codes "seen") (type_flags_form seen))
+global_error_held (globals.UnsupportedCapability capabilities) = Some (capabilities_form capabilities)
+global_error_held globals.InvalidBinding = None
+global_error_held (globals.Alignment space ty disalignment) =
+    Some (three_items (space_form space) (number_form ty) (number_form disalignment.0))
+global_error_held globals.InitializerExprType = None
+global_error_held globals.InitializerType = None
+global_error_held (globals.InitializerNotAllowed space) = Some (space_form space)
+global_error_held globals.StorageAddressSpaceWriteOnlyNotSupported = None
+global_error_held (globals.InvalidImmediateType error) = Some (number_form error.0)
+global_error_held globals.ZeroSizedTaskPayload = None
+global_error_held globals.InvalidMemoryDecorationsAddressSpace = None
+global_error_held globals.CoherentNotSupported = None
+global_error_held globals.VolatileNotSupported = None
+
 unfoldable pub global_error_form : GlobalVariableError → Json
-global_error_form (globals.InvalidUsage space) = holding (codes "InvalidUsage") (space_form space)
-global_error_form (globals.InvalidType space) = holding (codes "InvalidType") (space_form space)
-global_error_form (globals.InvalidBindingArray ty) = holding (codes "InvalidBindingArray") (number_form ty)
-global_error_form (globals.MissingTypeFlags required seen) =
-    holding (codes "MissingTypeFlags") (two_fields (codes "required") (type_flags_form required)
-    (codes "seen") (type_flags_form seen))
-global_error_form (globals.UnsupportedCapability capabilities) =
-    holding (codes "UnsupportedCapability") (capabilities_form capabilities)
-global_error_form globals.InvalidBinding = string (codes "InvalidBinding")
-global_error_form (globals.Alignment space ty disalignment) =
-    holding (codes "Alignment") (three_items (space_form space) (number_form ty) (number_form disalignment.0))
-global_error_form globals.InitializerExprType = string (codes "InitializerExprType")
-global_error_form globals.InitializerType = string (codes "InitializerType")
-global_error_form (globals.InitializerNotAllowed space) = holding (codes "InitializerNotAllowed") (space_form space)
-global_error_form globals.StorageAddressSpaceWriteOnlyNotSupported = string (codes "StorageAddressSpaceWriteOnlyNotSupported")
-global_error_form (globals.InvalidImmediateType error) = holding (codes "InvalidImmediateType") (number_form error.0)
-global_error_form globals.ZeroSizedTaskPayload = string (codes "ZeroSizedTaskPayload")
-global_error_form globals.InvalidMemoryDecorationsAddressSpace = string (codes "InvalidMemoryDecorationsAddressSpace")
-global_error_form globals.CoherentNotSupported = string (codes "CoherentNotSupported")
-global_error_form globals.VolatileNotSupported = string (codes "VolatileNotSupported")
+global_error_form error = variant (global_error_name error) (global_error_held error)
 
 -- a fault of an input or output
-unfoldable pub varying_error_form : VaryingError → Json
-varying_error_form (varyings.InvalidType ty) = holding (codes "InvalidType") (number_form ty)
-varying_error_form (varyings.NotIOShareableType ty) = holding (codes "NotIOShareableType") (number_form ty)
-varying_error_form (varyings.InvalidInterpolationInStage interpolation stage) =
-    holding (codes "InvalidInterpolationInStage") (two_items (interpolation_form interpolation) (shader_stage_form stage))
-varying_error_form (varyings.InvalidInterpolationSamplingCombination interpolation sampling) =
-    holding (codes "InvalidInterpolationSamplingCombination") (two_fields
-    (codes "interpolation") (interpolation_form interpolation) (codes "sampling") (sampling_form sampling))
-varying_error_form varyings.InvalidInterpolationForInteger = string (codes "InvalidInterpolationForInteger")
-varying_error_form varyings.MissingInterpolation = string (codes "MissingInterpolation")
-varying_error_form (varyings.InvalidBuiltInStage built_in) = holding (codes "InvalidBuiltInStage") (built_in_form built_in)
-varying_error_form (varyings.InvalidBuiltInType built_in ty) =
-    holding (codes "InvalidBuiltInType") (two_items (built_in_form built_in) (type_form ty))
-varying_error_form varyings.MissingBinding = string (codes "MissingBinding")
-varying_error_form (varyings.MemberMissingBinding index) = holding (codes "MemberMissingBinding") (number_form index)
-varying_error_form (varyings.BindingCollision location) =
-    holding (codes "BindingCollision") (one_field (codes "location") (number_form location))
-varying_error_form (varyings.BindingCollisionBlendSrc blend_src) =
-    holding (codes "BindingCollisionBlendSrc") (one_field (codes "blend_src") (number_form blend_src))
-varying_error_form (varyings.DuplicateBuiltIn built_in) = holding (codes "DuplicateBuiltIn") (built_in_form built_in)
-varying_error_form (varyings.UnsupportedCapability capabilities) =
-    holding (codes "UnsupportedCapability") (capabilities_form capabilities)
-varying_error_form (varyings.InvalidInputAttributeInStage attribute stage) =
-    holding (codes "InvalidInputAttributeInStage") (two_items (string attribute.now) (shader_stage_form stage))
-varying_error_form (varyings.InvalidAttributeInStage attribute stage) =
-    holding (codes "InvalidAttributeInStage") (two_items (string attribute.now) (shader_stage_form stage))
-varying_error_form (varyings.InvalidBlendSrcIndex location blend_src) =
-    holding (codes "InvalidBlendSrcIndex") (two_fields (codes "location") (number_form location)
-    (codes "blend_src") (number_form blend_src))
-varying_error_form (varyings.IncompleteBlendSrcUsage present_blend_src) =
-    holding (codes "IncompleteBlendSrcUsage") (one_field (codes "present_blend_src") (number_form present_blend_src))
-varying_error_form (varyings.InvalidBlendSrcWithOtherBindings location) =
-    holding (codes "InvalidBlendSrcWithOtherBindings") (one_field (codes "location") (number_form location))
-varying_error_form (varyings.BlendSrcOutputTypeMismatch blend_src_0_type blend_src_1_type) =
-    holding (codes "BlendSrcOutputTypeMismatch") (two_fields (codes "blend_src_0_type") (number_form blend_src_0_type)
+unfoldable pub varying_error_name : VaryingError → List ℕ
+varying_error_name (varyings.InvalidType _) = codes "InvalidType"
+varying_error_name (varyings.NotIOShareableType _) = codes "NotIOShareableType"
+varying_error_name (varyings.InvalidInterpolationInStage _ _) = codes "InvalidInterpolationInStage"
+varying_error_name (varyings.InvalidInterpolationSamplingCombination _ _) = codes "InvalidInterpolationSamplingCombination"
+varying_error_name varyings.InvalidInterpolationForInteger = codes "InvalidInterpolationForInteger"
+varying_error_name varyings.MissingInterpolation = codes "MissingInterpolation"
+varying_error_name (varyings.InvalidBuiltInStage _) = codes "InvalidBuiltInStage"
+varying_error_name (varyings.InvalidBuiltInType _ _) = codes "InvalidBuiltInType"
+varying_error_name varyings.MissingBinding = codes "MissingBinding"
+varying_error_name (varyings.MemberMissingBinding _) = codes "MemberMissingBinding"
+varying_error_name (varyings.BindingCollision _) = codes "BindingCollision"
+varying_error_name (varyings.BindingCollisionBlendSrc _) = codes "BindingCollisionBlendSrc"
+varying_error_name (varyings.DuplicateBuiltIn _) = codes "DuplicateBuiltIn"
+varying_error_name (varyings.UnsupportedCapability _) = codes "UnsupportedCapability"
+varying_error_name (varyings.InvalidInputAttributeInStage _ _) = codes "InvalidInputAttributeInStage"
+varying_error_name (varyings.InvalidAttributeInStage _ _) = codes "InvalidAttributeInStage"
+varying_error_name (varyings.InvalidBlendSrcIndex _ _) = codes "InvalidBlendSrcIndex"
+varying_error_name (varyings.IncompleteBlendSrcUsage _) = codes "IncompleteBlendSrcUsage"
+varying_error_name (varyings.InvalidBlendSrcWithOtherBindings _) = codes "InvalidBlendSrcWithOtherBindings"
+varying_error_name (varyings.BlendSrcOutputTypeMismatch _ _) = codes "BlendSrcOutputTypeMismatch"
+varying_error_name varyings.BlendSrcNotOnStructMember = codes "BlendSrcNotOnStructMember"
+varying_error_name varyings.InvalidMultiDimensionalSubgroupBuiltIn = codes "InvalidMultiDimensionalSubgroupBuiltIn"
+varying_error_name varyings.InvalidPerPrimitive = codes "InvalidPerPrimitive"
+varying_error_name varyings.MissingPerPrimitive = codes "MissingPerPrimitive"
+varying_error_name varyings.PerVertexNotArrayOfThree = codes "PerVertexNotArrayOfThree"
+varying_error_name varyings.InvalidPerVertexSampling = codes "InvalidPerVertexSampling"
+
+-- what it holds
+unfoldable pub varying_error_held : VaryingError → Option Json
+varying_error_held (varyings.InvalidType ty) = Some (number_form ty)
+varying_error_held (varyings.NotIOShareableType ty) = Some (number_form ty)
+varying_error_held (varyings.InvalidInterpolationInStage interpolation stage) =
+    Some (two_items (interpolation_form interpolation) (shader_stage_form stage))
+varying_error_held (varyings.InvalidInterpolationSamplingCombination interpolation sampling) =
+    Some (two_fields (codes "interpolation") (interpolation_form interpolation) (codes "sampling") (sampling_form sampling))
+varying_error_held varyings.InvalidInterpolationForInteger = None
+varying_error_held varyings.MissingInterpolation = None
+varying_error_held (varyings.InvalidBuiltInStage built_in) = Some (built_in_form built_in)
+varying_error_held (varyings.InvalidBuiltInType built_in ty) = Some (two_items (built_in_form built_in) (type_form ty))
+varying_error_held varyings.MissingBinding = None
+varying_error_held (varyings.MemberMissingBinding index) = Some (number_form index)
+varying_error_held (varyings.BindingCollision location) = Some (one_field (codes "location") (number_form location))
+varying_error_held (varyings.BindingCollisionBlendSrc blend_src) = Some (one_field (codes "blend_src") (number_form blend_src))
+varying_error_held (varyings.DuplicateBuiltIn built_in) = Some (built_in_form built_in)
+varying_error_held (varyings.UnsupportedCapability capabilities) = Some (capabilities_form capabilities)
+varying_error_held (varyings.InvalidInputAttributeInStage attribute stage) =
+    Some (two_items (string attribute.now) (shader_stage_form stage))
+varying_error_held (varyings.InvalidAttributeInStage attribute stage) =
+    Some (two_items (string attribute.now) (shader_stage_form stage))
+varying_error_held (varyings.InvalidBlendSrcIndex location blend_src) =
+    Some (two_fields (codes "location") (number_form location) (codes "blend_src") (number_form blend_src))
+varying_error_held (varyings.IncompleteBlendSrcUsage present_blend_src) =
+    Some (one_field (codes "present_blend_src") (number_form present_blend_src))
+varying_error_held (varyings.InvalidBlendSrcWithOtherBindings location) =
+    Some (one_field (codes "location") (number_form location))
+varying_error_held (varyings.BlendSrcOutputTypeMismatch blend_src_0_type blend_src_1_type) =
+    Some (two_fields (codes "blend_src_0_type") (number_form blend_src_0_type)
     (codes "blend_src_1_type") (number_form blend_src_1_type))
-varying_error_form varyings.BlendSrcNotOnStructMember = string (codes "BlendSrcNotOnStructMember")
-varying_error_form varyings.InvalidMultiDimensionalSubgroupBuiltIn = string (codes "InvalidMultiDimensionalSubgroupBuiltIn")
-varying_error_form varyings.InvalidPerPrimitive = string (codes "InvalidPerPrimitive")
-varying_error_form varyings.MissingPerPrimitive = string (codes "MissingPerPrimitive")
-varying_error_form varyings.PerVertexNotArrayOfThree = string (codes "PerVertexNotArrayOfThree")
-varying_error_form varyings.InvalidPerVertexSampling = string (codes "InvalidPerVertexSampling")
+varying_error_held varyings.BlendSrcNotOnStructMember = None
+varying_error_held varyings.InvalidMultiDimensionalSubgroupBuiltIn = None
+varying_error_held varyings.InvalidPerPrimitive = None
+varying_error_held varyings.MissingPerPrimitive = None
+varying_error_held varyings.PerVertexNotArrayOfThree = None
+varying_error_held varyings.InvalidPerVertexSampling = None
+
+unfoldable pub varying_error_form : VaryingError → Json
+varying_error_form error = variant (varying_error_name error) (varying_error_held error)
 
 -- a fault of an entry point
+unfoldable pub entry_error_name : EntryPointError → List ℕ
+entry_error_name entries.Conflict = codes "Conflict"
+entry_error_name entries.MissingVertexOutputPosition = codes "MissingVertexOutputPosition"
+entry_error_name entries.UnexpectedEarlyDepthTest = codes "UnexpectedEarlyDepthTest"
+entry_error_name entries.UnexpectedWorkgroupSize = codes "UnexpectedWorkgroupSize"
+entry_error_name entries.OutOfRangeWorkgroupSize = codes "OutOfRangeWorkgroupSize"
+entry_error_name entries.ForbiddenStageOperations = codes "ForbiddenStageOperations"
+entry_error_name (entries.InvalidGlobalUsage _ _) = codes "InvalidGlobalUsage"
+entry_error_name entries.MoreThanOneImmediateUsed = codes "MoreThanOneImmediateUsed"
+entry_error_name (entries.BindingCollision _) = codes "BindingCollision"
+entry_error_name (entries.Argument _ _) = codes "Argument"
+entry_error_name (entries.Result _) = codes "Result"
+entry_error_name (entries.Function _) = codes "Function"
+entry_error_name (entries.UnsupportedCapability _) = codes "UnsupportedCapability"
+entry_error_name entries.ExpectedMeshShaderAttributes = codes "ExpectedMeshShaderAttributes"
+entry_error_name entries.UnexpectedMeshShaderAttributes = codes "UnexpectedMeshShaderAttributes"
+entry_error_name entries.UnexpectedTaskPayload = codes "UnexpectedTaskPayload"
+entry_error_name entries.TaskPayloadWrongAddressSpace = codes "TaskPayloadWrongAddressSpace"
+entry_error_name entries.WrongTaskPayloadUsed = codes "WrongTaskPayloadUsed"
+entry_error_name entries.WrongTaskShaderEntryResult = codes "WrongTaskShaderEntryResult"
+entry_error_name entries.ExpectedTaskPayload = codes "ExpectedTaskPayload"
+entry_error_name entries.BadMeshOutputVariableType = codes "BadMeshOutputVariableType"
+entry_error_name entries.BadMeshOutputVariableField = codes "BadMeshOutputVariableField"
+entry_error_name entries.UnexpectedMeshShaderEntryResult = codes "UnexpectedMeshShaderEntryResult"
+entry_error_name entries.InvalidMeshOutputType = codes "InvalidMeshOutputType"
+entry_error_name entries.InvalidMeshPrimitiveOutputType = codes "InvalidMeshPrimitiveOutputType"
+entry_error_name entries.WrongMeshOutputAddressSpace = codes "WrongMeshOutputAddressSpace"
+entry_error_name (entries.TaskPayloadTooSmall _) = codes "TaskPayloadTooSmall"
+entry_error_name (entries.RayPayloadInInvalidStage _) = codes "RayPayloadInInvalidStage"
+entry_error_name (entries.IncomingRayPayloadInInvalidStage _) = codes "IncomingRayPayloadInInvalidStage"
+
+-- what it holds
+unfoldable pub entry_error_held : EntryPointError → Option Json
+entry_error_held entries.Conflict = None
+entry_error_held entries.MissingVertexOutputPosition = None
+entry_error_held entries.UnexpectedEarlyDepthTest = None
+entry_error_held entries.UnexpectedWorkgroupSize = None
+entry_error_held entries.OutOfRangeWorkgroupSize = None
+entry_error_held entries.ForbiddenStageOperations = None
+entry_error_held (entries.InvalidGlobalUsage global used) = Some (two_items (number_form global) (global_use_form used))
+entry_error_held entries.MoreThanOneImmediateUsed = None
+entry_error_held (entries.BindingCollision global) = Some (number_form global)
+entry_error_held (entries.Argument index error) = Some (two_items (number_form index) (varying_error_form error))
+entry_error_held (entries.Result error) = Some (varying_error_form error)
+entry_error_held (entries.Function error) = Some (function_error_form error)
+entry_error_held (entries.UnsupportedCapability capabilities) = Some (capabilities_form capabilities)
+entry_error_held entries.ExpectedMeshShaderAttributes = None
+entry_error_held entries.UnexpectedMeshShaderAttributes = None
+entry_error_held entries.UnexpectedTaskPayload = None
+entry_error_held entries.TaskPayloadWrongAddressSpace = None
+entry_error_held entries.WrongTaskPayloadUsed = None
+entry_error_held entries.WrongTaskShaderEntryResult = None
+entry_error_held entries.ExpectedTaskPayload = None
+entry_error_held entries.BadMeshOutputVariableType = None
+entry_error_held entries.BadMeshOutputVariableField = None
+entry_error_held entries.UnexpectedMeshShaderEntryResult = None
+entry_error_held entries.InvalidMeshOutputType = None
+entry_error_held entries.InvalidMeshPrimitiveOutputType = None
+entry_error_held entries.WrongMeshOutputAddressSpace = None
+entry_error_held (entries.TaskPayloadTooSmall size) = Some (number_form size)
+entry_error_held (entries.RayPayloadInInvalidStage stage) = Some (shader_stage_form stage)
+entry_error_held (entries.IncomingRayPayloadInInvalidStage stage) = Some (shader_stage_form stage)
+
 unfoldable pub entry_error_form : EntryPointError → Json
-entry_error_form entries.Conflict = string (codes "Conflict")
-entry_error_form entries.MissingVertexOutputPosition = string (codes "MissingVertexOutputPosition")
-entry_error_form entries.UnexpectedEarlyDepthTest = string (codes "UnexpectedEarlyDepthTest")
-entry_error_form entries.UnexpectedWorkgroupSize = string (codes "UnexpectedWorkgroupSize")
-entry_error_form entries.OutOfRangeWorkgroupSize = string (codes "OutOfRangeWorkgroupSize")
-entry_error_form entries.ForbiddenStageOperations = string (codes "ForbiddenStageOperations")
-entry_error_form (entries.InvalidGlobalUsage global used) =
-    holding (codes "InvalidGlobalUsage") (two_items (number_form global) (global_use_form used))
-entry_error_form entries.MoreThanOneImmediateUsed = string (codes "MoreThanOneImmediateUsed")
-entry_error_form (entries.BindingCollision global) = holding (codes "BindingCollision") (number_form global)
-entry_error_form (entries.Argument index error) =
-    holding (codes "Argument") (two_items (number_form index) (varying_error_form error))
-entry_error_form (entries.Result error) = holding (codes "Result") (varying_error_form error)
-entry_error_form (entries.Function error) = holding (codes "Function") (function_error_form error)
-entry_error_form (entries.UnsupportedCapability capabilities) =
-    holding (codes "UnsupportedCapability") (capabilities_form capabilities)
-entry_error_form entries.ExpectedMeshShaderAttributes = string (codes "ExpectedMeshShaderAttributes")
-entry_error_form entries.UnexpectedMeshShaderAttributes = string (codes "UnexpectedMeshShaderAttributes")
-entry_error_form entries.UnexpectedTaskPayload = string (codes "UnexpectedTaskPayload")
-entry_error_form entries.TaskPayloadWrongAddressSpace = string (codes "TaskPayloadWrongAddressSpace")
-entry_error_form entries.WrongTaskPayloadUsed = string (codes "WrongTaskPayloadUsed")
-entry_error_form entries.WrongTaskShaderEntryResult = string (codes "WrongTaskShaderEntryResult")
-entry_error_form entries.ExpectedTaskPayload = string (codes "ExpectedTaskPayload")
-entry_error_form entries.BadMeshOutputVariableType = string (codes "BadMeshOutputVariableType")
-entry_error_form entries.BadMeshOutputVariableField = string (codes "BadMeshOutputVariableField")
-entry_error_form entries.UnexpectedMeshShaderEntryResult = string (codes "UnexpectedMeshShaderEntryResult")
-entry_error_form entries.InvalidMeshOutputType = string (codes "InvalidMeshOutputType")
-entry_error_form entries.InvalidMeshPrimitiveOutputType = string (codes "InvalidMeshPrimitiveOutputType")
-entry_error_form entries.WrongMeshOutputAddressSpace = string (codes "WrongMeshOutputAddressSpace")
-entry_error_form (entries.TaskPayloadTooSmall size) = holding (codes "TaskPayloadTooSmall") (number_form size)
-entry_error_form (entries.RayPayloadInInvalidStage stage) = holding (codes "RayPayloadInInvalidStage") (shader_stage_form stage)
-entry_error_form (entries.IncomingRayPayloadInInvalidStage stage) =
-    holding (codes "IncomingRayPayloadInInvalidStage") (shader_stage_form stage)
+entry_error_form error = variant (entry_error_name error) (entry_error_held error)

@@ -1,6 +1,7 @@
 //! Built-in inputs and outputs.
 
-ghost use Rattle.json_faults.specs.BuiltIns.{built_in_form};
+ghost use Rattle.std.specs.Prelude.{◌≡◌};
+ghost use Rattle.json_faults.specs.BuiltIns.{built_in_name, built_in_form};
 
 use crate::parts::holding_field;
 use crate::to_json::ToJson;
@@ -8,69 +9,128 @@ use crate::writer::JsonWriter;
 use ir_types::BuiltIn;
 use std::alloc::AllocError;
 
+/// The name of a built-in.
+#[tactic(auto, unfolding(crate::specs::BuiltIns::built_in_name))]
+fn built_in_name(built_in: BuiltIn) -> &'static str
+    ensures { result.now ≡ built_in_name built_in }
+{
+    match built_in {
+        BuiltIn::BaseInstance => "BaseInstance",
+        BuiltIn::BaseVertex => "BaseVertex",
+        BuiltIn::VertexIndex => "VertexIndex",
+        BuiltIn::InstanceIndex => "InstanceIndex",
+        BuiltIn::DrawIndex => "DrawIndex",
+        BuiltIn::ClipDistances => "ClipDistances",
+        BuiltIn::CullDistance => "CullDistance",
+        BuiltIn::PointSize => "PointSize",
+        BuiltIn::PointCoord => "PointCoord",
+        BuiltIn::Position { .. } => "Position",
+        BuiltIn::ViewIndex => "ViewIndex",
+        BuiltIn::FragDepth => "FragDepth",
+        BuiltIn::FrontFacing => "FrontFacing",
+        BuiltIn::PrimitiveIndex => "PrimitiveIndex",
+        BuiltIn::Barycentric { .. } => "Barycentric",
+        BuiltIn::SampleIndex => "SampleIndex",
+        BuiltIn::SampleMask => "SampleMask",
+        BuiltIn::LocalInvocationIndex => "LocalInvocationIndex",
+        BuiltIn::GlobalInvocationId => "GlobalInvocationId",
+        BuiltIn::LocalInvocationId => "LocalInvocationId",
+        BuiltIn::WorkGroupId => "WorkGroupId",
+        BuiltIn::WorkGroupSize => "WorkGroupSize",
+        BuiltIn::NumWorkGroups => "NumWorkGroups",
+        BuiltIn::NumSubgroups => "NumSubgroups",
+        BuiltIn::SubgroupId => "SubgroupId",
+        BuiltIn::SubgroupSize => "SubgroupSize",
+        BuiltIn::SubgroupInvocationId => "SubgroupInvocationId",
+        BuiltIn::CullPrimitive => "CullPrimitive",
+        BuiltIn::PointIndex => "PointIndex",
+        BuiltIn::LineIndices => "LineIndices",
+        BuiltIn::TriangleIndices => "TriangleIndices",
+        BuiltIn::MeshTaskSize => "MeshTaskSize",
+        BuiltIn::RayInvocationId => "RayInvocationId",
+        BuiltIn::NumRayInvocations => "NumRayInvocations",
+        BuiltIn::InstanceCustomData => "InstanceCustomData",
+        BuiltIn::GeometryIndex => "GeometryIndex",
+        BuiltIn::HitKind => "HitKind",
+        BuiltIn::WorldRayOrigin => "WorldRayOrigin",
+        BuiltIn::WorldRayDirection => "WorldRayDirection",
+        BuiltIn::ObjectRayOrigin => "ObjectRayOrigin",
+        BuiltIn::ObjectRayDirection => "ObjectRayDirection",
+        BuiltIn::RayTmin => "RayTmin",
+        BuiltIn::RayTCurrentMax => "RayTCurrentMax",
+        BuiltIn::ObjectToWorld => "ObjectToWorld",
+        BuiltIn::WorldToObject => "WorldToObject",
+        BuiltIn::VertexCount => "VertexCount",
+        BuiltIn::PrimitiveCount => "PrimitiveCount",
+        BuiltIn::Vertices => "Vertices",
+        BuiltIn::Primitives => "Primitives",
+    }
+}
+
 impl ToJson for BuiltIn {
     ghost form = { built_in_form };
 
     #[tactic(auto, unfolding(crate::specs::BuiltIns::built_in_form))]
     fn write_json(&self, out: &mut JsonWriter) -> Result<(), AllocError> {
+        let variant = built_in_name(*self);
         match self {
-            BuiltIn::BaseInstance => out.string("BaseInstance"),
-            BuiltIn::BaseVertex => out.string("BaseVertex"),
-            BuiltIn::VertexIndex => out.string("VertexIndex"),
-            BuiltIn::InstanceIndex => out.string("InstanceIndex"),
-            BuiltIn::DrawIndex => out.string("DrawIndex"),
-            BuiltIn::ClipDistances => out.string("ClipDistances"),
-            BuiltIn::CullDistance => out.string("CullDistance"),
-            BuiltIn::PointSize => out.string("PointSize"),
-            BuiltIn::PointCoord => out.string("PointCoord"),
             BuiltIn::Position { invariant } => holding_field(
                 out,
-                &("Position", "invariant"),
+                &(variant, "invariant"),
                 invariant,
             ),
-            BuiltIn::ViewIndex => out.string("ViewIndex"),
-            BuiltIn::FragDepth => out.string("FragDepth"),
-            BuiltIn::FrontFacing => out.string("FrontFacing"),
-            BuiltIn::PrimitiveIndex => out.string("PrimitiveIndex"),
             BuiltIn::Barycentric { perspective } => holding_field(
                 out,
-                &("Barycentric", "perspective"),
+                &(variant, "perspective"),
                 perspective,
             ),
-            BuiltIn::SampleIndex => out.string("SampleIndex"),
-            BuiltIn::SampleMask => out.string("SampleMask"),
-            BuiltIn::LocalInvocationIndex => out.string("LocalInvocationIndex"),
-            BuiltIn::GlobalInvocationId => out.string("GlobalInvocationId"),
-            BuiltIn::LocalInvocationId => out.string("LocalInvocationId"),
-            BuiltIn::WorkGroupId => out.string("WorkGroupId"),
-            BuiltIn::WorkGroupSize => out.string("WorkGroupSize"),
-            BuiltIn::NumWorkGroups => out.string("NumWorkGroups"),
-            BuiltIn::NumSubgroups => out.string("NumSubgroups"),
-            BuiltIn::SubgroupId => out.string("SubgroupId"),
-            BuiltIn::SubgroupSize => out.string("SubgroupSize"),
-            BuiltIn::SubgroupInvocationId => out.string("SubgroupInvocationId"),
-            BuiltIn::CullPrimitive => out.string("CullPrimitive"),
-            BuiltIn::PointIndex => out.string("PointIndex"),
-            BuiltIn::LineIndices => out.string("LineIndices"),
-            BuiltIn::TriangleIndices => out.string("TriangleIndices"),
-            BuiltIn::MeshTaskSize => out.string("MeshTaskSize"),
-            BuiltIn::RayInvocationId => out.string("RayInvocationId"),
-            BuiltIn::NumRayInvocations => out.string("NumRayInvocations"),
-            BuiltIn::InstanceCustomData => out.string("InstanceCustomData"),
-            BuiltIn::GeometryIndex => out.string("GeometryIndex"),
-            BuiltIn::HitKind => out.string("HitKind"),
-            BuiltIn::WorldRayOrigin => out.string("WorldRayOrigin"),
-            BuiltIn::WorldRayDirection => out.string("WorldRayDirection"),
-            BuiltIn::ObjectRayOrigin => out.string("ObjectRayOrigin"),
-            BuiltIn::ObjectRayDirection => out.string("ObjectRayDirection"),
-            BuiltIn::RayTmin => out.string("RayTmin"),
-            BuiltIn::RayTCurrentMax => out.string("RayTCurrentMax"),
-            BuiltIn::ObjectToWorld => out.string("ObjectToWorld"),
-            BuiltIn::WorldToObject => out.string("WorldToObject"),
-            BuiltIn::VertexCount => out.string("VertexCount"),
-            BuiltIn::PrimitiveCount => out.string("PrimitiveCount"),
-            BuiltIn::Vertices => out.string("Vertices"),
-            BuiltIn::Primitives => out.string("Primitives"),
+            BuiltIn::BaseInstance
+            | BuiltIn::BaseVertex
+            | BuiltIn::VertexIndex
+            | BuiltIn::InstanceIndex
+            | BuiltIn::DrawIndex
+            | BuiltIn::ClipDistances
+            | BuiltIn::CullDistance
+            | BuiltIn::PointSize
+            | BuiltIn::PointCoord
+            | BuiltIn::ViewIndex
+            | BuiltIn::FragDepth
+            | BuiltIn::FrontFacing
+            | BuiltIn::PrimitiveIndex
+            | BuiltIn::SampleIndex
+            | BuiltIn::SampleMask
+            | BuiltIn::LocalInvocationIndex
+            | BuiltIn::GlobalInvocationId
+            | BuiltIn::LocalInvocationId
+            | BuiltIn::WorkGroupId
+            | BuiltIn::WorkGroupSize
+            | BuiltIn::NumWorkGroups
+            | BuiltIn::NumSubgroups
+            | BuiltIn::SubgroupId
+            | BuiltIn::SubgroupSize
+            | BuiltIn::SubgroupInvocationId
+            | BuiltIn::CullPrimitive
+            | BuiltIn::PointIndex
+            | BuiltIn::LineIndices
+            | BuiltIn::TriangleIndices
+            | BuiltIn::MeshTaskSize
+            | BuiltIn::RayInvocationId
+            | BuiltIn::NumRayInvocations
+            | BuiltIn::InstanceCustomData
+            | BuiltIn::GeometryIndex
+            | BuiltIn::HitKind
+            | BuiltIn::WorldRayOrigin
+            | BuiltIn::WorldRayDirection
+            | BuiltIn::ObjectRayOrigin
+            | BuiltIn::ObjectRayDirection
+            | BuiltIn::RayTmin
+            | BuiltIn::RayTCurrentMax
+            | BuiltIn::ObjectToWorld
+            | BuiltIn::WorldToObject
+            | BuiltIn::VertexCount
+            | BuiltIn::PrimitiveCount
+            | BuiltIn::Vertices
+            | BuiltIn::Primitives => out.string(variant),
         }
     }
 }

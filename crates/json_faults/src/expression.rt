@@ -1,6 +1,7 @@
 //! Faults of expressions.
 
-ghost use Rattle.json_faults.specs.Faults.{expression_error_form};
+ghost use Rattle.std.specs.Prelude.{◌≡◌};
+ghost use Rattle.json_faults.specs.Faults.{expression_error_name, expression_error_form};
 
 use crate::parts::{holding, holding_pair};
 use crate::to_json::ToJson;
@@ -8,44 +9,46 @@ use crate::writer::JsonWriter;
 use ir_facts::ExpressionError;
 use std::alloc::AllocError;
 
+/// The name of a fault of an expression.
+#[tactic(auto, unfolding(crate::specs::Faults::expression_error_name))]
+fn expression_error_name(error: &ExpressionError) -> &'static str
+    ensures { result.now ≡ expression_error_name error.now }
+{
+    match error {
+        ExpressionError::NotInScope => "NotInScope",
+        ExpressionError::ExpectedGlobalVariable => "ExpectedGlobalVariable",
+        ExpressionError::ExpectedBindingArrayType(..) => "ExpectedBindingArrayType",
+        ExpressionError::ExpectedImageType(..) => "ExpectedImageType",
+        ExpressionError::InvalidImageClass(..) => "InvalidImageClass",
+        ExpressionError::InvalidImageCoordinateType(..) => "InvalidImageCoordinateType",
+        ExpressionError::InvalidImageArrayIndex => "InvalidImageArrayIndex",
+        ExpressionError::InvalidImageArrayIndexType(..) => "InvalidImageArrayIndexType",
+        ExpressionError::InvalidImageStorageAccess(..) => "InvalidImageStorageAccess",
+        ExpressionError::InvalidImageFormat(..) => "InvalidImageFormat",
+        ExpressionError::Lower(..) => "Lower",
+    }
+}
+
 impl ToJson for ExpressionError {
     ghost form = { expression_error_form };
 
-    #[tactic(auto, unfolding(crate::specs::Faults::expression_error_form))]
+    #[tactic(auto, unfolding(crate::specs::Faults::expression_error_form, crate::specs::Faults::expression_error_held, crate::specs::Form::variant))]
     fn write_json(&self, out: &mut JsonWriter) -> Result<(), AllocError> {
+        let variant = expression_error_name(self);
         match self {
-            ExpressionError::NotInScope => out.string("NotInScope"),
-            ExpressionError::ExpectedGlobalVariable => out.string("ExpectedGlobalVariable"),
-            ExpressionError::ExpectedBindingArrayType(ty) => holding(
-                out,
-                "ExpectedBindingArrayType",
-                ty,
-            ),
-            ExpressionError::ExpectedImageType(ty) => holding(out, "ExpectedImageType", ty),
-            ExpressionError::InvalidImageClass(class) => holding(out, "InvalidImageClass", class),
+            ExpressionError::NotInScope
+            | ExpressionError::ExpectedGlobalVariable
+            | ExpressionError::InvalidImageArrayIndex => out.string(variant),
+            ExpressionError::ExpectedBindingArrayType(ty)
+            | ExpressionError::ExpectedImageType(ty) => holding(out, variant, ty),
+            ExpressionError::InvalidImageClass(class) => holding(out, variant, class),
             ExpressionError::InvalidImageCoordinateType(dimension, coordinate) => holding_pair(
-                out,
-                "InvalidImageCoordinateType",
-                dimension,
-                coordinate,
+                out, variant, dimension, coordinate,
             ),
-            ExpressionError::InvalidImageArrayIndex => out.string("InvalidImageArrayIndex"),
-            ExpressionError::InvalidImageArrayIndexType(index) => holding(
-                out,
-                "InvalidImageArrayIndexType",
-                index,
-            ),
-            ExpressionError::InvalidImageStorageAccess(access) => holding(
-                out,
-                "InvalidImageStorageAccess",
-                access,
-            ),
-            ExpressionError::InvalidImageFormat(format) => holding(
-                out,
-                "InvalidImageFormat",
-                format,
-            ),
-            ExpressionError::Lower(reason) => holding(out, "Lower", reason),
+            ExpressionError::InvalidImageArrayIndexType(index) => holding(out, variant, index),
+            ExpressionError::InvalidImageStorageAccess(access) => holding(out, variant, access),
+            ExpressionError::InvalidImageFormat(format) => holding(out, variant, format),
+            ExpressionError::Lower(reason) => holding(out, variant, reason),
         }
     }
 }

@@ -1,6 +1,7 @@
 //! Faults of functions.
 
-ghost use Rattle.json_faults.specs.Faults.{call_error_form, atomic_error_form, subgroup_error_form, local_error_form, function_error_form};
+ghost use Rattle.std.specs.Prelude.{◌≡◌};
+ghost use Rattle.json_faults.specs.Faults.{call_error_form, atomic_error_form, subgroup_error_form, local_error_form, function_error_name, function_error_form};
 ghost use Rattle.json_faults.specs.Form.{number_form};
 
 use crate::parts::{
@@ -133,22 +134,113 @@ impl ToJson for LocalVariableError {
     }
 }
 
+/// The name of a fault of a function.
+#[tactic(auto, unfolding(crate::specs::Faults::function_error_name))]
+fn function_error_name(error: &FunctionError) -> &'static str
+    ensures { result.now ≡ function_error_name error.now }
+{
+    match error {
+        FunctionError::Expression { .. } => "Expression",
+        FunctionError::ExpressionAlreadyInScope(..) => "ExpressionAlreadyInScope",
+        FunctionError::LocalVariable { .. } => "LocalVariable",
+        FunctionError::InvalidArgumentType { .. } => "InvalidArgumentType",
+        FunctionError::NonConstructibleReturnType => "NonConstructibleReturnType",
+        FunctionError::InvalidArgumentPointerSpace { .. } => "InvalidArgumentPointerSpace",
+        FunctionError::BreakOutsideOfLoopOrSwitch => "BreakOutsideOfLoopOrSwitch",
+        FunctionError::ContinueOutsideOfLoop => "ContinueOutsideOfLoop",
+        FunctionError::InvalidReturnSpot => "InvalidReturnSpot",
+        FunctionError::InvalidReturnType { .. } => "InvalidReturnType",
+        FunctionError::InvalidIfType(..) => "InvalidIfType",
+        FunctionError::InvalidSwitchType(..) => "InvalidSwitchType",
+        FunctionError::ConflictingSwitchCase(..) => "ConflictingSwitchCase",
+        FunctionError::ConflictingCaseType => "ConflictingCaseType",
+        FunctionError::MissingDefaultCase => "MissingDefaultCase",
+        FunctionError::MultipleDefaultCases => "MultipleDefaultCases",
+        FunctionError::LastCaseFallTrough => "LastCaseFallTrough",
+        FunctionError::InvalidStorePointer(..) => "InvalidStorePointer",
+        FunctionError::InvalidStoreTexture { .. } => "InvalidStoreTexture",
+        FunctionError::InvalidStoreValue { .. } => "InvalidStoreValue",
+        FunctionError::InvalidStoreTypes { .. } => "InvalidStoreTypes",
+        FunctionError::InvalidImageStore(..) => "InvalidImageStore",
+        FunctionError::InvalidImageAtomic(..) => "InvalidImageAtomic",
+        FunctionError::InvalidImageAtomicFunction(..) => "InvalidImageAtomicFunction",
+        FunctionError::InvalidImageAtomicValue(..) => "InvalidImageAtomicValue",
+        FunctionError::InvalidCall { .. } => "InvalidCall",
+        FunctionError::InvalidAtomic(..) => "InvalidAtomic",
+        FunctionError::InvalidRayQueryExpression(..) => "InvalidRayQueryExpression",
+        FunctionError::InvalidAccelerationStructure(..) => "InvalidAccelerationStructure",
+        FunctionError::MissingAccelerationStructureVertexReturn(..) =>
+            "MissingAccelerationStructureVertexReturn",
+        FunctionError::MissingRayQueryVertexReturn(..) => "MissingRayQueryVertexReturn",
+        FunctionError::InvalidRayDescriptor(..) => "InvalidRayDescriptor",
+        FunctionError::InvalidRayQueryType(..) => "InvalidRayQueryType",
+        FunctionError::InvalidHitDistanceType(..) => "InvalidHitDistanceType",
+        FunctionError::MissingCapability(..) => "MissingCapability",
+        FunctionError::NonUniformControlFlow(..) => "NonUniformControlFlow",
+        FunctionError::PipelineInputRegularFunction { .. } => "PipelineInputRegularFunction",
+        FunctionError::PipelineOutputRegularFunction => "PipelineOutputRegularFunction",
+        FunctionError::NonUniformWorkgroupUniformLoad(..) => "NonUniformWorkgroupUniformLoad",
+        FunctionError::WorkgroupUniformLoadExpressionMismatch(..) =>
+            "WorkgroupUniformLoadExpressionMismatch",
+        FunctionError::WorkgroupUniformLoadInvalidPointer(..) =>
+            "WorkgroupUniformLoadInvalidPointer",
+        FunctionError::InvalidSubgroup(..) => "InvalidSubgroup",
+        FunctionError::InvalidCooperativeStoreTarget(..) => "InvalidCooperativeStoreTarget",
+        FunctionError::InvalidCooperativeDataPointer(..) => "InvalidCooperativeDataPointer",
+        FunctionError::EmitResult(..) => "EmitResult",
+        FunctionError::UnvisitedExpression(..) => "UnvisitedExpression",
+        FunctionError::InvalidMeshFunctionCall(..) => "InvalidMeshFunctionCall",
+        FunctionError::ConflictingMeshOutputTypes(..) => "ConflictingMeshOutputTypes",
+        FunctionError::ConflictingTaskPayloadVariables(..) => "ConflictingTaskPayloadVariables",
+        FunctionError::InvalidMeshShaderOutputType(..) => "InvalidMeshShaderOutputType",
+        FunctionError::InvalidPayloadType => "InvalidPayloadType",
+        FunctionError::InvalidPayloadAddressSpace(..) => "InvalidPayloadAddressSpace",
+        FunctionError::MismatchedPayloadType(..) => "MismatchedPayloadType",
+        FunctionError::PayloadPointerNotGlobal => "PayloadPointerNotGlobal",
+    }
+}
+
 impl ToJson for FunctionError {
     ghost form = { function_error_form };
 
-    #[tactic(auto, unfolding(crate::specs::Faults::function_error_form))]
+    #[tactic(auto, unfolding(crate::specs::Faults::function_error_form, crate::specs::Faults::function_error_held, crate::specs::Form::variant))]
     fn write_json(&self, out: &mut JsonWriter) -> Result<(), AllocError> {
+        let variant = function_error_name(self);
         match self {
+            FunctionError::NonConstructibleReturnType
+            | FunctionError::BreakOutsideOfLoopOrSwitch
+            | FunctionError::ContinueOutsideOfLoop
+            | FunctionError::InvalidReturnSpot
+            | FunctionError::ConflictingCaseType
+            | FunctionError::MissingDefaultCase
+            | FunctionError::MultipleDefaultCases
+            | FunctionError::LastCaseFallTrough
+            | FunctionError::PipelineOutputRegularFunction
+            | FunctionError::InvalidPayloadType
+            | FunctionError::PayloadPointerNotGlobal => out.string(variant),
+            FunctionError::ExpressionAlreadyInScope(handle)
+            | FunctionError::InvalidIfType(handle)
+            | FunctionError::InvalidSwitchType(handle)
+            | FunctionError::InvalidStorePointer(handle)
+            | FunctionError::InvalidImageAtomicValue(handle)
+            | FunctionError::InvalidRayQueryExpression(handle)
+            | FunctionError::InvalidAccelerationStructure(handle)
+            | FunctionError::MissingRayQueryVertexReturn(handle)
+            | FunctionError::InvalidRayDescriptor(handle)
+            | FunctionError::InvalidHitDistanceType(handle)
+            | FunctionError::WorkgroupUniformLoadExpressionMismatch(handle)
+            | FunctionError::WorkgroupUniformLoadInvalidPointer(handle)
+            | FunctionError::InvalidCooperativeStoreTarget(handle)
+            | FunctionError::InvalidCooperativeDataPointer(handle)
+            | FunctionError::EmitResult(handle)
+            | FunctionError::UnvisitedExpression(handle)
+            | FunctionError::InvalidMeshFunctionCall(handle)
+            | FunctionError::InvalidMeshShaderOutputType(handle) => holding(out, variant, handle),
             FunctionError::Expression { handle, source } => holding_two(
                 out,
-                &("Expression", "handle", "source"),
+                &(variant, "handle", "source"),
                 handle,
                 source,
-            ),
-            FunctionError::ExpressionAlreadyInScope(handle) => holding(
-                out,
-                "ExpressionAlreadyInScope",
-                handle,
             ),
             FunctionError::LocalVariable {
                 handle,
@@ -156,56 +248,37 @@ impl ToJson for FunctionError {
                 source,
             } => holding_three(
                 out,
-                &("LocalVariable", "handle", "name", "source"),
+                &(variant, "handle", "name", "source"),
                 handle,
                 name,
                 source,
             ),
             FunctionError::InvalidArgumentType { index, name } => holding_two(
                 out,
-                &("InvalidArgumentType", "index", "name"),
+                &(variant, "index", "name"),
                 index,
                 name,
             ),
-            FunctionError::NonConstructibleReturnType => out.string("NonConstructibleReturnType"),
             FunctionError::InvalidArgumentPointerSpace { index, name, space } => holding_three(
                 out,
-                &("InvalidArgumentPointerSpace", "index", "name", "space"),
+                &(variant, "index", "name", "space"),
                 index,
                 name,
                 space,
             ),
-            FunctionError::BreakOutsideOfLoopOrSwitch => out.string("BreakOutsideOfLoopOrSwitch"),
-            FunctionError::ContinueOutsideOfLoop => out.string("ContinueOutsideOfLoop"),
-            FunctionError::InvalidReturnSpot => out.string("InvalidReturnSpot"),
             FunctionError::InvalidReturnType {
                 expression,
                 expected_ty,
             } => holding_two(
                 out,
-                &("InvalidReturnType", "expression", "expected_ty"),
+                &(variant, "expression", "expected_ty"),
                 expression,
                 expected_ty,
             ),
-            FunctionError::InvalidIfType(handle) => holding(out, "InvalidIfType", handle),
-            FunctionError::InvalidSwitchType(handle) => holding(out, "InvalidSwitchType", handle),
-            FunctionError::ConflictingSwitchCase(value) => holding(
-                out,
-                "ConflictingSwitchCase",
-                value,
-            ),
-            FunctionError::ConflictingCaseType => out.string("ConflictingCaseType"),
-            FunctionError::MissingDefaultCase => out.string("MissingDefaultCase"),
-            FunctionError::MultipleDefaultCases => out.string("MultipleDefaultCases"),
-            FunctionError::LastCaseFallTrough => out.string("LastCaseFallTrough"),
-            FunctionError::InvalidStorePointer(handle) => holding(
-                out,
-                "InvalidStorePointer",
-                handle,
-            ),
+            FunctionError::ConflictingSwitchCase(value) => holding(out, variant, value),
             FunctionError::InvalidStoreTexture { actual, actual_ty } => holding_two(
                 out,
-                &("InvalidStoreTexture", "actual", "actual_ty"),
+                &(variant, "actual", "actual_ty"),
                 actual,
                 actual_ty,
             ),
@@ -215,155 +288,58 @@ impl ToJson for FunctionError {
                 expected_ty,
             } => holding_three(
                 out,
-                &("InvalidStoreValue", "actual", "actual_ty", "expected_ty"),
+                &(variant, "actual", "actual_ty", "expected_ty"),
                 actual,
                 actual_ty,
                 expected_ty,
             ),
             FunctionError::InvalidStoreTypes { pointer, value } => holding_two(
                 out,
-                &("InvalidStoreTypes", "pointer", "value"),
+                &(variant, "pointer", "value"),
                 pointer,
                 value,
             ),
-            FunctionError::InvalidImageStore(error) => holding(out, "InvalidImageStore", error),
-            FunctionError::InvalidImageAtomic(error) => holding(out, "InvalidImageAtomic", error),
-            FunctionError::InvalidImageAtomicFunction(function) => holding(
-                out,
-                "InvalidImageAtomicFunction",
-                function,
-            ),
-            FunctionError::InvalidImageAtomicValue(handle) => holding(
-                out,
-                "InvalidImageAtomicValue",
-                handle,
-            ),
+            FunctionError::InvalidImageStore(error) | FunctionError::InvalidImageAtomic(error) =>
+                holding(out, variant, error),
+            FunctionError::InvalidImageAtomicFunction(function) => holding(out, variant, function),
             FunctionError::InvalidCall { function, error } => holding_two(
                 out,
-                &("InvalidCall", "function", "error"),
+                &(variant, "function", "error"),
                 function,
                 error,
             ),
-            FunctionError::InvalidAtomic(error) => holding(out, "InvalidAtomic", error),
-            FunctionError::InvalidRayQueryExpression(handle) => holding(
-                out,
-                "InvalidRayQueryExpression",
-                handle,
-            ),
-            FunctionError::InvalidAccelerationStructure(handle) => holding(
-                out,
-                "InvalidAccelerationStructure",
-                handle,
-            ),
+            FunctionError::InvalidAtomic(error) => holding(out, variant, error),
             FunctionError::MissingAccelerationStructureVertexReturn(first, second) => holding_pair(
-                out,
-                "MissingAccelerationStructureVertexReturn",
-                first,
-                second,
+                out, variant, first, second,
             ),
-            FunctionError::MissingRayQueryVertexReturn(handle) => holding(
-                out,
-                "MissingRayQueryVertexReturn",
-                handle,
-            ),
-            FunctionError::InvalidRayDescriptor(handle) => holding(
-                out,
-                "InvalidRayDescriptor",
-                handle,
-            ),
-            FunctionError::InvalidRayQueryType(ty) => holding(out, "InvalidRayQueryType", ty),
-            FunctionError::InvalidHitDistanceType(handle) => holding(
-                out,
-                "InvalidHitDistanceType",
-                handle,
-            ),
-            FunctionError::MissingCapability(capabilities) => holding(
-                out,
-                "MissingCapability",
-                capabilities,
-            ),
+            FunctionError::InvalidRayQueryType(ty) => holding(out, variant, ty),
+            FunctionError::MissingCapability(capabilities) => holding(out, variant, capabilities),
             FunctionError::NonUniformControlFlow(requirements, handle, disruptor) => holding_triple(
                 out,
-                "NonUniformControlFlow",
+                variant,
                 requirements,
                 handle,
                 disruptor,
             ),
             FunctionError::PipelineInputRegularFunction { name } => holding_field(
                 out,
-                &("PipelineInputRegularFunction", "name"),
+                &(variant, "name"),
                 name,
             ),
-            FunctionError::PipelineOutputRegularFunction => out.string(
-                "PipelineOutputRegularFunction",
-            ),
             FunctionError::NonUniformWorkgroupUniformLoad(disruptor) => holding(
-                out,
-                "NonUniformWorkgroupUniformLoad",
-                disruptor,
+                out, variant, disruptor,
             ),
-            FunctionError::WorkgroupUniformLoadExpressionMismatch(handle) => holding(
-                out,
-                "WorkgroupUniformLoadExpressionMismatch",
-                handle,
-            ),
-            FunctionError::WorkgroupUniformLoadInvalidPointer(handle) => holding(
-                out,
-                "WorkgroupUniformLoadInvalidPointer",
-                handle,
-            ),
-            FunctionError::InvalidSubgroup(error) => holding(out, "InvalidSubgroup", error),
-            FunctionError::InvalidCooperativeStoreTarget(handle) => holding(
-                out,
-                "InvalidCooperativeStoreTarget",
-                handle,
-            ),
-            FunctionError::InvalidCooperativeDataPointer(handle) => holding(
-                out,
-                "InvalidCooperativeDataPointer",
-                handle,
-            ),
-            FunctionError::EmitResult(handle) => holding(out, "EmitResult", handle),
-            FunctionError::UnvisitedExpression(handle) => holding(
-                out,
-                "UnvisitedExpression",
-                handle,
-            ),
-            FunctionError::InvalidMeshFunctionCall(handle) => holding(
-                out,
-                "InvalidMeshFunctionCall",
-                handle,
-            ),
+            FunctionError::InvalidSubgroup(error) => holding(out, variant, error),
             FunctionError::ConflictingMeshOutputTypes(first, second) => holding_pair(
-                out,
-                "ConflictingMeshOutputTypes",
-                first,
-                second,
+                out, variant, first, second,
             ),
             FunctionError::ConflictingTaskPayloadVariables(first, second) => holding_pair(
-                out,
-                "ConflictingTaskPayloadVariables",
-                first,
-                second,
+                out, variant, first, second,
             ),
-            FunctionError::InvalidMeshShaderOutputType(handle) => holding(
-                out,
-                "InvalidMeshShaderOutputType",
-                handle,
-            ),
-            FunctionError::InvalidPayloadType => out.string("InvalidPayloadType"),
-            FunctionError::InvalidPayloadAddressSpace(space) => holding(
-                out,
-                "InvalidPayloadAddressSpace",
-                space,
-            ),
+            FunctionError::InvalidPayloadAddressSpace(space) => holding(out, variant, space),
             FunctionError::MismatchedPayloadType(ty, earlier) => holding_pair(
-                out,
-                "MismatchedPayloadType",
-                ty,
-                earlier,
+                out, variant, ty, earlier,
             ),
-            FunctionError::PayloadPointerNotGlobal => out.string("PayloadPointerNotGlobal"),
         }
     }
 }

@@ -1,6 +1,7 @@
 //! Faults of globals, of inputs and outputs, and of entry points.
 
-ghost use Rattle.json_faults.specs.Interfaces.{global_error_form, varying_error_form, entry_error_form};
+ghost use Rattle.std.specs.Prelude.{◌≡◌};
+ghost use Rattle.json_faults.specs.Interfaces.{global_error_name, global_error_form, varying_error_name, varying_error_form, entry_error_name, entry_error_form};
 
 use crate::parts::{holding, holding_field, holding_pair, holding_triple, holding_two};
 use crate::to_json::ToJson;
@@ -9,70 +10,125 @@ use check_errors::{GlobalVariableError, VaryingError};
 use check_faults::entry::EntryPointError;
 use std::alloc::AllocError;
 
+/// The name of a fault of a global variable.
+#[tactic(auto, unfolding(crate::specs::Interfaces::global_error_name))]
+fn global_error_name(error: &GlobalVariableError) -> &'static str
+    ensures { result.now ≡ global_error_name error.now }
+{
+    match error {
+        GlobalVariableError::InvalidUsage(..) => "InvalidUsage",
+        GlobalVariableError::InvalidType(..) => "InvalidType",
+        GlobalVariableError::InvalidBindingArray(..) => "InvalidBindingArray",
+        GlobalVariableError::MissingTypeFlags { .. } => "MissingTypeFlags",
+        GlobalVariableError::UnsupportedCapability(..) => "UnsupportedCapability",
+        GlobalVariableError::InvalidBinding => "InvalidBinding",
+        GlobalVariableError::Alignment(..) => "Alignment",
+        GlobalVariableError::InitializerExprType => "InitializerExprType",
+        GlobalVariableError::InitializerType => "InitializerType",
+        GlobalVariableError::InitializerNotAllowed(..) => "InitializerNotAllowed",
+        GlobalVariableError::StorageAddressSpaceWriteOnlyNotSupported =>
+            "StorageAddressSpaceWriteOnlyNotSupported",
+        GlobalVariableError::InvalidImmediateType(..) => "InvalidImmediateType",
+        GlobalVariableError::ZeroSizedTaskPayload => "ZeroSizedTaskPayload",
+        GlobalVariableError::InvalidMemoryDecorationsAddressSpace =>
+            "InvalidMemoryDecorationsAddressSpace",
+        GlobalVariableError::CoherentNotSupported => "CoherentNotSupported",
+        GlobalVariableError::VolatileNotSupported => "VolatileNotSupported",
+    }
+}
+
 impl ToJson for GlobalVariableError {
     ghost form = { global_error_form };
 
-    #[tactic(auto, unfolding(crate::specs::Interfaces::global_error_form))]
+    #[tactic(auto, unfolding(crate::specs::Interfaces::global_error_form, crate::specs::Interfaces::global_error_held, crate::specs::Form::variant))]
     fn write_json(&self, out: &mut JsonWriter) -> Result<(), AllocError> {
+        let variant = global_error_name(self);
         match self {
-            GlobalVariableError::InvalidUsage(space) => holding(out, "InvalidUsage", space),
-            GlobalVariableError::InvalidType(space) => holding(out, "InvalidType", space),
-            GlobalVariableError::InvalidBindingArray(ty) => holding(out, "InvalidBindingArray", ty),
+            GlobalVariableError::InvalidUsage(space)
+            | GlobalVariableError::InvalidType(space)
+            | GlobalVariableError::InitializerNotAllowed(space) => holding(out, variant, space),
+            GlobalVariableError::InvalidBindingArray(ty) => holding(out, variant, ty),
             GlobalVariableError::MissingTypeFlags { required, seen } => holding_two(
                 out,
-                &("MissingTypeFlags", "required", "seen"),
+                &(variant, "required", "seen"),
                 required,
                 seen,
             ),
             GlobalVariableError::UnsupportedCapability(capabilities) => holding(
                 out,
-                "UnsupportedCapability",
+                variant,
                 capabilities,
             ),
-            GlobalVariableError::InvalidBinding => out.string("InvalidBinding"),
+            GlobalVariableError::InvalidBinding
+            | GlobalVariableError::InitializerExprType
+            | GlobalVariableError::InitializerType
+            | GlobalVariableError::StorageAddressSpaceWriteOnlyNotSupported
+            | GlobalVariableError::ZeroSizedTaskPayload
+            | GlobalVariableError::InvalidMemoryDecorationsAddressSpace
+            | GlobalVariableError::CoherentNotSupported
+            | GlobalVariableError::VolatileNotSupported => out.string(variant),
             GlobalVariableError::Alignment(space, ty, disalignment) => holding_triple(
                 out,
-                "Alignment",
+                variant,
                 space,
                 ty,
                 disalignment,
             ),
-            GlobalVariableError::InitializerExprType => out.string("InitializerExprType"),
-            GlobalVariableError::InitializerType => out.string("InitializerType"),
-            GlobalVariableError::InitializerNotAllowed(space) => holding(
-                out,
-                "InitializerNotAllowed",
-                space,
-            ),
-            GlobalVariableError::StorageAddressSpaceWriteOnlyNotSupported => out.string(
-                "StorageAddressSpaceWriteOnlyNotSupported",
-            ),
-            GlobalVariableError::InvalidImmediateType(error) => holding(
-                out,
-                "InvalidImmediateType",
-                error,
-            ),
-            GlobalVariableError::ZeroSizedTaskPayload => out.string("ZeroSizedTaskPayload"),
-            GlobalVariableError::InvalidMemoryDecorationsAddressSpace => out.string(
-                "InvalidMemoryDecorationsAddressSpace",
-            ),
-            GlobalVariableError::CoherentNotSupported => out.string("CoherentNotSupported"),
-            GlobalVariableError::VolatileNotSupported => out.string("VolatileNotSupported"),
+            GlobalVariableError::InvalidImmediateType(error) => holding(out, variant, error),
         }
+    }
+}
+
+/// The name of a fault of an input or output.
+#[tactic(auto, unfolding(crate::specs::Interfaces::varying_error_name))]
+fn varying_error_name(error: &VaryingError) -> &'static str
+    ensures { result.now ≡ varying_error_name error.now }
+{
+    match error {
+        VaryingError::InvalidType(..) => "InvalidType",
+        VaryingError::NotIOShareableType(..) => "NotIOShareableType",
+        VaryingError::InvalidInterpolationInStage(..) => "InvalidInterpolationInStage",
+        VaryingError::InvalidInterpolationSamplingCombination { .. } =>
+            "InvalidInterpolationSamplingCombination",
+        VaryingError::InvalidInterpolationForInteger => "InvalidInterpolationForInteger",
+        VaryingError::MissingInterpolation => "MissingInterpolation",
+        VaryingError::InvalidBuiltInStage(..) => "InvalidBuiltInStage",
+        VaryingError::InvalidBuiltInType(..) => "InvalidBuiltInType",
+        VaryingError::MissingBinding => "MissingBinding",
+        VaryingError::MemberMissingBinding(..) => "MemberMissingBinding",
+        VaryingError::BindingCollision { .. } => "BindingCollision",
+        VaryingError::BindingCollisionBlendSrc { .. } => "BindingCollisionBlendSrc",
+        VaryingError::DuplicateBuiltIn(..) => "DuplicateBuiltIn",
+        VaryingError::UnsupportedCapability(..) => "UnsupportedCapability",
+        VaryingError::InvalidInputAttributeInStage(..) => "InvalidInputAttributeInStage",
+        VaryingError::InvalidAttributeInStage(..) => "InvalidAttributeInStage",
+        VaryingError::InvalidBlendSrcIndex { .. } => "InvalidBlendSrcIndex",
+        VaryingError::IncompleteBlendSrcUsage { .. } => "IncompleteBlendSrcUsage",
+        VaryingError::InvalidBlendSrcWithOtherBindings { .. } => "InvalidBlendSrcWithOtherBindings",
+        VaryingError::BlendSrcOutputTypeMismatch { .. } => "BlendSrcOutputTypeMismatch",
+        VaryingError::BlendSrcNotOnStructMember => "BlendSrcNotOnStructMember",
+        VaryingError::InvalidMultiDimensionalSubgroupBuiltIn =>
+            "InvalidMultiDimensionalSubgroupBuiltIn",
+        VaryingError::InvalidPerPrimitive => "InvalidPerPrimitive",
+        VaryingError::MissingPerPrimitive => "MissingPerPrimitive",
+        VaryingError::PerVertexNotArrayOfThree => "PerVertexNotArrayOfThree",
+        VaryingError::InvalidPerVertexSampling => "InvalidPerVertexSampling",
     }
 }
 
 impl ToJson for VaryingError {
     ghost form = { varying_error_form };
 
-    #[tactic(auto, unfolding(crate::specs::Interfaces::varying_error_form))]
+    #[tactic(auto, unfolding(crate::specs::Interfaces::varying_error_form, crate::specs::Interfaces::varying_error_held, crate::specs::Form::variant))]
     fn write_json(&self, out: &mut JsonWriter) -> Result<(), AllocError> {
+        let variant = varying_error_name(self);
         match self {
-            VaryingError::InvalidType(ty) => holding(out, "InvalidType", ty),
-            VaryingError::NotIOShareableType(ty) => holding(out, "NotIOShareableType", ty),
+            VaryingError::InvalidType(ty) | VaryingError::NotIOShareableType(ty) => holding(
+                out, variant, ty,
+            ),
             VaryingError::InvalidInterpolationInStage(interpolation, stage) => holding_pair(
                 out,
-                "InvalidInterpolationInStage",
+                variant,
                 interpolation,
                 stage,
             ),
@@ -81,172 +137,153 @@ impl ToJson for VaryingError {
                 sampling,
             } => holding_two(
                 out,
-                &(
-                    "InvalidInterpolationSamplingCombination",
-                    "interpolation",
-                    "sampling",
-                ),
+                &(variant, "interpolation", "sampling"),
                 interpolation,
                 sampling,
             ),
-            VaryingError::InvalidInterpolationForInteger => out.string(
-                "InvalidInterpolationForInteger",
-            ),
-            VaryingError::MissingInterpolation => out.string("MissingInterpolation"),
-            VaryingError::InvalidBuiltInStage(built_in) => holding(
-                out,
-                "InvalidBuiltInStage",
-                built_in,
-            ),
+            VaryingError::InvalidInterpolationForInteger
+            | VaryingError::MissingInterpolation
+            | VaryingError::MissingBinding
+            | VaryingError::BlendSrcNotOnStructMember
+            | VaryingError::InvalidMultiDimensionalSubgroupBuiltIn
+            | VaryingError::InvalidPerPrimitive
+            | VaryingError::MissingPerPrimitive
+            | VaryingError::PerVertexNotArrayOfThree
+            | VaryingError::InvalidPerVertexSampling => out.string(variant),
+            VaryingError::InvalidBuiltInStage(built_in)
+            | VaryingError::DuplicateBuiltIn(built_in) => holding(out, variant, built_in),
             VaryingError::InvalidBuiltInType(built_in, ty) => holding_pair(
-                out,
-                "InvalidBuiltInType",
-                built_in,
-                ty,
+                out, variant, built_in, ty,
             ),
-            VaryingError::MissingBinding => out.string("MissingBinding"),
-            VaryingError::MemberMissingBinding(index) => holding(
+            VaryingError::MemberMissingBinding(index) => holding(out, variant, index),
+            VaryingError::BindingCollision { location }
+            | VaryingError::InvalidBlendSrcWithOtherBindings { location } => holding_field(
                 out,
-                "MemberMissingBinding",
-                index,
-            ),
-            VaryingError::BindingCollision { location } => holding_field(
-                out,
-                &("BindingCollision", "location"),
+                &(variant, "location"),
                 location,
             ),
             VaryingError::BindingCollisionBlendSrc { blend_src } => holding_field(
                 out,
-                &("BindingCollisionBlendSrc", "blend_src"),
+                &(variant, "blend_src"),
                 blend_src,
             ),
-            VaryingError::DuplicateBuiltIn(built_in) => holding(out, "DuplicateBuiltIn", built_in),
             VaryingError::UnsupportedCapability(capabilities) => holding(
                 out,
-                "UnsupportedCapability",
+                variant,
                 capabilities,
             ),
-            VaryingError::InvalidInputAttributeInStage(attribute, stage) => holding_pair(
-                out,
-                "InvalidInputAttributeInStage",
-                attribute,
-                stage,
-            ),
-            VaryingError::InvalidAttributeInStage(attribute, stage) => holding_pair(
-                out,
-                "InvalidAttributeInStage",
-                attribute,
-                stage,
+            VaryingError::InvalidInputAttributeInStage(attribute, stage)
+            | VaryingError::InvalidAttributeInStage(attribute, stage) => holding_pair(
+                out, variant, attribute, stage,
             ),
             VaryingError::InvalidBlendSrcIndex {
                 location,
                 blend_src,
             } => holding_two(
                 out,
-                &("InvalidBlendSrcIndex", "location", "blend_src"),
+                &(variant, "location", "blend_src"),
                 location,
                 blend_src,
             ),
             VaryingError::IncompleteBlendSrcUsage { present_blend_src } => holding_field(
                 out,
-                &("IncompleteBlendSrcUsage", "present_blend_src"),
+                &(variant, "present_blend_src"),
                 present_blend_src,
-            ),
-            VaryingError::InvalidBlendSrcWithOtherBindings { location } => holding_field(
-                out,
-                &("InvalidBlendSrcWithOtherBindings", "location"),
-                location,
             ),
             VaryingError::BlendSrcOutputTypeMismatch {
                 blend_src_0_type,
                 blend_src_1_type,
             } => holding_two(
                 out,
-                &(
-                    "BlendSrcOutputTypeMismatch",
-                    "blend_src_0_type",
-                    "blend_src_1_type",
-                ),
+                &(variant, "blend_src_0_type", "blend_src_1_type"),
                 blend_src_0_type,
                 blend_src_1_type,
             ),
-            VaryingError::BlendSrcNotOnStructMember => out.string("BlendSrcNotOnStructMember"),
-            VaryingError::InvalidMultiDimensionalSubgroupBuiltIn => out.string(
-                "InvalidMultiDimensionalSubgroupBuiltIn",
-            ),
-            VaryingError::InvalidPerPrimitive => out.string("InvalidPerPrimitive"),
-            VaryingError::MissingPerPrimitive => out.string("MissingPerPrimitive"),
-            VaryingError::PerVertexNotArrayOfThree => out.string("PerVertexNotArrayOfThree"),
-            VaryingError::InvalidPerVertexSampling => out.string("InvalidPerVertexSampling"),
         }
+    }
+}
+
+/// The name of a fault of an entry point.
+#[tactic(auto, unfolding(crate::specs::Interfaces::entry_error_name))]
+fn entry_error_name(error: &EntryPointError) -> &'static str
+    ensures { result.now ≡ entry_error_name error.now }
+{
+    match error {
+        EntryPointError::Conflict => "Conflict",
+        EntryPointError::MissingVertexOutputPosition => "MissingVertexOutputPosition",
+        EntryPointError::UnexpectedEarlyDepthTest => "UnexpectedEarlyDepthTest",
+        EntryPointError::UnexpectedWorkgroupSize => "UnexpectedWorkgroupSize",
+        EntryPointError::OutOfRangeWorkgroupSize => "OutOfRangeWorkgroupSize",
+        EntryPointError::ForbiddenStageOperations => "ForbiddenStageOperations",
+        EntryPointError::InvalidGlobalUsage(..) => "InvalidGlobalUsage",
+        EntryPointError::MoreThanOneImmediateUsed => "MoreThanOneImmediateUsed",
+        EntryPointError::BindingCollision(..) => "BindingCollision",
+        EntryPointError::Argument(..) => "Argument",
+        EntryPointError::Result(..) => "Result",
+        EntryPointError::Function(..) => "Function",
+        EntryPointError::UnsupportedCapability(..) => "UnsupportedCapability",
+        EntryPointError::ExpectedMeshShaderAttributes => "ExpectedMeshShaderAttributes",
+        EntryPointError::UnexpectedMeshShaderAttributes => "UnexpectedMeshShaderAttributes",
+        EntryPointError::UnexpectedTaskPayload => "UnexpectedTaskPayload",
+        EntryPointError::TaskPayloadWrongAddressSpace => "TaskPayloadWrongAddressSpace",
+        EntryPointError::WrongTaskPayloadUsed => "WrongTaskPayloadUsed",
+        EntryPointError::WrongTaskShaderEntryResult => "WrongTaskShaderEntryResult",
+        EntryPointError::ExpectedTaskPayload => "ExpectedTaskPayload",
+        EntryPointError::BadMeshOutputVariableType => "BadMeshOutputVariableType",
+        EntryPointError::BadMeshOutputVariableField => "BadMeshOutputVariableField",
+        EntryPointError::UnexpectedMeshShaderEntryResult => "UnexpectedMeshShaderEntryResult",
+        EntryPointError::InvalidMeshOutputType => "InvalidMeshOutputType",
+        EntryPointError::InvalidMeshPrimitiveOutputType => "InvalidMeshPrimitiveOutputType",
+        EntryPointError::WrongMeshOutputAddressSpace => "WrongMeshOutputAddressSpace",
+        EntryPointError::TaskPayloadTooSmall(..) => "TaskPayloadTooSmall",
+        EntryPointError::RayPayloadInInvalidStage(..) => "RayPayloadInInvalidStage",
+        EntryPointError::IncomingRayPayloadInInvalidStage(..) => "IncomingRayPayloadInInvalidStage",
     }
 }
 
 impl ToJson for EntryPointError {
     ghost form = { entry_error_form };
 
-    #[tactic(auto, unfolding(crate::specs::Interfaces::entry_error_form))]
+    #[tactic(auto, unfolding(crate::specs::Interfaces::entry_error_form, crate::specs::Interfaces::entry_error_held, crate::specs::Form::variant))]
     fn write_json(&self, out: &mut JsonWriter) -> Result<(), AllocError> {
+        let variant = entry_error_name(self);
         match self {
-            EntryPointError::Conflict => out.string("Conflict"),
-            EntryPointError::MissingVertexOutputPosition => out.string(
-                "MissingVertexOutputPosition",
-            ),
-            EntryPointError::UnexpectedEarlyDepthTest => out.string("UnexpectedEarlyDepthTest"),
-            EntryPointError::UnexpectedWorkgroupSize => out.string("UnexpectedWorkgroupSize"),
-            EntryPointError::OutOfRangeWorkgroupSize => out.string("OutOfRangeWorkgroupSize"),
-            EntryPointError::ForbiddenStageOperations => out.string("ForbiddenStageOperations"),
+            EntryPointError::Conflict
+            | EntryPointError::MissingVertexOutputPosition
+            | EntryPointError::UnexpectedEarlyDepthTest
+            | EntryPointError::UnexpectedWorkgroupSize
+            | EntryPointError::OutOfRangeWorkgroupSize
+            | EntryPointError::ForbiddenStageOperations
+            | EntryPointError::MoreThanOneImmediateUsed
+            | EntryPointError::ExpectedMeshShaderAttributes
+            | EntryPointError::UnexpectedMeshShaderAttributes
+            | EntryPointError::UnexpectedTaskPayload
+            | EntryPointError::TaskPayloadWrongAddressSpace
+            | EntryPointError::WrongTaskPayloadUsed
+            | EntryPointError::WrongTaskShaderEntryResult
+            | EntryPointError::ExpectedTaskPayload
+            | EntryPointError::BadMeshOutputVariableType
+            | EntryPointError::BadMeshOutputVariableField
+            | EntryPointError::UnexpectedMeshShaderEntryResult
+            | EntryPointError::InvalidMeshOutputType
+            | EntryPointError::InvalidMeshPrimitiveOutputType
+            | EntryPointError::WrongMeshOutputAddressSpace => out.string(variant),
             EntryPointError::InvalidGlobalUsage(global, used) => holding_pair(
-                out,
-                "InvalidGlobalUsage",
-                global,
-                used,
+                out, variant, global, used,
             ),
-            EntryPointError::MoreThanOneImmediateUsed => out.string("MoreThanOneImmediateUsed"),
-            EntryPointError::BindingCollision(global) => holding(out, "BindingCollision", global),
-            EntryPointError::Argument(index, error) => holding_pair(out, "Argument", index, error),
-            EntryPointError::Result(error) => holding(out, "Result", error),
-            EntryPointError::Function(error) => holding(out, "Function", error),
+            EntryPointError::BindingCollision(global) => holding(out, variant, global),
+            EntryPointError::Argument(index, error) => holding_pair(out, variant, index, error),
+            EntryPointError::Result(error) => holding(out, variant, error),
+            EntryPointError::Function(error) => holding(out, variant, error),
             EntryPointError::UnsupportedCapability(capabilities) => holding(
                 out,
-                "UnsupportedCapability",
+                variant,
                 capabilities,
             ),
-            EntryPointError::ExpectedMeshShaderAttributes => out.string(
-                "ExpectedMeshShaderAttributes",
-            ),
-            EntryPointError::UnexpectedMeshShaderAttributes => out.string(
-                "UnexpectedMeshShaderAttributes",
-            ),
-            EntryPointError::UnexpectedTaskPayload => out.string("UnexpectedTaskPayload"),
-            EntryPointError::TaskPayloadWrongAddressSpace => out.string(
-                "TaskPayloadWrongAddressSpace",
-            ),
-            EntryPointError::WrongTaskPayloadUsed => out.string("WrongTaskPayloadUsed"),
-            EntryPointError::WrongTaskShaderEntryResult => out.string("WrongTaskShaderEntryResult"),
-            EntryPointError::ExpectedTaskPayload => out.string("ExpectedTaskPayload"),
-            EntryPointError::BadMeshOutputVariableType => out.string("BadMeshOutputVariableType"),
-            EntryPointError::BadMeshOutputVariableField => out.string("BadMeshOutputVariableField"),
-            EntryPointError::UnexpectedMeshShaderEntryResult => out.string(
-                "UnexpectedMeshShaderEntryResult",
-            ),
-            EntryPointError::InvalidMeshOutputType => out.string("InvalidMeshOutputType"),
-            EntryPointError::InvalidMeshPrimitiveOutputType => out.string(
-                "InvalidMeshPrimitiveOutputType",
-            ),
-            EntryPointError::WrongMeshOutputAddressSpace => out.string(
-                "WrongMeshOutputAddressSpace",
-            ),
-            EntryPointError::TaskPayloadTooSmall(size) => holding(out, "TaskPayloadTooSmall", size),
-            EntryPointError::RayPayloadInInvalidStage(stage) => holding(
-                out,
-                "RayPayloadInInvalidStage",
-                stage,
-            ),
-            EntryPointError::IncomingRayPayloadInInvalidStage(stage) => holding(
-                out,
-                "IncomingRayPayloadInInvalidStage",
-                stage,
+            EntryPointError::TaskPayloadTooSmall(size) => holding(out, variant, size),
+            EntryPointError::RayPayloadInInvalidStage(stage)
+            | EntryPointError::IncomingRayPayloadInInvalidStage(stage) => holding(
+                out, variant, stage,
             ),
         }
     }

@@ -1,6 +1,7 @@
 //! What doesn't fit in a module.
 
-ghost use Rattle.json_faults.specs.Misfits.{owner_form, type_owner_form, type_field_form, variable_field_form, statement_field_form, entry_field_form, place_form, handle_of_form, problem_form, misfit_form};
+ghost use Rattle.std.specs.Prelude.{◌≡◌};
+ghost use Rattle.json_faults.specs.Misfits.{owner_form, type_owner_form, type_field_form, variable_field_form, statement_field_name, statement_field_form, entry_field_name, entry_field_form, place_name, place_form, handle_of_name, handle_of_form, problem_name, problem_form, misfit_form};
 
 use crate::parts::{
     holding, holding_field, holding_pair, holding_three, holding_triple, holding_two, two_fields,
@@ -69,36 +70,83 @@ impl ToJson for VariableField {
     }
 }
 
+/// The name of a field of a statement.
+#[tactic(auto, unfolding(crate::specs::Misfits::statement_field_name))]
+fn statement_field_name(field: &StatementField) -> &'static str
+    ensures { result.now ≡ statement_field_name field.now }
+{
+    match field {
+        StatementField::Range => "Range",
+        StatementField::Condition => "Condition",
+        StatementField::Selector => "Selector",
+        StatementField::BreakIf => "BreakIf",
+        StatementField::Value => "Value",
+        StatementField::Pointer => "Pointer",
+        StatementField::Image => "Image",
+        StatementField::Coordinate => "Coordinate",
+        StatementField::ArrayIndex => "ArrayIndex",
+        StatementField::Compare => "Compare",
+        StatementField::Result => "Result",
+        StatementField::Function => "Function",
+        StatementField::CallArgument(..) => "CallArgument",
+        StatementField::Argument => "Argument",
+        StatementField::Predicate => "Predicate",
+        StatementField::Mode => "Mode",
+        StatementField::Query => "Query",
+        StatementField::AccelerationStructure => "AccelerationStructure",
+        StatementField::Descriptor => "Descriptor",
+        StatementField::HitT => "HitT",
+        StatementField::Payload => "Payload",
+        StatementField::Target => "Target",
+        StatementField::Source => "Source",
+    }
+}
+
 impl ToJson for StatementField {
     ghost form = { statement_field_form };
 
     #[tactic(auto, unfolding(crate::specs::Misfits::statement_field_form))]
     fn write_json(&self, out: &mut JsonWriter) -> Result<(), AllocError> {
         match self {
-            StatementField::Range => out.string("Range"),
-            StatementField::Condition => out.string("Condition"),
-            StatementField::Selector => out.string("Selector"),
-            StatementField::BreakIf => out.string("BreakIf"),
-            StatementField::Value => out.string("Value"),
-            StatementField::Pointer => out.string("Pointer"),
-            StatementField::Image => out.string("Image"),
-            StatementField::Coordinate => out.string("Coordinate"),
-            StatementField::ArrayIndex => out.string("ArrayIndex"),
-            StatementField::Compare => out.string("Compare"),
-            StatementField::Result => out.string("Result"),
-            StatementField::Function => out.string("Function"),
             StatementField::CallArgument(index) => holding(out, "CallArgument", index),
-            StatementField::Argument => out.string("Argument"),
-            StatementField::Predicate => out.string("Predicate"),
-            StatementField::Mode => out.string("Mode"),
-            StatementField::Query => out.string("Query"),
-            StatementField::AccelerationStructure => out.string("AccelerationStructure"),
-            StatementField::Descriptor => out.string("Descriptor"),
-            StatementField::HitT => out.string("HitT"),
-            StatementField::Payload => out.string("Payload"),
-            StatementField::Target => out.string("Target"),
-            StatementField::Source => out.string("Source"),
+            StatementField::Range
+            | StatementField::Condition
+            | StatementField::Selector
+            | StatementField::BreakIf
+            | StatementField::Value
+            | StatementField::Pointer
+            | StatementField::Image
+            | StatementField::Coordinate
+            | StatementField::ArrayIndex
+            | StatementField::Compare
+            | StatementField::Result
+            | StatementField::Function
+            | StatementField::Argument
+            | StatementField::Predicate
+            | StatementField::Mode
+            | StatementField::Query
+            | StatementField::AccelerationStructure
+            | StatementField::Descriptor
+            | StatementField::HitT
+            | StatementField::Payload
+            | StatementField::Target
+            | StatementField::Source => out.string(statement_field_name(self)),
         }
+    }
+}
+
+/// The name of a field of an entry point.
+#[tactic(auto, unfolding(crate::specs::Misfits::entry_field_name))]
+fn entry_field_name(field: &EntryField) -> &'static str
+    ensures { result.now ≡ entry_field_name field.now }
+{
+    match field {
+        EntryField::TaskPayload => "TaskPayload",
+        EntryField::MaxVerticesOverride => "MaxVerticesOverride",
+        EntryField::MaxPrimitivesOverride => "MaxPrimitivesOverride",
+        EntryField::VertexOutputType => "VertexOutputType",
+        EntryField::PrimitiveOutputType => "PrimitiveOutputType",
+        EntryField::OutputVariable => "OutputVariable",
     }
 }
 
@@ -107,56 +155,82 @@ impl ToJson for EntryField {
 
     #[tactic(auto, unfolding(crate::specs::Misfits::entry_field_form))]
     fn write_json(&self, out: &mut JsonWriter) -> Result<(), AllocError> {
-        match self {
-            EntryField::TaskPayload => out.string("TaskPayload"),
-            EntryField::MaxVerticesOverride => out.string("MaxVerticesOverride"),
-            EntryField::MaxPrimitivesOverride => out.string("MaxPrimitivesOverride"),
-            EntryField::VertexOutputType => out.string("VertexOutputType"),
-            EntryField::PrimitiveOutputType => out.string("PrimitiveOutputType"),
-            EntryField::OutputVariable => out.string("OutputVariable"),
-        }
+        out.string(entry_field_name(self))
+    }
+}
+
+/// The name of a place.
+#[tactic(auto, unfolding(crate::specs::Misfits::place_name))]
+fn place_name(place: &Place) -> &'static str
+    ensures { result.now ≡ place_name place.now }
+{
+    match place {
+        Place::TypeInfos => "TypeInfos",
+        Place::StorageLayout(..) => "StorageLayout",
+        Place::UniformLayout(..) => "UniformLayout",
+        Place::InType(..) => "InType",
+        Place::RayDesc => "RayDesc",
+        Place::ConstantType(..) => "ConstantType",
+        Place::OverrideType(..) => "OverrideType",
+        Place::InGlobal(..) => "InGlobal",
+        Place::GlobalTypes => "GlobalTypes",
+        Place::Arguments(..) => "Arguments",
+        Place::ArgumentType(..) => "ArgumentType",
+        Place::ResultType(..) => "ResultType",
+        Place::InLocal(..) => "InLocal",
+        Place::Operand(..) => "Operand",
+        Place::Reference(..) => "Reference",
+        Place::InStatement(..) => "InStatement",
+        Place::InEntryPoint(..) => "InEntryPoint",
     }
 }
 
 impl ToJson for Place {
     ghost form = { place_form };
 
-    #[tactic(auto, unfolding(crate::specs::Misfits::place_form))]
+    #[tactic(auto, unfolding(crate::specs::Misfits::place_form, crate::specs::Misfits::place_held, crate::specs::Form::variant))]
     fn write_json(&self, out: &mut JsonWriter) -> Result<(), AllocError> {
+        let variant = place_name(self);
         match self {
-            Place::TypeInfos => out.string("TypeInfos"),
-            Place::StorageLayout(info) => holding(out, "StorageLayout", info),
-            Place::UniformLayout(info) => holding(out, "UniformLayout", info),
-            Place::InType(owner, field) => holding_pair(out, "InType", owner, field),
-            Place::RayDesc => out.string("RayDesc"),
-            Place::ConstantType(constant) => holding(out, "ConstantType", constant),
-            Place::OverrideType(item) => holding(out, "OverrideType", item),
-            Place::InGlobal(global, field) => holding_pair(out, "InGlobal", global, field),
-            Place::GlobalTypes => out.string("GlobalTypes"),
-            Place::Arguments(owner) => holding(out, "Arguments", owner),
-            Place::ArgumentType(owner, index) => holding_pair(out, "ArgumentType", owner, index),
-            Place::ResultType(owner) => holding(out, "ResultType", owner),
+            Place::TypeInfos | Place::RayDesc | Place::GlobalTypes => out.string(variant),
+            Place::StorageLayout(index)
+            | Place::UniformLayout(index)
+            | Place::ConstantType(index)
+            | Place::OverrideType(index) => holding(out, variant, index),
+            Place::InType(owner, field) => holding_pair(out, variant, owner, field),
+            Place::InGlobal(global, field) => holding_pair(out, variant, global, field),
+            Place::Arguments(owner) | Place::ResultType(owner) => holding(out, variant, owner),
+            Place::ArgumentType(owner, index) | Place::Reference(owner, index) => holding_pair(
+                out, variant, owner, index,
+            ),
             Place::InLocal(owner, local, field) => holding_triple(
-                out, "InLocal", owner, local, field,
+                out, variant, owner, local, field,
             ),
             Place::Operand(owner, expression, index) => holding_triple(
-                out, "Operand", owner, expression, index,
-            ),
-            Place::Reference(owner, expression) => holding_pair(
-                out,
-                "Reference",
-                owner,
-                expression,
+                out, variant, owner, expression, index,
             ),
             Place::InStatement(owner, statement, field) => holding_triple(
-                out,
-                "InStatement",
-                owner,
-                statement,
-                field,
+                out, variant, owner, statement, field,
             ),
-            Place::InEntryPoint(index, field) => holding_pair(out, "InEntryPoint", index, field),
+            Place::InEntryPoint(index, field) => holding_pair(out, variant, index, field),
         }
+    }
+}
+
+/// The name of what a handle is of.
+#[tactic(auto, unfolding(crate::specs::Misfits::handle_of_name))]
+fn handle_of_name(of: &HandleOf) -> &'static str
+    ensures { result.now ≡ handle_of_name of.now }
+{
+    match of {
+        HandleOf::Types => "Types",
+        HandleOf::Constants => "Constants",
+        HandleOf::Overrides => "Overrides",
+        HandleOf::GlobalVariables => "GlobalVariables",
+        HandleOf::GlobalExpressions => "GlobalExpressions",
+        HandleOf::Functions => "Functions",
+        HandleOf::LocalVariables => "LocalVariables",
+        HandleOf::Expressions => "Expressions",
     }
 }
 
@@ -165,54 +239,62 @@ impl ToJson for HandleOf {
 
     #[tactic(auto, unfolding(crate::specs::Misfits::handle_of_form))]
     fn write_json(&self, out: &mut JsonWriter) -> Result<(), AllocError> {
-        match self {
-            HandleOf::Types => out.string("Types"),
-            HandleOf::Constants => out.string("Constants"),
-            HandleOf::Overrides => out.string("Overrides"),
-            HandleOf::GlobalVariables => out.string("GlobalVariables"),
-            HandleOf::GlobalExpressions => out.string("GlobalExpressions"),
-            HandleOf::Functions => out.string("Functions"),
-            HandleOf::LocalVariables => out.string("LocalVariables"),
-            HandleOf::Expressions => out.string("Expressions"),
-        }
+        out.string(handle_of_name(self))
+    }
+}
+
+/// The name of a problem.
+#[tactic(auto, unfolding(crate::specs::Misfits::problem_name))]
+fn problem_name(problem: &Problem) -> &'static str
+    ensures { result.now ≡ problem_name problem.now }
+{
+    match problem {
+        Problem::Handle { .. } => "Handle",
+        Problem::Length { .. } => "Length",
+        Problem::TooMany { .. } => "TooMany",
+        Problem::Backwards { .. } => "Backwards",
+        Problem::PastEnd { .. } => "PastEnd",
+        Problem::Unbindable => "Unbindable",
+        Problem::InFunctionSpace => "InFunctionSpace",
+        Problem::UnknownSize { .. } => "UnknownSize",
     }
 }
 
 impl ToJson for Problem {
     ghost form = { problem_form };
 
-    #[tactic(auto, unfolding(crate::specs::Misfits::problem_form))]
+    #[tactic(auto, unfolding(crate::specs::Misfits::problem_form, crate::specs::Misfits::problem_held, crate::specs::Form::variant))]
     fn write_json(&self, out: &mut JsonWriter) -> Result<(), AllocError> {
+        let variant = problem_name(self);
         match self {
             Problem::Handle { of, index, below } => holding_three(
                 out,
-                &("Handle", "of", "index", "below"),
+                &(variant, "of", "index", "below"),
                 of,
                 index,
                 below,
             ),
             Problem::Length { found, wanted } => holding_two(
                 out,
-                &("Length", "found", "wanted"),
+                &(variant, "found", "wanted"),
                 found,
                 wanted,
             ),
-            Problem::TooMany { found } => holding_field(out, &("TooMany", "found"), found),
+            Problem::TooMany { found } => holding_field(out, &(variant, "found"), found),
             Problem::Backwards { start, end } => holding_two(
                 out,
-                &("Backwards", "start", "end"),
+                &(variant, "start", "end"),
                 start,
                 end,
             ),
             Problem::PastEnd { end, count } => holding_two(
                 out,
-                &("PastEnd", "end", "count"),
+                &(variant, "end", "count"),
                 end,
                 count,
             ),
-            Problem::Unbindable => out.string("Unbindable"),
-            Problem::InFunctionSpace => out.string("InFunctionSpace"),
-            Problem::UnknownSize { ty } => holding_field(out, &("UnknownSize", "ty"), ty),
+            Problem::Unbindable | Problem::InFunctionSpace => out.string(variant),
+            Problem::UnknownSize { ty } => holding_field(out, &(variant, "ty"), ty),
         }
     }
 }

@@ -1,6 +1,7 @@
 //! Values that are their names.
 
-ghost use Rattle.json_faults.specs.Names.{scalar_kind_form, vector_size_form, image_dimension_form, storage_format_form, interpolation_form, sampling_form, shader_stage_form};
+ghost use Rattle.std.specs.Prelude.{◌≡◌};
+ghost use Rattle.json_faults.specs.Names.{scalar_kind_name, scalar_kind_form, vector_size_form, image_dimension_form, storage_format_name, storage_format_form, interpolation_form, sampling_name, sampling_form, shader_stage_name, shader_stage_form};
 
 use crate::to_json::ToJson;
 use crate::writer::JsonWriter;
@@ -8,19 +9,27 @@ use ir_module::ShaderStage;
 use ir_types::{ImageDimension, Interpolation, Sampling, ScalarKind, StorageFormat, VectorSize};
 use std::alloc::AllocError;
 
+/// The name of a kind of scalars.
+#[tactic(auto, unfolding(crate::specs::Names::scalar_kind_name))]
+fn scalar_kind_name(kind: ScalarKind) -> &'static str
+    ensures { result.now ≡ scalar_kind_name kind }
+{
+    match kind {
+        ScalarKind::Sint => "Sint",
+        ScalarKind::Uint => "Uint",
+        ScalarKind::Float => "Float",
+        ScalarKind::Bool => "Bool",
+        ScalarKind::AbstractInt => "AbstractInt",
+        ScalarKind::AbstractFloat => "AbstractFloat",
+    }
+}
+
 impl ToJson for ScalarKind {
     ghost form = { scalar_kind_form };
 
     #[tactic(auto, unfolding(crate::specs::Names::scalar_kind_form))]
     fn write_json(&self, out: &mut JsonWriter) -> Result<(), AllocError> {
-        match self {
-            ScalarKind::Sint => out.string("Sint"),
-            ScalarKind::Uint => out.string("Uint"),
-            ScalarKind::Float => out.string("Float"),
-            ScalarKind::Bool => out.string("Bool"),
-            ScalarKind::AbstractInt => out.string("AbstractInt"),
-            ScalarKind::AbstractFloat => out.string("AbstractFloat"),
-        }
+        out.string(scalar_kind_name(*self))
     }
 }
 
@@ -51,54 +60,62 @@ impl ToJson for ImageDimension {
     }
 }
 
+/// The name of a format of storage images.
+#[tactic(auto, unfolding(crate::specs::Names::storage_format_name))]
+fn storage_format_name(format: StorageFormat) -> &'static str
+    ensures { result.now ≡ storage_format_name format }
+{
+    match format {
+        StorageFormat::R8Unorm => "R8Unorm",
+        StorageFormat::R8Snorm => "R8Snorm",
+        StorageFormat::R8Uint => "R8Uint",
+        StorageFormat::R8Sint => "R8Sint",
+        StorageFormat::R16Uint => "R16Uint",
+        StorageFormat::R16Sint => "R16Sint",
+        StorageFormat::R16Unorm => "R16Unorm",
+        StorageFormat::R16Snorm => "R16Snorm",
+        StorageFormat::R16Float => "R16Float",
+        StorageFormat::Rg8Unorm => "Rg8Unorm",
+        StorageFormat::Rg8Snorm => "Rg8Snorm",
+        StorageFormat::Rg8Uint => "Rg8Uint",
+        StorageFormat::Rg8Sint => "Rg8Sint",
+        StorageFormat::R32Uint => "R32Uint",
+        StorageFormat::R32Sint => "R32Sint",
+        StorageFormat::R32Float => "R32Float",
+        StorageFormat::Rg16Uint => "Rg16Uint",
+        StorageFormat::Rg16Sint => "Rg16Sint",
+        StorageFormat::Rg16Unorm => "Rg16Unorm",
+        StorageFormat::Rg16Snorm => "Rg16Snorm",
+        StorageFormat::Rg16Float => "Rg16Float",
+        StorageFormat::Rgba8Unorm => "Rgba8Unorm",
+        StorageFormat::Rgba8Snorm => "Rgba8Snorm",
+        StorageFormat::Rgba8Uint => "Rgba8Uint",
+        StorageFormat::Rgba8Sint => "Rgba8Sint",
+        StorageFormat::Bgra8Unorm => "Bgra8Unorm",
+        StorageFormat::Rgb10a2Uint => "Rgb10a2Uint",
+        StorageFormat::Rgb10a2Unorm => "Rgb10a2Unorm",
+        StorageFormat::Rg11b10Ufloat => "Rg11b10Ufloat",
+        StorageFormat::R64Uint => "R64Uint",
+        StorageFormat::Rg32Uint => "Rg32Uint",
+        StorageFormat::Rg32Sint => "Rg32Sint",
+        StorageFormat::Rg32Float => "Rg32Float",
+        StorageFormat::Rgba16Uint => "Rgba16Uint",
+        StorageFormat::Rgba16Sint => "Rgba16Sint",
+        StorageFormat::Rgba16Unorm => "Rgba16Unorm",
+        StorageFormat::Rgba16Snorm => "Rgba16Snorm",
+        StorageFormat::Rgba16Float => "Rgba16Float",
+        StorageFormat::Rgba32Uint => "Rgba32Uint",
+        StorageFormat::Rgba32Sint => "Rgba32Sint",
+        StorageFormat::Rgba32Float => "Rgba32Float",
+    }
+}
+
 impl ToJson for StorageFormat {
     ghost form = { storage_format_form };
 
     #[tactic(auto, unfolding(crate::specs::Names::storage_format_form))]
     fn write_json(&self, out: &mut JsonWriter) -> Result<(), AllocError> {
-        match self {
-            StorageFormat::R8Unorm => out.string("R8Unorm"),
-            StorageFormat::R8Snorm => out.string("R8Snorm"),
-            StorageFormat::R8Uint => out.string("R8Uint"),
-            StorageFormat::R8Sint => out.string("R8Sint"),
-            StorageFormat::R16Uint => out.string("R16Uint"),
-            StorageFormat::R16Sint => out.string("R16Sint"),
-            StorageFormat::R16Unorm => out.string("R16Unorm"),
-            StorageFormat::R16Snorm => out.string("R16Snorm"),
-            StorageFormat::R16Float => out.string("R16Float"),
-            StorageFormat::Rg8Unorm => out.string("Rg8Unorm"),
-            StorageFormat::Rg8Snorm => out.string("Rg8Snorm"),
-            StorageFormat::Rg8Uint => out.string("Rg8Uint"),
-            StorageFormat::Rg8Sint => out.string("Rg8Sint"),
-            StorageFormat::R32Uint => out.string("R32Uint"),
-            StorageFormat::R32Sint => out.string("R32Sint"),
-            StorageFormat::R32Float => out.string("R32Float"),
-            StorageFormat::Rg16Uint => out.string("Rg16Uint"),
-            StorageFormat::Rg16Sint => out.string("Rg16Sint"),
-            StorageFormat::Rg16Unorm => out.string("Rg16Unorm"),
-            StorageFormat::Rg16Snorm => out.string("Rg16Snorm"),
-            StorageFormat::Rg16Float => out.string("Rg16Float"),
-            StorageFormat::Rgba8Unorm => out.string("Rgba8Unorm"),
-            StorageFormat::Rgba8Snorm => out.string("Rgba8Snorm"),
-            StorageFormat::Rgba8Uint => out.string("Rgba8Uint"),
-            StorageFormat::Rgba8Sint => out.string("Rgba8Sint"),
-            StorageFormat::Bgra8Unorm => out.string("Bgra8Unorm"),
-            StorageFormat::Rgb10a2Uint => out.string("Rgb10a2Uint"),
-            StorageFormat::Rgb10a2Unorm => out.string("Rgb10a2Unorm"),
-            StorageFormat::Rg11b10Ufloat => out.string("Rg11b10Ufloat"),
-            StorageFormat::R64Uint => out.string("R64Uint"),
-            StorageFormat::Rg32Uint => out.string("Rg32Uint"),
-            StorageFormat::Rg32Sint => out.string("Rg32Sint"),
-            StorageFormat::Rg32Float => out.string("Rg32Float"),
-            StorageFormat::Rgba16Uint => out.string("Rgba16Uint"),
-            StorageFormat::Rgba16Sint => out.string("Rgba16Sint"),
-            StorageFormat::Rgba16Unorm => out.string("Rgba16Unorm"),
-            StorageFormat::Rgba16Snorm => out.string("Rgba16Snorm"),
-            StorageFormat::Rgba16Float => out.string("Rgba16Float"),
-            StorageFormat::Rgba32Uint => out.string("Rgba32Uint"),
-            StorageFormat::Rgba32Sint => out.string("Rgba32Sint"),
-            StorageFormat::Rgba32Float => out.string("Rgba32Float"),
-        }
+        out.string(storage_format_name(*self))
     }
 }
 
@@ -116,18 +133,44 @@ impl ToJson for Interpolation {
     }
 }
 
+/// The name of a sampling.
+#[tactic(auto, unfolding(crate::specs::Names::sampling_name))]
+fn sampling_name(sampling: Sampling) -> &'static str
+    ensures { result.now ≡ sampling_name sampling }
+{
+    match sampling {
+        Sampling::Center => "Center",
+        Sampling::Centroid => "Centroid",
+        Sampling::Sample => "Sample",
+        Sampling::First => "First",
+        Sampling::Either => "Either",
+    }
+}
+
 impl ToJson for Sampling {
     ghost form = { sampling_form };
 
     #[tactic(auto, unfolding(crate::specs::Names::sampling_form))]
     fn write_json(&self, out: &mut JsonWriter) -> Result<(), AllocError> {
-        match self {
-            Sampling::Center => out.string("Center"),
-            Sampling::Centroid => out.string("Centroid"),
-            Sampling::Sample => out.string("Sample"),
-            Sampling::First => out.string("First"),
-            Sampling::Either => out.string("Either"),
-        }
+        out.string(sampling_name(*self))
+    }
+}
+
+/// The name of a stage.
+#[tactic(auto, unfolding(crate::specs::Names::shader_stage_name))]
+fn shader_stage_name(stage: ShaderStage) -> &'static str
+    ensures { result.now ≡ shader_stage_name stage }
+{
+    match stage {
+        ShaderStage::Vertex => "Vertex",
+        ShaderStage::Fragment => "Fragment",
+        ShaderStage::Compute => "Compute",
+        ShaderStage::Mesh => "Mesh",
+        ShaderStage::Task => "Task",
+        ShaderStage::RayGeneration => "RayGeneration",
+        ShaderStage::AnyHit => "AnyHit",
+        ShaderStage::ClosestHit => "ClosestHit",
+        ShaderStage::Miss => "Miss",
     }
 }
 
@@ -136,16 +179,6 @@ impl ToJson for ShaderStage {
 
     #[tactic(auto, unfolding(crate::specs::Names::shader_stage_form))]
     fn write_json(&self, out: &mut JsonWriter) -> Result<(), AllocError> {
-        match self {
-            ShaderStage::Vertex => out.string("Vertex"),
-            ShaderStage::Fragment => out.string("Fragment"),
-            ShaderStage::Compute => out.string("Compute"),
-            ShaderStage::Mesh => out.string("Mesh"),
-            ShaderStage::Task => out.string("Task"),
-            ShaderStage::RayGeneration => out.string("RayGeneration"),
-            ShaderStage::AnyHit => out.string("AnyHit"),
-            ShaderStage::ClosestHit => out.string("ClosestHit"),
-            ShaderStage::Miss => out.string("Miss"),
-        }
+        out.string(shader_stage_name(*self))
     }
 }

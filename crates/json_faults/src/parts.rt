@@ -1,4 +1,4 @@
-//! Objects with so many fields, and variants with what they hold. The names of fields stand in one constant at each call.
+//! Objects with so many fields, and variants with what they hold. The names stand in one tuple at each call.
 
 ghost use Rattle.std.specs.Prelude.{◌≡◌, ◌++◌, ◌∷◌, OnOk};
 ghost use Rattle.json.specs.Token.{key};

@@ -1,6 +1,7 @@
 //! Types, and what they are made from.
 
-ghost use Rattle.json_faults.specs.Types.{scalar_form, member_form, space_form, image_class_form, array_size_form, atomic_function_form, switch_value_form, binding_form, type_form};
+ghost use Rattle.std.specs.Prelude.{◌≡◌};
+ghost use Rattle.json_faults.specs.Types.{scalar_form, member_form, space_name, space_form, image_class_name, image_class_form, array_size_form, atomic_function_name, atomic_function_form, switch_value_form, binding_form, inner_name, type_form};
 
 use crate::parts::{
     four_fields, holding, holding_field, holding_five, holding_three, holding_two, two_fields,
@@ -20,43 +21,76 @@ impl ToJson for Scalar {
     }
 }
 
+/// The name of an address space.
+#[tactic(auto, unfolding(crate::specs::Types::space_name))]
+fn space_name(space: &AddressSpace) -> &'static str
+    ensures { result.now ≡ space_name space.now }
+{
+    match space {
+        AddressSpace::Function => "Function",
+        AddressSpace::Private => "Private",
+        AddressSpace::WorkGroup => "WorkGroup",
+        AddressSpace::Uniform => "Uniform",
+        AddressSpace::Storage { .. } => "Storage",
+        AddressSpace::Handle => "Handle",
+        AddressSpace::Immediate => "Immediate",
+        AddressSpace::TaskPayload => "TaskPayload",
+        AddressSpace::RayPayload => "RayPayload",
+        AddressSpace::IncomingRayPayload => "IncomingRayPayload",
+    }
+}
+
 impl ToJson for AddressSpace {
     ghost form = { space_form };
 
     #[tactic(auto, unfolding(crate::specs::Types::space_form))]
     fn write_json(&self, out: &mut JsonWriter) -> Result<(), AllocError> {
         match self {
-            AddressSpace::Function => out.string("Function"),
-            AddressSpace::Private => out.string("Private"),
-            AddressSpace::WorkGroup => out.string("WorkGroup"),
-            AddressSpace::Uniform => out.string("Uniform"),
             AddressSpace::Storage { access } => holding_field(out, &("Storage", "access"), access),
-            AddressSpace::Handle => out.string("Handle"),
-            AddressSpace::Immediate => out.string("Immediate"),
-            AddressSpace::TaskPayload => out.string("TaskPayload"),
-            AddressSpace::RayPayload => out.string("RayPayload"),
-            AddressSpace::IncomingRayPayload => out.string("IncomingRayPayload"),
+            AddressSpace::Function
+            | AddressSpace::Private
+            | AddressSpace::WorkGroup
+            | AddressSpace::Uniform
+            | AddressSpace::Handle
+            | AddressSpace::Immediate
+            | AddressSpace::TaskPayload
+            | AddressSpace::RayPayload
+            | AddressSpace::IncomingRayPayload => out.string(space_name(self)),
         }
+    }
+}
+
+/// The name of a class of images.
+#[tactic(auto, unfolding(crate::specs::Types::image_class_name))]
+fn image_class_name(class: &ImageClass) -> &'static str
+    ensures { result.now ≡ image_class_name class.now }
+{
+    match class {
+        ImageClass::Sampled { .. } => "Sampled",
+        ImageClass::Depth { .. } => "Depth",
+        ImageClass::External => "External",
+        ImageClass::Storage { .. } => "Storage",
     }
 }
 
 impl ToJson for ImageClass {
     ghost form = { image_class_form };
 
-    #[tactic(auto, unfolding(crate::specs::Types::image_class_form))]
+    #[tactic(auto, unfolding(crate::specs::Types::image_class_form, crate::specs::Types::image_class_held, crate::specs::Form::variant))]
     fn write_json(&self, out: &mut JsonWriter) -> Result<(), AllocError> {
+        let variant = image_class_name(self);
         match self {
             ImageClass::Sampled { kind, multi } => holding_two(
                 out,
-                &("Sampled", "kind", "multi"),
+                &(variant, "kind", "multi"),
                 kind,
                 multi,
             ),
-            ImageClass::Depth { multi } => holding_field(out, &("Depth", "multi"), multi),
-            ImageClass::External => out.string("External"),
+            ImageClass::Depth { multi } => holding_field(out, &(variant, "multi"), multi),
+            ImageClass::External => out.string(variant),
             ImageClass::Storage { format, access } => holding_two(
                 out,
-                &("Storage", "format", "access"),
+                &(variant, "format", "access"),
                 format,
                 access,
             ),
@@ -77,24 +111,41 @@ impl ToJson for ArraySize {
     }
 }
 
+/// The name of an atomic function.
+#[tactic(auto, unfolding(crate::specs::Types::atomic_function_name))]
+fn atomic_function_name(function: &AtomicFunction) -> &'static str
+    ensures { result.now ≡ atomic_function_name function.now }
+{
+    match function {
+        AtomicFunction::Add => "Add",
+        AtomicFunction::Subtract => "Subtract",
+        AtomicFunction::And => "And",
+        AtomicFunction::ExclusiveOr => "ExclusiveOr",
+        AtomicFunction::InclusiveOr => "InclusiveOr",
+        AtomicFunction::Min => "Min",
+        AtomicFunction::Max => "Max",
+        AtomicFunction::Exchange { .. } => "Exchange",
+    }
+}
+
 impl ToJson for AtomicFunction {
     ghost form = { atomic_function_form };
 
     #[tactic(auto, unfolding(crate::specs::Types::atomic_function_form))]
     fn write_json(&self, out: &mut JsonWriter) -> Result<(), AllocError> {
         match self {
-            AtomicFunction::Add => out.string("Add"),
-            AtomicFunction::Subtract => out.string("Subtract"),
-            AtomicFunction::And => out.string("And"),
-            AtomicFunction::ExclusiveOr => out.string("ExclusiveOr"),
-            AtomicFunction::InclusiveOr => out.string("InclusiveOr"),
-            AtomicFunction::Min => out.string("Min"),
-            AtomicFunction::Max => out.string("Max"),
             AtomicFunction::Exchange { compare } => holding_field(
                 out,
                 &("Exchange", "compare"),
                 compare,
             ),
+            AtomicFunction::Add
+            | AtomicFunction::Subtract
+            | AtomicFunction::And
+            | AtomicFunction::ExclusiveOr
+            | AtomicFunction::InclusiveOr
+            | AtomicFunction::Min
+            | AtomicFunction::Max => out.string(atomic_function_name(self)),
         }
     }
 }
@@ -161,16 +212,40 @@ impl ToJson for StructMember {
     }
 }
 
+/// The name of a kind of type.
+#[tactic(auto, unfolding(crate::specs::Types::inner_name))]
+fn inner_name(inner: &TypeInner) -> &'static str
+    ensures { result.now ≡ inner_name inner.now }
+{
+    match inner {
+        TypeInner::Scalar(..) => "Scalar",
+        TypeInner::Vector { .. } => "Vector",
+        TypeInner::Matrix { .. } => "Matrix",
+        TypeInner::CooperativeMatrix { .. } => "CooperativeMatrix",
+        TypeInner::Atomic(..) => "Atomic",
+        TypeInner::Pointer { .. } => "Pointer",
+        TypeInner::ValuePointer { .. } => "ValuePointer",
+        TypeInner::Array { .. } => "Array",
+        TypeInner::Struct { .. } => "Struct",
+        TypeInner::Image { .. } => "Image",
+        TypeInner::Sampler { .. } => "Sampler",
+        TypeInner::AccelerationStructure { .. } => "AccelerationStructure",
+        TypeInner::RayQuery { .. } => "RayQuery",
+        TypeInner::BindingArray { .. } => "BindingArray",
+    }
+}
+
 impl ToJson for TypeInner {
     ghost form = { type_form };
 
-    #[tactic(auto, unfolding(crate::specs::Types::type_form))]
+    #[tactic(auto, unfolding(crate::specs::Types::type_form, crate::specs::Types::inner_held))]
     fn write_json(&self, out: &mut JsonWriter) -> Result<(), AllocError> {
+        let variant = inner_name(self);
         match self {
-            TypeInner::Scalar(scalar) => holding(out, "Scalar", scalar),
+            TypeInner::Scalar(scalar) | TypeInner::Atomic(scalar) => holding(out, variant, scalar),
             TypeInner::Vector { size, scalar } => holding_two(
                 out,
-                &("Vector", "size", "scalar"),
+                &(variant, "size", "scalar"),
                 size,
                 scalar,
             ),
@@ -180,21 +255,20 @@ impl ToJson for TypeInner {
                 scalar,
             } => holding_three(
                 out,
-                &("Matrix", "columns", "rows", "scalar"),
+                &(variant, "columns", "rows", "scalar"),
                 columns,
                 rows,
                 scalar,
             ),
             TypeInner::CooperativeMatrix { scalar, detail } => holding_two(
                 out,
-                &("CooperativeMatrix", "scalar", "detail"),
+                &(variant, "scalar", "detail"),
                 scalar,
                 detail,
             ),
-            TypeInner::Atomic(scalar) => holding(out, "Atomic", scalar),
             TypeInner::Pointer { base, space } => holding_two(
                 out,
-                &("Pointer", "base", "space"),
+                &(variant, "base", "space"),
                 base,
                 space,
             ),
@@ -204,21 +278,21 @@ impl ToJson for TypeInner {
                 space,
             } => holding_three(
                 out,
-                &("ValuePointer", "size", "scalar", "space"),
+                &(variant, "size", "scalar", "space"),
                 size,
                 scalar,
                 space,
             ),
             TypeInner::Array { base, size, stride } => holding_three(
                 out,
-                &("Array", "base", "size", "stride"),
+                &(variant, "base", "size", "stride"),
                 base,
                 size,
                 stride,
             ),
             TypeInner::Struct { members, span } => holding_two(
                 out,
-                &("Struct", "members", "span"),
+                &(variant, "members", "span"),
                 members,
                 span,
             ),
@@ -228,29 +302,25 @@ impl ToJson for TypeInner {
                 class,
             } => holding_three(
                 out,
-                &("Image", "dim", "arrayed", "class"),
+                &(variant, "dim", "arrayed", "class"),
                 dim,
                 arrayed,
                 class,
             ),
             TypeInner::Sampler { comparison } => holding_field(
                 out,
-                &("Sampler", "comparison"),
+                &(variant, "comparison"),
                 comparison,
             ),
-            TypeInner::AccelerationStructure { vertex_return } => holding_field(
+            TypeInner::AccelerationStructure { vertex_return }
+            | TypeInner::RayQuery { vertex_return } => holding_field(
                 out,
-                &("AccelerationStructure", "vertex_return"),
-                vertex_return,
-            ),
-            TypeInner::RayQuery { vertex_return } => holding_field(
-                out,
-                &("RayQuery", "vertex_return"),
+                &(variant, "vertex_return"),
                 vertex_return,
             ),
             TypeInner::BindingArray { base, size } => holding_two(
                 out,
-                &("BindingArray", "base", "size"),
+                &(variant, "base", "size"),
                 base,
                 size,
             ),
