@@ -44,12 +44,15 @@ static void copy_to_told(int from, off_t length) {
     }
 }
 
+/* How many files of the process are put back to where they were: the copy reads and writes the same ones. */
+enum { FILES = 16 };
+
 /* Makes the copy. In the copy the answer is 1, and in the process, once the copy has ended, it is 0. */
 static int copied(void) {
-    off_t at[3], end[3];
+    off_t at[FILES], end[3];
     char line[96];
     int status, file;
-    for (file = 0; file < 3; file++) at[file] = lseek(file, 0, SEEK_CUR);
+    for (file = 0; file < FILES; file++) at[file] = lseek(file, 0, SEEK_CUR);
     pid_t copy = fork();
     if (copy == 0) {
         alarm(SECONDS);
@@ -64,7 +67,9 @@ static int copied(void) {
         copy_to_told(file, end[file]);
         if (ftruncate(file, at[file])) _exit(99);
     }
-    for (file = 0; file < 3; file++) lseek(file, at[file], SEEK_SET);
+    for (file = 0; file < FILES; file++) {
+        if (at[file] >= 0) lseek(file, at[file], SEEK_SET);
+    }
     return 0;
 }
 
