@@ -13,7 +13,8 @@ use ir_arena::sequence::Sequence;
 use ir_arena::span::Span;
 use ir_arena::tag;
 use ir_flags::ir::Barrier;
-use ir_module::statements::{Block, Located, Statement, SwitchCase, SwitchValue};
+use ir_module::statements::{Block, Located, Statement, SwitchCase};
+use ir_types::operations::SwitchValue;
 use std::alloc::{AllocError, Global};
 
 /// The expression of a bench at this index.

@@ -8,7 +8,7 @@ use Rattle.ir_module.specs.declared.module.Module.{Module}
 use Rattle.ir_flags.specs.declared.valid.ShaderStages.{ShaderStages}
 use Rattle.ir_facts.specs.declared.valid.info.FunctionInfo.{FunctionInfo}
 use Rattle.ir_facts.specs.declared.valid.info.ModuleInfo.{ModuleInfo}
-use Rattle.check_errors.specs.declared.function.FunctionError.{FunctionError}
+use Rattle.ir_errors.specs.declared.function.FunctionError.{FunctionError}
 use Rattle.ir_flags.specs.Bits.{NO_STAGE}
 use Rattle.case_run.specs.BenchModule.{bench_module}
 use Rattle.case_run.specs.CaseJudgement.{IsPlainAnswer, IsJudgementOf, module_of, settings_of, stages_of_last}

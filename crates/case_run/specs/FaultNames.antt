@@ -1,15 +1,15 @@
 -- How a fault is said in a line: its name, and the expression that it is about.
 use Rattle.std.specs.Prelude.{ℕ, List, [], ◌++◌, Option, None, Some, codes}
-use Rattle.ir_facts.specs.declared.valid.expression_error.ExpressionError.{ExpressionError}
-use Rattle.ir_facts.specs.declared.valid.expression_error.ExpressionError.TheVariants as expression
-use Rattle.check_errors.specs.declared.function.AtomicError.{AtomicError}
-use Rattle.check_errors.specs.declared.function.AtomicError.TheVariants as atomic
-use Rattle.check_errors.specs.declared.function.CallError.{CallError}
-use Rattle.check_errors.specs.declared.function.CallError.TheVariants as call
-use Rattle.check_errors.specs.declared.function.FunctionError.{FunctionError}
-use Rattle.check_errors.specs.declared.function.FunctionError.TheVariants.{Expression, ExpressionAlreadyInScope, LocalVariable, InvalidArgumentType, NonConstructibleReturnType, InvalidArgumentPointerSpace, BreakOutsideOfLoopOrSwitch, ContinueOutsideOfLoop, InvalidReturnSpot, InvalidReturnType, InvalidIfType, InvalidSwitchType, ConflictingSwitchCase, ConflictingCaseType, MissingDefaultCase, MultipleDefaultCases, LastCaseFallTrough, InvalidStorePointer, InvalidStoreTexture, InvalidStoreValue, InvalidStoreTypes, InvalidImageStore, InvalidImageAtomic, InvalidImageAtomicFunction, InvalidImageAtomicValue, InvalidCall, InvalidAtomic, InvalidRayQueryExpression, InvalidAccelerationStructure, MissingAccelerationStructureVertexReturn, MissingRayQueryVertexReturn, InvalidRayDescriptor, InvalidRayQueryType, InvalidHitDistanceType, MissingCapability, NonUniformControlFlow, PipelineInputRegularFunction, PipelineOutputRegularFunction, NonUniformWorkgroupUniformLoad, WorkgroupUniformLoadExpressionMismatch, WorkgroupUniformLoadInvalidPointer, InvalidSubgroup, InvalidCooperativeStoreTarget, InvalidCooperativeDataPointer, EmitResult, UnvisitedExpression, InvalidMeshFunctionCall, ConflictingMeshOutputTypes, ConflictingTaskPayloadVariables, InvalidMeshShaderOutputType, InvalidPayloadType, InvalidPayloadAddressSpace, MismatchedPayloadType, PayloadPointerNotGlobal}
-use Rattle.check_errors.specs.declared.function.SubgroupError.{SubgroupError}
-use Rattle.check_errors.specs.declared.function.SubgroupError.TheVariants as subgroup
+use Rattle.ir_errors.specs.declared.expression.ExpressionError.{ExpressionError}
+use Rattle.ir_errors.specs.declared.expression.ExpressionError.TheVariants as expression
+use Rattle.ir_errors.specs.declared.function.AtomicError.{AtomicError}
+use Rattle.ir_errors.specs.declared.function.AtomicError.TheVariants as atomic
+use Rattle.ir_errors.specs.declared.function.CallError.{CallError}
+use Rattle.ir_errors.specs.declared.function.CallError.TheVariants as call
+use Rattle.ir_errors.specs.declared.function.FunctionError.{FunctionError}
+use Rattle.ir_errors.specs.declared.function.FunctionError.TheVariants.{Expression, ExpressionAlreadyInScope, LocalVariable, InvalidArgumentType, NonConstructibleReturnType, InvalidArgumentPointerSpace, BreakOutsideOfLoopOrSwitch, ContinueOutsideOfLoop, InvalidReturnSpot, InvalidReturnType, InvalidIfType, InvalidSwitchType, ConflictingSwitchCase, ConflictingCaseType, MissingDefaultCase, MultipleDefaultCases, LastCaseFallTrough, InvalidStorePointer, InvalidStoreTexture, InvalidStoreValue, InvalidStoreTypes, InvalidImageStore, InvalidImageAtomic, InvalidImageAtomicFunction, InvalidImageAtomicValue, InvalidCall, InvalidAtomic, InvalidRayQueryExpression, InvalidAccelerationStructure, MissingAccelerationStructureVertexReturn, MissingRayQueryVertexReturn, InvalidRayDescriptor, InvalidRayQueryType, InvalidHitDistanceType, MissingCapability, NonUniformControlFlow, PipelineInputRegularFunction, PipelineOutputRegularFunction, NonUniformWorkgroupUniformLoad, WorkgroupUniformLoadExpressionMismatch, WorkgroupUniformLoadInvalidPointer, InvalidSubgroup, InvalidCooperativeStoreTarget, InvalidCooperativeDataPointer, EmitResult, UnvisitedExpression, InvalidMeshFunctionCall, ConflictingMeshOutputTypes, ConflictingTaskPayloadVariables, InvalidMeshShaderOutputType, InvalidPayloadType, InvalidPayloadAddressSpace, MismatchedPayloadType, PayloadPointerNotGlobal}
+use Rattle.ir_errors.specs.declared.function.SubgroupError.{SubgroupError}
+use Rattle.ir_errors.specs.declared.function.SubgroupError.TheVariants as subgroup
 
 -- the name of a fault: naga's
 unfoldable pub fault_name : FunctionError → List ℕ

@@ -3,10 +3,10 @@
 ghost use Rattle.std.specs.Prelude.{◌≡◌};
 ghost use Rattle.case_run.specs.FaultNames.{fault_name, expression_name, call_name, expression_handle, call_handle, atomic_handle, subgroup_handle, fault_handle};
 
-use check_errors::function::{AtomicError, CallError, FunctionError, SubgroupError};
 use ir_arena::handle::Handle;
 use ir_arena::tag;
-use ir_facts::valid::expression_error::ExpressionError;
+use ir_errors::expression::ExpressionError;
+use ir_errors::function::{AtomicError, CallError, FunctionError, SubgroupError};
 
 /// The name of a fault.
 #[tactic(auto, unfolding(crate::specs::FaultNames::fault_name))]

@@ -7,9 +7,9 @@ ghost use Rattle.case_run.specs.Line.{accepted_line, fault_line, handle_text, he
 
 use crate::faults::{call_name, expression_name, fault_handle, fault_name};
 use bitflags::Flags;
-use check_errors::function::FunctionError;
 use ir_arena::handle::Handle;
 use ir_arena::tag;
+use ir_errors::function::FunctionError;
 use ir_flags::valid::ShaderStages;
 use std::io;
 use std::io::Write;

@@ -11,8 +11,8 @@ use Rattle.ir_module.specs.declared.expressions.Expression.{Expression}
 use Rattle.ir_module.specs.declared.expressions.Expression.TheVariants as e
 use Rattle.ir_module.specs.declared.statements.Statement as ir
 use Rattle.ir_flags.specs.declared.valid.ShaderStages.{ShaderStages}
-use Rattle.check_errors.specs.declared.function.FunctionError.{FunctionError}
-use Rattle.check_errors.specs.declared.function.FunctionError.TheVariants.{UnvisitedExpression}
+use Rattle.ir_errors.specs.declared.function.FunctionError.{FunctionError}
+use Rattle.ir_errors.specs.declared.function.FunctionError.TheVariants.{UnvisitedExpression}
 use Rattle.naga_runs.proofs.Judgements.{judgement_is_visits, earlier_is_all}
 use Rattle.ir_facts.proofs.Points.{first_holds, not_holds}
 use Rattle.ir_facts.specs.Points.{and_then, first_fault, answer}
@@ -27,7 +27,7 @@ use Rattle.check_memory.specs.Atomic.{is_atomic_result}
 use Rattle.check_scope.specs.BodyTrees.{body_of}
 use Rattle.check_flow.specs.Call.{is_call_result_of, has_result}
 use Rattle.check_scope.specs.Context.{Context, pre_emitted}
-use Rattle.check_errors.specs.WhatIsChecked.{checks_blocks, checks_expressions}
+use Rattle.ir_facts.specs.WhatIsChecked.{checks_blocks, checks_expressions}
 use Rattle.check_statement.specs.FunctionJudgement.{FunctionOutcome, body_judgement, judged_with, outcome_left}
 use Rattle.check_statement.specs.Past.{Past, past_of}
 use Rattle.check_scope.specs.Results.{is_to_fill, result_of, fills, filled_before, is_unfilled, filled_points_from, filled_points}

@@ -20,7 +20,7 @@ use Rattle.ir_facts.specs.declared.valid.settings.Settings.{Settings}
 use Rattle.ir_facts.specs.declared.valid.types.TypeInfo.{TypeInfo}
 use Rattle.ir_module.specs.Tree.{Act}
 use Rattle.ir_facts.proofs.OtherOperands.{body_fits-other}
-use Rattle.check_errors.specs.Meaning.{Meaning}
+use Rattle.ir_facts.specs.Meaning.{Meaning}
 use Rattle.naga_runs.proofs.Laws.{all_listed}
 use Rattle.naga_runs.proofs.EachOf.{all_append}
 use Rattle.naga_runs.proofs.VisitsByTree.{visits_are}
@@ -39,7 +39,7 @@ use Rattle.check_statement.specs.FunctionJudgement.{FunctionOutcome, context_wit
 use Rattle.check_statement.specs.ValidatorParts.{no_traces}
 use Rattle.check_statement.specs.Rules.{recorded_stages, callee_stages, leaf_stages, stages_of}
 use Rattle.check_statement.specs.Stages.{meet}
-use Rattle.check_errors.specs.WhatIsChecked.{checks_blocks, checks_expressions}
+use Rattle.ir_facts.specs.WhatIsChecked.{checks_blocks, checks_expressions}
 use Rattle.check_scope.specs.declared.trace.TraceState.{TraceState}
 use Rattle.check_body.proofs.Accepted.{among_all, nodes_are}
 use Rattle.check_body.proofs.FunctionLaw.{is_of_all_stages, has_every_mask, stages_are_met}

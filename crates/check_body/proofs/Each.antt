@@ -6,8 +6,8 @@ use Rattle.ir_facts.proofs.Points.{first_turn, first_end, first_of_both}
 use Rattle.ir_facts.specs.Points.{first_fault, points_from}
 use Rattle.ir_arena.specs.declared.span.Refusal.{Refusal}
 use Rattle.ir_arena.specs.declared.span.Refusal.TheVariants as refusal
-use Rattle.check_errors.specs.declared.function.FunctionError.{FunctionError}
-use Rattle.check_errors.specs.Answers.{Answers, FirstOf}
+use Rattle.ir_errors.specs.declared.function.FunctionError.{FunctionError}
+use Rattle.ir_facts.specs.Answers.{Answers, FirstOf}
 use Rattle.check_scope.specs.ScopePoints.{Points}
 
 module _ {A : Type 0} (points : ℕ → A → Points) (xs : List A) (i : ℕ) where

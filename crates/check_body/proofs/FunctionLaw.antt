@@ -10,15 +10,15 @@ use Rattle.ir_facts.specs.declared.valid.info.FunctionInfo.{FunctionInfo}
 use Rattle.ir_facts.specs.declared.valid.info.ModuleInfo.{ModuleInfo}
 use Rattle.ir_facts.specs.declared.valid.settings.Settings.{Settings}
 use Rattle.ir_facts.specs.declared.valid.types.TypeInfo.{TypeInfo}
-use Rattle.check_errors.specs.Meaning.{Meaning}
-use Rattle.check_errors.specs.declared.function.FunctionError.{FunctionError}
+use Rattle.ir_facts.specs.Meaning.{Meaning}
+use Rattle.ir_errors.specs.declared.function.FunctionError.{FunctionError}
 use Rattle.naga_runs.specs.Judgement.{viewed}
 use Rattle.check_body.specs.Accepted.{nodes_of, AreAmong, AreOfStatement}
 use Rattle.check_scope.specs.BodyTrees.{body_of}
 use Rattle.check_scope.specs.Context.{Context}
 use Rattle.check_statement.specs.Declarations.{declaration_points}
 use Rattle.check_statement.specs.ExpressionStages.{with_stages, mask_at, mask_and, stages_from, masks_from, expressions_step, expression_masks}
-use Rattle.check_errors.specs.WhatIsChecked.{checks_blocks, checks_expressions}
+use Rattle.ir_facts.specs.WhatIsChecked.{checks_blocks, checks_expressions}
 use Rattle.check_body.specs.FunctionLaw.{AcceptedIsSound, AcceptedFillsOnce, AcceptedIsOfAllStages, AcceptedHasNoReturnInContinuing, AcceptedHasWholeSwitches, AcceptedKeepsInfo, AcceptedHasEveryMask, AcceptedStagesAreMet}
 use Rattle.check_statement.specs.FunctionJudgement.{FunctionOutcome, context_with, judged_with, declarations_step, expressions_known, lower_step, function_judgement}
 use Rattle.check_body.specs.Shapes.{HasWholeSwitches}

@@ -4,11 +4,11 @@ use Rattle.std.proofs.lemmas.List.Elements.{All-contains, All-from_recursion}
 use Rattle.std.specs.Prelude.{length, not, if◌then◌else◌, Contains}
 use Rattle.ir_module.specs.declared.functions.Function.{Function}
 use Rattle.ir_facts.specs.Points.{first_fault, answer, and_then}
-use Rattle.ir_facts.specs.declared.valid.expression_error.ExpressionError.TheVariants.{NotInScope}
-use Rattle.check_errors.specs.WhatIsChecked.{checks_blocks, checks_expressions}
-use Rattle.check_errors.specs.declared.function.CallError.TheVariants.{Argument}
-use Rattle.check_errors.specs.declared.function.FunctionError.{FunctionError}
-use Rattle.check_errors.specs.declared.function.FunctionError.TheVariants.{Expression, InvalidCall, BreakOutsideOfLoopOrSwitch, ContinueOutsideOfLoop, InvalidReturnSpot, UnvisitedExpression}
+use Rattle.ir_errors.specs.declared.expression.ExpressionError.TheVariants.{NotInScope}
+use Rattle.ir_facts.specs.WhatIsChecked.{checks_blocks, checks_expressions}
+use Rattle.ir_errors.specs.declared.function.CallError.TheVariants.{Argument}
+use Rattle.ir_errors.specs.declared.function.FunctionError.{FunctionError}
+use Rattle.ir_errors.specs.declared.function.FunctionError.TheVariants.{Expression, InvalidCall, BreakOutsideOfLoopOrSwitch, ContinueOutsideOfLoop, InvalidReturnSpot, UnvisitedExpression}
 use Rattle.naga_runs.specs.Abilities.{node_jump}
 use Rattle.naga_runs.specs.ComesTo.{HasNoDeadCode}
 use Rattle.naga_runs.specs.Guards.{IsRead}

@@ -7,9 +7,9 @@ use Rattle.ir_module.specs.Tree.{Act, Use, Put, Leaf, Block, Branch, Switch, Loo
 use Rattle.ir_module.specs.View.{emitted}
 use Rattle.ir_module.specs.declared.operations.RayPipelineFunction.TheVariants.{TraceRay}
 use Rattle.ir_module.specs.declared.statements.Statement as ir
-use Rattle.ir_facts.specs.declared.valid.expression_error.ExpressionError.TheVariants.{NotInScope}
-use Rattle.check_errors.specs.declared.function.FunctionError.{FunctionError}
-use Rattle.check_errors.specs.declared.function.FunctionError.TheVariants.{EmitResult, Expression, ExpressionAlreadyInScope, InvalidIfType, InvalidSwitchType, BreakOutsideOfLoopOrSwitch, ContinueOutsideOfLoop, InvalidReturnSpot, InvalidReturnType}
+use Rattle.ir_errors.specs.declared.expression.ExpressionError.TheVariants.{NotInScope}
+use Rattle.ir_errors.specs.declared.function.FunctionError.{FunctionError}
+use Rattle.ir_errors.specs.declared.function.FunctionError.TheVariants.{EmitResult, Expression, ExpressionAlreadyInScope, InvalidIfType, InvalidSwitchType, BreakOutsideOfLoopOrSwitch, ContinueOutsideOfLoop, InvalidReturnSpot, InvalidReturnType}
 use Rattle.naga_runs.proofs.Judgements.{accepted_block_is_sure}
 use Rattle.ir_facts.proofs.Points.{first_holds, both_hold, not_holds}
 use Rattle.naga_runs.specs.Guards.{SurelyReadGuards, IsRead}

@@ -4,8 +4,8 @@ use Rattle.std.proofs.Common.{◌≡◌, None, Result, Ok, Err, List, sym, ap, �
 use Rattle.std.specs.Prelude.{IsErr}
 use Rattle.ir_arena.specs.declared.span.Refusal.{Refusal}
 use Rattle.ir_arena.specs.declared.span.Refusal.TheVariants as refusal
-use Rattle.check_errors.specs.Answers.{Answers, FirstOf, Exactly}
-use Rattle.check_errors.specs.declared.function.FunctionError.{FunctionError}
+use Rattle.ir_facts.specs.Answers.{Answers, FirstOf, Exactly}
+use Rattle.ir_errors.specs.declared.function.FunctionError.{FunctionError}
 use Rattle.naga_runs.proofs.Judgements.{by_tree, earlier_agrees}
 use Rattle.ir_facts.specs.Points.{first_fault, answer}
 use Rattle.naga_runs.specs.Judgement.{Follows, judgement, viewed}

@@ -5,12 +5,12 @@ use Rattle.std.specs.List.{AllByRecursion}
 use Rattle.std.specs.Prelude.{⊤, map, if◌then◌else◌}
 use Rattle.ir_module.specs.Tree.{Act, Use, Put}
 use Rattle.ir_facts.specs.Points.{first_fault}
-use Rattle.ir_facts.specs.declared.valid.expression_error.ExpressionError.{ExpressionError}
-use Rattle.ir_facts.specs.declared.valid.expression_error.ExpressionError.TheVariants.{NotInScope}
-use Rattle.check_errors.specs.declared.function.CallError.{CallError}
-use Rattle.check_errors.specs.declared.function.CallError.TheVariants.{Argument}
-use Rattle.check_errors.specs.declared.function.FunctionError.{FunctionError}
-use Rattle.check_errors.specs.declared.function.FunctionError.TheVariants.{Expression, InvalidCall, BreakOutsideOfLoopOrSwitch, ContinueOutsideOfLoop, InvalidReturnSpot}
+use Rattle.ir_errors.specs.declared.expression.ExpressionError.{ExpressionError}
+use Rattle.ir_errors.specs.declared.expression.ExpressionError.TheVariants.{NotInScope}
+use Rattle.ir_errors.specs.declared.function.CallError.{CallError}
+use Rattle.ir_errors.specs.declared.function.CallError.TheVariants.{Argument}
+use Rattle.ir_errors.specs.declared.function.FunctionError.{FunctionError}
+use Rattle.ir_errors.specs.declared.function.FunctionError.TheVariants.{Expression, InvalidCall, BreakOutsideOfLoopOrSwitch, ContinueOutsideOfLoop, InvalidReturnSpot}
 use Rattle.naga_runs.specs.Handles.{Handles, with_handle}
 use Rattle.naga_runs.specs.Witnesses.{HasUnknownUse}
 use Rattle.check_scope.specs.ScopePoints.{Points}

@@ -5,11 +5,11 @@ use Rattle.std.specs.Prelude.{⊤, map, slice_get, if◌then◌else◌}
 use Rattle.ir_module.specs.Tree.{Act, Cases, Use, Put}
 use Rattle.ir_module.specs.View.{emitted, put_if}
 use Rattle.ir_module.specs.declared.functions.FunctionArgument.{FunctionArgument}
-use Rattle.ir_module.specs.declared.statements.SwitchValue.{SwitchValue}
-use Rattle.ir_module.specs.declared.statements.SwitchValue.TheVariants as case
+use Rattle.ir_types.specs.declared.operations.SwitchValue.{SwitchValue}
+use Rattle.ir_types.specs.declared.operations.SwitchValue.TheVariants as case
 use Rattle.ir_types.specs.declared.types.ScalarKind.{ScalarKind}
 use Rattle.ir_facts.specs.Points.{within}
-use Rattle.check_errors.specs.declared.function.FunctionError.TheVariants.{InvalidCall}
+use Rattle.ir_errors.specs.declared.function.FunctionError.TheVariants.{InvalidCall}
 use Rattle.naga_runs.specs.Handles.{Handles, with_handle}
 use Rattle.naga_runs.specs.Visits.{Place}
 use Rattle.naga_runs.specs.Witnesses.{HasUnknownUse}

@@ -3,13 +3,13 @@ use Rattle.std.proofs.Common.{ℕ, List, [], ◌∷◌, ◌++◌, None, Some, Op
 use Rattle.std.specs.Prelude.{⊤}
 use Rattle.ir_module.specs.Tree.{Act, Use}
 use Rattle.ir_module.specs.View.{used_if}
-use Rattle.ir_module.specs.declared.operations.AtomicFunction.{AtomicFunction}
+use Rattle.ir_types.specs.declared.operations.AtomicFunction.{AtomicFunction}
 use Rattle.ir_flags.specs.declared.capabilities.Capabilities.{Capabilities}
 use Rattle.ir_types.specs.Formats.{format_scalar}
 use Rattle.ir_types.specs.TypeTests.{is_scalar}
 use Rattle.ir_types.specs.declared.types.StorageFormat.{StorageFormat}
 use Rattle.ir_types.specs.declared.types.StorageFormat.TheVariants as formats
-use Rattle.check_errors.specs.declared.function.FunctionError.TheVariants.{InvalidImageAtomicValue}
+use Rattle.ir_errors.specs.declared.function.FunctionError.TheVariants.{InvalidImageAtomicValue}
 use Rattle.naga_runs.specs.Visits.{Place}
 use Rattle.check_images.specs.Image.{stored_format}
 use Rattle.check_images.specs.ImageAtomic.{changed_shape, format_points, image_atomic_points}

@@ -11,13 +11,13 @@ use Rattle.ir_facts.proofs.Points.{first_holds, both_hold, not_holds}
 use Rattle.ir_facts.specs.Points.{first_fault, answer, and_then}
 use Rattle.ir_module.specs.Tree.{Stmt, Body, Cases, Switch, Return}
 use Rattle.ir_types.specs.Unique.{AreDistinct}
-use Rattle.ir_module.specs.declared.statements.SwitchValue.{SwitchValue}
-use Rattle.ir_module.specs.declared.statements.SwitchValue.TheVariants.{I32, U32, Default}
+use Rattle.ir_types.specs.declared.operations.SwitchValue.{SwitchValue}
+use Rattle.ir_types.specs.declared.operations.SwitchValue.TheVariants.{I32, U32, Default}
 use Rattle.ir_types.specs.declared.types.ScalarKind.{ScalarKind}
 use Rattle.ir_types.specs.declared.types.ScalarKind.TheVariants as kind
-use Rattle.check_errors.specs.declared.function.FunctionError.{FunctionError}
-use Rattle.check_errors.specs.declared.function.FunctionError.TheVariants.{Expression, InvalidReturnSpot, InvalidReturnType, InvalidSwitchType, ConflictingCaseType, MissingDefaultCase, LastCaseFallTrough}
-use Rattle.ir_facts.specs.declared.valid.expression_error.ExpressionError.TheVariants.{NotInScope}
+use Rattle.ir_errors.specs.declared.function.FunctionError.{FunctionError}
+use Rattle.ir_errors.specs.declared.function.FunctionError.TheVariants.{Expression, InvalidReturnSpot, InvalidReturnType, InvalidSwitchType, ConflictingCaseType, MissingDefaultCase, LastCaseFallTrough}
+use Rattle.ir_errors.specs.declared.expression.ExpressionError.TheVariants.{NotInScope}
 use Rattle.naga_runs.proofs.LastSteps.{abilities_by_last_step}
 use Rattle.naga_runs.specs.ByTree.{judge_visits}
 use Rattle.naga_runs.specs.Handles.{Handles}

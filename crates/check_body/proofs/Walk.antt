@@ -12,7 +12,7 @@ use Rattle.ir_arena.specs.declared.span.Refusal.{Refusal}
 use Rattle.ir_arena.specs.declared.span.Refusal.TheVariants as refusal
 use Rattle.ir_module.specs.declared.statements.Located.{Located}
 use Rattle.ir_module.specs.declared.statements.SwitchCase.{SwitchCase, out-SwitchCase}
-use Rattle.ir_module.specs.declared.statements.SwitchValue.{SwitchValue}
+use Rattle.ir_types.specs.declared.operations.SwitchValue.{SwitchValue}
 use Rattle.naga_runs.specs.declared.Abilities.{Abilities}
 use Rattle.naga_runs.specs.Handles.{Handles, with_handle}
 use Rattle.naga_runs.specs.Must.{with_sure, holds_continue, body_holds_continue, cases_hold_continue}
@@ -20,7 +20,7 @@ use Rattle.naga_runs.specs.PutsAndUses.{with_acts, with_body, acts_of, puts_of}
 use Rattle.ir_facts.specs.Points.{first_fault, answer, and_then}
 use Rattle.naga_runs.specs.ByTree.{past, in_continuing, at_break_if, judge_visits, judge_body, judge_stmt, judge_parts, judge_cases, judge_break_if, case_abilities, loop_abilities, continuing_abilities}
 use Rattle.naga_runs.proofs.Judgements.{judge_done, judge_more, judge_own, judge_block, judge_branch, judge_switch, judge_loop, judge_no_case, judge_one_case}
-use Rattle.check_errors.specs.Answers.{IsFirstFault, Answers, Exactly, leaving}
+use Rattle.ir_facts.specs.Answers.{IsFirstFault, Answers, Exactly, leaving}
 use Rattle.check_scope.specs.BodyTrees.{emitted_operands, tree_of, block_of, list_of, cases_of}
 use Rattle.check_scope.specs.Context.{Context}
 use Rattle.check_flow.specs.Control.{break_if_points}
@@ -32,7 +32,7 @@ use Rattle.check_statement.specs.walk.Walk.{puts, body_puts, puts_to_continue, b
 use Rattle.check_flow.specs.walk.Emitted.{place}
 use Rattle.check_scope.proofs.Columns.{all-append}
 use Rattle.check_scope.proofs.Refusals.{passes, stops_first, stops_next, answers_next}
-use Rattle.check_errors.specs.declared.function.FunctionError.{FunctionError}
+use Rattle.ir_errors.specs.declared.function.FunctionError.{FunctionError}
 
 acts_put : (acts : List Act) (s : Handles) → with_acts s acts ≡ with_all s (puts_of acts)
 acts_put [] s = refl

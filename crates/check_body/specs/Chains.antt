@@ -11,14 +11,14 @@ use Rattle.ir_facts.specs.declared.valid.info.FunctionInfo.{FunctionInfo}
 use Rattle.ir_facts.specs.declared.valid.info.ModuleInfo.{ModuleInfo}
 use Rattle.ir_facts.specs.declared.valid.settings.Settings.{Settings}
 use Rattle.ir_facts.specs.declared.valid.types.TypeInfo.{TypeInfo}
-use Rattle.check_errors.specs.Meaning.{Meaning}
+use Rattle.ir_facts.specs.Meaning.{Meaning}
 use Rattle.check_body.specs.Accepted.{nodes_of, AreAmong, AreOfStatement}
 use Rattle.check_scope.specs.BodyTrees.{body_of}
 use Rattle.check_statement.specs.ExpressionStages.{expression_masks}
 use Rattle.check_body.specs.InOrder.{called_by, with_info}
 use Rattle.check_statement.specs.FunctionJudgement.{FunctionOutcome, context_with, function_judgement}
 use Rattle.check_statement.specs.ValidatorParts.{no_traces}
-use Rattle.check_errors.specs.WhatIsChecked.{checks_blocks, checks_expressions}
+use Rattle.ir_facts.specs.WhatIsChecked.{checks_blocks, checks_expressions}
 use Rattle.check_scope.specs.declared.trace.TraceState.{TraceState}
 
 -- The functions of a module that a body reaches: those that its Calls name, at any depth, and those that their bodies reach.

@@ -5,8 +5,8 @@ use Rattle.ir_module.specs.Tree.{Stmt, Body, Cases, Switch, Return}
 use Rattle.ir_types.specs.Types.{resolved, scalar_kind_of}
 use Rattle.ir_types.specs.Unique.{AreDistinct}
 use Rattle.ir_module.specs.declared.module.Module.{Module}
-use Rattle.ir_module.specs.declared.statements.SwitchValue.{SwitchValue}
-use Rattle.ir_module.specs.declared.statements.SwitchValue.TheVariants.{I32, U32, Default}
+use Rattle.ir_types.specs.declared.operations.SwitchValue.{SwitchValue}
+use Rattle.ir_types.specs.declared.operations.SwitchValue.TheVariants.{I32, U32, Default}
 use Rattle.ir_types.specs.declared.types.ScalarKind.{ScalarKind}
 use Rattle.ir_types.specs.declared.types.ScalarKind.TheVariants.{Sint, Uint}
 use Rattle.ir_facts.specs.declared.valid.info.FunctionInfo.{FunctionInfo}

@@ -3,17 +3,17 @@
 ghost use Rattle.std.specs.Prelude.{◌≡◌, ◌<◌, IfOk, IfSome, Some, List, ℕ, length};
 ghost use Rattle.std.specs.Result.{result_err};
 ghost use Rattle.ir_facts.specs.Points.{first_fault};
-ghost use Rattle.check_errors.specs.Answers.{Answers, FirstOf};
+ghost use Rattle.ir_facts.specs.Answers.{Answers, FirstOf};
 ghost use Rattle.check_scope.specs.Context.{ContextFits};
 ghost use Rattle.check_statement.specs.Declarations.{name_or_empty, variable_points, variables_points, takes_arguments, pointer_points, argument_points, arguments_points, result_points, declaration_points};
 ghost use Rattle.check_scope.specs.walk.SeenContext.{context_of};
 
-use check_errors::function::FunctionError;
 use check_scope::context::BlockContext;
 use check_variables::local::check_local;
 use ir_arena::handle::Handle;
 use ir_arena::span::{Refusal, WithSpan};
 use ir_arena::tag;
+use ir_errors::function::FunctionError;
 use ir_facts::valid::types::TypeInfo;
 use ir_flags::valid::TypeFlags;
 use ir_module::functions::{FunctionArgument, FunctionResult, LocalVariable};

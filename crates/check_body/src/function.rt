@@ -4,7 +4,7 @@ ghost use Rattle.std.specs.Prelude.{◌≡◌, ◌≤◌, ℕ, List, IfOk, OnOk,
 ghost use Rattle.naga_runs.specs.Handles.{no_handles};
 ghost use Rattle.naga_runs.specs.Must.{holds_continue, body_holds_continue, cases_hold_continue};
 ghost use Rattle.check_scope.specs.walk.Place.{no_sets};
-ghost use Rattle.check_errors.specs.Answers.{Answers, Exactly, leaving};
+ghost use Rattle.ir_facts.specs.Answers.{Answers, Exactly, leaving};
 ghost use Rattle.check_scope.specs.BodyTrees.{tree_of, body_of, block_of, cases_of};
 ghost use Rattle.check_scope.specs.Context.{ContextFits, pre_emitted};
 ghost use Rattle.check_statement.specs.FunctionJudgement.{body_judgement};

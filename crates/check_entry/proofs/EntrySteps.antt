@@ -7,14 +7,14 @@ use Rattle.ir_facts.specs.Points.{Point, first_fault, points_from, within}
 use Rattle.ir_arena.specs.declared.span.Refusal.{Refusal}
 use Rattle.ir_arena.specs.declared.span.Refusal.TheVariants as refusal
 use Rattle.check_varyings.specs.VaryingFaults.{VaryingFault, varying_fault_of}
-use Rattle.check_errors.specs.declared.interface.VaryingError.{VaryingError}
+use Rattle.ir_errors.specs.declared.interface.VaryingError.{VaryingError}
 use Rattle.check_entry.specs.EntryFaults.{EntryFault, OfArgument, OfResult, fault_of}
 use Rattle.check_entry.specs.EntryAnswers.{EntryPoints}
 use Rattle.check_faults.specs.declared.entry.EntryPointError.{EntryPointError}
 use Rattle.check_faults.specs.declared.entry.EntryPointError.TheVariants as fault
 use Rattle.check_scope.proofs.Refusals.{fault_first, fault_second}
 use Rattle.check_faults.specs.RefusedEntries.{IsRefusalFor}
-use Rattle.check_errors.specs.Answers.{Answers, FirstOf, IsFirstFault, read_by, refusal_read_by}
+use Rattle.ir_facts.specs.Answers.{Answers, FirstOf, IsFirstFault, read_by, refusal_read_by}
 
 pub ruleset finding = (fault_first, fault_second)
 

@@ -6,8 +6,8 @@ use Rattle.ir_flags.specs.declared.capabilities.Capabilities.{Capabilities}
 use Rattle.ir_module.specs.declared.module.EarlyDepthTest.{EarlyDepthTest}
 use Rattle.ir_module.specs.declared.module.EntryPoint.{EntryPoint}
 use Rattle.ir_module.specs.declared.module.MeshStageInfo.{MeshStageInfo}
-use Rattle.ir_module.specs.declared.module.ShaderStage.{ShaderStage}
-use Rattle.ir_module.specs.declared.module.ShaderStage.TheVariants as stage
+use Rattle.ir_types.specs.declared.stage.ShaderStage.{ShaderStage}
+use Rattle.ir_types.specs.declared.stage.ShaderStage.TheVariants as stage
 use Rattle.check_entry.specs.Start.{depth_points, mesh_info_points, needed_by, needed_points, no_mesh_info_points, size_points, start_points}
 use Rattle.check_entry.proofs.EntrySteps.{both_pass}
 

@@ -11,8 +11,8 @@ use Rattle.ir_types.specs.declared.built_in.BuiltIn.TheVariants.{Position, Point
 use Rattle.ir_module.specs.declared.functions.FunctionArgument.{FunctionArgument}
 use Rattle.ir_module.specs.declared.functions.FunctionResult.{FunctionResult}
 use Rattle.ir_module.specs.declared.module.EntryPoint.{EntryPoint}
-use Rattle.ir_module.specs.declared.module.ShaderStage.{ShaderStage}
-use Rattle.ir_module.specs.declared.module.ShaderStage.TheVariants as stage
+use Rattle.ir_types.specs.declared.stage.ShaderStage.{ShaderStage}
+use Rattle.ir_types.specs.declared.stage.ShaderStage.TheVariants as stage
 use Rattle.ir_types.specs.declared.types.ScalarKind.TheVariants as kind
 use Rattle.ir_types.specs.declared.types.Type.{«Type» as IrType}
 use Rattle.ir_types.specs.declared.types.TypeInner.{TypeInner}
@@ -21,7 +21,7 @@ use Rattle.ir_types.specs.declared.types.VectorSize.TheVariants.{Tri}
 use Rattle.ir_facts.specs.declared.valid.info.FunctionInfo.{FunctionInfo}
 use Rattle.ir_facts.specs.declared.valid.settings.Settings.{Settings}
 use Rattle.ir_facts.specs.declared.valid.types.TypeInfo.{TypeInfo}
-use Rattle.check_errors.specs.TypeInfos.{type_has}
+use Rattle.ir_facts.specs.TypeInfos.{type_has}
 use Rattle.check_varyings.specs.Varyings.{Item, Part, Placed, is_built_in, item_points, group_points, placed_parts, parts_of}
 use Rattle.check_varyings.specs.declared.varying.MeshOutputType.{MeshOutputType}
 use Rattle.check_varyings.specs.declared.varying.MeshOutputType.TheVariants.{Neither, VertexOutput, PrimitiveOutput}

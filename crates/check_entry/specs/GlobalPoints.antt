@@ -7,7 +7,7 @@ use Rattle.ir_facts.specs.declared.valid.info.ModuleInfo.{ModuleInfo}
 use Rattle.ir_facts.specs.declared.valid.settings.Settings.{Settings}
 use Rattle.ir_facts.specs.declared.valid.types.TypeInfo.{TypeInfo}
 use Rattle.check_variables.specs.Globals.{GlobalPoints, global_points}
-use Rattle.check_errors.specs.Meaning.{Meaning}
+use Rattle.ir_facts.specs.Meaning.{Meaning}
 
 -- the points of a global, where the infos are those of the module's types, the kinds those of its global expressions, and
 -- the size of the variable's type is what the lower layer knows of it

@@ -14,10 +14,10 @@ use Rattle.ir_module.specs.declared.module.Module.{Module}
 use Rattle.ir_flags.specs.declared.capabilities.Capabilities.{Capabilities}
 use Rattle.ir_facts.specs.declared.valid.settings.Settings.{Settings}
 use Rattle.ir_facts.specs.declared.valid.types.TypeInfo.{TypeInfo}
-use Rattle.check_errors.specs.Meaning.{Meaning}
-use Rattle.check_errors.specs.declared.mesh.MeshAnalysis.{MeshAnalysis}
-use Rattle.check_errors.specs.declared.mesh.MeshFault.{MeshFault}
-use Rattle.check_errors.specs.declared.mesh.MeshFault.TheVariants.{OutputType, OutputField}
+use Rattle.ir_facts.specs.Meaning.{Meaning}
+use Rattle.ir_facts.specs.declared.proc.mesh.MeshAnalysis.{MeshAnalysis}
+use Rattle.ir_errors.specs.declared.mesh.MeshFault.{MeshFault}
+use Rattle.ir_errors.specs.declared.mesh.MeshFault.TheVariants.{OutputType, OutputField}
 use Rattle.check_entry.specs.EntryFaults.{EntryFault, fault_of}
 use Rattle.check_entry.specs.EntryAnswers.{EntryPoints}
 use Rattle.check_entry.specs.EntryUses.{is_work_group, lies_in}
@@ -65,6 +65,10 @@ abbrev pub variable_points : Module → MeshStageInfo → EntryPoints
 variable_points program mesh =
     (lies_in is_work_group program.global_variables mesh.output_variable, fault.WrongMeshOutputAddressSpace) ∷ []
 
+-- the target has the topology
+abbrev pub has_topology : Capabilities → MeshOutputTopology → Bool
+has_topology capabilities topology = not (is_points topology) || has_capability capabilities MESH_SHADER_POINT_TOPOLOGY
+
 -- what is said of the mesh, where this is implied, with these overrides of its two numbers: just that; and where it is one of
 -- points, the target has these
 abbrev pub stated_points : Capabilities → Module → List (Option ℕ) → MeshStageInfo → MeshStageInfo → EntryPoints
@@ -77,11 +81,7 @@ stated_points capabilities program overrides implied mesh = (
       fault.BadMeshOutputVariableType,
     )
     ∷ (is_same_mesh (with_overrides_of mesh implied) mesh, fault.BadMeshOutputVariableType)
-    ∷ (
-      not (is_points mesh.topology)
-          || has_capability capabilities MESH_SHADER_POINT_TOPOLOGY,
-      fault.UnsupportedCapability MESH_SHADER_POINT_TOPOLOGY,
-    )
+    ∷ (has_topology capabilities mesh.topology, fault.UnsupportedCapability MESH_SHADER_POINT_TOPOLOGY)
     ∷ []
 
 -- what is said of the mesh, where the lower layer finds this out about its output variable

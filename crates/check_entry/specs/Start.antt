@@ -6,10 +6,10 @@ use Rattle.ir_flags.specs.Capabilities.{MESH_SHADER, RAY_TRACING_PIPELINE, EARLY
 use Rattle.ir_module.specs.declared.module.EarlyDepthTest.{EarlyDepthTest}
 use Rattle.ir_module.specs.declared.module.EntryPoint.{EntryPoint}
 use Rattle.ir_module.specs.declared.module.MeshStageInfo.{MeshStageInfo}
-use Rattle.ir_module.specs.declared.module.ShaderStage.{ShaderStage}
-use Rattle.ir_module.specs.declared.module.ShaderStage.TheVariants as stage
+use Rattle.ir_types.specs.declared.stage.ShaderStage.{ShaderStage}
+use Rattle.ir_types.specs.declared.stage.ShaderStage.TheVariants as stage
 use Rattle.ir_flags.specs.declared.capabilities.Capabilities.{Capabilities}
-use Rattle.check_errors.specs.declared.interface.VaryingError.TheVariants as varying
+use Rattle.ir_errors.specs.declared.interface.VaryingError.TheVariants as varying
 use Rattle.check_entry.specs.EntryAnswers.{EntryPoints}
 use Rattle.check_faults.specs.declared.entry.EntryPointError.TheVariants as fault
 

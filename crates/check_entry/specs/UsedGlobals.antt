@@ -9,7 +9,7 @@ use Rattle.ir_module.specs.declared.module.EntryPoint.{EntryPoint}
 use Rattle.ir_module.specs.declared.module.GlobalVariable.{GlobalVariable}
 use Rattle.ir_module.specs.declared.module.Module.{Module}
 use Rattle.ir_module.specs.declared.module.ResourceBinding.{ResourceBinding}
-use Rattle.ir_module.specs.declared.module.ShaderStage.{ShaderStage}
+use Rattle.ir_types.specs.declared.stage.ShaderStage.{ShaderStage}
 use Rattle.ir_types.specs.declared.types.AddressSpace.{AddressSpace}
 use Rattle.ir_types.specs.declared.types.AddressSpace.TheVariants as space
 use Rattle.ir_types.specs.declared.types.ImageClass.TheVariants as class
@@ -19,8 +19,8 @@ use Rattle.ir_types.specs.declared.types.TypeInner.TheVariants as inner
 use Rattle.ir_flags.specs.declared.valid.GlobalUse.{GlobalUse}
 use Rattle.ir_flags.specs.declared.valid.ValidationFlags.{ValidationFlags}
 use Rattle.check_variables.specs.AllowedUses.{allowed_use, hands_payload, takes_payload}
-use Rattle.check_errors.specs.WhatIsChecked.{checks_bindings}
-use Rattle.check_errors.specs.Meaning.{Meaning}
+use Rattle.ir_facts.specs.WhatIsChecked.{checks_bindings}
+use Rattle.ir_facts.specs.Meaning.{Meaning}
 use Rattle.check_entry.specs.EntryAnswers.{EntryPoints}
 use Rattle.check_entry.specs.EntryUses.{is_immediate}
 use Rattle.check_faults.specs.declared.entry.EntryPointError.TheVariants as fault

@@ -2,18 +2,18 @@
 
 ghost use Rattle.std.specs.Prelude.{◌≡◌, Result, Err};
 ghost use Rattle.ir_facts.specs.Points.{within};
-ghost use Rattle.check_errors.specs.Answers.{Answers, Finds, FirstOf, Exactly, read_by, refusal_read_by};
-ghost use Rattle.check_errors.specs.declared.function.FunctionError.{FunctionError as Inner};
+ghost use Rattle.ir_facts.specs.Answers.{Answers, Finds, FirstOf, Exactly, read_by, refusal_read_by};
+ghost use Rattle.ir_errors.specs.declared.function.FunctionError.{FunctionError as Inner};
 ghost use Rattle.check_entry.specs.EntryFaults.{fault_of};
 ghost use Rattle.check_entry.specs.EntryJudgement.{of_function};
 ghost use Rattle.check_entry.specs.EntryAnswers.{EntryPoints};
 ghost use Rattle.check_faults.specs.RefusedEntries.{IsRefusalFor};
 ghost use Rattle.check_statement.specs.FunctionJudgement.{FunctionOutcome as Outcome};
 
-use check_errors::function::FunctionError;
 use check_faults::entry::EntryPointError;
 use check_faults::refused::RefusedEntry;
 use ir_arena::span::{Refusal, WithSpan};
+use ir_errors::function::FunctionError;
 use std::alloc::Global;
 
 /// The refusal for a fault before the function, which stands at no place of its own. It takes no memory.

@@ -6,7 +6,7 @@ ghost use Rattle.ir_flags.specs.declared.valid.GlobalUse.{GlobalUse as Use};
 ghost use Rattle.ir_module.specs.declared.module.GlobalVariable.{GlobalVariable as Variable};
 ghost use Rattle.check_entry.specs.TakenBindings.{AreTaken};
 ghost use Rattle.check_entry.specs.UsedGlobals.{binding_at, binding_points};
-ghost use Rattle.check_errors.specs.Answers.{Finds, FirstOf};
+ghost use Rattle.ir_facts.specs.Answers.{Finds, FirstOf};
 
 use crate::globals::is_used;
 use check_faults::entry::EntryPointError;

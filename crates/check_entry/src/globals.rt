@@ -6,7 +6,7 @@ ghost use Rattle.std.specs.Option.{option_copied};
 ghost use Rattle.ir_types.specs.Types.{inner_at};
 ghost use Rattle.check_entry.specs.UsedGlobals.{is_used, is_used_immediate, used_immediates, immediate_points, image_access, access_in, ray_points, is_within, allowed_points, used_payload_points};
 ghost use Rattle.check_variables.specs.Spaces.{is_task_payload};
-ghost use Rattle.check_errors.specs.Answers.{Finds, FirstOf};
+ghost use Rattle.ir_facts.specs.Answers.{Finds, FirstOf};
 
 use bitflags::Flags;
 use check_faults::entry::EntryPointError;
@@ -16,7 +16,8 @@ use ir_arena::tag;
 use ir_facts::valid::info::FunctionInfo;
 use ir_flags::ir::StorageAccess;
 use ir_flags::valid::GlobalUse;
-use ir_module::module::{GlobalVariable, Module, ShaderStage};
+use ir_module::module::{GlobalVariable, Module};
+use ir_types::stage::ShaderStage;
 use ir_types::types::{AddressSpace, ImageClass, TypeInner};
 
 /// How a global is used.

@@ -1,14 +1,14 @@
 //! The checks of what an entry point says of its mesh.
 
 ghost use Rattle.std.specs.Prelude.{◌≡◌};
-ghost use Rattle.check_entry.specs.Mesh.{mesh_error, override_at, is_implied, with_overrides_of, is_points, variable_points, stated_points};
+ghost use Rattle.check_entry.specs.Mesh.{mesh_error, override_at, is_implied, with_overrides_of, is_same_mesh, is_points, has_topology, variable_points, stated_points};
 ghost use Rattle.check_entry.specs.EntryUses.{is_work_group, lies_in};
-ghost use Rattle.check_errors.specs.Answers.{Finds, FirstOf};
+ghost use Rattle.ir_facts.specs.Answers.{Finds, FirstOf};
 
-use check_errors::mesh::MeshFault;
 use check_faults::entry::EntryPointError;
 use ir_arena::handle::Handle;
 use ir_arena::tag;
+use ir_errors::mesh::MeshFault;
 use ir_flags::capabilities::Capabilities;
 use ir_module::expressions::Expression;
 use ir_module::module::{MeshOutputTopology, MeshStageInfo, Module};
@@ -88,6 +88,19 @@ fn is_points(topology: MeshOutputTopology) -> bool
     matches!(topology, MeshOutputTopology::Points)
 }
 
+fn is_same_mesh(implied: &MeshStageInfo, mesh: &MeshStageInfo) -> bool
+    ensures { result ≡ is_same_mesh implied.now mesh.now }
+{
+    *implied == *mesh
+}
+
+/// Whether the target has the topology.
+fn has_topology(capabilities: Capabilities, topology: MeshOutputTopology) -> bool
+    ensures { result ≡ has_topology capabilities topology }
+{
+    !is_points(topology) || capabilities.contains(Capabilities::MESH_SHADER_POINT_TOPOLOGY)
+}
+
 /// What is said of the mesh, where this is implied, with these overrides of its two numbers: just that; and where it is
 /// one of points, the target has these.
 pub fn check_stated(
@@ -111,11 +124,11 @@ pub fn check_stated(
     ) {
         return Err(EntryPointError::BadMeshOutputVariableType);
     }
-    if with_overrides_of(mesh, implied) != *mesh {
+    if !is_same_mesh(&with_overrides_of(mesh, implied), mesh) {
         return Err(EntryPointError::BadMeshOutputVariableType);
     }
-    let required = Capabilities::MESH_SHADER_POINT_TOPOLOGY;
-    if is_points(mesh.topology) && !capabilities.contains(required) {
+    if !has_topology(capabilities, mesh.topology) {
+        let required = Capabilities::MESH_SHADER_POINT_TOPOLOGY;
         return Err(EntryPointError::UnsupportedCapability(required));
     }
     Ok(())

@@ -6,7 +6,7 @@ ghost use Rattle.ir_module.specs.declared.module.GlobalVariable.{GlobalVariable 
 ghost use Rattle.check_entry.specs.EntryFaults.{fault_of};
 ghost use Rattle.check_variables.specs.Spaces.{is_task_payload};
 ghost use Rattle.check_entry.specs.EntryUses.{lies_in, place_points, made_points, taken_points, payload_points, with_use_of, output_variable_of, with_own_uses, only, stage_points};
-ghost use Rattle.check_errors.specs.Answers.{Answers, Finds, FirstOf, read_by};
+ghost use Rattle.ir_facts.specs.Answers.{Answers, Finds, FirstOf, read_by};
 
 use crate::answers::{answer, refusal};
 use bitflags::Flags;
@@ -16,7 +16,8 @@ use ir_arena::handle::Handle;
 use ir_arena::tag;
 use ir_facts::valid::info::FunctionInfo;
 use ir_flags::valid::{GlobalUse, ShaderStages};
-use ir_module::module::{EntryPoint, MeshStageInfo, Module, ShaderStage};
+use ir_module::module::{EntryPoint, MeshStageInfo, Module};
+use ir_types::stage::ShaderStage;
 use ir_types::types::AddressSpace;
 use std::alloc::Global;
 

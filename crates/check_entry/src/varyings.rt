@@ -8,28 +8,29 @@ ghost use Rattle.ir_module.specs.declared.functions.FunctionResult.{FunctionResu
 ghost use Rattle.ir_types.specs.declared.types.Type.{«Type» as IrType};
 ghost use Rattle.ir_types.specs.TypeTests.{it_is};
 ghost use Rattle.ir_types.specs.declared.built_in.BuiltIn.TheVariants.{PointIndex, LineIndices, TriangleIndices};
-ghost use Rattle.check_errors.specs.TypeInfos.{type_has};
+ghost use Rattle.ir_facts.specs.TypeInfos.{type_has};
 ghost use Rattle.check_varyings.specs.VaryingFaults.{VaryingFault as Given, varying_fault_of};
 ghost use Rattle.check_varyings.specs.Varyings.{seen_in};
 ghost use Rattle.check_entry.specs.EntryFaults.{OfArgument, OfResult, fault_of};
 ghost use Rattle.check_entry.specs.EntryVaryings.{is_struct, is_three_counts, returns_counts, is_one_of_three, returned_points, are_blend_sources, with_blending};
-ghost use Rattle.check_errors.specs.Answers.{Answers, Finds, FirstOf, IsFirstFault, read_by, refusal_read_by};
+ghost use Rattle.ir_facts.specs.Answers.{Answers, Finds, FirstOf, IsFirstFault, read_by, refusal_read_by};
 
 use crate::answers::{answer, refusal};
 use crate::globals::inner_at;
-use check_errors::interface::VaryingError;
 use check_faults::entry::EntryPointError;
 use check_faults::refused::RefusedEntry;
 use check_varyings::varying::VaryingState;
 use ir_arena::handle::Handle;
 use ir_arena::span::Refusal;
 use ir_arena::tag;
+use ir_errors::interface::VaryingError;
 use ir_facts::valid::info::FunctionInfo;
 use ir_facts::valid::types::TypeInfo;
 use ir_flags::valid::TypeFlags;
 use ir_module::functions::FunctionResult;
-use ir_module::module::{EntryPoint, Module, ShaderStage};
+use ir_module::module::{EntryPoint, Module};
 use ir_types::built_in::BuiltIn;
+use ir_types::stage::ShaderStage;
 use ir_types::types::{Scalar, TypeInner, VectorSize};
 use std::alloc::{AllocError, Global};
 

@@ -6,13 +6,13 @@ ghost use Rattle.check_faults.specs.declared.entry.EntryPointError.TheVariants a
 mod clones;
 mod texts;
 
-use check_errors::function::FunctionError;
-use check_errors::interface::VaryingError;
 use ir_arena::handle::Handle;
 use ir_arena::tag;
+use ir_errors::function::FunctionError;
+use ir_errors::interface::VaryingError;
 use ir_flags::capabilities::Capabilities;
 use ir_flags::valid::GlobalUse;
-use ir_module::module::ShaderStage;
+use ir_types::stage::ShaderStage;
 
 /// What is wrong with an entry point: the first fault in the order of its checks.
 #[derive(PartialEq, Debug, Drop)]

@@ -1,11 +1,11 @@
 //! What is wrong with a module.
 
 use crate::entry::EntryPointError;
-use check_errors::function::FunctionError;
-use check_errors::interface::GlobalVariableError;
 use ir_arena::handle::Handle;
 use ir_arena::span::WithSpan;
 use ir_arena::tag;
+use ir_errors::function::FunctionError;
+use ir_errors::interface::GlobalVariableError;
 use std::alloc::AllocError;
 
 /// What is wrong with a module: the first fault in the order of its judgement.

@@ -35,7 +35,10 @@ impl RefusedEntry {
     {
         match Box::new(alloc, fault) {
             Ok(fault) => RefusedEntry { fault: Some(fault) },
-            Err(_) => RefusedEntry { fault: None },
+            Err(refused) => {
+                drop(refused);
+                RefusedEntry { fault: None }
+            }
         }
     }
 

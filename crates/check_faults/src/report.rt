@@ -3,9 +3,8 @@
 use crate::entry::EntryPointError;
 use crate::module::ModuleFault;
 use crate::sentences::{Explain, explain_inside};
-use check_errors::{CallError, FunctionError};
 use ir_arena::{Handle, Refusal, Span, tag};
-use ir_facts::ExpressionError;
+use ir_errors::{CallError, ExpressionError, FunctionError};
 use std::error::Error;
 use std::fmt;
 

@@ -7,22 +7,22 @@ use Rattle.ir_module.specs.Tree.{Act, Use}
 use Rattle.ir_module.specs.View.{put_if}
 use Rattle.ir_module.specs.declared.functions.Function.{Function}
 use Rattle.ir_module.specs.declared.functions.FunctionArgument.{FunctionArgument}
-use Rattle.ir_facts.specs.declared.valid.expression_error.ExpressionError.TheVariants.{NotInScope}
-use Rattle.check_errors.specs.declared.function.CallError.{CallError}
-use Rattle.check_errors.specs.declared.function.CallError.TheVariants.{Argument, ArgumentCount, ArgumentType, ExpressionMismatch, ResultAlreadyInScope, ResultAlreadyPopulated}
-use Rattle.check_errors.specs.declared.function.FunctionError.TheVariants.{InvalidCall}
+use Rattle.ir_errors.specs.declared.expression.ExpressionError.TheVariants.{NotInScope}
+use Rattle.ir_errors.specs.declared.function.CallError.{CallError}
+use Rattle.ir_errors.specs.declared.function.CallError.TheVariants.{Argument, ArgumentCount, ArgumentType, ExpressionMismatch, ResultAlreadyInScope, ResultAlreadyPopulated}
+use Rattle.ir_errors.specs.declared.function.FunctionError.TheVariants.{InvalidCall}
 use Rattle.ir_facts.proofs.Points.{first_holds, both_hold, first_of_both, first_within, not_holds}
 use Rattle.naga_runs.specs.Handles.{Handles}
 use Rattle.naga_runs.specs.Visits.{Place}
 use Rattle.ir_facts.specs.Points.{Point, first_fault, within}
 use Rattle.ir_arena.specs.declared.span.Refusal.{Refusal}
-use Rattle.check_errors.specs.declared.function.FunctionError.{FunctionError}
+use Rattle.ir_errors.specs.declared.function.FunctionError.{FunctionError}
 use Rattle.naga_runs.specs.Soundness.{Fit}
 use Rattle.check_flow.specs.Call.{arguments_of, has_result, is_passed_as, passed_points, passed_points_from, all_passed_points, is_call_result_of, call_result_points, callee_points, call_points}
 use Rattle.check_scope.specs.Context.{Context}
 use Rattle.naga_runs.specs.PutsAndUses.{puts_of}
 use Rattle.check_scope.specs.ScopePoints.{Points, may_use, is_in_scope}
-use Rattle.check_errors.specs.Answers.{Answers, FirstOf}
+use Rattle.ir_facts.specs.Answers.{Answers, FirstOf}
 use Rattle.check_scope.specs.walk.Findings.{AllHold, RefusesFaultsAlone}
 use Rattle.check_scope.specs.Results.{is_fresh}
 use Rattle.check_scope.specs.ExpressionTypes.{expression_at}

@@ -8,11 +8,11 @@ use Rattle.std.specs.Int.{cast_unsigned, w32}
 use Rattle.std.specs.List.{list_any, AllByRecursion}
 use Rattle.ir_types.specs.declared.types.ScalarKind.{ScalarKind}
 use Rattle.ir_module.specs.declared.statements.SwitchCase.{SwitchCase, out-SwitchCase}
-use Rattle.ir_module.specs.declared.statements.SwitchValue.{SwitchValue}
-use Rattle.ir_module.specs.declared.statements.SwitchValue.TheVariants.{I32, U32, Default}
+use Rattle.ir_types.specs.declared.operations.SwitchValue.{SwitchValue}
+use Rattle.ir_types.specs.declared.operations.SwitchValue.TheVariants.{I32, U32, Default}
 use Rattle.ir_facts.specs.Points.{first_fault}
 use Rattle.check_scope.specs.BodyTrees.{case_list}
-use Rattle.check_errors.specs.declared.function.FunctionError.TheVariants.{ConflictingCaseType}
+use Rattle.ir_errors.specs.declared.function.FunctionError.TheVariants.{ConflictingCaseType}
 use Rattle.check_flow.specs.Switch.{has_signedness_of, repeated_fault, same_value, value_points, values_of}
 use Rattle.check_flow.specs.walk.SwitchParts.{number_of}
 use Rattle.check_flow.proofs.Values.{earlier as earlier_and_one}

@@ -7,10 +7,10 @@ use Rattle.ir_facts.proofs.Points.{first_holds, both_hold, first_of_both, not_ho
 use Rattle.ir_facts.specs.Points.{first_fault}
 use Rattle.ir_module.specs.View.{emitted}
 use Rattle.ir_arena.specs.declared.span.Refusal.{Refusal}
-use Rattle.ir_facts.specs.declared.valid.expression_error.ExpressionError.TheVariants.{NotInScope}
-use Rattle.check_errors.specs.declared.function.FunctionError.{FunctionError}
-use Rattle.check_errors.specs.declared.function.FunctionError.TheVariants.{EmitResult, ExpressionAlreadyInScope}
-use Rattle.check_errors.specs.declared.function.FunctionError.TheVariants as fault
+use Rattle.ir_errors.specs.declared.expression.ExpressionError.TheVariants.{NotInScope}
+use Rattle.ir_errors.specs.declared.function.FunctionError.{FunctionError}
+use Rattle.ir_errors.specs.declared.function.FunctionError.TheVariants.{EmitResult, ExpressionAlreadyInScope}
+use Rattle.ir_errors.specs.declared.function.FunctionError.TheVariants as fault
 use Rattle.ir_module.specs.declared.expressions.Expression.{Expression}
 use Rattle.naga_runs.specs.Handles.{Handles, with_handle}
 use Rattle.naga_runs.specs.PutsAndUses.{puts_of}
@@ -22,7 +22,7 @@ use Rattle.check_flow.specs.Control.{within_emit, emitted_points, emit_points_fr
 use Rattle.check_scope.specs.Results.{is_result}
 use Rattle.check_scope.specs.ExpressionTypes.{expression_at}
 use Rattle.check_scope.specs.walk.Findings.{AllHold}
-use Rattle.check_errors.specs.Answers.{IsFirstFault}
+use Rattle.ir_facts.specs.Answers.{IsFirstFault}
 use Rattle.check_scope.specs.walk.Place.{Sets, place_at}
 use Rattle.check_scope.specs.walk.Table.{with_all, with_puts}
 use Rattle.check_flow.specs.walk.Emitted.{handles_from, handles_between}

@@ -5,7 +5,7 @@ use Rattle.std.proofs.lemmas.List.Elements.{All-contains, All-from_recursion}
 use Rattle.std.specs.List.{list_any, AllByRecursion}
 use Rattle.std.specs.Prelude.{Contains, take, if◌then◌else◌}
 use Rattle.ir_module.specs.declared.statements.SwitchCase.{SwitchCase, out-SwitchCase}
-use Rattle.ir_module.specs.declared.statements.SwitchValue.{SwitchValue}
+use Rattle.ir_types.specs.declared.operations.SwitchValue.{SwitchValue}
 use Rattle.ir_facts.proofs.Points.{first_of_both}
 use Rattle.ir_facts.specs.Points.{Point, within}
 use Rattle.naga_runs.specs.Handles.{Handles, with_handle}
@@ -15,7 +15,7 @@ use Rattle.check_scope.specs.BodyTrees.{case_list}
 use Rattle.check_scope.specs.Context.{Context}
 use Rattle.check_scope.specs.ScopePoints.{Points, use_point}
 use Rattle.check_scope.specs.ExpressionTypes.{is_integer, scalar_kind_at}
-use Rattle.check_errors.specs.declared.function.FunctionError.TheVariants.{InvalidSwitchType, MissingDefaultCase, LastCaseFallTrough}
+use Rattle.ir_errors.specs.declared.function.FunctionError.TheVariants.{InvalidSwitchType, MissingDefaultCase, LastCaseFallTrough}
 use Rattle.check_scope.specs.walk.Table.{with_all}
 use Rattle.check_flow.specs.walk.Emitted.{handles_from, handles_between}
 use Rattle.check_flow.specs.Switch.{is_default, value_points, switch_points, values_of, last_falls_through}

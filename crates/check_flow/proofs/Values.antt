@@ -7,15 +7,15 @@ use Rattle.std.proofs.lemmas.List.Folds.{list_any-append}
 use Rattle.std.proofs.lemmas.List.{at_drop_more, take_more}
 use Rattle.std.specs.List.{list_any}
 use Rattle.std.specs.BTreeSet.{BTreeSet, contains, IsEmpty}
-use Rattle.ir_module.specs.contracts.statements.SwitchValueOrd.TheImpl as value_order
+use Rattle.ir_types.specs.contracts.operations.SwitchValueOrd.TheImpl as value_order
 use Rattle.ir_module.specs.declared.statements.SwitchCase.{SwitchCase, out-SwitchCase}
-use Rattle.ir_module.specs.declared.statements.SwitchValue.{SwitchValue}
-use Rattle.ir_module.specs.declared.statements.SwitchValue.TheVariants.{I32, U32, Default}
+use Rattle.ir_types.specs.declared.operations.SwitchValue.{SwitchValue}
+use Rattle.ir_types.specs.declared.operations.SwitchValue.TheVariants.{I32, U32, Default}
 use Rattle.ir_facts.specs.Points.{first_fault}
 use Rattle.check_scope.specs.BodyTrees.{case_list}
 use Rattle.ir_types.specs.declared.types.ScalarKind.{ScalarKind}
-use Rattle.check_errors.specs.declared.function.FunctionError.{FunctionError}
-use Rattle.check_errors.specs.declared.function.FunctionError.TheVariants.{ConflictingCaseType}
+use Rattle.ir_errors.specs.declared.function.FunctionError.{FunctionError}
+use Rattle.ir_errors.specs.declared.function.FunctionError.TheVariants.{ConflictingCaseType}
 use Rattle.check_flow.specs.Switch.{same_value, value_points, values_of, has_signedness_of, repeated_fault}
 
 nats_by_order : (m n : ℕ) → is_eq (nat_cmp m n) ≡ (m == n)

@@ -6,10 +6,10 @@ use Rattle.ir_module.specs.declared.functions.Function.{Function}
 use Rattle.ir_module.specs.declared.functions.FunctionArgument.{FunctionArgument}
 use Rattle.ir_types.specs.declared.typifier.TypeResolution.{TypeResolution}
 use Rattle.ir_types.specs.declared.typifier.TypeResolution.TheVariants.{Handle}
-use Rattle.ir_facts.specs.declared.valid.expression_error.ExpressionError.TheVariants.{NotInScope}
-use Rattle.check_errors.specs.declared.function.CallError.{CallError}
-use Rattle.check_errors.specs.declared.function.CallError.TheVariants.{Argument, ArgumentCount, ArgumentType, ExpressionMismatch, ResultAlreadyInScope, ResultAlreadyPopulated}
-use Rattle.check_errors.specs.declared.function.FunctionError.TheVariants.{InvalidCall}
+use Rattle.ir_errors.specs.declared.expression.ExpressionError.TheVariants.{NotInScope}
+use Rattle.ir_errors.specs.declared.function.CallError.{CallError}
+use Rattle.ir_errors.specs.declared.function.CallError.TheVariants.{Argument, ArgumentCount, ArgumentType, ExpressionMismatch, ResultAlreadyInScope, ResultAlreadyPopulated}
+use Rattle.ir_errors.specs.declared.function.FunctionError.TheVariants.{InvalidCall}
 use Rattle.naga_runs.specs.Handles.{Handles}
 use Rattle.naga_runs.specs.Visits.{Place}
 use Rattle.ir_facts.specs.Points.{Point, within}

@@ -6,9 +6,9 @@ ghost use Rattle.check_flow.specs.Control.{emit_points, emitted_points, is_bool_
 ghost use Rattle.check_scope.specs.Results.{is_result};
 ghost use Rattle.check_scope.specs.walk.Place.{no_sets, place_at};
 ghost use Rattle.check_flow.specs.walk.Emitted.{handles_between, place};
-ghost use Rattle.check_errors.specs.declared.function.FunctionError.TheVariants.{BreakOutsideOfLoopOrSwitch, ContinueOutsideOfLoop, InvalidReturnType};
+ghost use Rattle.ir_errors.specs.declared.function.FunctionError.TheVariants.{BreakOutsideOfLoopOrSwitch, ContinueOutsideOfLoop, InvalidReturnType};
 ghost use Rattle.check_scope.specs.walk.Findings.{AllHold, IsRefusalFor, RefusesFaultsAlone};
-ghost use Rattle.check_errors.specs.Answers.{Answers, Finds, FirstOf};
+ghost use Rattle.ir_facts.specs.Answers.{Answers, Finds, FirstOf};
 ghost use Rattle.check_scope.specs.Context.{ContextFits};
 ghost use Rattle.check_scope.specs.walk.SeenContext.{context_of};
 ghost use Rattle.check_scope.specs.BodyTrees.{emitted_operands, operands_if};
@@ -16,7 +16,6 @@ ghost use Rattle.check_scope.specs.ExpressionTypes.{expression_at};
 ghost use Rattle.check_scope.specs.ScopePoints.{use_point};
 ghost use Rattle.check_scope.specs.walk.Table.{HasPut, KnowsOperands, count, known};
 
-use check_errors::function::FunctionError;
 use check_scope::context::BlockContext;
 use check_scope::refuse::{answer, check_put, check_use, not_in_scope};
 use check_scope::refused::Refused;
@@ -26,6 +25,7 @@ use ir_arena::handle::Handle;
 use ir_arena::range::Range;
 use ir_arena::span::Span;
 use ir_arena::tag;
+use ir_errors::function::FunctionError;
 use ir_module::expressions::Expression;
 use ir_module::operands::listed_operands;
 use ir_types::types::{Scalar, ScalarKind, TypeInner};

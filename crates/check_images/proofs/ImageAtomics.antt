@@ -4,8 +4,8 @@ use Rattle.ir_facts.proofs.Points.{both_hold}
 use Rattle.ir_facts.specs.Points.{first_fault}
 use Rattle.ir_module.specs.Tree.{Use}
 use Rattle.ir_module.specs.View.{used_if}
-use Rattle.ir_module.specs.declared.operations.AtomicFunction.{AtomicFunction}
-use Rattle.check_errors.specs.declared.function.FunctionError.TheVariants.{InvalidImageAtomic}
+use Rattle.ir_types.specs.declared.operations.AtomicFunction.{AtomicFunction}
+use Rattle.ir_errors.specs.declared.function.FunctionError.TheVariants.{InvalidImageAtomic}
 use Rattle.naga_runs.specs.Soundness.{Fit}
 use Rattle.naga_runs.specs.Visits.{Place}
 use Rattle.check_images.specs.walk.ImageParts.{changed_value_points, changed_class_points}

@@ -9,9 +9,9 @@ use Rattle.ir_facts.proofs.Points.{both_hold}
 use Rattle.ir_facts.specs.Points.{first_fault}
 use Rattle.ir_module.specs.Tree.{Act, Use}
 use Rattle.ir_module.specs.View.{used_if}
-use Rattle.ir_facts.specs.declared.valid.expression_error.ExpressionError.{ExpressionError}
-use Rattle.check_errors.specs.declared.function.FunctionError.{FunctionError}
-use Rattle.check_errors.specs.declared.function.FunctionError.TheVariants.{InvalidImageStore}
+use Rattle.ir_errors.specs.declared.expression.ExpressionError.{ExpressionError}
+use Rattle.ir_errors.specs.declared.function.FunctionError.{FunctionError}
+use Rattle.ir_errors.specs.declared.function.FunctionError.TheVariants.{InvalidImageStore}
 use Rattle.naga_runs.specs.Soundness.{Fit}
 use Rattle.naga_runs.specs.Visits.{Place}
 use Rattle.check_images.specs.walk.ImageParts.{texel_value_points}

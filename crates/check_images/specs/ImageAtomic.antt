@@ -9,20 +9,20 @@ use Rattle.ir_facts.specs.Points.{Point}
 use Rattle.ir_types.specs.TypeTests.{is_scalar}
 use Rattle.ir_types.specs.Types.{inner_at}
 use Rattle.ir_flags.specs.declared.ir.StorageAccess.{StorageAccess}
-use Rattle.ir_module.specs.declared.operations.AtomicFunction.{AtomicFunction}
-use Rattle.ir_module.specs.declared.operations.AtomicFunction.TheVariants.{Add, And, ExclusiveOr, InclusiveOr}
+use Rattle.ir_types.specs.Operations.{is_min_or_max}
+use Rattle.ir_types.specs.declared.operations.AtomicFunction.{AtomicFunction}
+use Rattle.ir_types.specs.declared.operations.AtomicFunction.TheVariants.{Add, And, ExclusiveOr, InclusiveOr}
 use Rattle.ir_types.specs.declared.types.StorageFormat.{StorageFormat}
 use Rattle.ir_types.specs.declared.types.StorageFormat.TheVariants as formats
 use Rattle.ir_types.specs.declared.types.Type.{«Type» as IrType}
 use Rattle.ir_types.specs.declared.types.TypeInner.{TypeInner}
 use Rattle.ir_types.specs.declared.types.TypeInner.TheVariants as inner
 use Rattle.ir_flags.specs.declared.capabilities.Capabilities.{Capabilities}
-use Rattle.ir_facts.specs.declared.valid.expression_error.ExpressionError.{ExpressionError}
-use Rattle.ir_facts.specs.declared.valid.expression_error.ExpressionError.TheVariants as wrong
-use Rattle.check_errors.specs.declared.function.FunctionError.{FunctionError}
-use Rattle.check_errors.specs.declared.function.FunctionError.TheVariants.{InvalidImageAtomic, InvalidImageAtomicFunction, InvalidImageAtomicValue, MissingCapability}
+use Rattle.ir_errors.specs.declared.expression.ExpressionError.{ExpressionError}
+use Rattle.ir_errors.specs.declared.expression.ExpressionError.TheVariants as wrong
+use Rattle.ir_errors.specs.declared.function.FunctionError.{FunctionError}
+use Rattle.ir_errors.specs.declared.function.FunctionError.TheVariants.{InvalidImageAtomic, InvalidImageAtomicFunction, InvalidImageAtomicValue, MissingCapability}
 use Rattle.naga_runs.specs.Visits.{Place}
-use Rattle.check_memory.specs.Atomic.{is_min_or_max}
 use Rattle.check_scope.specs.Context.{Context}
 use Rattle.check_images.specs.Image.{image_global_at, image_global, ImageShape, is_image, shape_of, is_storage_class, stored_format, stored_access, is_coordinate, array_index_points}
 use Rattle.check_scope.specs.ScopePoints.{Points, use_point}

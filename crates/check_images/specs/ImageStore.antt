@@ -9,11 +9,11 @@ use Rattle.ir_types.specs.declared.types.Type.{«Type» as IrType}
 use Rattle.ir_types.specs.declared.types.TypeInner.{TypeInner}
 use Rattle.ir_types.specs.declared.types.TypeInner.TheVariants as inner
 use Rattle.ir_types.specs.declared.types.VectorSize.TheVariants.{Quad}
-use Rattle.ir_facts.specs.declared.valid.expression_error.ExpressionError.{ExpressionError}
-use Rattle.ir_facts.specs.declared.valid.expression_error.ExpressionError.TheVariants as wrong
+use Rattle.ir_errors.specs.declared.expression.ExpressionError.{ExpressionError}
+use Rattle.ir_errors.specs.declared.expression.ExpressionError.TheVariants as wrong
 use Rattle.check_variables.specs.Globals.{element_of}
-use Rattle.check_errors.specs.declared.function.FunctionError.{FunctionError}
-use Rattle.check_errors.specs.declared.function.FunctionError.TheVariants.{InvalidImageStore, InvalidStoreValue}
+use Rattle.ir_errors.specs.declared.function.FunctionError.{FunctionError}
+use Rattle.ir_errors.specs.declared.function.FunctionError.TheVariants.{InvalidImageStore, InvalidStoreValue}
 use Rattle.naga_runs.specs.Visits.{Place}
 use Rattle.check_scope.specs.Context.{Context}
 use Rattle.check_scope.specs.ScopePoints.{Points, use_point}

@@ -8,9 +8,8 @@ ghost use Rattle.check_images.specs.Image.{global_type_at, image_global_at, is_d
 ghost use Rattle.check_scope.specs.walk.Place.{place_at};
 ghost use Rattle.check_scope.specs.walk.SeenContext.{context_of};
 ghost use Rattle.check_scope.specs.walk.Table.{known};
-ghost use Rattle.check_errors.specs.Answers.{Finds, FirstOf};
+ghost use Rattle.ir_facts.specs.Answers.{Finds, FirstOf};
 
-use check_errors::function::FunctionError;
 use check_scope::context::BlockContext;
 use check_scope::refuse::check_use;
 use check_scope::roots::access_base;
@@ -18,7 +17,8 @@ use check_scope::table::ScopeColumn;
 use check_scope::types::is_integer;
 use ir_arena::handle::Handle;
 use ir_arena::tag;
-use ir_facts::valid::expression_error::ExpressionError;
+use ir_errors::expression::ExpressionError;
+use ir_errors::function::FunctionError;
 use ir_module::expressions::Expression;
 use ir_types::types::{ImageDimension, TypeInner};
 

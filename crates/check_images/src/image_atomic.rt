@@ -4,7 +4,7 @@ ghost use Rattle.std.specs.Prelude.{◌≡◌, ◌++◌};
 ghost use Rattle.std.specs.Option.{option_copied};
 ghost use Rattle.ir_types.specs.Types.{inner_at};
 ghost use Rattle.check_scope.specs.walk.Findings.{RefusesFaultsAlone};
-ghost use Rattle.check_errors.specs.Answers.{Answers, Finds, FirstOf};
+ghost use Rattle.ir_facts.specs.Answers.{Answers, Finds, FirstOf};
 ghost use Rattle.check_images.specs.walk.ImageParts.{changed_points, changed_format_points, changed_value_points, changed_class_points};
 ghost use Rattle.check_images.specs.ImageAtomic.{element_or_itself, is_done_on_texels, operation_points, format_points, image_atomic_points};
 ghost use Rattle.check_scope.specs.walk.Place.{place_at};
@@ -12,8 +12,6 @@ ghost use Rattle.check_scope.specs.walk.SeenContext.{context_of};
 ghost use Rattle.check_scope.specs.walk.Table.{known};
 
 use crate::image::{ImageShape, ImageStatement, Texel, check_texel, image_global};
-use check_errors::function::FunctionError;
-use check_memory::atomic::is_min_or_max;
 use check_scope::context::BlockContext;
 use check_scope::refuse::{answer, check_use};
 use check_scope::refused::Refused;
@@ -22,10 +20,11 @@ use check_scope::types::{inner_at, is_scalar};
 use ir_arena::handle::Handle;
 use ir_arena::span::Span;
 use ir_arena::tag;
-use ir_facts::valid::expression_error::ExpressionError;
+use ir_errors::expression::ExpressionError;
+use ir_errors::function::FunctionError;
 use ir_flags::capabilities::Capabilities;
 use ir_flags::ir::StorageAccess;
-use ir_module::operations::AtomicFunction;
+use ir_types::operations::AtomicFunction;
 use ir_types::types::{ImageClass, Scalar, StorageFormat, TypeInner};
 
 /// An operation on a texel: which texel, what is done, and with what value.
@@ -171,7 +170,7 @@ fn check_format(
     match format {
         StorageFormat::R64Uint => {
             let needed = Capabilities::TEXTURE_INT64_ATOMIC;
-            check_operation(capabilities, needed, is_min_or_max(fun), fun)
+            check_operation(capabilities, needed, fun.is_min_or_max(), fun)
         }
         StorageFormat::R32Sint | StorageFormat::R32Uint => {
             let needed = Capabilities::TEXTURE_ATOMIC;

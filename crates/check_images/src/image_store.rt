@@ -4,7 +4,7 @@ ghost use Rattle.std.specs.Prelude.{◌≡◌, ◌++◌, IfOk, IfSome, IsOk};
 ghost use Rattle.std.specs.Option.{option_copied};
 ghost use Rattle.ir_types.specs.Members.{HasNoMembers};
 ghost use Rattle.check_scope.specs.walk.Findings.{RefusesFaultsAlone};
-ghost use Rattle.check_errors.specs.Answers.{Answers, Finds, FirstOf};
+ghost use Rattle.ir_facts.specs.Answers.{Answers, Finds, FirstOf};
 ghost use Rattle.check_images.specs.walk.ImageParts.{stored_points, texel_value_points};
 ghost use Rattle.check_images.specs.ImageStore.{stored_type, image_store_points};
 ghost use Rattle.check_scope.specs.walk.Place.{place_at};
@@ -13,7 +13,6 @@ ghost use Rattle.check_scope.specs.ExpressionTypes.{type_at};
 ghost use Rattle.check_scope.specs.walk.Table.{known};
 
 use crate::image::{ImageShape, ImageStatement, Texel, check_texel, element_of, image_global};
-use check_errors::function::FunctionError;
 use check_scope::context::BlockContext;
 use check_scope::refuse::{answer, check_use};
 use check_scope::refused::Refused;
@@ -23,7 +22,8 @@ use check_scope::types::inner_at;
 use ir_arena::handle::Handle;
 use ir_arena::span::Span;
 use ir_arena::tag;
-use ir_facts::valid::expression_error::ExpressionError;
+use ir_errors::expression::ExpressionError;
+use ir_errors::function::FunctionError;
 use ir_types::types::{ImageClass, Scalar, StorageFormat, TypeInner, VectorSize};
 use std::alloc::{AllocError, Global};
 

@@ -5,8 +5,8 @@ use Rattle.ir_facts.proofs.Points.{both_hold, not_holds}
 use Rattle.ir_facts.specs.Points.{first_fault}
 use Rattle.ir_module.specs.Tree.{Use}
 use Rattle.ir_module.specs.View.{atomic_acts, put_if}
-use Rattle.ir_module.specs.declared.operations.AtomicFunction.{AtomicFunction}
-use Rattle.ir_module.specs.declared.operations.AtomicFunction.TheVariants.{Exchange}
+use Rattle.ir_types.specs.declared.operations.AtomicFunction.{AtomicFunction}
+use Rattle.ir_types.specs.declared.operations.AtomicFunction.TheVariants.{Exchange}
 use Rattle.ir_types.specs.declared.types.Scalar.{Scalar}
 use Rattle.naga_runs.specs.Handles.{Handles}
 use Rattle.naga_runs.specs.Soundness.{Fit}

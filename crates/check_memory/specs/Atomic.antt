@@ -2,11 +2,13 @@
 use Rattle.std.specs.Prelude.{ℕ, Bool, true, false, not, ◌&&◌, ◌||◌, ◌==◌, List, [], ◌∷◌, ◌++◌, Option, None, Some, is_some, if◌then◌else◌, unwrap_or}
 use Rattle.ir_flags.specs.Capabilities as capability
 use Rattle.ir_flags.specs.Capabilities.{has_capability}
+use Rattle.ir_types.specs.TypeTests.{is_float_kind}
 use Rattle.ir_types.specs.Types.{bool_scalar, inner_at}
+use Rattle.ir_types.specs.Operations.{is_min_or_max}
 use Rattle.ir_module.specs.declared.expressions.Expression.{Expression}
 use Rattle.ir_module.specs.declared.expressions.Expression.TheVariants as e
-use Rattle.ir_module.specs.declared.operations.AtomicFunction.{AtomicFunction}
-use Rattle.ir_module.specs.declared.operations.AtomicFunction.TheVariants.{Add, Subtract, Min, Max, Exchange}
+use Rattle.ir_types.specs.declared.operations.AtomicFunction.{AtomicFunction}
+use Rattle.ir_types.specs.declared.operations.AtomicFunction.TheVariants.{Add, Subtract, Exchange}
 use Rattle.ir_types.specs.declared.types.AddressSpace.{AddressSpace}
 use Rattle.ir_types.specs.declared.types.AddressSpace.TheVariants as space
 use Rattle.ir_types.specs.declared.types.Scalar.{Scalar}
@@ -17,10 +19,10 @@ use Rattle.ir_types.specs.declared.types.TypeInner.{TypeInner}
 use Rattle.ir_types.specs.declared.types.TypeInner.TheVariants as inner
 use Rattle.ir_flags.specs.declared.capabilities.Capabilities.{Capabilities}
 use Rattle.check_variables.specs.Spaces.{is_storage}
-use Rattle.check_errors.specs.declared.function.AtomicError.{AtomicError}
-use Rattle.check_errors.specs.declared.function.AtomicError.TheVariants as wrong
-use Rattle.check_errors.specs.declared.function.FunctionError.{FunctionError}
-use Rattle.check_errors.specs.declared.function.FunctionError.TheVariants.{InvalidAtomic}
+use Rattle.ir_errors.specs.declared.function.AtomicError.{AtomicError}
+use Rattle.ir_errors.specs.declared.function.AtomicError.TheVariants as wrong
+use Rattle.ir_errors.specs.declared.function.FunctionError.{FunctionError}
+use Rattle.ir_errors.specs.declared.function.FunctionError.TheVariants.{InvalidAtomic}
 use Rattle.naga_runs.specs.Handles.{Handles}
 use Rattle.naga_runs.specs.Visits.{Place}
 use Rattle.ir_facts.specs.Points.{Point}
@@ -59,18 +61,9 @@ atomic_space context pointer = unwrap_or (space_at context pointer) space.Functi
 abbrev pub is_int64 : Scalar → Bool
 is_int64 s = is_integer (Some s.kind) && (s.width == 8)
 
-abbrev pub is_float_kind : ScalarKind → Bool
-is_float_kind kind.Float = true
-is_float_kind _ = false
-
 -- a float of 32 bits
 abbrev pub is_float32 : Scalar → Bool
 is_float32 s = is_float_kind s.kind && (s.width == 4)
-
-abbrev pub is_min_or_max : AtomicFunction → Bool
-is_min_or_max Min = true
-is_min_or_max Max = true
-is_min_or_max _ = false
 
 -- an exchange that compares nothing
 abbrev pub is_plain_exchange : AtomicFunction → Bool

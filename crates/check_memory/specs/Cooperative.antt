@@ -5,7 +5,7 @@ use Rattle.ir_types.specs.contracts.types.ScalarPartialEq.TheImpl as scalar
 use Rattle.ir_types.specs.declared.types.Scalar.{Scalar}
 use Rattle.ir_types.specs.declared.types.TypeInner.{TypeInner}
 use Rattle.ir_types.specs.declared.types.TypeInner.TheVariants as inner
-use Rattle.check_errors.specs.declared.function.FunctionError.TheVariants.{InvalidCooperativeStoreTarget, InvalidCooperativeDataPointer, InvalidStorePointer}
+use Rattle.ir_errors.specs.declared.function.FunctionError.TheVariants.{InvalidCooperativeStoreTarget, InvalidCooperativeDataPointer, InvalidStorePointer}
 use Rattle.naga_runs.specs.Visits.{Place}
 use Rattle.check_scope.specs.Context.{Context}
 use Rattle.check_scope.specs.ScopePoints.{Points, use_point}

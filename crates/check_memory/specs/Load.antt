@@ -8,7 +8,7 @@ use Rattle.ir_types.specs.declared.types.AddressSpace.TheVariants as space
 use Rattle.ir_types.specs.declared.types.Scalar.{Scalar}
 use Rattle.ir_types.specs.declared.types.TypeInner.{TypeInner}
 use Rattle.ir_types.specs.declared.types.TypeInner.TheVariants as inner
-use Rattle.check_errors.specs.declared.function.FunctionError.TheVariants.{WorkgroupUniformLoadExpressionMismatch, WorkgroupUniformLoadInvalidPointer}
+use Rattle.ir_errors.specs.declared.function.FunctionError.TheVariants.{WorkgroupUniformLoadExpressionMismatch, WorkgroupUniformLoadInvalidPointer}
 use Rattle.naga_runs.specs.Visits.{Place}
 use Rattle.check_memory.specs.Atomic.{atomic_scalar_at}
 use Rattle.check_scope.specs.Context.{Context}

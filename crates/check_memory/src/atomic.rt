@@ -5,8 +5,8 @@ ghost use Rattle.std.specs.Option.{option_copied};
 ghost use Rattle.ir_module.specs.View.{put_if};
 ghost use Rattle.naga_runs.specs.PutsAndUses.{puts_of};
 ghost use Rattle.check_scope.specs.walk.Findings.{RefusesFaultsAlone};
-ghost use Rattle.check_errors.specs.Answers.{Answers, Finds, FirstOf};
-ghost use Rattle.check_memory.specs.Atomic.{atomic_scalar_at, is_int64, is_float32, is_min_or_max, is_plain_exchange, is_done_on_floats, int64_capability, scalar_points, is_atomic_result, is_comparison, result_type_at, atomic_result_points, atomic_points};
+ghost use Rattle.ir_facts.specs.Answers.{Answers, Finds, FirstOf};
+ghost use Rattle.check_memory.specs.Atomic.{atomic_scalar_at, is_int64, is_float32, is_plain_exchange, is_done_on_floats, int64_capability, scalar_points, is_atomic_result, is_comparison, result_type_at, atomic_result_points, atomic_points};
 ghost use Rattle.check_variables.specs.Spaces.{is_storage};
 ghost use Rattle.check_memory.specs.walk.AtomicParts.{operated_points, compared_points, exchanged_points, uncompared_points};
 ghost use Rattle.check_scope.specs.Context.{ContextFits};
@@ -14,7 +14,6 @@ ghost use Rattle.check_scope.specs.walk.Place.{place_at};
 ghost use Rattle.check_scope.specs.walk.SeenContext.{context_of};
 ghost use Rattle.check_scope.specs.walk.Table.{HasPut, count, filled_in, known};
 
-use check_errors::function::{AtomicError, FunctionError};
 use check_scope::context::BlockContext;
 use check_scope::refuse::{answer, check_put, check_use};
 use check_scope::refused::Refused;
@@ -24,9 +23,10 @@ use check_scope::types::{inner_at, is_equivalent, is_exchange_struct, is_integer
 use ir_arena::handle::Handle;
 use ir_arena::span::Span;
 use ir_arena::tag;
+use ir_errors::function::{AtomicError, FunctionError};
 use ir_flags::capabilities::Capabilities;
 use ir_module::expressions::Expression;
-use ir_module::operations::AtomicFunction;
+use ir_types::operations::AtomicFunction;
 use ir_types::types::{AddressSpace, Scalar, ScalarKind, TypeInner};
 
 /// An atomic operation: where the atomic is, what is done to it, with which value, and the result that is named, if one is.
@@ -190,17 +190,11 @@ fn is_float32(scalar: Scalar) -> bool
 fn int64_capability(fun: &AtomicFunction, space: &AddressSpace, has_result: bool) -> Capabilities
     ensures { result ≡ int64_capability fun.now space.now has_result }
 {
-    if is_min_or_max(fun) && is_storage(space) && !has_result {
+    if fun.is_min_or_max() && is_storage(space) && !has_result {
         Capabilities::SHADER_INT64_ATOMIC_MIN_MAX
     } else {
         Capabilities::SHADER_INT64_ATOMIC_ALL_OPS
     }
-}
-
-pub fn is_min_or_max(fun: &AtomicFunction) -> bool
-    ensures { result ≡ is_min_or_max fun.now }
-{
-    matches!(fun, AtomicFunction::Min | AtomicFunction::Max)
 }
 
 fn is_storage(space: &AddressSpace) -> bool

@@ -2,14 +2,13 @@
 
 ghost use Rattle.std.specs.Prelude.{◌≡◌};
 ghost use Rattle.check_scope.specs.walk.Findings.{RefusesFaultsAlone};
-ghost use Rattle.check_errors.specs.Answers.{Answers, Finds, FirstOf};
+ghost use Rattle.ir_facts.specs.Answers.{Answers, Finds, FirstOf};
 ghost use Rattle.check_scope.specs.Context.{ContextFits};
 ghost use Rattle.check_memory.specs.Cooperative.{matrix_scalar_at, base_scalar_at, cooperative_points};
 ghost use Rattle.check_scope.specs.walk.Place.{place_at};
 ghost use Rattle.check_scope.specs.walk.SeenContext.{context_of};
 ghost use Rattle.check_scope.specs.walk.Table.{known};
 
-use check_errors::function::FunctionError;
 use check_scope::context::BlockContext;
 use check_scope::pointers::{base_type, is_writable};
 use check_scope::refuse::{answer, check_use};
@@ -18,6 +17,7 @@ use check_scope::table::ScopeColumn;
 use ir_arena::handle::Handle;
 use ir_arena::span::Span;
 use ir_arena::tag;
+use ir_errors::function::FunctionError;
 use ir_types::types::{Scalar, TypeInner};
 
 /// CooperativeStore: its target and its pointer.

@@ -3,7 +3,7 @@
 ghost use Rattle.std.specs.Prelude.{◌≡◌, ◌<◌, ◌∷◌, [], OnOk, IfSome, length};
 ghost use Rattle.std.specs.Option.{option_copied};
 ghost use Rattle.check_scope.specs.walk.Findings.{RefusesFaultsAlone};
-ghost use Rattle.check_errors.specs.Answers.{Answers, Finds, FirstOf};
+ghost use Rattle.ir_facts.specs.Answers.{Answers, Finds, FirstOf};
 ghost use Rattle.check_scope.specs.Context.{ContextFits};
 ghost use Rattle.check_memory.specs.Load.{is_work_group, loaded_type_at, points_to, load_points};
 ghost use Rattle.check_scope.specs.walk.Place.{place_at};
@@ -11,7 +11,6 @@ ghost use Rattle.check_scope.specs.walk.SeenContext.{context_of};
 ghost use Rattle.check_scope.specs.walk.Table.{HasPut, count, known};
 
 use crate::atomic::atomic_scalar;
-use check_errors::function::FunctionError;
 use check_scope::context::BlockContext;
 use check_scope::pointers::space;
 use check_scope::refuse::{answer, check_put, check_use};
@@ -21,6 +20,7 @@ use check_scope::types::{is_equivalent, is_scalar};
 use ir_arena::handle::Handle;
 use ir_arena::span::Span;
 use ir_arena::tag;
+use ir_errors::function::FunctionError;
 use ir_module::expressions::Expression;
 use ir_types::types::{AddressSpace, TypeInner};
 

@@ -2,9 +2,9 @@
 
 ghost use Rattle.std.specs.Prelude.{◌≡◌, ◌<◌, ◌↔◌, true, IsTrue, Some, length};
 ghost use Rattle.std.specs.Option.{option_copied};
-ghost use Rattle.check_errors.specs.declared.function.FunctionError.TheVariants.{InvalidStoreTexture};
+ghost use Rattle.ir_errors.specs.declared.function.FunctionError.TheVariants.{InvalidStoreTexture};
 ghost use Rattle.check_scope.specs.walk.Findings.{AllHold, IsRefusalFor, RefusesFaultsAlone};
-ghost use Rattle.check_errors.specs.Answers.{Answers, FirstOf};
+ghost use Rattle.ir_facts.specs.Answers.{Answers, FirstOf};
 ghost use Rattle.check_scope.specs.Context.{ContextFits};
 ghost use Rattle.check_scope.specs.walk.Place.{place_at};
 ghost use Rattle.check_scope.specs.walk.SeenContext.{context_of};
@@ -14,7 +14,6 @@ ghost use Rattle.check_scope.specs.ExpressionTypes.{named_type};
 ghost use Rattle.ir_types.specs.declared.typifier.TypeResolution.TheVariants.{Handle as OfHandle};
 ghost use Rattle.check_scope.specs.walk.Table.{KnowsRoots, known};
 
-use check_errors::function::FunctionError;
 use check_scope::context::BlockContext;
 use check_scope::pointers::{base_type, is_writable};
 use check_scope::refuse::not_in_scope;
@@ -25,6 +24,7 @@ use check_scope::types::{is_of_type, is_scalar};
 use ir_arena::handle::Handle;
 use ir_arena::span::Span;
 use ir_arena::tag;
+use ir_errors::function::FunctionError;
 use ir_module::expressions::Expression;
 use ir_types::types::TypeInner;
 use ir_types::typifier::TypeResolution;

@@ -8,12 +8,11 @@ use Rattle.ir_module.specs.declared.operations.RayQueryFunction.{RayQueryFunctio
 use Rattle.ir_module.specs.declared.operations.RayQueryFunction.TheVariants as query
 use Rattle.ir_types.specs.declared.types.TypeInner.{TypeInner}
 use Rattle.ir_types.specs.declared.types.TypeInner.TheVariants as inner
-use Rattle.check_errors.specs.declared.function.FunctionError.TheVariants.{InvalidRayQueryExpression, InvalidRayQueryType, InvalidAccelerationStructure, MissingAccelerationStructureVertexReturn, InvalidRayDescriptor, InvalidHitDistanceType}
+use Rattle.ir_errors.specs.declared.function.FunctionError.TheVariants.{InvalidRayQueryExpression, InvalidRayQueryType, InvalidAccelerationStructure, MissingAccelerationStructureVertexReturn, InvalidRayDescriptor, InvalidHitDistanceType}
 use Rattle.naga_runs.specs.Visits.{Place}
-use Rattle.check_memory.specs.Atomic.{is_float_kind}
 use Rattle.check_scope.specs.Context.{Context}
 use Rattle.check_scope.specs.ScopePoints.{Points, use_point, put_point}
-use Rattle.ir_types.specs.TypeTests.{both_are, is_same_inner}
+use Rattle.ir_types.specs.TypeTests.{both_are, is_float_kind, is_same_inner}
 use Rattle.check_scope.specs.ExpressionTypes.{expression_at, type_at}
 
 -- the type that the local is declared with which an expression is

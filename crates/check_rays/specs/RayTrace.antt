@@ -4,7 +4,7 @@ use Rattle.ir_module.specs.declared.expressions.Expression.{Expression}
 use Rattle.ir_module.specs.declared.expressions.Expression.TheVariants as e
 use Rattle.ir_types.specs.declared.types.AddressSpace.{AddressSpace}
 use Rattle.ir_types.specs.declared.types.AddressSpace.TheVariants as space
-use Rattle.check_errors.specs.declared.function.FunctionError.TheVariants.{InvalidAccelerationStructure, InvalidPayloadType, InvalidPayloadAddressSpace, PayloadPointerNotGlobal, MismatchedPayloadType}
+use Rattle.ir_errors.specs.declared.function.FunctionError.TheVariants.{InvalidAccelerationStructure, InvalidPayloadType, InvalidPayloadAddressSpace, PayloadPointerNotGlobal, MismatchedPayloadType}
 use Rattle.naga_runs.specs.Visits.{Place}
 use Rattle.check_scope.specs.Context.{Context}
 use Rattle.check_scope.specs.ScopePoints.{Points, use_point}

@@ -4,8 +4,8 @@ use Rattle.std.proofs.lemmas.Bool.Decides.{nat_tests}
 use Rattle.std.specs.Prelude.{◌≢◌, IfSome, map, if◌then◌else◌}
 use Rattle.ir_facts.proofs.Points.{first_holds}
 use Rattle.ir_facts.specs.Points.{first_fault}
-use Rattle.ir_facts.specs.declared.valid.expression_error.ExpressionError.TheVariants.{NotInScope}
-use Rattle.check_errors.specs.declared.function.FunctionError.TheVariants.{Expression}
+use Rattle.ir_errors.specs.declared.expression.ExpressionError.TheVariants.{NotInScope}
+use Rattle.ir_errors.specs.declared.function.FunctionError.TheVariants.{Expression}
 use Rattle.naga_runs.specs.Handles.{Handles, with_handle}
 use Rattle.naga_runs.specs.Visits.{Place}
 use Rattle.check_scope.specs.ScopePoints.{may_use, use_point}

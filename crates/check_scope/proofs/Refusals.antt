@@ -5,8 +5,8 @@ use Rattle.std.specs.Option.{option_or}
 use Rattle.std.specs.Result.{result_err}
 use Rattle.ir_arena.specs.declared.span.Refusal.{Refusal}
 use Rattle.ir_arena.specs.declared.span.Refusal.TheVariants as refusal
-use Rattle.check_errors.specs.Answers.{IsFirstFault, Answers, FirstOf, Exactly, leaving}
-use Rattle.check_errors.specs.declared.function.FunctionError.{FunctionError}
+use Rattle.ir_facts.specs.Answers.{IsFirstFault, Answers, FirstOf, Exactly, leaving}
+use Rattle.ir_errors.specs.declared.function.FunctionError.{FunctionError}
 use Rattle.ir_facts.specs.Points.{and_then, Point, first_fault}
 use Rattle.check_scope.specs.walk.Findings.{IsRefusalFor}
 use Rattle.check_scope.specs.ScopePoints.{Points}

@@ -11,7 +11,7 @@ use Rattle.ir_facts.specs.declared.proc.expression_kinds.ExpressionKind.{Express
 use Rattle.ir_facts.specs.declared.valid.info.FunctionInfo.{FunctionInfo}
 use Rattle.ir_facts.specs.declared.valid.info.ModuleInfo.{ModuleInfo}
 use Rattle.ir_facts.specs.declared.valid.settings.Settings.{Settings}
-use Rattle.check_errors.specs.Lawful.{IsNoStruct}
+use Rattle.ir_facts.specs.Lawful.{IsNoStruct}
 use Rattle.naga_runs.specs.Handles.{Handles}
 use Rattle.check_scope.specs.declared.trace.TraceState.{TraceState}
 

@@ -8,4 +8,4 @@ pub mod Results
 pub mod walk
 pub use Rattle.check_scope.specs.BodyTrees.{body_of}
 pub use Rattle.check_scope.specs.Context.{pre_emitted_of}
-pub use Rattle.check_errors.specs.WhatIsChecked.{checks_blocks, checks_expressions}
+pub use Rattle.ir_facts.specs.WhatIsChecked.{checks_blocks, checks_expressions}

@@ -6,12 +6,12 @@ use Rattle.ir_module.specs.declared.expressions.Expression.{Expression}
 use Rattle.ir_module.specs.declared.expressions.Expression.TheVariants as e
 use Rattle.ir_module.specs.declared.statements.Statement as ir
 use Rattle.ir_module.specs.declared.statements.Statement.{Statement, Switch'}
-use Rattle.check_errors.specs.declared.function.FunctionError.TheVariants.{UnvisitedExpression}
+use Rattle.ir_errors.specs.declared.function.FunctionError.TheVariants.{UnvisitedExpression}
 use Rattle.naga_runs.specs.Handles.{Handles}
 use Rattle.naga_runs.specs.Positions.{Node, NoNode, StatementNode, BreakIfNode}
 use Rattle.naga_runs.specs.Visits.{Visit}
 use Rattle.check_scope.specs.Context.{Context}
-use Rattle.check_errors.specs.WhatIsChecked.{checks_expressions}
+use Rattle.ir_facts.specs.WhatIsChecked.{checks_expressions}
 use Rattle.check_scope.specs.ScopePoints.{Points}
 use Rattle.check_scope.specs.ExpressionTypes.{expression_at}
 

@@ -1,8 +1,8 @@
 -- Check points: what must hold where a statement stands, and the fault where it does not.
 use Rattle.std.specs.Prelude.{ℕ, not, List}
-use Rattle.ir_facts.specs.declared.valid.expression_error.ExpressionError.TheVariants.{NotInScope}
-use Rattle.check_errors.specs.declared.function.FunctionError.{FunctionError}
-use Rattle.check_errors.specs.declared.function.FunctionError.TheVariants.{Expression, ExpressionAlreadyInScope}
+use Rattle.ir_errors.specs.declared.expression.ExpressionError.TheVariants.{NotInScope}
+use Rattle.ir_errors.specs.declared.function.FunctionError.{FunctionError}
+use Rattle.ir_errors.specs.declared.function.FunctionError.TheVariants.{Expression, ExpressionAlreadyInScope}
 use Rattle.naga_runs.specs.Handles.{Handles}
 use Rattle.naga_runs.specs.Visits.{Place}
 use Rattle.ir_facts.specs.Points.{Point}

@@ -1,21 +1,21 @@
 //! Uses, and refusals with the place of their statement.
 
 ghost use Rattle.std.specs.Prelude.{[], ◌∷◌};
-ghost use Rattle.ir_facts.specs.declared.valid.expression_error.ExpressionError.TheVariants.{NotInScope};
-ghost use Rattle.check_errors.specs.declared.function.FunctionError.TheVariants.{Expression};
+ghost use Rattle.ir_errors.specs.declared.expression.ExpressionError.TheVariants.{NotInScope};
+ghost use Rattle.ir_errors.specs.declared.function.FunctionError.TheVariants.{Expression};
 ghost use Rattle.check_scope.specs.walk.Findings.{IsRefusalFor, RefusesFaultsAlone};
-ghost use Rattle.check_errors.specs.Answers.{Answers, Finds, FirstOf};
+ghost use Rattle.ir_facts.specs.Answers.{Answers, Finds, FirstOf};
 ghost use Rattle.check_scope.specs.ScopePoints.{Points, use_point, put_point};
 ghost use Rattle.check_scope.specs.walk.Place.{place_at};
 ghost use Rattle.check_scope.specs.walk.Table.{known};
 
 use crate::refused::Refused;
 use crate::table::ScopeColumn;
-use check_errors::function::FunctionError;
 use ir_arena::handle::Handle;
 use ir_arena::span::Span;
 use ir_arena::tag;
-use ir_facts::valid::expression_error::ExpressionError;
+use ir_errors::expression::ExpressionError;
+use ir_errors::function::FunctionError;
 use std::alloc::Global;
 
 /// A use: every run that comes here has emitted the expression.

@@ -1,7 +1,7 @@
 //! Refusals on their way through the walk.
 
-use check_errors::function::FunctionError;
 use ir_arena::span::{Refusal, Span, WithSpan};
+use ir_errors::function::FunctionError;
 use std::alloc::{AllocError, AllocFailed, Global};
 use std::marker::Model;
 
@@ -14,7 +14,7 @@ pub struct Refused {
 
 impl Model for Refused {
     ghost use Rattle.ir_arena.specs.declared.span.Refusal.{Refusal};
-    ghost use Rattle.check_errors.specs.declared.function.FunctionError.{FunctionError};
+    ghost use Rattle.ir_errors.specs.declared.function.FunctionError.{FunctionError};
 
     ghost Value = { Refusal FunctionError };
 

@@ -3,14 +3,14 @@ use Rattle.std.proofs.Common.{◌≡◌, ℕ, suc, ◌+◌, ◌-◌, ◌<◌, �
 use Rattle.std.specs.Prelude.{if◌then◌else◌}
 use Rattle.std.proofs.lemmas.List.Folds.{list_any-append}
 use Rattle.ir_flags.specs.declared.valid.ShaderStages.{ShaderStages}
-use Rattle.check_errors.specs.declared.function.FunctionError.{FunctionError}
-use Rattle.check_errors.specs.declared.function.FunctionError.TheVariants.{UnvisitedExpression}
+use Rattle.ir_errors.specs.declared.function.FunctionError.{FunctionError}
+use Rattle.ir_errors.specs.declared.function.FunctionError.TheVariants.{UnvisitedExpression}
 use Rattle.ir_facts.proofs.Points.{not_holds}
 use Rattle.naga_runs.specs.Handles.{Handles}
 use Rattle.ir_facts.specs.Points.{first_fault}
 use Rattle.naga_runs.specs.Visits.{Visit}
 use Rattle.check_scope.specs.Context.{Context}
-use Rattle.check_errors.specs.WhatIsChecked.{checks_expressions}
+use Rattle.ir_facts.specs.WhatIsChecked.{checks_expressions}
 use Rattle.check_scope.specs.ExpressionTypes.{expression_at}
 use Rattle.check_scope.specs.Results.{result_of, is_this, fills, is_to_fill, is_fresh, filled_before, is_unfilled, filled_points_from}
 use Rattle.check_statement.specs.Rules.{stages_behind, stages_left}

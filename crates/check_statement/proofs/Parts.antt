@@ -9,7 +9,7 @@ use Rattle.ir_module.specs.declared.statements.Statement as ir
 use Rattle.ir_module.specs.declared.statements.Statement.{Statement}
 use Rattle.ir_arena.specs.declared.span.Span.{Span}
 use Rattle.ir_module.specs.declared.statements.SwitchCase.{SwitchCase, out-SwitchCase}
-use Rattle.ir_module.specs.declared.statements.SwitchValue.{SwitchValue}
+use Rattle.ir_types.specs.declared.operations.SwitchValue.{SwitchValue}
 use Rattle.naga_runs.specs.Positions.{StatementNode}
 use Rattle.check_scope.specs.Results.{result_of}
 use Rattle.ir_facts.proofs.OtherOperands.{body_fits-other}

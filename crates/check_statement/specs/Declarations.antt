@@ -10,8 +10,8 @@ use Rattle.ir_types.specs.declared.types.AddressSpace.{AddressSpace}
 use Rattle.ir_types.specs.declared.types.AddressSpace.TheVariants as space
 use Rattle.ir_facts.specs.declared.valid.types.TypeInfo.{TypeInfo}
 use Rattle.check_variables.specs.Locals.{local_points}
-use Rattle.check_errors.specs.TypeInfos.{type_has}
-use Rattle.check_errors.specs.declared.function.FunctionError.TheVariants.{LocalVariable, InvalidArgumentPointerSpace, InvalidArgumentType, PipelineInputRegularFunction, NonConstructibleReturnType, PipelineOutputRegularFunction}
+use Rattle.ir_facts.specs.TypeInfos.{type_has}
+use Rattle.ir_errors.specs.declared.function.FunctionError.TheVariants.{LocalVariable, InvalidArgumentPointerSpace, InvalidArgumentType, PipelineInputRegularFunction, NonConstructibleReturnType, PipelineOutputRegularFunction}
 use Rattle.check_scope.specs.Context.{Context}
 use Rattle.check_scope.specs.ScopePoints.{Points}
 

@@ -1,14 +1,14 @@
 -- The step of a function's expressions: each is asked of the lower layer by itself, in order, and its stages are met in.
 use Rattle.std.specs.Prelude.{ℕ, zero, suc, List, [], ◌∷◌, Result, Ok, Err, length, if◌then◌else◌}
 use Rattle.ir_facts.specs.Points.{and_then}
-use Rattle.ir_facts.specs.declared.valid.expression_error.ExpressionError.{ExpressionError}
+use Rattle.ir_errors.specs.declared.expression.ExpressionError.{ExpressionError}
 use Rattle.ir_flags.specs.declared.valid.ShaderStages.{ShaderStages}
 use Rattle.ir_facts.specs.declared.valid.info.FunctionInfo.{FunctionInfo}
-use Rattle.check_errors.specs.Meaning.{Meaning}
-use Rattle.check_errors.specs.declared.function.FunctionError.{FunctionError}
-use Rattle.check_errors.specs.declared.function.FunctionError.TheVariants.{Expression}
+use Rattle.ir_facts.specs.Meaning.{Meaning}
+use Rattle.ir_errors.specs.declared.function.FunctionError.{FunctionError}
+use Rattle.ir_errors.specs.declared.function.FunctionError.TheVariants.{Expression}
 use Rattle.check_scope.specs.Context.{Context}
-use Rattle.check_errors.specs.WhatIsChecked.{checks_expressions}
+use Rattle.ir_facts.specs.WhatIsChecked.{checks_expressions}
 use Rattle.check_statement.specs.Stages.{meet}
 
 -- an info with these stages

@@ -8,15 +8,15 @@ use Rattle.ir_facts.specs.declared.valid.info.FunctionInfo.{FunctionInfo}
 use Rattle.ir_facts.specs.declared.valid.info.ModuleInfo.{ModuleInfo}
 use Rattle.ir_facts.specs.declared.valid.settings.Settings.{Settings}
 use Rattle.ir_facts.specs.declared.valid.types.TypeInfo.{TypeInfo}
-use Rattle.check_errors.specs.Meaning.{Meaning}
-use Rattle.check_errors.specs.declared.function.FunctionError.{FunctionError}
+use Rattle.ir_facts.specs.Meaning.{Meaning}
+use Rattle.ir_errors.specs.declared.function.FunctionError.{FunctionError}
 use Rattle.naga_runs.specs.Judgement.{judgement}
 use Rattle.naga_runs.specs.Visits.{Visit}
 use Rattle.check_scope.specs.BodyTrees.{body_of}
 use Rattle.check_scope.specs.Context.{Context, pre_emitted}
 use Rattle.check_statement.specs.Declarations.{declaration_points}
 use Rattle.check_statement.specs.ExpressionStages.{with_stages, expressions_step}
-use Rattle.check_errors.specs.WhatIsChecked.{checks_blocks}
+use Rattle.ir_facts.specs.WhatIsChecked.{checks_blocks}
 use Rattle.check_scope.specs.ScopePoints.{Points}
 use Rattle.check_scope.specs.Results.{filled_before, filled_points}
 use Rattle.check_statement.specs.Rules.{body_rules, stages_left}

@@ -11,5 +11,5 @@ pub use Rattle.check_scope.specs.BodyTrees.{body_of}
 pub use Rattle.check_scope.specs.Context.{pre_emitted_of}
 pub use Rattle.check_statement.specs.FunctionJudgement.{FunctionOutcome, outcome_of}
 pub use Rattle.check_statement.specs.ValidatorParts.{AreInfosOf}
-pub use Rattle.check_errors.specs.WhatIsChecked.{checks_blocks, checks_expressions}
+pub use Rattle.ir_facts.specs.WhatIsChecked.{checks_blocks, checks_expressions}
 unfoldable pub use Rattle.check_statement.specs.FunctionJudgement.{function_judgement}

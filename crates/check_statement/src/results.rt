@@ -4,12 +4,12 @@ ghost use Rattle.std.specs.Prelude.{◌≡◌, length};
 ghost use Rattle.check_scope.specs.Results.{filled_points_from, filled_points};
 ghost use Rattle.check_scope.specs.walk.SeenContext.{context_of};
 ghost use Rattle.check_scope.specs.walk.Table.{KnowsResults, count, filled_in};
-ghost use Rattle.check_errors.specs.Answers.{Finds, FirstOf};
+ghost use Rattle.ir_facts.specs.Answers.{Finds, FirstOf};
 
-use check_errors::function::FunctionError;
 use check_scope::context::BlockContext;
 use check_scope::table::FilledColumn;
 use ir_arena::handle::Handle;
+use ir_errors::function::FunctionError;
 use ir_flags::valid::ValidationFlags;
 
 /// After a body, with EXPRESSIONS: each result of the function is filled.

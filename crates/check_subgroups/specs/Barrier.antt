@@ -8,7 +8,7 @@ use Rattle.ir_flags.specs.Capabilities.{has_capability}
 use Rattle.ir_flags.specs.declared.ir.Barrier.{Barrier}
 use Rattle.ir_flags.specs.declared.capabilities.Capabilities.{Capabilities}
 use Rattle.ir_facts.specs.declared.valid.settings.Settings.{Settings}
-use Rattle.check_errors.specs.declared.function.FunctionError.TheVariants.{MissingCapability}
+use Rattle.ir_errors.specs.declared.function.FunctionError.TheVariants.{MissingCapability}
 use Rattle.check_scope.specs.ScopePoints.{Points}
 use Rattle.check_subgroups.specs.Subgroup.{operations_point}
 

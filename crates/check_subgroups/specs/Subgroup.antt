@@ -13,10 +13,10 @@ use Rattle.ir_types.specs.declared.types.Type.{«Type» as IrType}
 use Rattle.ir_types.specs.declared.types.TypeInner.{TypeInner}
 use Rattle.ir_flags.specs.declared.valid.SubgroupOperationSet.{SubgroupOperationSet}
 use Rattle.ir_facts.specs.declared.valid.settings.Settings.{Settings}
-use Rattle.check_errors.specs.declared.function.FunctionError.{FunctionError}
-use Rattle.check_errors.specs.declared.function.FunctionError.TheVariants.{InvalidSubgroup, MissingCapability}
-use Rattle.check_errors.specs.declared.function.SubgroupError.{SubgroupError}
-use Rattle.check_errors.specs.declared.function.SubgroupError.TheVariants as wrong
+use Rattle.ir_errors.specs.declared.function.FunctionError.{FunctionError}
+use Rattle.ir_errors.specs.declared.function.FunctionError.TheVariants.{InvalidSubgroup, MissingCapability}
+use Rattle.ir_errors.specs.declared.function.SubgroupError.{SubgroupError}
+use Rattle.ir_errors.specs.declared.function.SubgroupError.TheVariants as wrong
 use Rattle.naga_runs.specs.Visits.{Place}
 use Rattle.ir_facts.specs.Points.{Point}
 use Rattle.check_scope.specs.Context.{Context}

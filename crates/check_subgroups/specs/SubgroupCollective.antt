@@ -8,7 +8,7 @@ use Rattle.ir_module.specs.declared.operations.SubgroupOperation.TheVariants as 
 use Rattle.ir_types.specs.declared.types.Scalar.{Scalar}
 use Rattle.ir_types.specs.declared.types.TypeInner.{TypeInner}
 use Rattle.ir_types.specs.declared.types.TypeInner.TheVariants as inner
-use Rattle.check_errors.specs.declared.function.SubgroupError.TheVariants as wrong
+use Rattle.ir_errors.specs.declared.function.SubgroupError.TheVariants as wrong
 use Rattle.naga_runs.specs.Visits.{Place}
 use Rattle.check_scope.specs.Context.{Context}
 use Rattle.check_scope.specs.ScopePoints.{Points, use_point, put_point}

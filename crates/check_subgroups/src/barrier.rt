@@ -2,15 +2,15 @@
 
 ghost use Rattle.std.specs.Prelude.{◌≡◌};
 ghost use Rattle.check_scope.specs.walk.Findings.{RefusesFaultsAlone};
-ghost use Rattle.check_errors.specs.Answers.{Answers, Finds, FirstOf};
+ghost use Rattle.ir_facts.specs.Answers.{Answers, Finds, FirstOf};
 ghost use Rattle.check_subgroups.specs.Barrier.{barrier_capabilities, barrier_points};
 
 use crate::subgroup::check_operations;
 use bitflags::Flags;
-use check_errors::function::FunctionError;
 use check_scope::refuse::answer;
 use check_scope::refused::Refused;
 use ir_arena::span::Span;
+use ir_errors::function::FunctionError;
 use ir_facts::valid::settings::Settings;
 use ir_flags::capabilities::Capabilities;
 use ir_flags::ir::Barrier;

@@ -3,14 +3,13 @@
 ghost use Rattle.std.specs.Prelude.{◌≡◌, ◌<◌, ◌∷◌, [], OnOk};
 ghost use Rattle.std.specs.Option.{option_copied};
 ghost use Rattle.check_scope.specs.walk.Findings.{RefusesFaultsAlone};
-ghost use Rattle.check_errors.specs.Answers.{Answers, Finds, FirstOf};
+ghost use Rattle.ir_facts.specs.Answers.{Answers, Finds, FirstOf};
 ghost use Rattle.check_scope.specs.walk.Place.{place_at};
 ghost use Rattle.check_subgroups.specs.walk.SubgroupParts.{combined_points};
 ghost use Rattle.check_scope.specs.walk.SeenContext.{context_of};
 ghost use Rattle.check_subgroups.specs.Subgroup.{operations_point, subgroups_point, predicate_points, ballot_points, is_number_kind, combined_type_at};
 ghost use Rattle.check_scope.specs.walk.Table.{HasPut, count, known};
 
-use check_errors::function::{FunctionError, SubgroupError};
 use check_scope::context::BlockContext;
 use check_scope::refuse::{answer, check_put, check_use};
 use check_scope::refused::Refused;
@@ -19,6 +18,7 @@ use check_scope::types::{are_same_inners, is_scalar};
 use ir_arena::handle::Handle;
 use ir_arena::span::Span;
 use ir_arena::tag;
+use ir_errors::function::{FunctionError, SubgroupError};
 use ir_facts::valid::settings::Settings;
 use ir_flags::capabilities::Capabilities;
 use ir_flags::valid::SubgroupOperationSet;

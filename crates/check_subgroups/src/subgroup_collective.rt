@@ -3,14 +3,13 @@
 ghost use Rattle.std.specs.Prelude.{◌≡◌, ◌<◌, ◌∷◌, [], OnOk};
 ghost use Rattle.std.specs.Option.{option_copied};
 ghost use Rattle.check_scope.specs.walk.Findings.{RefusesFaultsAlone};
-ghost use Rattle.check_errors.specs.Answers.{Answers, Finds, FirstOf};
+ghost use Rattle.ir_facts.specs.Answers.{Answers, Finds, FirstOf};
 ghost use Rattle.check_scope.specs.walk.Place.{place_at};
 ghost use Rattle.check_scope.specs.walk.SeenContext.{context_of};
 ghost use Rattle.check_subgroups.specs.SubgroupCollective.{is_wide_integer, is_combined_by, takes_vectors, is_operand_of, is_scanned, is_done_over, collective_points};
 ghost use Rattle.check_scope.specs.walk.Table.{HasPut, count, known};
 
 use crate::subgroup::{check_combined, check_operations, check_subgroups, is_number_kind};
-use check_errors::function::{FunctionError, SubgroupError};
 use check_scope::context::BlockContext;
 use check_scope::refuse::{answer, check_use};
 use check_scope::refused::Refused;
@@ -19,6 +18,7 @@ use check_scope::types::is_integer;
 use ir_arena::handle::Handle;
 use ir_arena::span::Span;
 use ir_arena::tag;
+use ir_errors::function::{FunctionError, SubgroupError};
 use ir_module::operations::{CollectiveOperation, SubgroupOperation};
 use ir_types::types::{Scalar, ScalarKind, TypeInner};
 

@@ -3,7 +3,7 @@
 ghost use Rattle.std.specs.Prelude.{◌≡◌, ◌<◌, ◌∷◌, [], OnOk, Some};
 ghost use Rattle.std.specs.Option.{option_copied};
 ghost use Rattle.check_scope.specs.walk.Findings.{RefusesFaultsAlone};
-ghost use Rattle.check_errors.specs.Answers.{Answers, Finds, FirstOf};
+ghost use Rattle.ir_facts.specs.Answers.{Answers, Finds, FirstOf};
 ghost use Rattle.check_scope.specs.walk.Place.{place_at};
 ghost use Rattle.check_subgroups.specs.walk.SubgroupParts.{indexed_points, gathered_points};
 ghost use Rattle.check_scope.specs.walk.SeenContext.{context_of};
@@ -11,7 +11,6 @@ ghost use Rattle.check_subgroups.specs.SubgroupGather.{index_of, is_broadcast, i
 ghost use Rattle.check_scope.specs.walk.Table.{HasPut, count, known};
 
 use crate::subgroup::{check_combined, check_operations, check_subgroups, is_number_kind};
-use check_errors::function::{FunctionError, SubgroupError};
 use check_scope::context::BlockContext;
 use check_scope::refuse::{answer, check_use};
 use check_scope::refused::Refused;
@@ -20,6 +19,7 @@ use check_scope::types::is_scalar;
 use ir_arena::handle::Handle;
 use ir_arena::span::Span;
 use ir_arena::tag;
+use ir_errors::function::{FunctionError, SubgroupError};
 use ir_module::operations::GatherMode;
 use ir_types::types::{Scalar, TypeInner};
 

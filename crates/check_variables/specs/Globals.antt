@@ -17,15 +17,15 @@ use Rattle.ir_types.specs.declared.typifier.TypeResolution.{TypeResolution}
 use Rattle.ir_flags.specs.declared.capabilities.Capabilities.{Capabilities}
 use Rattle.ir_flags.specs.declared.valid.TypeFlags.{TypeFlags}
 use Rattle.ir_flags.specs.declared.valid.ValidationFlags.{ValidationFlags}
-use Rattle.ir_facts.specs.declared.valid.types.Disalignment.{Disalignment}
-use Rattle.ir_facts.specs.declared.valid.types.ImmediateError.{ImmediateError}
+use Rattle.ir_errors.specs.declared.types.Disalignment.{Disalignment}
+use Rattle.ir_errors.specs.declared.types.ImmediateError.{ImmediateError}
 use Rattle.ir_facts.specs.declared.valid.types.TypeInfo.{TypeInfo}
 use Rattle.check_variables.specs.Locals.{is_const_or_override, is_declared_as}
 use Rattle.check_variables.specs.Spaces.{Layout, StorageLayout, UniformLayout, row_of, all_of, takes_arrays, array_needs, is_resource, format_needs, takes_initializers, is_storage, is_task_payload}
-use Rattle.check_errors.specs.TypeInfos.{info_has}
-use Rattle.check_errors.specs.WhatIsChecked.{checks_layouts, checks_bindings}
-use Rattle.check_errors.specs.declared.interface.GlobalVariableError.{GlobalVariableError}
-use Rattle.check_errors.specs.declared.interface.GlobalVariableError.TheVariants.{InvalidUsage, InvalidType, MissingTypeFlags, UnsupportedCapability, InvalidBinding, Alignment, InitializerExprType, InitializerType, InitializerNotAllowed, StorageAddressSpaceWriteOnlyNotSupported, InvalidImmediateType, ZeroSizedTaskPayload, InvalidMemoryDecorationsAddressSpace, CoherentNotSupported, VolatileNotSupported}
+use Rattle.ir_facts.specs.TypeInfos.{info_has}
+use Rattle.ir_facts.specs.WhatIsChecked.{checks_layouts, checks_bindings}
+use Rattle.ir_errors.specs.declared.interface.GlobalVariableError.{GlobalVariableError}
+use Rattle.ir_errors.specs.declared.interface.GlobalVariableError.TheVariants.{InvalidUsage, InvalidType, MissingTypeFlags, UnsupportedCapability, InvalidBinding, Alignment, InitializerExprType, InitializerType, InitializerNotAllowed, StorageAddressSpaceWriteOnlyNotSupported, InvalidImmediateType, ZeroSizedTaskPayload, InvalidMemoryDecorationsAddressSpace, CoherentNotSupported, VolatileNotSupported}
 
 -- check points of a global variable
 abbrev pub GlobalPoints : Type 0

@@ -10,9 +10,9 @@ use Rattle.ir_facts.specs.declared.proc.expression_kinds.ExpressionKind.TheVaria
 use Rattle.ir_types.specs.declared.typifier.TypeResolution.{TypeResolution}
 use Rattle.ir_types.specs.declared.typifier.TypeResolution.TheVariants.{Handle}
 use Rattle.ir_facts.specs.declared.valid.types.TypeInfo.{TypeInfo}
-use Rattle.check_errors.specs.TypeInfos.{type_has}
-use Rattle.check_errors.specs.declared.function.LocalVariableError.{LocalVariableError}
-use Rattle.check_errors.specs.declared.function.LocalVariableError.TheVariants.{InvalidType, InitializerType, NonConstOrOverrideInitializer}
+use Rattle.ir_facts.specs.TypeInfos.{type_has}
+use Rattle.ir_errors.specs.declared.function.LocalVariableError.{LocalVariableError}
+use Rattle.ir_errors.specs.declared.function.LocalVariableError.TheVariants.{InvalidType, InitializerType, NonConstOrOverrideInitializer}
 
 -- the value is known before the pipeline runs
 abbrev pub is_const_or_override : Option ExpressionKind → Bool

@@ -8,11 +8,12 @@ ghost use Rattle.check_variables.specs.Globals.{global_points, array_points, ele
 ghost use Rattle.check_variables.specs.Spaces.{row_of, resource_array_needs, is_16bit_norm};
 
 use bitflags::Flags;
-use check_errors::interface::GlobalVariableError;
 use ir_arena::handle::Handle;
 use ir_arena::tag;
+use ir_errors::interface::GlobalVariableError;
+use ir_errors::types::{Disalignment, ImmediateError};
 use ir_facts::proc::expression_kinds::ExpressionKindTracker;
-use ir_facts::valid::types::{Disalignment, ImmediateError, TypeInfo};
+use ir_facts::valid::types::TypeInfo;
 use ir_flags::capabilities::Capabilities;
 use ir_flags::ir::{MemoryDecorations, StorageAccess};
 use ir_flags::valid::{TypeFlags, ValidationFlags};

@@ -6,9 +6,9 @@ ghost use Rattle.ir_facts.specs.Points.{first_fault};
 ghost use Rattle.ir_types.specs.Types.{NameEachOther, ResolutionFits};
 ghost use Rattle.check_variables.specs.Locals.{local_points, initializer_points};
 
-use check_errors::function::LocalVariableError;
 use ir_arena::handle::Handle;
 use ir_arena::tag;
+use ir_errors::function::LocalVariableError;
 use ir_facts::proc::expression_kinds::ExpressionKindTracker;
 use ir_facts::valid::info::FunctionInfo;
 use ir_facts::valid::types::TypeInfo;

@@ -3,9 +3,9 @@ use Rattle.std.proofs.Common.{◌≡◌, ℕ, suc, Bool, true, false, not, ◌||
 use Rattle.std.specs.Prelude.{codes, is_none, unwrap_or}
 use Rattle.ir_flags.specs.Bits.{IO_SHAREABLE}
 use Rattle.ir_flags.specs.Capabilities.{MESH_SHADER, NO_CAPABILITY, has_capability}
-use Rattle.ir_module.specs.declared.module.ShaderStage.TheVariants.{Fragment}
-use Rattle.check_errors.specs.TypeInfos.{type_has}
-use Rattle.check_errors.specs.declared.interface.VaryingError.TheVariants.{BindingCollision, BlendSrcNotOnStructMember, DuplicateBuiltIn, InvalidBuiltInStage, InvalidBuiltInType, InvalidMultiDimensionalSubgroupBuiltIn, InvalidPerPrimitive, MissingPerPrimitive, NotIOShareableType, UnsupportedCapability}
+use Rattle.ir_types.specs.declared.stage.ShaderStage.TheVariants.{Fragment}
+use Rattle.ir_facts.specs.TypeInfos.{type_has}
+use Rattle.ir_errors.specs.declared.interface.VaryingError.TheVariants.{BindingCollision, BlendSrcNotOnStructMember, DuplicateBuiltIn, InvalidBuiltInStage, InvalidBuiltInType, InvalidMultiDimensionalSubgroupBuiltIn, InvalidPerPrimitive, MissingPerPrimitive, NotIOShareableType, UnsupportedCapability}
 use Rattle.std.specs.Option.{option_map, option_or}
 use Rattle.std.proofs.lemmas.Bool.Decides.{nat_tests}
 use Rattle.std.proofs.lemmas.List.{append_assoc, append-nil}
@@ -21,11 +21,11 @@ use Rattle.ir_facts.specs.declared.valid.types.TypeInfo.{TypeInfo}
 use Rattle.check_varyings.specs.BuiltIns.{built_in_rule, canonical, is_primitive_output, is_stage}
 use Rattle.check_varyings.specs.DistinctVaryings.{AcceptedBuiltInsAreDistinct, AcceptedLocationsAreDistinct}
 use Rattle.check_varyings.specs.Locations.{carried_type, interpolation_points, is_fragment_input, may_take, per_vertex_points, sharing_points}
-use Rattle.check_errors.specs.WhatIsChecked.{checks_bindings}
+use Rattle.ir_facts.specs.WhatIsChecked.{checks_bindings}
 use Rattle.check_varyings.specs.Seen.{Seen}
 use Rattle.check_varyings.specs.VaryingFaults.{InvalidAttribute, InvalidInputAttribute, Itself, VaryingFault}
 use Rattle.check_varyings.specs.Varyings.{Part, Bound, UnboundMember, Unbound, BlendSources, Item, Placed, bound_points, built_in_points, group_parts, group_points_from, has_built_in_type, has_one_dimension, has_required, is_at, is_built_in, is_of_one_dimension, part_points, placed_parts, placed_points, seen_at}
-use Rattle.check_errors.specs.declared.interface.VaryingError.{VaryingError}
+use Rattle.ir_errors.specs.declared.interface.VaryingError.{VaryingError}
 use Rattle.check_varyings.specs.declared.varying.VaryingPlace.{VaryingPlace}
 
 -- faults that stand inside others fail where those do

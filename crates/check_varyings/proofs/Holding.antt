@@ -12,9 +12,9 @@ use Rattle.ir_types.specs.declared.types.Interpolation.TheVariants.{Perspective,
 use Rattle.ir_types.specs.declared.types.Sampling.{Sampling}
 use Rattle.ir_types.specs.declared.types.Type.{«Type» as IrType}
 use Rattle.ir_facts.specs.declared.valid.types.TypeInfo.{TypeInfo}
-use Rattle.check_errors.specs.TypeInfos.{type_has}
-use Rattle.check_errors.specs.declared.interface.VaryingError.{VaryingError}
-use Rattle.check_errors.specs.declared.interface.VaryingError.TheVariants.{BindingCollision, BlendSrcNotOnStructMember, InvalidPerPrimitive, MissingPerPrimitive, NotIOShareableType, UnsupportedCapability}
+use Rattle.ir_facts.specs.TypeInfos.{type_has}
+use Rattle.ir_errors.specs.declared.interface.VaryingError.{VaryingError}
+use Rattle.ir_errors.specs.declared.interface.VaryingError.TheVariants.{BindingCollision, BlendSrcNotOnStructMember, InvalidPerPrimitive, MissingPerPrimitive, NotIOShareableType, UnsupportedCapability}
 use Rattle.check_varyings.specs.BuiltIns.{is_primitive_output}
 use Rattle.check_varyings.specs.Locations.{combination_points, interpolation_points, is_fragment_input, is_interpolated, is_per_vertex, is_sample, kind_points, location_points, may_take, sharing_points}
 use Rattle.check_varyings.specs.Seen.{Seen}

@@ -13,10 +13,10 @@ use Rattle.ir_facts.specs.declared.valid.types.TypeInfo.{TypeInfo}
 use Rattle.check_varyings.specs.Seen.{Seen}
 use Rattle.check_varyings.specs.VaryingFaults.{VaryingFault, varying_fault_of}
 use Rattle.check_varyings.specs.Varyings.{Part, member_part, member_parts, part_points, points_behind, seen_with}
-use Rattle.check_errors.specs.declared.interface.VaryingError.{VaryingError}
+use Rattle.ir_errors.specs.declared.interface.VaryingError.{VaryingError}
 use Rattle.check_varyings.specs.declared.varying.VaryingPlace.{VaryingPlace}
 use Rattle.check_varyings.proofs.Kept.{seen_with-append, seen_with_none}
-use Rattle.check_errors.specs.Answers.{Answers, FirstOf, read_by}
+use Rattle.ir_facts.specs.Answers.{Answers, FirstOf, read_by}
 
 member_parts-push : (k : ℕ) (xs : List StructMember) (m : StructMember) →
     member_parts k (xs ++ m ∷ []) ≡ member_parts k xs ++ member_part (k + length xs) m.ty m.binding ∷ []

@@ -18,12 +18,12 @@ use Rattle.ir_types.specs.declared.types.TypeInner.{TypeInner}
 use Rattle.ir_arena.specs.declared.span.Refusal.{Refusal}
 use Rattle.ir_arena.specs.declared.span.Refusal.TheVariants.{Fault, Memory}
 use Rattle.ir_facts.specs.declared.valid.types.TypeInfo.{TypeInfo}
-use Rattle.check_errors.specs.Answers.{Answers, FirstOf, read_by}
+use Rattle.ir_facts.specs.Answers.{Answers, FirstOf, read_by}
 use Rattle.check_varyings.specs.Locations.{carried_type, combination_points, interpolation_points, is_interpolated, is_per_vertex, kind_points, per_vertex_points, sharing_points}
 use Rattle.check_varyings.specs.Seen.{Seen}
 use Rattle.check_varyings.specs.VaryingFaults.{Itself, varying_fault_of}
 use Rattle.check_varyings.specs.Varyings.{bound_points, built_in_points}
-use Rattle.check_errors.specs.declared.interface.VaryingError.{VaryingError}
+use Rattle.ir_errors.specs.declared.interface.VaryingError.{VaryingError}
 use Rattle.check_varyings.specs.declared.varying.VaryingPlace.{VaryingPlace}
 
 abbrev ArePlain : List (Point VaryingError) → Type 0

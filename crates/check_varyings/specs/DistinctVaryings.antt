@@ -5,7 +5,7 @@ use Rattle.ir_facts.specs.Points.{first_fault}
 use Rattle.ir_types.specs.declared.built_in.BuiltIn.{BuiltIn}
 use Rattle.ir_types.specs.declared.types.Type.{«Type» as IrType}
 use Rattle.ir_facts.specs.declared.valid.types.TypeInfo.{TypeInfo}
-use Rattle.check_errors.specs.WhatIsChecked.{checks_bindings}
+use Rattle.ir_facts.specs.WhatIsChecked.{checks_bindings}
 use Rattle.check_varyings.specs.Varyings.{Placed, go_same_way, is_at, is_built_in, placed_points}
 
 -- where bindings are looked at, no part has the location of an earlier one

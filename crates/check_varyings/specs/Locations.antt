@@ -4,8 +4,8 @@ use Rattle.ir_flags.specs.Bits.{IO_SHAREABLE}
 use Rattle.ir_flags.specs.Capabilities.{MESH_SHADER, MULTISAMPLED_SHADING, PER_VERTEX, has_capability}
 use Rattle.ir_facts.specs.Points.{Point}
 use Rattle.ir_types.specs.Types.{inner_at, scalar_kind_of}
-use Rattle.ir_module.specs.declared.module.ShaderStage.{ShaderStage}
-use Rattle.ir_module.specs.declared.module.ShaderStage.TheVariants.{Vertex, Fragment, Mesh}
+use Rattle.ir_types.specs.declared.stage.ShaderStage.{ShaderStage}
+use Rattle.ir_types.specs.declared.stage.ShaderStage.TheVariants.{Vertex, Fragment, Mesh}
 use Rattle.ir_types.specs.declared.types.ArraySize.TheVariants.{Constant}
 use Rattle.ir_types.specs.declared.types.Interpolation.{Interpolation}
 use Rattle.ir_types.specs.declared.types.Interpolation.TheVariants.{Perspective, Linear, Flat, PerVertex}
@@ -19,10 +19,10 @@ use Rattle.ir_types.specs.declared.types.TypeInner.TheVariants as inner
 use Rattle.ir_facts.specs.declared.valid.types.TypeInfo.{TypeInfo}
 use Rattle.check_varyings.specs.BuiltIns.{is_primitive_output, is_stage}
 use Rattle.check_varyings.specs.Seen.{Seen}
-use Rattle.check_errors.specs.TypeInfos.{type_has}
-use Rattle.check_errors.specs.WhatIsChecked.{checks_bindings}
-use Rattle.check_errors.specs.declared.interface.VaryingError.{VaryingError}
-use Rattle.check_errors.specs.declared.interface.VaryingError.TheVariants.{InvalidType, NotIOShareableType, InvalidInterpolationInStage, InvalidInterpolationSamplingCombination, InvalidInterpolationForInteger, MissingInterpolation, BindingCollision, UnsupportedCapability, BlendSrcNotOnStructMember, InvalidPerPrimitive, MissingPerPrimitive, PerVertexNotArrayOfThree, InvalidPerVertexSampling}
+use Rattle.ir_facts.specs.TypeInfos.{type_has}
+use Rattle.ir_facts.specs.WhatIsChecked.{checks_bindings}
+use Rattle.ir_errors.specs.declared.interface.VaryingError.{VaryingError}
+use Rattle.ir_errors.specs.declared.interface.VaryingError.TheVariants.{InvalidType, NotIOShareableType, InvalidInterpolationInStage, InvalidInterpolationSamplingCombination, InvalidInterpolationForInteger, MissingInterpolation, BindingCollision, UnsupportedCapability, BlendSrcNotOnStructMember, InvalidPerPrimitive, MissingPerPrimitive, PerVertexNotArrayOfThree, InvalidPerVertexSampling}
 use Rattle.check_varyings.specs.declared.varying.VaryingPlace.{VaryingPlace}
 
 -- a location is free, or bindings aren't looked at

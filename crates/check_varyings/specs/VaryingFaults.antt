@@ -1,9 +1,9 @@
 -- Faults of inputs and outputs as contracts see them: two of the errors name an attribute by a reference to a text, and
 -- contracts compare the text, not where it lies.
 use Rattle.std.specs.Prelude.{ℕ, List}
-use Rattle.ir_module.specs.declared.module.ShaderStage.{ShaderStage}
-use Rattle.check_errors.specs.declared.interface.VaryingError.{VaryingError}
-use Rattle.check_errors.specs.declared.interface.VaryingError.TheVariants.{InvalidInputAttributeInStage, InvalidAttributeInStage}
+use Rattle.ir_types.specs.declared.stage.ShaderStage.{ShaderStage}
+use Rattle.ir_errors.specs.declared.interface.VaryingError.{VaryingError}
+use Rattle.ir_errors.specs.declared.interface.VaryingError.TheVariants.{InvalidInputAttributeInStage, InvalidAttributeInStage}
 
 -- an error that names an attribute, by its text; or any other error
 pub data VaryingFault : Type 0 where

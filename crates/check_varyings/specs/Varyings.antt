@@ -27,7 +27,7 @@ use Rattle.ir_types.specs.TypeTests.{is_same_inner, is_scalar}
 use Rattle.ir_types.specs.Types.{inner_at}
 use Rattle.ir_types.specs.declared.built_in.BuiltIn.{BuiltIn}
 use Rattle.ir_types.specs.declared.built_in.BuiltIn.TheVariants.{SubgroupId, SubgroupInvocationId}
-use Rattle.ir_module.specs.declared.module.ShaderStage.TheVariants.{Fragment}
+use Rattle.ir_types.specs.declared.stage.ShaderStage.TheVariants.{Fragment}
 use Rattle.ir_types.specs.declared.types.ArraySize.TheVariants.{Constant}
 use Rattle.ir_types.specs.declared.types.Binding.{Binding}
 use Rattle.ir_types.specs.declared.types.Binding.TheVariants as binding
@@ -40,13 +40,13 @@ use Rattle.ir_facts.specs.declared.valid.types.TypeInfo.{TypeInfo}
 use Rattle.check_varyings.specs.BuiltInNumbers.{number_of}
 use Rattle.check_varyings.specs.BuiltIns.{built_in_rule, canonical, f32, is_same_built_in, is_stage}
 use Rattle.check_varyings.specs.Locations.{location_points, may_take}
-use Rattle.check_errors.specs.WhatIsChecked.{checks_bindings}
+use Rattle.ir_facts.specs.WhatIsChecked.{checks_bindings}
 use Rattle.check_varyings.specs.Seen.{Seen}
 use Rattle.check_varyings.specs.SmallSets.{has_number}
-use Rattle.check_errors.specs.TypeInfos.{type_has}
+use Rattle.ir_facts.specs.TypeInfos.{type_has}
 use Rattle.check_varyings.specs.VaryingFaults.{VaryingFault, InvalidInputAttribute, InvalidAttribute, Itself}
-use Rattle.check_errors.specs.declared.interface.VaryingError.{VaryingError}
-use Rattle.check_errors.specs.declared.interface.VaryingError.TheVariants.{DuplicateBuiltIn, UnsupportedCapability, InvalidMultiDimensionalSubgroupBuiltIn, InvalidBuiltInStage, InvalidBuiltInType, MissingBinding, MemberMissingBinding, BindingCollision}
+use Rattle.ir_errors.specs.declared.interface.VaryingError.{VaryingError}
+use Rattle.ir_errors.specs.declared.interface.VaryingError.TheVariants.{DuplicateBuiltIn, UnsupportedCapability, InvalidMultiDimensionalSubgroupBuiltIn, InvalidBuiltInStage, InvalidBuiltInType, MissingBinding, MemberMissingBinding, BindingCollision}
 use Rattle.check_varyings.specs.declared.varying.Near.{Near}
 use Rattle.check_varyings.specs.declared.varying.VaryingPlace.{VaryingPlace}
 use Rattle.check_varyings.specs.declared.varying.VaryingState.{VaryingState}

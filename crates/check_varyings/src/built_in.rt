@@ -3,16 +3,16 @@
 ghost use Rattle.std.specs.Prelude.{◌≡◌, ◌<◌, ◌||◌, not, None, length, if◌then◌else◌};
 ghost use Rattle.ir_flags.specs.Capabilities.{MESH_SHADER, has_capability};
 ghost use Rattle.ir_types.specs.Types.{NamesTypesBelow, NameEachOther, inner_at};
-ghost use Rattle.check_errors.specs.Answers.{Answers, FirstOf};
+ghost use Rattle.ir_facts.specs.Answers.{Answers, FirstOf};
 ghost use Rattle.check_varyings.specs.Varyings.{built_in_points, has_built_in_type, has_one_dimension, has_required, is_distances, is_of_one_dimension, seen_in};
 
 use crate::context::VaryingContext;
 use crate::rule::{BuiltInType, builtin_rule};
 use crate::varying::{VaryingPlace, VaryingState, canonical};
-use check_errors::interface::VaryingError;
 use ir_arena::handle::Handle;
 use ir_arena::span::Refusal;
 use ir_arena::tag;
+use ir_errors::interface::VaryingError;
 use ir_flags::capabilities::Capabilities;
 use ir_types::built_in::BuiltIn;
 use ir_types::types::{ArraySize, Scalar, Type, TypeInner};

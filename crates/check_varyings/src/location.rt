@@ -5,18 +5,18 @@ ghost use Rattle.std.specs.Result.{result_err};
 ghost use Rattle.ir_facts.specs.Points.{first_fault};
 ghost use Rattle.ir_types.specs.Types.{NameEachOther, inner_at};
 ghost use Rattle.check_varyings.specs.Locations.{carried_type, combination_points, go_together, interpolation_points, is_array_of_three, is_fragment_input, is_interpolated, kind_points, location_points, may_take, per_vertex_points, sharing_points};
-ghost use Rattle.check_errors.specs.WhatIsChecked.{checks_bindings};
+ghost use Rattle.ir_facts.specs.WhatIsChecked.{checks_bindings};
 ghost use Rattle.check_varyings.specs.Varyings.{seen_in};
 
 use crate::built_in::has_mesh_shader;
 use crate::context::VaryingContext;
 use crate::varying::{MeshOutputType, VaryingPlace, VaryingState};
-use check_errors::interface::VaryingError;
 use ir_arena::handle::Handle;
 use ir_arena::tag;
+use ir_errors::interface::VaryingError;
 use ir_flags::capabilities::Capabilities;
 use ir_flags::valid::ValidationFlags;
-use ir_module::module::ShaderStage;
+use ir_types::stage::ShaderStage;
 use ir_types::types::{ArraySize, Interpolation, Sampling, ScalarKind, TypeInner};
 
 /// What a binding says of a location.

@@ -6,8 +6,8 @@ ghost use Rattle.check_varyings.specs.CodeBuiltIns.{required_of, is_of_mesh_shad
 
 use crate::varying::{MeshOutputType, VaryingPlace};
 use ir_flags::capabilities::Capabilities;
-use ir_module::module::ShaderStage as St;
 use ir_types::built_in::BuiltIn as Bi;
+use ir_types::stage::ShaderStage as St;
 use ir_types::types::{Scalar, TypeInner, VectorSize};
 
 /// What type a built-in has.

@@ -10,14 +10,14 @@ use crate::built_in_number::number_of;
 use crate::small_set::SmallSet;
 use ir_flags::capabilities::Capabilities;
 use ir_flags::valid::ValidationFlags;
-use ir_module::module::ShaderStage;
 use ir_types::built_in::BuiltIn;
+use ir_types::stage::ShaderStage;
 use ir_types::types::Binding;
 use std::alloc::{AllocError, Global};
 use std::collections::BTreeSet;
 
 /// Which output of a mesh an item is, if it is one.
-#[derive(Clone, Copy, PartialEq, Eq, Debug)]
+#[derive(Clone, Copy, PartialEq, Eq, Hash, Debug)]
 pub enum MeshOutputType {
     Neither,
     VertexOutput,
@@ -28,7 +28,7 @@ pub enum MeshOutputType {
 ///
 /// It also has what the checks need: whether the entry point has a task payload, the workgroup size (invocations in
 /// each dimension), the target's capabilities, and which checks run.
-#[derive(Clone, Copy, PartialEq, Eq, Debug)]
+#[derive(Clone, Copy, PartialEq, Eq, Hash, Debug)]
 pub struct VaryingPlace {
     pub stage: ShaderStage,
     pub output: bool,

@@ -6,7 +6,7 @@ use std::fmt;
 use std::marker::{Model, PhantomData};
 
 /// The index of a value in an arena whose values have the tag `T`: 32 bits, counted from 0. Contracts see the index.
-#[derive_where(Clone, Copy, PartialEq, Eq, Hash)]
+#[derive_where(Clone, Copy, PartialEq, Eq, PartialOrd, Ord, Hash)]
 pub struct Handle<T> {
     index: u32,
     tag: PhantomData<T>,

@@ -9,7 +9,7 @@ use crate::tag;
 /// The expressions with the indices from `start` to `end`, without `end`.
 ///
 /// A range need not be in order. In an accepted module it is, and ends within the function's expressions.
-#[derive(Clone, Copy, PartialEq, Eq, Debug)]
+#[derive(Clone, Copy, PartialEq, Eq, Hash, Debug)]
 pub struct Range {
     pub start: u32,
     pub end: u32,

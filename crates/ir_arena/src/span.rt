@@ -9,7 +9,7 @@ use std::fmt;
 use std::marker::Model;
 
 /// A part of the source: two byte offsets, without `end`. No check reads them.
-#[derive(Clone, Copy, PartialEq, Eq, Debug)]
+#[derive(Clone, Copy, PartialEq, Eq, Hash, Debug)]
 pub struct Span {
     pub start: u32,
     pub end: u32,

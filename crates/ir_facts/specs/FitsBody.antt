@@ -1,7 +1,7 @@
 -- When whatever the statements of a body name, at any depth, is there.
 use Rattle.std.specs.Prelude.{ℕ, ◌<◌, ◌≤◌, IfSome, IsSomeAnd, All, ⊤, length, slice_get}
-use Rattle.ir_module.specs.declared.operations.AtomicFunction.{AtomicFunction}
-use Rattle.ir_module.specs.declared.operations.AtomicFunction.TheVariants as atomic
+use Rattle.ir_types.specs.declared.operations.AtomicFunction.{AtomicFunction}
+use Rattle.ir_types.specs.declared.operations.AtomicFunction.TheVariants as atomic
 use Rattle.ir_module.specs.declared.operations.GatherMode.{GatherMode}
 use Rattle.ir_module.specs.declared.operations.GatherMode.TheVariants as mode
 use Rattle.ir_module.specs.declared.operations.RayQueryFunction.{RayQueryFunction}

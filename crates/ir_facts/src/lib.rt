@@ -1,12 +1,19 @@
-//! What is known of a module before its functions are checked: kinds of expressions, infos of types and functions, settings.
-//! Users import these from `naga_below`.
+//! What is known of a module before its functions are checked: kinds of expressions, infos of types and functions, settings,
+//! the lower layer that answers these (the trait `Below`), and the facts that a document gives.
+//! Users import these from `naga_below`, `naga_rules` and `naga_layers`.
 #![tactic(auto)]
 
+pub mod below;
+pub mod facts;
 pub mod proc;
 pub mod valid;
 
+pub use crate::below::Below;
+pub use crate::facts::{
+    ExpressionFact, Facts, FunctionFact, InfoFact, LowerFunctionError, MeshAnalysisFact,
+};
 pub use crate::proc::expression_kinds::{ExpressionKind, ExpressionKindTracker};
-pub use crate::valid::expression_error::ExpressionError;
+pub use crate::proc::mesh::MeshAnalysis;
 pub use crate::valid::info::{FunctionInfo, ModuleInfo};
 pub use crate::valid::settings::Settings;
-pub use crate::valid::types::{Disalignment, ImmediateError, TypeInfo};
+pub use crate::valid::types::TypeInfo;

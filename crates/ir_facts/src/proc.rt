@@ -1,3 +1,4 @@
-//! Questions about expressions.
+//! Questions about expressions, and about the outputs of mesh shaders.
 
 pub mod expression_kinds;
+pub mod mesh;

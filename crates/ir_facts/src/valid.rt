@@ -1,6 +1,5 @@
 //! What validation depends on and what it finds: settings, and the infos of types and functions.
 
-pub mod expression_error;
 pub mod info;
 pub mod settings;
 pub mod types;

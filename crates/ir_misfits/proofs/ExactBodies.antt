@@ -5,8 +5,8 @@ use Rattle.std.specs.Prelude.{IfSome, nat_le}
 use Rattle.ir_arena.specs.declared.range.Range.{Range}
 use Rattle.ir_module.specs.declared.functions.Function.{Function}
 use Rattle.ir_module.specs.declared.module.Module.{Module}
-use Rattle.ir_module.specs.declared.operations.AtomicFunction.{AtomicFunction}
-use Rattle.ir_module.specs.declared.operations.AtomicFunction.TheVariants as atomic
+use Rattle.ir_types.specs.declared.operations.AtomicFunction.{AtomicFunction}
+use Rattle.ir_types.specs.declared.operations.AtomicFunction.TheVariants as atomic
 use Rattle.ir_module.specs.declared.operations.GatherMode.{GatherMode}
 use Rattle.ir_module.specs.declared.operations.GatherMode.TheVariants as mode
 use Rattle.ir_module.specs.declared.operations.RayQueryFunction.{RayQueryFunction}

@@ -1,8 +1,8 @@
 -- The misfits of the statements of a body, at any depth.
 use Rattle.std.specs.Prelude.{ℕ, suc, nat_lt, nat_le, List, [], ◌∷◌, ◌++◌, Option, if◌then◌else◌}
 use Rattle.ir_arena.specs.declared.range.Range.{Range}
-use Rattle.ir_module.specs.declared.operations.AtomicFunction.{AtomicFunction}
-use Rattle.ir_module.specs.declared.operations.AtomicFunction.TheVariants as atomic
+use Rattle.ir_types.specs.declared.operations.AtomicFunction.{AtomicFunction}
+use Rattle.ir_types.specs.declared.operations.AtomicFunction.TheVariants as atomic
 use Rattle.ir_module.specs.declared.operations.GatherMode.{GatherMode}
 use Rattle.ir_module.specs.declared.operations.GatherMode.TheVariants as mode
 use Rattle.ir_module.specs.declared.operations.RayQueryFunction.{RayQueryFunction}
@@ -109,6 +109,46 @@ module _ (n : ℕ) (of : Owner) where
   abbrev pub call_argument_points : ℕ → ℕ → ℕ → Points
   call_argument_points k i h = names k (field.CallArgument i) h
 
+  -- the fields of a Store, an ImageStore, an Atomic, an ImageAtomic, a WorkGroupUniformLoad
+  abbrev pub store_points : ℕ → ℕ → ℕ → Points
+  store_points k p v = names k field.Pointer p ++ names k field.Value v
+
+  abbrev pub image_store_points : ℕ → ℕ → ℕ → Option ℕ → ℕ → Points
+  image_store_points k i c a v =
+      names k field.Image i ++ (names k field.Coordinate c ++ (names_if k field.ArrayIndex a ++ names k field.Value v))
+
+  abbrev pub operation_points : ℕ → ℕ → AtomicFunction → ℕ → Option ℕ → Points
+  operation_points k p f v r =
+      names k field.Pointer p ++ (atomic_points k f ++ (names k field.Value v ++ names_if k field.Result r))
+
+  -- what is done to a texel, and with which value
+  abbrev pub texel_operation_points : ℕ → AtomicFunction → ℕ → Points
+  texel_operation_points k f v = atomic_points k f ++ names k field.Value v
+
+  abbrev pub image_operation_points : ℕ → ℕ → ℕ → Option ℕ → AtomicFunction → ℕ → Points
+  image_operation_points k i c a f v =
+      names k field.Image i
+      ++ (names k field.Coordinate c ++ (names_if k field.ArrayIndex a ++ texel_operation_points k f v))
+
+  abbrev pub uniform_load_points : ℕ → ℕ → ℕ → Points
+  uniform_load_points k p r = names k field.Pointer p ++ names k field.Result r
+
+  -- those of a RayQuery, and of what subgroups and cooperative matrices do
+  abbrev pub ray_query_points : ℕ → ℕ → RayQueryFunction → Points
+  ray_query_points k q f = names k field.Query q ++ query_points k f
+
+  abbrev pub ballot_points : ℕ → ℕ → Option ℕ → Points
+  ballot_points k r p = names k field.Result r ++ names_if k field.Predicate p
+
+  abbrev pub collective_points : ℕ → ℕ → ℕ → Points
+  collective_points k a r = names k field.Argument a ++ names k field.Result r
+
+  abbrev pub gathering_points : ℕ → GatherMode → ℕ → ℕ → Points
+  gathering_points k g a r = gather_points k g ++ (names k field.Argument a ++ names k field.Result r)
+
+  abbrev pub cooperative_store_points : ℕ → ℕ → ℕ → Points
+  cooperative_store_points k t p = names k field.Target t ++ names k field.Source p
+
 -- of a module, where a function has n expressions and `earlier` functions before it
 module _ (m : Module) (n earlier : ℕ) (of : Owner) where
   -- a Call names an earlier function, whose signature fits, and expressions that are there
@@ -121,24 +161,17 @@ module _ (m : Module) (n earlier : ℕ) (of : Owner) where
   -- statement k, which is neither a jump nor holds others; none of any other
   abbrev pub leaf_points : ℕ → Statement → Points
   leaf_points k (s.Emit r) = range_points n of k r
-  leaf_points k (s.Store p v) = names n of k field.Pointer p ++ names n of k field.Value v
-  leaf_points k (s.ImageStore i c a v) =
-      names n of k field.Image i
-      ++ (names n of k field.Coordinate c ++ (names_if n of k field.ArrayIndex a ++ names n of k field.Value v))
-  leaf_points k (s.Atomic p f v r) =
-      names n of k field.Pointer p ++ (atomic_points n of k f ++ (names n of k field.Value v ++ names_if n of k field.Result r))
-  leaf_points k (s.ImageAtomic i c a f v) =
-      names n of k field.Image i
-      ++ (names n of k field.Coordinate c
-      ++ (names_if n of k field.ArrayIndex a ++ (atomic_points n of k f ++ names n of k field.Value v)))
-  leaf_points k (s.WorkGroupUniformLoad p r) = names n of k field.Pointer p ++ names n of k field.Result r
+  leaf_points k (s.Store p v) = store_points n of k p v
+  leaf_points k (s.ImageStore i c a v) = image_store_points n of k i c a v
+  leaf_points k (s.Atomic p f v r) = operation_points n of k p f v r
+  leaf_points k (s.ImageAtomic i c a f v) = image_operation_points n of k i c a f v
+  leaf_points k (s.WorkGroupUniformLoad p r) = uniform_load_points n of k p r
   leaf_points k (s.Call f xs r) = call_points k f xs r
-  leaf_points k (s.RayQuery q f) = names n of k field.Query q ++ query_points n of k f
-  leaf_points k (s.SubgroupBallot r p) = names n of k field.Result r ++ names_if n of k field.Predicate p
-  leaf_points k (s.SubgroupCollectiveOperation o c a r) = names n of k field.Argument a ++ names n of k field.Result r
-  leaf_points k (s.SubgroupGather g a r) =
-      gather_points n of k g ++ (names n of k field.Argument a ++ names n of k field.Result r)
-  leaf_points k (s.CooperativeStore t d) = names n of k field.Target t ++ names n of k field.Source d.pointer
+  leaf_points k (s.RayQuery q f) = ray_query_points n of k q f
+  leaf_points k (s.SubgroupBallot r p) = ballot_points n of k r p
+  leaf_points k (s.SubgroupCollectiveOperation o c a r) = collective_points n of k a r
+  leaf_points k (s.SubgroupGather g a r) = gathering_points n of k g a r
+  leaf_points k (s.CooperativeStore t d) = cooperative_store_points n of k t d.pointer
   leaf_points k (s.RayPipelineFunction f) = pipeline_points n of k f
   leaf_points k (s.ControlBarrier b) = []
   leaf_points k (s.MemoryBarrier b) = []

@@ -4,7 +4,7 @@ ghost use Rattle.std.specs.Prelude.{◌≡◌, IfOk};
 ghost use Rattle.std.specs.Result.{result_err};
 ghost use Rattle.ir_facts.specs.Points.{first_fault, points_of_each};
 ghost use Rattle.ir_module.specs.View.{no_operands, tree_of, body_of, list_body, list_cases};
-ghost use Rattle.ir_misfits.specs.OfBodies.{next, after_statement, after_body, after_cases, names, names_if, atomic_points, gather_points, query_points, pipeline_points, range_points, call_argument_points, call_points, leaf_points, statement_points, body_points, cases_points};
+ghost use Rattle.ir_misfits.specs.OfBodies.{next, after_statement, after_body, after_cases, names, names_if, atomic_points, gather_points, query_points, pipeline_points, range_points, store_points, image_store_points, operation_points, image_operation_points, texel_operation_points, uniform_load_points, ray_query_points, ballot_points, collective_points, gathering_points, cooperative_store_points, call_argument_points, call_points, leaf_points, statement_points, body_points, cases_points};
 
 use crate::misfit::{HandleOf, Misfit, Owner, Place, Problem, StatementField};
 use crate::signature::check_callee;
@@ -12,8 +12,9 @@ use ir_arena::handle::Handle;
 use ir_arena::range::Range;
 use ir_arena::tag;
 use ir_module::module::Module;
-use ir_module::operations::{AtomicFunction, GatherMode, RayPipelineFunction, RayQueryFunction};
+use ir_module::operations::{GatherMode, RayPipelineFunction, RayQueryFunction};
 use ir_module::statements::{Block, Located, Statement, SwitchCase};
+use ir_types::operations::AtomicFunction;
 
 /// Whose body it is, in which module, how many expressions there are, and how many functions calls may name.
 #[derive(Drop)]
@@ -172,6 +173,155 @@ impl Numbered {
         }
         Ok(())
     }
+
+    /// The fields of a Store.
+    fn check_store(
+        self,
+        pointer: Handle<tag::Expression>,
+        value: Handle<tag::Expression>,
+    ) -> Result<(), Misfit>
+        ensures { result_err result ≡ first_fault (store_points self.expressions self.owner self.number pointer value) }
+    {
+        self.names(StatementField::Pointer, pointer)?;
+        self.names(StatementField::Value, value)
+    }
+
+    /// The fields of an ImageStore.
+    fn check_image_store(
+        self,
+        image: Handle<tag::Expression>,
+        coordinate: Handle<tag::Expression>,
+        array_index: Option<Handle<tag::Expression>>,
+        value: Handle<tag::Expression>,
+    ) -> Result<(), Misfit>
+        ensures { result_err result ≡ first_fault (image_store_points self.expressions self.owner self.number image coordinate array_index value) }
+    {
+        self.names(StatementField::Image, image)?;
+        self.names(StatementField::Coordinate, coordinate)?;
+        self.names_if_any(StatementField::ArrayIndex, array_index)?;
+        self.names(StatementField::Value, value)
+    }
+
+    /// The fields of an Atomic.
+    fn check_operation(
+        self,
+        pointer: Handle<tag::Expression>,
+        fun: AtomicFunction,
+        value: Handle<tag::Expression>,
+        answer: Option<Handle<tag::Expression>>,
+    ) -> Result<(), Misfit>
+        ensures { result_err result ≡ first_fault (operation_points self.expressions self.owner self.number pointer fun value answer) }
+    {
+        self.names(StatementField::Pointer, pointer)?;
+        self.check_atomic(fun)?;
+        self.names(StatementField::Value, value)?;
+        self.names_if_any(StatementField::Result, answer)
+    }
+
+    /// The fields of an ImageAtomic.
+    fn check_image_operation(
+        self,
+        image: Handle<tag::Expression>,
+        coordinate: Handle<tag::Expression>,
+        array_index: Option<Handle<tag::Expression>>,
+        fun: AtomicFunction,
+        value: Handle<tag::Expression>,
+    ) -> Result<(), Misfit>
+        ensures { result_err result ≡ first_fault (image_operation_points self.expressions self.owner self.number image coordinate array_index fun value) }
+    {
+        self.names(StatementField::Image, image)?;
+        self.names(StatementField::Coordinate, coordinate)?;
+        self.names_if_any(StatementField::ArrayIndex, array_index)?;
+        self.check_texel_operation(fun, value)
+    }
+
+    /// What is done to a texel, and with which value.
+    #[tactic(auto, using(ir_facts::proofs::Points::first_of_both))]
+    fn check_texel_operation(
+        self,
+        fun: AtomicFunction,
+        value: Handle<tag::Expression>,
+    ) -> Result<(), Misfit>
+        ensures { result_err result ≡ first_fault (texel_operation_points self.expressions self.owner self.number fun value) }
+    {
+        self.check_atomic(fun)?;
+        self.names(StatementField::Value, value)
+    }
+
+    /// The fields of a WorkGroupUniformLoad.
+    fn check_uniform_load(
+        self,
+        pointer: Handle<tag::Expression>,
+        answer: Handle<tag::Expression>,
+    ) -> Result<(), Misfit>
+        ensures { result_err result ≡ first_fault (uniform_load_points self.expressions self.owner self.number pointer answer) }
+    {
+        self.names(StatementField::Pointer, pointer)?;
+        self.names(StatementField::Result, answer)
+    }
+
+    /// The fields of a RayQuery.
+    fn check_ray_query(
+        self,
+        query: Handle<tag::Expression>,
+        fun: RayQueryFunction,
+    ) -> Result<(), Misfit>
+        ensures { result_err result ≡ first_fault (ray_query_points self.expressions self.owner self.number query fun) }
+    {
+        self.names(StatementField::Query, query)?;
+        self.check_query(fun)
+    }
+
+    /// The fields of a SubgroupBallot.
+    fn check_ballot(
+        self,
+        answer: Handle<tag::Expression>,
+        predicate: Option<Handle<tag::Expression>>,
+    ) -> Result<(), Misfit>
+        ensures { result_err result ≡ first_fault (ballot_points self.expressions self.owner self.number answer predicate) }
+    {
+        self.names(StatementField::Result, answer)?;
+        self.names_if_any(StatementField::Predicate, predicate)
+    }
+
+    /// The fields of a SubgroupCollectiveOperation.
+    fn check_collective(
+        self,
+        argument: Handle<tag::Expression>,
+        answer: Handle<tag::Expression>,
+    ) -> Result<(), Misfit>
+        ensures { result_err result ≡ first_fault (collective_points self.expressions self.owner self.number argument answer) }
+    {
+        self.names(StatementField::Argument, argument)?;
+        self.names(StatementField::Result, answer)
+    }
+
+    /// The fields of a SubgroupGather.
+    #[tactic(auto, using(ir_facts::proofs::Points::first_of_both))]
+    fn check_gathering(
+        self,
+        mode: GatherMode,
+        argument: Handle<tag::Expression>,
+        answer: Handle<tag::Expression>,
+    ) -> Result<(), Misfit>
+        ensures { result_err result ≡ first_fault (gathering_points self.expressions self.owner self.number mode argument answer) }
+    {
+        self.check_gather(mode)?;
+        self.names(StatementField::Argument, argument)?;
+        self.names(StatementField::Result, answer)
+    }
+
+    /// The fields of a CooperativeStore.
+    fn check_cooperative_store(
+        self,
+        target: Handle<tag::Expression>,
+        source: Handle<tag::Expression>,
+    ) -> Result<(), Misfit>
+        ensures { result_err result ≡ first_fault (cooperative_store_points self.expressions self.owner self.number target source) }
+    {
+        self.names(StatementField::Target, target)?;
+        self.names(StatementField::Source, source)
+    }
 }
 
 /// A Call names an earlier function, whose signature fits, and expressions that are there.
@@ -211,88 +361,52 @@ fn check_leaf(asked: &Asked, number: usize, statement: &Statement) -> Result<(),
     };
     match statement {
         Statement::Emit(range) => this.check_range(*range),
-        Statement::Store { pointer, value } => {
-            this.names(StatementField::Pointer, *pointer)?;
-            this.names(StatementField::Value, *value)
-        }
+        Statement::Store { pointer, value } => this.check_store(*pointer, *value),
         Statement::ImageStore {
             image,
             coordinate,
             array_index,
             value,
-        } => {
-            this.names(StatementField::Image, *image)?;
-            this.names(StatementField::Coordinate, *coordinate)?;
-            this.names_if_any(StatementField::ArrayIndex, *array_index)?;
-            this.names(StatementField::Value, *value)
-        }
+        } => this.check_image_store(*image, *coordinate, *array_index, *value),
         Statement::Atomic {
             pointer,
             fun,
             value,
             result: answer,
-        } => {
-            this.names(StatementField::Pointer, *pointer)?;
-            this.check_atomic(*fun)?;
-            this.names(StatementField::Value, *value)?;
-            this.names_if_any(StatementField::Result, *answer)
-        }
+        } => this.check_operation(*pointer, *fun, *value, *answer),
         Statement::ImageAtomic {
             image,
             coordinate,
             array_index,
             fun,
             value,
-        } => {
-            this.names(StatementField::Image, *image)?;
-            this.names(StatementField::Coordinate, *coordinate)?;
-            this.names_if_any(StatementField::ArrayIndex, *array_index)?;
-            this.check_atomic(*fun)?;
-            this.names(StatementField::Value, *value)
-        }
+        } => this.check_image_operation(*image, *coordinate, *array_index, *fun, *value),
         Statement::WorkGroupUniformLoad {
             pointer,
             result: answer,
-        } => {
-            this.names(StatementField::Pointer, *pointer)?;
-            this.names(StatementField::Result, *answer)
-        }
+        } => this.check_uniform_load(*pointer, *answer),
         Statement::Call {
             function,
             arguments,
             result: answer,
         } => check_call(asked, number, *function, arguments.as_slice(), *answer),
-        Statement::RayQuery { query, fun } => {
-            this.names(StatementField::Query, *query)?;
-            this.check_query(*fun)
-        }
+        Statement::RayQuery { query, fun } => this.check_ray_query(*query, *fun),
         Statement::SubgroupBallot {
             result: answer,
             predicate,
-        } => {
-            this.names(StatementField::Result, *answer)?;
-            this.names_if_any(StatementField::Predicate, *predicate)
-        }
+        } => this.check_ballot(*answer, *predicate),
         Statement::SubgroupCollectiveOperation {
             argument,
             result: answer,
             ..
-        } => {
-            this.names(StatementField::Argument, *argument)?;
-            this.names(StatementField::Result, *answer)
-        }
+        } => this.check_collective(*argument, *answer),
         Statement::SubgroupGather {
             mode,
             argument,
             result: answer,
-        } => {
-            this.check_gather(*mode)?;
-            this.names(StatementField::Argument, *argument)?;
-            this.names(StatementField::Result, *answer)
-        }
+        } => this.check_gathering(*mode, *argument, *answer),
         Statement::CooperativeStore { target, source } => {
-            this.names(StatementField::Target, *target)?;
-            this.names(StatementField::Source, source.pointer)
+            this.check_cooperative_store(*target, source.pointer)
         }
         Statement::RayPipelineFunction(fun) => this.check_pipeline(*fun),
         Statement::ControlBarrier(_)

@@ -1,7 +1,7 @@
 -- A body as a tree: its statements, what they contain, and what each does with handles, in order.
 use Rattle.std.specs.Prelude.{ℕ, Bool, List, Option}
 use Rattle.ir_module.specs.declared.statements.Statement.{Statement}
-use Rattle.ir_module.specs.declared.statements.SwitchValue.{SwitchValue}
+use Rattle.ir_types.specs.declared.operations.SwitchValue.{SwitchValue}
 use Rattle.ir_arena.specs.declared.span.Span.{Span}
 
 -- what a statement does with an expression: it reads its value, or puts it in scope

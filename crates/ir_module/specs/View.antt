@@ -6,8 +6,8 @@ use Rattle.ir_module.specs.declared.statements.Block as b
 use Rattle.ir_module.specs.declared.statements.Block.{Block', Row_of-Located, end_of-Located, more_of-Located}
 use Rattle.ir_module.specs.declared.statements.Located.{Located}
 use Rattle.ir_module.specs.declared.statements.SwitchCase.{SwitchCase, SwitchCase', out-SwitchCase}
-use Rattle.ir_module.specs.declared.operations.AtomicFunction.{AtomicFunction}
-use Rattle.ir_module.specs.declared.operations.AtomicFunction.TheVariants as atomic
+use Rattle.ir_types.specs.declared.operations.AtomicFunction.{AtomicFunction}
+use Rattle.ir_types.specs.declared.operations.AtomicFunction.TheVariants as atomic
 use Rattle.ir_module.specs.declared.operations.GatherMode.{GatherMode}
 use Rattle.ir_module.specs.declared.operations.GatherMode.TheVariants as gather
 use Rattle.ir_module.specs.declared.operations.RayQueryFunction.{RayQueryFunction}

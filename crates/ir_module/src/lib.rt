@@ -15,11 +15,11 @@ pub use crate::expressions::{Expression, Literal, Operands};
 pub use crate::functions::{Function, FunctionArgument, FunctionResult, LocalVariable};
 pub use crate::module::{
     Constant, EarlyDepthTest, EntryPoint, GlobalVariable, MeshOutputTopology, MeshStageInfo,
-    Module, Override, ResourceBinding, ShaderStage, SpecialTypes,
+    Module, Override, ResourceBinding, SpecialTypes,
 };
 pub use crate::operands::{listed_operands, operand, operand_count};
 pub use crate::operations::{
-    AtomicFunction, CollectiveOperation, CooperativeData, GatherMode, RayPipelineFunction,
-    RayQueryFunction, SubgroupOperation,
+    CollectiveOperation, CooperativeData, GatherMode, RayPipelineFunction, RayQueryFunction,
+    SubgroupOperation,
 };
-pub use crate::statements::{Block, Located, Statement, SwitchCase, SwitchValue};
+pub use crate::statements::{Block, Located, Statement, SwitchCase};

@@ -1,6 +1,6 @@
 //! Globals, entry points and modules.
 
-ghost use Rattle.std.specs.Prelude.{◌≡◌, IfOk};
+ghost use Rattle.std.specs.Prelude.{◌≡◌, IfOk, OnOk};
 ghost use Rattle.ir_module.specs.Empty.{empty_module};
 
 use crate::expressions::Expression;
@@ -11,12 +11,13 @@ use ir_arena::handle::{Handle, Tagged};
 use ir_arena::sequence::Sequence;
 use ir_arena::tag;
 use ir_flags::ir::MemoryDecorations;
+use ir_types::stage::ShaderStage;
 use ir_types::types::{AddressSpace, Type};
 use ir_types::unique_arena::UniqueArena;
 use std::alloc::{AllocError, Global};
 
 /// The binding of a resource: its group, and its number in the group.
-#[derive(Clone, Copy, PartialEq, Eq, PartialOrd, Ord, Debug)]
+#[derive(Clone, Copy, PartialEq, Eq, PartialOrd, Ord, Hash, Debug)]
 pub struct ResourceBinding {
     pub group: u32,
     pub binding: u32,
@@ -26,7 +27,7 @@ pub struct ResourceBinding {
 ///
 /// In a module that was accepted with the flag BINDINGS, it has a `binding` exactly if it is in Storage, Uniform or
 /// Handle.
-#[derive(Clone, Copy, PartialEq, Eq, Debug)]
+#[derive(Clone, Copy, PartialEq, Eq, Hash, Debug)]
 pub struct GlobalVariable {
     pub space: AddressSpace,
     pub binding: Option<ResourceBinding>,
@@ -41,7 +42,7 @@ impl Tagged for GlobalVariable {
 }
 
 /// A constant of a module: its type alone. Its value is not kept.
-#[derive(Clone, Copy, PartialEq, Eq, Debug)]
+#[derive(Clone, Copy, PartialEq, Eq, Hash, Debug)]
 pub struct Constant {
     pub ty: Handle<tag::Type>,
 }
@@ -51,7 +52,7 @@ impl Tagged for Constant {
 }
 
 /// A constant that the pipeline may override: its type alone.
-#[derive(Clone, Copy, PartialEq, Eq, Debug)]
+#[derive(Clone, Copy, PartialEq, Eq, Hash, Debug)]
 pub struct Override {
     pub ty: Handle<tag::Type>,
 }
@@ -61,32 +62,18 @@ impl Tagged for Override {
 }
 
 /// Types of the module with a special use.
-#[derive(Clone, Copy, PartialEq, Eq, Debug)]
+#[derive(Clone, Copy, PartialEq, Eq, Hash, Debug)]
 pub struct SpecialTypes {
     /// The type of the descriptor of a ray.
     pub ray_desc: Option<Handle<tag::Type>>,
 }
 
-/// A stage of a pipeline.
-#[derive(Clone, Copy, PartialEq, Eq, Debug)]
-pub enum ShaderStage {
-    Vertex,
-    Fragment,
-    Compute,
-    Mesh,
-    Task,
-    RayGeneration,
-    AnyHit,
-    ClosestHit,
-    Miss,
-}
-
 /// A request to test depth before the fragment stage runs. The number stands for its kind, which isn't read.
-#[derive(Clone, Copy, PartialEq, Eq, Debug)]
+#[derive(Clone, Copy, PartialEq, Eq, PartialOrd, Ord, Hash, Debug)]
 pub struct EarlyDepthTest(pub u32);
 
 /// The primitives of a mesh.
-#[derive(Clone, Copy, PartialEq, Eq, Debug)]
+#[derive(Clone, Copy, PartialEq, Eq, PartialOrd, Ord, Hash, Debug)]
 pub enum MeshOutputTopology {
     Points,
     Lines,
@@ -97,7 +84,7 @@ pub enum MeshOutputTopology {
 ///
 /// An override takes the place of a maximum. It is one of the module's global expressions. In an accepted module all
 /// of this is what the type of the output variable implies.
-#[derive(Clone, Copy, PartialEq, Eq, Debug)]
+#[derive(Clone, Copy, PartialEq, Eq, Hash, Debug)]
 pub struct MeshStageInfo {
     pub topology: MeshOutputTopology,
     pub max_vertices: u32,
@@ -201,16 +188,29 @@ impl Module {
     pub fn clone(&self, alloc: Global) -> Result<Self, AllocError>
         ensures { IfOk result (λ made. made ≡ self.now) }
     {
+        let mut made = Module::new(alloc);
+        match self.clone_to(alloc, &mut made) {
+            Ok(()) => Ok(made),
+            Err(refused) => {
+                drop(made);
+                Err(refused)
+            }
+        }
+    }
+
+    /// Clones the module into another, whose parts it replaces. An Err is out of memory.
+    fn clone_to(&self, alloc: Global, made: &mut Module) -> Result<(), AllocError>
+        ensures { OnOk result (made.new ≡ self.now) }
+    {
+        made.types = self.types.clone(alloc)?;
+        made.special_types = self.special_types;
+        made.constants = self.constants.clone(alloc)?;
+        made.overrides = self.overrides.clone(alloc)?;
+        made.global_variables = self.global_variables.clone(alloc)?;
+        made.global_expressions = self.global_expressions.clone(alloc)?;
+        made.functions = self.functions.clone(alloc)?;
         let entry_points = duplicates(alloc, self.entry_points.as_slice())?;
-        Ok(Module {
-            types: self.types.clone(alloc)?,
-            special_types: self.special_types,
-            constants: self.constants.clone(alloc)?,
-            overrides: self.overrides.clone(alloc)?,
-            global_variables: self.global_variables.clone(alloc)?,
-            global_expressions: self.global_expressions.clone(alloc)?,
-            functions: self.functions.clone(alloc)?,
-            entry_points: Sequence::from(entry_points),
-        })
+        made.entry_points = Sequence::from(entry_points);
+        Ok(())
     }
 }

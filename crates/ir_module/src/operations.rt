@@ -1,25 +1,10 @@
-//! The operations of atomic, subgroup, ray query, ray pipeline and cooperative store statements.
+//! The operations of subgroup, ray query, ray pipeline and cooperative store statements.
 
 use ir_arena::handle::Handle;
 use ir_arena::tag;
 
-/// An atomic operation. `Exchange` with `compare` stores only if the old value equals it.
-#[derive(Clone, Copy, PartialEq, Eq, Debug)]
-pub enum AtomicFunction {
-    Add,
-    Subtract,
-    And,
-    ExclusiveOr,
-    InclusiveOr,
-    Min,
-    Max,
-    Exchange {
-        compare: Option<Handle<tag::Expression>>,
-    },
-}
-
 /// An operation over the values of a subgroup.
-#[derive(Clone, Copy, PartialEq, Eq, Debug)]
+#[derive(Clone, Copy, PartialEq, Eq, Hash, Debug)]
 pub enum SubgroupOperation {
     All,
     Any,
@@ -33,7 +18,7 @@ pub enum SubgroupOperation {
 }
 
 /// The invocations of an operation over a subgroup: all, those up to this one, or those before this one.
-#[derive(Clone, Copy, PartialEq, Eq, Debug)]
+#[derive(Clone, Copy, PartialEq, Eq, Hash, Debug)]
 pub enum CollectiveOperation {
     Reduce,
     InclusiveScan,
@@ -43,7 +28,7 @@ pub enum CollectiveOperation {
 /// The invocation that a value comes from. An expression is its index, or the distance to it.
 ///
 /// The number of `QuadSwap` stands for its direction, which isn't read.
-#[derive(Clone, Copy, PartialEq, Eq, Debug)]
+#[derive(Clone, Copy, PartialEq, Eq, Hash, Debug)]
 pub enum GatherMode {
     BroadcastFirst,
     QuadSwap(u32),
@@ -56,7 +41,7 @@ pub enum GatherMode {
 }
 
 /// An operation of a ray query.
-#[derive(Clone, Copy, PartialEq, Eq, Debug)]
+#[derive(Clone, Copy, PartialEq, Eq, Hash, Debug)]
 pub enum RayQueryFunction {
     Initialize {
         acceleration_structure: Handle<tag::Expression>,
@@ -73,7 +58,7 @@ pub enum RayQueryFunction {
 }
 
 /// An operation of a ray pipeline.
-#[derive(Clone, Copy, PartialEq, Eq, Debug)]
+#[derive(Clone, Copy, PartialEq, Eq, Hash, Debug)]
 pub enum RayPipelineFunction {
     TraceRay {
         acceleration_structure: Handle<tag::Expression>,
@@ -83,7 +68,7 @@ pub enum RayPipelineFunction {
 }
 
 /// The memory of a cooperative matrix. `detail` stands for stride and order, which aren't read.
-#[derive(Clone, Copy, PartialEq, Eq, Debug)]
+#[derive(Clone, Copy, PartialEq, Eq, Hash, Debug)]
 pub struct CooperativeData {
     pub pointer: Handle<tag::Expression>,
     pub detail: u32,

@@ -5,8 +5,8 @@ ghost use Rattle.ir_module.specs.Blocks.{block_of, empty_block, with_last};
 
 use crate::expressions::Operands;
 use crate::operations::{
-    AtomicFunction, CollectiveOperation, CooperativeData, GatherMode, RayPipelineFunction,
-    RayQueryFunction, SubgroupOperation,
+    CollectiveOperation, CooperativeData, GatherMode, RayPipelineFunction, RayQueryFunction,
+    SubgroupOperation,
 };
 use ir_arena::handle::Handle;
 use ir_arena::range::Range;
@@ -14,15 +14,8 @@ use ir_arena::sequence::Sequence;
 use ir_arena::span::Span;
 use ir_arena::tag;
 use ir_flags::ir::Barrier;
+use ir_types::operations::{AtomicFunction, SwitchValue};
 use std::alloc::{AllocError, Global};
-
-/// The value of a case. A signed value never equals an unsigned one.
-#[derive(Clone, Copy, PartialEq, Eq, PartialOrd, Ord, Debug)]
-pub enum SwitchValue {
-    I32(i32),
-    U32(u32),
-    Default,
-}
 
 /// A statement with its span.
 #[cycle(statement)]

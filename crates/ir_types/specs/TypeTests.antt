@@ -1,9 +1,11 @@
 -- The tests of types, as check lists compute them. A law says that each decides what `Types` says in words.
-use Rattle.std.specs.Prelude.{ℕ, ◌↔◌, IsTrue, Bool, false, ◌&&◌, ◌==◌, List, [], ◌∷◌, Option, None, Some, ◌≡◌, codes}
+use Rattle.std.specs.Prelude.{ℕ, ◌↔◌, IsTrue, Bool, true, false, ◌&&◌, ◌==◌, List, [], ◌∷◌, Option, None, Some, ◌≡◌, codes}
 use Rattle.std.specs.Cmp.Lexicographic.{pointwise}
 use Rattle.ir_types.specs.Types.{AreEquivalent, IsSameType, IsCompareExchangeStruct, IsScalarMember, inner_at, bool_scalar, resolved, canonical_of, struct_handle, handle_of}
 use Rattle.ir_types.specs.contracts.types.TypeInnerPartialEq.TheImpl as type_inner
 use Rattle.ir_types.specs.declared.types.Scalar.{Scalar}
+use Rattle.ir_types.specs.declared.types.ScalarKind.{ScalarKind}
+use Rattle.ir_types.specs.declared.types.ScalarKind.TheVariants as kind
 use Rattle.ir_types.specs.declared.types.StructMember.{StructMember}
 use Rattle.ir_types.specs.declared.types.Type.{«Type» as IrType}
 use Rattle.ir_types.specs.declared.types.TypeInner.{TypeInner}
@@ -27,6 +29,11 @@ is_same_inner a b = (type_inner.ghosts).eq a b
 -- their canonical forms are equal
 abbrev pub is_equivalent : List IrType → TypeInner → TypeInner → Bool
 is_equivalent types a b = is_same_inner (canonical_of types a) (canonical_of types b)
+
+-- a kind of scalar that is a float of WGSL
+abbrev pub is_float_kind : ScalarKind → Bool
+is_float_kind kind.Float = true
+is_float_kind _ = false
 
 -- it is this scalar, and no vector
 abbrev pub is_scalar : Scalar → Option TypeInner → Bool

@@ -3,7 +3,7 @@
 /// A value that a stage gets from the pipeline, or gives to it.
 ///
 /// Two built-ins that differ in `invariant` or `perspective` alone count as duplicates.
-#[derive(Clone, Copy, PartialEq, Eq, Hash, Debug)]
+#[derive(Clone, Copy, PartialEq, Eq, PartialOrd, Ord, Hash, Debug)]
 pub enum BuiltIn {
     BaseInstance,
     BaseVertex,

@@ -11,7 +11,7 @@ use ir_flags::ir::StorageAccess;
 use std::num::NonZeroU32;
 
 /// The kind of a scalar. Nothing here checks that a type has no abstract kind.
-#[derive(Clone, Copy, PartialEq, Eq, Hash, Debug)]
+#[derive(Clone, Copy, PartialEq, Eq, PartialOrd, Ord, Hash, Debug)]
 pub enum ScalarKind {
     Sint,
     Uint,
@@ -22,7 +22,7 @@ pub enum ScalarKind {
 }
 
 /// A number or a bool.
-#[derive(Clone, Copy, PartialEq, Eq, Hash, Debug)]
+#[derive(Clone, Copy, PartialEq, Eq, PartialOrd, Ord, Hash, Debug)]
 pub struct Scalar {
     pub kind: ScalarKind,
     /// In bytes. Nothing here checks that a bool has 1.
@@ -68,7 +68,7 @@ impl Scalar {
 }
 
 /// The number of components of a vector: 2, 3 or 4.
-#[derive(Clone, Copy, PartialEq, Eq, Hash, Debug)]
+#[derive(Clone, Copy, PartialEq, Eq, PartialOrd, Ord, Hash, Debug)]
 pub enum VectorSize {
     Bi,
     Tri,

@@ -10,7 +10,7 @@ use ir_arena::tag;
 use std::alloc::{AllocError, Global};
 
 /// The type of an expression: a type of the module by its handle, or any type as a value.
-#[derive(PartialEq, Eq, Debug, Drop)]
+#[derive(PartialEq, Eq, Hash, Debug, Drop)]
 pub enum TypeResolution {
     Handle(Handle<tag::Type>),
     Value(TypeInner),

@@ -1,7 +1,7 @@
 -- Pointers, step by step.
 use Rattle.std.proofs.Common.{◌≡◌, ◌+◌, ◌<◌, ℕ, List, [], ◌∷◌, ◌++◌, length, take, get_or, sym, ap, ◌∙◌}
 use Rattle.std.proofs.lemmas.List.{append-nil, append_assoc, take_more}
-use Rattle.json_values.specs.declared.read.error.Step.{Step}
+use Rattle.json_nodes.specs.declared.step.Step.{Step}
 use Rattle.json_answers.specs.VerdictJson.{pointer_text, step_text}
 
 -- the last of the steps is written first

@@ -3,7 +3,7 @@
 ghost use Rattle.std.specs.Prelude.{◌≡◌, ◌++◌, IfOk, OnOk, string_bytes};
 ghost use Rattle.json_answers.specs.VerdictJson.{pointer_text, step_text};
 
-use json_values::Step;
+use json_nodes::Step;
 use std::alloc::{AllocError, Global};
 
 /// Appends a slash, and the step.

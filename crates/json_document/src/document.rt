@@ -2,18 +2,17 @@
 
 ghost use Rattle.json_nodes.specs.Nodes.{data_of};
 ghost use Rattle.json_document.specs.Whole.{all_parts, document_of, known_of, named_parts, parts_of, settings_of};
-ghost use Rattle.json_values.specs.Reads.{ReadsMeaning};
+ghost use Rattle.json_document.specs.Reads.{ReadsMeaning};
 
 use crate::id::Id;
+use crate::read::error::ReadError;
+use crate::read::from_json::{FromJson, Held, has_field};
 use ir_arena::Sequence;
-use ir_facts::{Settings, TypeInfo};
+use ir_facts::{Facts, Settings, TypeInfo};
 use ir_flags::{Capabilities, ShaderStages, SubgroupOperationSet, ValidationFlags};
 use ir_module::Module;
 use ir_types::TypeResolution;
 use json_nodes::Node;
-use json_values::read::error::ReadError;
-use json_values::read::from_json::{FromJson, Held, has_field};
-use layer_facts::Facts;
 use std::alloc::Global;
 
 /// What a document says is known of its module: infos of its types, types of its global expressions, and the facts that a

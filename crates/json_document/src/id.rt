@@ -4,10 +4,10 @@ ghost use Rattle.std.specs.Prelude.{◌≡◌, IfOk};
 ghost use Rattle.json_nodes.specs.Nodes.{data_of};
 ghost use Rattle.json_document.specs.Ids.{id_in, id_of};
 
+use crate::read::error::ReadError;
+use crate::read::from_json::FromJson;
 use ir_types::Name;
 use json_nodes::Node;
-use json_values::read::error::ReadError;
-use json_values::read::from_json::FromJson;
 use std::alloc::{AllocError, Global};
 
 /// What a document is called by whoever sent it: its verdict says so too.

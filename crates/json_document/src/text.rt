@@ -5,14 +5,14 @@ ghost use Rattle.json_nodes.specs.Nodes.{data_of};
 ghost use Rattle.json_document.specs.Ids.{IsComplete, IsIdOf, id_in};
 ghost use Rattle.json_document.specs.ReadsDocument.{ReadsDocument};
 ghost use Rattle.json_document.specs.Whole.{document_of};
-ghost use Rattle.json_values.specs.Reads.{ReadsMeaning};
+ghost use Rattle.json_document.specs.Reads.{ReadsMeaning};
 
 use crate::document::Document;
 use crate::id::{Id, id_in};
+use crate::read::error::ReadError;
+use crate::read::from_json::FromJson;
 use json::Scratch;
 use json_nodes::{TextError, Tree, read_tree};
-use json_values::read::error::ReadError;
-use json_values::read::from_json::FromJson;
 use std::alloc::Global;
 
 /// The most bytes that a document may have.

@@ -1,18 +1,18 @@
 -- Faults of expressions and functions.
 use Rattle.std.specs.Prelude.{ℕ, List, Option, None, Some, codes}
 use Rattle.json.specs.Json.{Json, string}
-use Rattle.ir_facts.specs.declared.valid.expression_error.ExpressionError.{ExpressionError}
-use Rattle.ir_facts.specs.declared.valid.expression_error.ExpressionError.TheVariants as expressions
-use Rattle.check_errors.specs.declared.function.CallError.{CallError}
-use Rattle.check_errors.specs.declared.function.CallError.TheVariants as calls
-use Rattle.check_errors.specs.declared.function.AtomicError.{AtomicError}
-use Rattle.check_errors.specs.declared.function.AtomicError.TheVariants as atomics
-use Rattle.check_errors.specs.declared.function.SubgroupError.{SubgroupError}
-use Rattle.check_errors.specs.declared.function.SubgroupError.TheVariants as subgroups
-use Rattle.check_errors.specs.declared.function.LocalVariableError.{LocalVariableError}
-use Rattle.check_errors.specs.declared.function.LocalVariableError.TheVariants as locals
-use Rattle.check_errors.specs.declared.function.FunctionError.{FunctionError}
-use Rattle.check_errors.specs.declared.function.FunctionError.TheVariants as functions
+use Rattle.ir_errors.specs.declared.expression.ExpressionError.{ExpressionError}
+use Rattle.ir_errors.specs.declared.expression.ExpressionError.TheVariants as expressions
+use Rattle.ir_errors.specs.declared.function.CallError.{CallError}
+use Rattle.ir_errors.specs.declared.function.CallError.TheVariants as calls
+use Rattle.ir_errors.specs.declared.function.AtomicError.{AtomicError}
+use Rattle.ir_errors.specs.declared.function.AtomicError.TheVariants as atomics
+use Rattle.ir_errors.specs.declared.function.SubgroupError.{SubgroupError}
+use Rattle.ir_errors.specs.declared.function.SubgroupError.TheVariants as subgroups
+use Rattle.ir_errors.specs.declared.function.LocalVariableError.{LocalVariableError}
+use Rattle.ir_errors.specs.declared.function.LocalVariableError.TheVariants as locals
+use Rattle.ir_errors.specs.declared.function.FunctionError.{FunctionError}
+use Rattle.ir_errors.specs.declared.function.FunctionError.TheVariants as functions
 use Rattle.json_faults.specs.Form.{holding, number_form, one_field, optional, three_fields, three_items, two_fields, two_items, variant}
 use Rattle.json_faults.specs.Names.{image_dimension_form, storage_format_form}
 use Rattle.json_faults.specs.Sets.{capabilities_form, storage_access_form, subgroup_operations_form}

@@ -1,10 +1,10 @@
 -- Faults of globals, of inputs and outputs, and of entry points.
 use Rattle.std.specs.Prelude.{ℕ, List, Option, None, Some, codes}
 use Rattle.json.specs.Json.{Json, string}
-use Rattle.check_errors.specs.declared.interface.GlobalVariableError.{GlobalVariableError}
-use Rattle.check_errors.specs.declared.interface.GlobalVariableError.TheVariants as globals
-use Rattle.check_errors.specs.declared.interface.VaryingError.{VaryingError}
-use Rattle.check_errors.specs.declared.interface.VaryingError.TheVariants as varyings
+use Rattle.ir_errors.specs.declared.interface.GlobalVariableError.{GlobalVariableError}
+use Rattle.ir_errors.specs.declared.interface.GlobalVariableError.TheVariants as globals
+use Rattle.ir_errors.specs.declared.interface.VaryingError.{VaryingError}
+use Rattle.ir_errors.specs.declared.interface.VaryingError.TheVariants as varyings
 use Rattle.check_faults.specs.declared.entry.EntryPointError.{EntryPointError}
 use Rattle.check_faults.specs.declared.entry.EntryPointError.TheVariants as entries
 use Rattle.json_faults.specs.BuiltIns.{built_in_form}

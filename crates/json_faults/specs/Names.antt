@@ -13,8 +13,8 @@ use Rattle.ir_types.specs.declared.types.Interpolation.{Interpolation}
 use Rattle.ir_types.specs.declared.types.Interpolation.TheVariants as interpolations
 use Rattle.ir_types.specs.declared.types.Sampling.{Sampling}
 use Rattle.ir_types.specs.declared.types.Sampling.TheVariants as samplings
-use Rattle.ir_module.specs.declared.module.ShaderStage.{ShaderStage}
-use Rattle.ir_module.specs.declared.module.ShaderStage.TheVariants as shader_stages
+use Rattle.ir_types.specs.declared.stage.ShaderStage.{ShaderStage}
+use Rattle.ir_types.specs.declared.stage.ShaderStage.TheVariants as shader_stages
 
 -- the kinds of scalars
 unfoldable pub scalar_kind_name : ScalarKind → List ℕ

@@ -6,7 +6,7 @@ ghost use Rattle.json_faults.specs.Faults.{expression_error_name, expression_err
 use crate::parts::{holding, holding_pair};
 use crate::to_json::ToJson;
 use crate::writer::JsonWriter;
-use ir_facts::ExpressionError;
+use ir_errors::ExpressionError;
 use std::alloc::AllocError;
 
 /// The name of a fault of an expression.

@@ -9,7 +9,7 @@ use crate::parts::{
 };
 use crate::to_json::ToJson;
 use crate::writer::JsonWriter;
-use check_errors::{
+use ir_errors::{
     AtomicError, CallError, FunctionError, LocalVariableError, SubgroupError, UniformityDisruptor,
     UniformityRequirements,
 };

@@ -6,8 +6,8 @@ ghost use Rattle.json_faults.specs.Interfaces.{global_error_name, global_error_f
 use crate::parts::{holding, holding_field, holding_pair, holding_triple, holding_two};
 use crate::to_json::ToJson;
 use crate::writer::JsonWriter;
-use check_errors::{GlobalVariableError, VaryingError};
 use check_faults::entry::EntryPointError;
+use ir_errors::{GlobalVariableError, VaryingError};
 use std::alloc::AllocError;
 
 /// The name of a fault of a global variable.

@@ -5,8 +5,9 @@ ghost use Rattle.json_faults.specs.Names.{scalar_kind_name, scalar_kind_form, ve
 
 use crate::to_json::ToJson;
 use crate::writer::JsonWriter;
-use ir_module::ShaderStage;
-use ir_types::{ImageDimension, Interpolation, Sampling, ScalarKind, StorageFormat, VectorSize};
+use ir_types::{
+    ImageDimension, Interpolation, Sampling, ScalarKind, ShaderStage, StorageFormat, VectorSize,
+};
 use std::alloc::AllocError;
 
 /// The name of a kind of scalars.

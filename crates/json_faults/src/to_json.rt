@@ -4,9 +4,8 @@ ghost use Rattle.json.specs.Json.{boolean, string};
 ghost use Rattle.json_faults.specs.Form.{Writes, list_form, number_form, optional, signed_form, span_form, two_items};
 
 use crate::writer::JsonWriter;
-use check_errors::{UniformityDisruptor, UniformityRequirements};
 use ir_arena::{Handle, Sequence, Span, tag};
-use ir_facts::{Disalignment, ImmediateError};
+use ir_errors::{Disalignment, ImmediateError, UniformityDisruptor, UniformityRequirements};
 use ir_types::Name;
 use std::alloc::AllocError;
 

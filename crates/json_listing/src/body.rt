@@ -1,9 +1,9 @@
 //! The statements of a body, one a line.
 
 use crate::words::{write_part, write_spaces, write_statement};
+use json_nodes::Step;
 use json_places::nodes::way_to;
 use json_places::{Inside, Node, Part, Place, Position};
-use json_values::Step;
 use std::alloc::{AllocError, Global};
 use std::fmt;
 

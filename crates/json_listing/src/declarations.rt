@@ -6,8 +6,8 @@ use bitflags::Flags;
 use json_places::parts::members_of;
 use json_places::{EntryField, Spot};
 use naga_below::{
-    Binding, EntryPoint, Expression, Function, FunctionArgument, GlobalVariable, Handle,
-    LocalVariable, Module, Name, tag,
+    Binding, EntryPoint, Expression, Function, FunctionArgument, FunctionResult, GlobalVariable,
+    Handle, LocalVariable, Module, Name, StructMember, tag,
 };
 use std::fmt;
 
@@ -39,28 +39,74 @@ pub fn write_declarations<W: fmt::Write>(
     function: &Function,
     spot: Spot,
 ) -> fmt::Result {
+    let is_told = write_arguments(out, module, function, &spot)?;
+    if let Some(returned) = &function.result {
+        write_result(out, module, returned, &spot, is_told)?;
+    }
+    for (index, local) in function.local_variables.as_slice().iter().enumerate() {
+        write_marked_local(out, module, index, local, &spot)?;
+    }
+    Ok(())
+}
+
+/// Writes the arguments, and after the first whose type has the member that is the spot, the members of that. It answers whether
+/// they were written.
+fn write_arguments<W: fmt::Write>(
+    out: &mut W,
+    module: &Module,
+    function: &Function,
+    spot: &Spot,
+) -> Result<bool, fmt::Error> {
     let mut is_told = false;
     for (index, argument) in function.arguments.as_slice().iter().enumerate() {
-        out.write_str(mark(is_argument(&spot, index)))?;
-        write_argument(out, module, index, argument)?;
+        write_marked_argument(out, module, index, argument, spot)?;
         if !is_told {
             is_told = write_members(out, module, argument.ty, spot)?;
         }
     }
-    if let Some(returned) = &function.result {
-        out.write_str(mark(matches!(spot, Spot::Returned)))?;
-        out.write_str("result: ")?;
-        write_type(out, module, returned.ty)?;
-        write_binding(out, &returned.binding)?;
-        if !is_told {
-            write_members(out, module, returned.ty, spot)?;
-        }
-    }
-    for (index, local) in function.local_variables.as_slice().iter().enumerate() {
-        out.write_str(mark(is_local(&spot, index)))?;
-        write_local(out, module, index, local)?;
+    Ok(is_told)
+}
+
+/// Writes an argument with its mark.
+fn write_marked_argument<W: fmt::Write>(
+    out: &mut W,
+    module: &Module,
+    index: usize,
+    argument: &FunctionArgument,
+    spot: &Spot,
+) -> fmt::Result {
+    out.write_str(mark(is_argument(spot, index)))?;
+    write_argument(out, module, index, argument)
+}
+
+/// Writes the result, and the members of its type as those of an argument.
+fn write_result<W: fmt::Write>(
+    out: &mut W,
+    module: &Module,
+    returned: &FunctionResult,
+    spot: &Spot,
+    is_told: bool,
+) -> fmt::Result {
+    out.write_str(mark(matches!(spot, Spot::Returned)))?;
+    out.write_str("result: ")?;
+    write_type(out, module, returned.ty)?;
+    write_binding(out, &returned.binding)?;
+    if !is_told {
+        write_members(out, module, returned.ty, spot)?;
     }
     Ok(())
+}
+
+/// Writes a local variable with its mark.
+fn write_marked_local<W: fmt::Write>(
+    out: &mut W,
+    module: &Module,
+    index: usize,
+    local: &LocalVariable,
+    spot: &Spot,
+) -> fmt::Result {
+    out.write_str(mark(is_local(spot, index)))?;
+    write_local(out, module, index, local)
 }
 
 fn is_argument(spot: &Spot, index: usize) -> bool {
@@ -123,7 +169,7 @@ fn write_members<W: fmt::Write>(
     out: &mut W,
     module: &Module,
     ty: Handle<tag::Type>,
-    spot: Spot,
+    spot: &Spot,
 ) -> Result<bool, fmt::Error> {
     let Spot::Member {
         ty: marked,
@@ -132,18 +178,28 @@ fn write_members<W: fmt::Write>(
     else {
         return Ok(false);
     };
-    if marked != ty {
+    if *marked != ty {
         return Ok(false);
     }
     for (index, member) in members_of(module, ty).iter().enumerate() {
-        out.write_str(mark(index == at))?;
-        write!(out, "  member {index}")?;
-        write_name(out, &member.name)?;
-        out.write_str(": ")?;
-        write_type(out, module, member.ty)?;
-        write_binding(out, &member.binding)?;
+        out.write_str(mark(index == *at))?;
+        write_member(out, module, index, member)?;
     }
     Ok(true)
+}
+
+/// Writes a member of a struct.
+fn write_member<W: fmt::Write>(
+    out: &mut W,
+    module: &Module,
+    index: usize,
+    member: &StructMember,
+) -> fmt::Result {
+    write!(out, "  member {index}")?;
+    write_name(out, &member.name)?;
+    out.write_str(": ")?;
+    write_type(out, module, member.ty)?;
+    write_binding(out, &member.binding)
 }
 
 /// Writes the stage of an entry point and what else it declares beside its function.
@@ -189,8 +245,8 @@ fn write_mesh<W: fmt::Write>(
     };
     out.write_str(mark(is_marked))?;
     write!(out, "mesh_info: {mesh:?}")?;
-    if !write_members(out, module, mesh.vertex_output_type, spot)? {
-        write_members(out, module, mesh.primitive_output_type, spot)?;
+    if !write_members(out, module, mesh.vertex_output_type, &spot)? {
+        write_members(out, module, mesh.primitive_output_type, &spot)?;
     }
     Ok(())
 }

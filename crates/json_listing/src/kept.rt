@@ -41,30 +41,49 @@ pub fn kept_of(
         Some(holder) => is_made_in(alloc, function, nodes, holder, handle)?,
         None => false,
     };
-    let mut named = Vec::new(alloc);
-    let mut stored = None;
+    let mut kept = Kept {
+        named: Vec::new(alloc),
+        stored: None,
+        is_of_loop,
+    };
     let mut marks = Marks::new(alloc, function.expressions.len())?;
     let first = emitted.saturating_add(1);
     for (number, node) in nodes.iter().skip(first).enumerate() {
         if !is_in_list_of(node, nodes.get(emitted)) {
             break;
         }
-        let statement = &node.located.statement;
         let number = first.saturating_add(number);
-        if stored.is_none() {
-            stored = stored_by(function, number, statement, handle);
+        kept.add(
+            function,
+            number,
+            &node.located.statement,
+            &mut marks,
+            handle,
+        )?;
+    }
+    Ok(kept)
+}
+
+impl Kept {
+    /// Takes a statement in, with marks that are made anew for what it names. An Err is out of memory.
+    fn add(
+        &mut self,
+        function: &Function,
+        number: usize,
+        statement: &Statement,
+        marks: &mut Marks,
+        handle: Handle<tag::Expression>,
+    ) -> Result<(), AllocError> {
+        if self.stored.is_none() {
+            self.stored = stored_by(function, number, statement, handle);
         }
         marks.remove(handle);
         marks.add_statement(statement);
-        if marks.has(handle.index()) && named.len() < HANDFUL {
-            named.push(number)?;
+        if marks.has(handle.index()) && self.named.len() < HANDFUL {
+            self.named.push(number)?;
         }
+        Ok(())
     }
-    Ok(Kept {
-        named,
-        stored,
-        is_of_loop,
-    })
 }
 
 /// Whether a statement after another one stands in the same list, or is held by one that does.
@@ -115,15 +134,26 @@ fn is_made_in(
     let mut parts = Marks::new(alloc, function.expressions.len())?;
     parts.add(handle);
     parts.close(function);
+    Ok(is_one_brought(nodes, holder, head.depth, &parts, handle))
+}
+
+/// Whether a statement in a Loop brings one of these into scope. The Loop lies so deep.
+fn is_one_brought(
+    nodes: &[Node<'_>],
+    holder: usize,
+    depth: usize,
+    parts: &Marks,
+    handle: Handle<tag::Expression>,
+) -> bool {
     for node in nodes.iter().skip(holder.saturating_add(1)) {
-        if node.depth <= head.depth {
+        if node.depth <= depth {
             break;
         }
-        if brings_one(&node.located.statement, &parts, handle) {
-            return Ok(true);
+        if brings_one(&node.located.statement, parts, handle) {
+            return true;
         }
     }
-    Ok(false)
+    false
 }
 
 /// Whether an expression is a Load.

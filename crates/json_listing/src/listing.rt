@@ -29,31 +29,53 @@ pub fn write_listing<W: fmt::Write>(
     match fault {
         ModuleFault::Global(global, _) => write_global(out, module, *global),
         ModuleFault::Function(handle, error) => {
-            let Some(function) = module.functions.as_slice().get(handle.index()) else {
-                return Ok(());
-            };
-            let index = handle.index();
-            out.write_str(head_mark(found.spot))?;
-            write!(out, "function {index}:")?;
-            write_function(alloc, out, module, function, Some(error.as_inner()), found)
+            write_own_function(alloc, out, module, handle.index(), error.as_inner(), found)
         }
         ModuleFault::EntryPoint(index, error) => {
-            let Some(ep) = module.entry_points.as_slice().get(*index) else {
-                return Ok(());
-            };
-            out.write_str(head_mark(found.spot))?;
-            write!(out, "entry point {index}:")?;
-            write_entry(out, module, ep, found.spot)?;
-            let inner = error.as_inner();
-            let own = match inner {
-                EntryPointError::Function(error) => Some(error),
-                _ => None,
-            };
-            write_function(alloc, out, module, &ep.function, own, found)?;
-            write_twin(alloc, out, module, ep, inner)
+            write_entry_point(alloc, out, module, *index, error.as_inner(), found)
         }
         ModuleFault::NotFit | ModuleFault::Memory => Ok(()),
     }
+}
+
+/// Writes the listing of the function with this index.
+fn write_own_function<W: fmt::Write>(
+    alloc: Global,
+    out: &mut W,
+    module: &Module,
+    index: usize,
+    fault: &FunctionError,
+    found: &Found,
+) -> fmt::Result {
+    let Some(function) = module.functions.as_slice().get(index) else {
+        return Ok(());
+    };
+    out.write_str(head_mark(found.spot))?;
+    write!(out, "function {index}:")?;
+    write_function(alloc, out, module, function, Some(fault), found)
+}
+
+/// Writes the listing of the entry point with this index.
+fn write_entry_point<W: fmt::Write>(
+    alloc: Global,
+    out: &mut W,
+    module: &Module,
+    index: usize,
+    fault: &EntryPointError,
+    found: &Found,
+) -> fmt::Result {
+    let Some(ep) = module.entry_points.as_slice().get(index) else {
+        return Ok(());
+    };
+    out.write_str(head_mark(found.spot))?;
+    write!(out, "entry point {index}:")?;
+    write_entry(out, module, ep, found.spot)?;
+    let own = match fault {
+        EntryPointError::Function(error) => Some(error),
+        _ => None,
+    };
+    write_function(alloc, out, module, &ep.function, own, found)?;
+    write_twin(alloc, out, module, ep, fault)
 }
 
 /// What is at the beginning of the first line: a mark where the fault is one of the whole.
@@ -90,12 +112,7 @@ fn write_function<W: fmt::Write>(
         _ => Earlier::None,
     };
     let kept = kept_before(alloc, function, nodes, fault, found)?;
-    let named = named_by(alloc, found.reason, earlier, &kept)?;
-    let shown = Shown::new(alloc, nodes, position, named.as_slice())?;
-    let marks = marks_of(alloc, function, nodes, fault, found)?;
-    let all = marks_of_shown(alloc, function, nodes, &marks, &shown)?;
-    write_expressions(out, function, &marks, &all, found.spot)?;
-    write_body(out, nodes, &shown, position, &found.place)?;
+    write_shown(alloc, out, function, nodes, fault, found, earlier, &kept)?;
     match (fault, position) {
         (Some(fault), Some(position)) => {
             write_earlier(out, earlier)?;
@@ -103,6 +120,50 @@ fn write_function<W: fmt::Write>(
         }
         _ => Ok(()),
     }
+}
+
+/// Writes the statements that are shown, after the expressions that they name.
+fn write_shown<W: fmt::Write>(
+    alloc: Global,
+    out: &mut W,
+    function: &Function,
+    nodes: &[Node<'_>],
+    fault: Option<&FunctionError>,
+    found: &Found,
+    earlier: Earlier,
+    kept: &Option<Kept>,
+) -> fmt::Result {
+    let position = position_of(found.spot);
+    let shown = shown_of(alloc, nodes, found, earlier, kept)?;
+    let marks = marks_of(alloc, function, nodes, fault, found)?;
+    write_marked_expressions(alloc, out, function, nodes, &marks, &shown, found.spot)?;
+    write_body(out, nodes, &shown, position, &found.place)
+}
+
+/// The statements that are shown.
+fn shown_of(
+    alloc: Global,
+    nodes: &[Node<'_>],
+    found: &Found,
+    earlier: Earlier,
+    kept: &Option<Kept>,
+) -> Result<Shown, AllocError> {
+    let named = named_by(alloc, found.reason, earlier, kept)?;
+    Shown::new(alloc, nodes, position_of(found.spot), named.as_slice())
+}
+
+/// Writes the expressions that the fault is about, and those that shown statements name.
+fn write_marked_expressions<W: fmt::Write>(
+    alloc: Global,
+    out: &mut W,
+    function: &Function,
+    nodes: &[Node<'_>],
+    marks: &Marks,
+    shown: &Shown,
+    spot: Spot,
+) -> fmt::Result {
+    let all = marks_of_shown(alloc, function, nodes, marks, shown)?;
+    write_expressions(out, function, marks, &all, spot)
 }
 
 /// What is done with a value before its list ends, if the fault is that it has ended. An Err is out of memory.

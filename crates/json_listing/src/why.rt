@@ -96,13 +96,7 @@ pub fn write_reason<W: fmt::Write>(
             write!(out, "\nWhy: no statement of the body emits {handle:?}.")?;
             write_cure(out, "Cure", position, handle)
         }
-        Reason::Ended { emitted, list, .. } => {
-            write!(out, "\nWhy: #{emitted} emits {handle:?}, in ")?;
-            write_list_name(out, list)?;
-            out.write_str(", which has ended before ")?;
-            write_position(out, position)?;
-            out.write_str(".")
-        }
+        Reason::Ended { emitted, list, .. } => write_ended(out, position, handle, emitted, list),
         Reason::Later { emitted } if position == Position::Statement(emitted) => {
             write!(
                 out,
@@ -110,12 +104,7 @@ pub fn write_reason<W: fmt::Write>(
             )?;
             write_cure(out, "Cure", position, handle)
         }
-        Reason::Later { emitted } => {
-            write!(out, "\nWhy: #{emitted} emits {handle:?}, and comes after ")?;
-            write_position(out, position)?;
-            out.write_str(".")?;
-            write_cure(out, "Cure", position, handle)
-        }
+        Reason::Later { emitted } => write_later(out, position, handle, emitted),
         Reason::Skipped {
             emitted,
             holder,
@@ -129,6 +118,34 @@ pub fn write_reason<W: fmt::Write>(
             write_cure_of_skipped(out, position, handle)
         }
     }
+}
+
+/// Writes that the list has ended in which the expression is emitted.
+fn write_ended<W: fmt::Write>(
+    out: &mut W,
+    position: Position,
+    handle: Handle<tag::Expression>,
+    emitted: usize,
+    list: Inside,
+) -> fmt::Result {
+    write!(out, "\nWhy: #{emitted} emits {handle:?}, in ")?;
+    write_list_name(out, list)?;
+    out.write_str(", which has ended before ")?;
+    write_position(out, position)?;
+    out.write_str(".")
+}
+
+/// Writes that the expression is emitted later.
+fn write_later<W: fmt::Write>(
+    out: &mut W,
+    position: Position,
+    handle: Handle<tag::Expression>,
+    emitted: usize,
+) -> fmt::Result {
+    write!(out, "\nWhy: #{emitted} emits {handle:?}, and comes after ")?;
+    write_position(out, position)?;
+    out.write_str(".")?;
+    write_cure(out, "Cure", position, handle)
 }
 
 /// Writes where an expression is to be emitted so that no Continue skips it.

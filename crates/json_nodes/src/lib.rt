@@ -7,8 +7,10 @@ mod fields;
 mod items;
 mod node;
 mod number;
+mod step;
 mod tree;
 
 pub use crate::items::Items;
 pub use crate::node::Node;
+pub use crate::step::Step;
 pub use crate::tree::{TextError, Tree, read_tree};

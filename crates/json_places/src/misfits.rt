@@ -7,7 +7,7 @@ use crate::spot::Spot;
 use ir_misfits::{
     EntryField, Misfit, Owner, Place as MisfitPlace, StatementField, TypeField, TypeOwner,
 };
-use json_values::Step;
+use json_nodes::Step;
 use naga_below::{Block, Module};
 use std::alloc::{AllocError, Global};
 

@@ -11,16 +11,27 @@ use std::alloc::{AllocError, Global};
 /// Numbers are those of [`nodes_of`](crate::nodes::nodes_of). No check reads spans, so both modules have one judgement,
 /// and the span of a fault in a body is the number of its statement.
 pub fn numbered_module(alloc: Global, module: &Module) -> Result<Module, AllocError> {
-    Ok(Module {
-        types: module.types.clone(alloc)?,
-        special_types: module.special_types,
-        constants: module.constants.clone(alloc)?,
-        overrides: module.overrides.clone(alloc)?,
-        global_variables: module.global_variables.clone(alloc)?,
-        global_expressions: module.global_expressions.clone(alloc)?,
-        functions: numbered_functions(alloc, module.functions.as_slice())?,
-        entry_points: numbered_entries(alloc, module.entry_points.as_slice())?,
-    })
+    let mut numbered = Module::new(alloc);
+    match number_to(alloc, module, &mut numbered) {
+        Ok(()) => Ok(numbered),
+        Err(refused) => {
+            drop(numbered);
+            Err(refused)
+        }
+    }
+}
+
+/// Makes another module the numbered one.
+fn number_to(alloc: Global, module: &Module, numbered: &mut Module) -> Result<(), AllocError> {
+    numbered.types = module.types.clone(alloc)?;
+    numbered.special_types = module.special_types;
+    numbered.constants = module.constants.clone(alloc)?;
+    numbered.overrides = module.overrides.clone(alloc)?;
+    numbered.global_variables = module.global_variables.clone(alloc)?;
+    numbered.global_expressions = module.global_expressions.clone(alloc)?;
+    numbered.functions = numbered_functions(alloc, module.functions.as_slice())?;
+    numbered.entry_points = numbered_entries(alloc, module.entry_points.as_slice())?;
+    Ok(())
 }
 
 fn numbered_functions(

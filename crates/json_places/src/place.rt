@@ -3,7 +3,7 @@
 use crate::nodes::{Inside, Node, Part, Position, way_to};
 use crate::spot::Spot;
 use check_faults::{Shortage, Subject};
-use json_values::Step;
+use json_nodes::Step;
 use naga_below::Span;
 use std::alloc::{AllocError, Global};
 use std::fmt;

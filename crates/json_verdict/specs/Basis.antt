@@ -1,8 +1,8 @@
 -- What a module is judged over, as it is lent.
 use Rattle.std.specs.Prelude.{◌≡◌, Option, None, Some}
 use Rattle.ir_module.specs.declared.module.Module.{Module}
-use Rattle.check_errors.specs.Meaning.{Meaning}
-use Rattle.layer_typed.specs.Meaning.{typed_meaning}
+use Rattle.ir_facts.specs.Meaning.{Meaning}
+use Rattle.naga_layers.specs.Typed.Meaning.{typed_meaning}
 use Rattle.naga_layers.specs.Recorded.Meaning.{recorded_meaning}
 use Rattle.naga_layers.specs.declared.recorded.Recorded.{Recorded}
 use Rattle.json_document.specs.declared.document.Known.{Known}

@@ -7,11 +7,11 @@ use Rattle.ir_module.specs.declared.module.Module.{Module}
 use Rattle.ir_types.specs.declared.typifier.TypeResolution.{TypeResolution}
 use Rattle.ir_facts.specs.Points.{first_fault}
 use Rattle.ir_misfits.specs.declared.misfit.Misfit.{Misfit}
-use Rattle.check_errors.specs.Meaning.{Meaning}
+use Rattle.ir_facts.specs.Meaning.{Meaning}
 use Rattle.layer_types.specs.Infos.{infos_from}
 use Rattle.layer_expressions.specs.Types.{global_types}
 use Rattle.layer_expressions.specs.declared.types.Untyped.{Untyped}
-use Rattle.layer_typed.specs.Meaning.{typed_meaning}
+use Rattle.naga_layers.specs.Typed.Meaning.{typed_meaning}
 use Rattle.naga_module.specs.Misfits.{module_points}
 use Rattle.naga_module.specs.ModuleJudgement.{IsJudgementOrMemory}
 use Rattle.naga_layers.specs.Recorded.Meaning.{recorded_meaning}

@@ -103,7 +103,7 @@ fn computed(alloc: Global, module: &Module) -> Result<Given, AllocError>
 }
 
 /// The same as what is given.
-pub fn copy_of(alloc: Global, given: &Given) -> Result<Given, AllocError>
+fn copy_of(alloc: Global, given: &Given) -> Result<Given, AllocError>
     ensures types { IfOk result (λ copy. copy.types.items ≡ given.now.types.items) }
     ensures globals { IfOk result (λ copy. copy.global_types.items ≡ given.now.global_types.items) }
 {

@@ -9,7 +9,7 @@ ghost use Rattle.json_verdict.specs.Judges.{HasMisfit, Judges};
 ghost use Rattle.json_answers.specs.Named.{HasItsId};
 ghost use Rattle.json_answers.specs.declared.verdict.Verdict.TheVariants as verdicts;
 
-use crate::basis::{Basis, copy_of};
+use crate::basis::Basis;
 use crate::find::locate;
 use json_answers::{Examined, Refused, Verdict, alone};
 use json_document::{Document, Id, ReadError, Reading, read_text};
@@ -41,10 +41,7 @@ fn find(
     if let Some(misfit) = misfit {
         return locate_misfit(alloc, basis.layer.is_some(), module, misfit);
     }
-    match copy_of(alloc, &basis.given) {
-        Ok(given) => locate(alloc, basis.layer.as_ref(), settings, given, module, fault),
-        Err(_) => None,
-    }
+    locate(alloc, basis, settings, module, fault)
 }
 
 /// A module that is refused with this fault.
@@ -101,10 +98,20 @@ pub fn examine(alloc: Global, text: &[u8]) -> Examined
     } = document;
     let basis = match Basis::new(alloc, &module, known) {
         Ok(basis) => basis,
-        Err(_) => return alone(id, Verdict::Refused(ModuleFault::Memory)),
+        Err(_) => {
+            drop(module);
+            return alone(id, Verdict::Refused(ModuleFault::Memory));
+        }
     };
     match basis.judge(alloc, settings, &module) {
-        Ok(infos) => alone(id, Verdict::Accepted { module, infos }),
-        Err(fault) => refusal(alloc, id, settings, module, &basis, fault),
+        Ok(infos) => {
+            drop(basis);
+            alone(id, Verdict::Accepted { module, infos })
+        }
+        Err(fault) => {
+            let examined = refusal(alloc, id, settings, module, &basis, fault);
+            drop(basis);
+            examined
+        }
     }
 }

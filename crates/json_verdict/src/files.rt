@@ -238,7 +238,10 @@ fn answered(
         Some(bytes) => examine(alloc, bytes.as_slice()),
         None => alone(None, Verdict::Refused(ModuleFault::Memory)),
     };
-    (examined.verdict.status(), line_of(alloc, name, &examined))
+    let status = examined.verdict.status();
+    let line = line_of(alloc, name, &examined);
+    drop(examined);
+    (status, line)
 }
 
 /// The line of a verdict: as JSON, or in an object after the name of its file.

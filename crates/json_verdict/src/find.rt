@@ -1,13 +1,13 @@
 //! Finds what has a fault, and where it stands.
 
-use crate::lent::Lent;
+use crate::basis::Basis;
 use json_places::numbered::numbered_module;
 use json_places::place::place_of;
 use json_places::spot::{number_in, spot_in_entry, spot_in_function};
 use json_places::{Found, Node, Reason, Spot, nodes_of, reason_of, unseen};
-use naga_below::{EntryPoint, ExpressionError, Handle, Module, ModuleInfo, Settings, Span, tag};
-use naga_layers::{Recorded, Typed};
-use naga_module::{Given, ModuleFault, Owner, Shortage, Subject, check_module, find_short_fact};
+use naga_below::{EntryPoint, ExpressionError, Handle, Module, Settings, Span, tag};
+use naga_layers::Recorded;
+use naga_module::{ModuleFault, Owner, Shortage, Subject, find_short_fact};
 use naga_rules::FunctionError;
 use naga_valid::EntryPointError;
 use std::alloc::{AllocError, Global};
@@ -15,21 +15,20 @@ use std::alloc::{AllocError, Global};
 /// Finds where the fault of a module stands. None of `NotFit` and `Memory`, which name nothing, and out of memory.
 /// [`locate_misfit`](json_places::locate_misfit) is for what doesn't fit.
 ///
-/// The module is judged once more, over the same facts, with spans that number its statements: so its own spans need not
-/// distinguish them. `given` is what it was judged with. Without a layer the facts are computed.
+/// The module is judged once more, over the same basis, with spans that number its statements: so its own spans need not
+/// distinguish them.
 pub fn locate(
     alloc: Global,
-    layer: Option<&Recorded>,
+    basis: &Basis,
     settings: Settings,
-    given: Given,
     module: &Module,
     fault: &ModuleFault,
 ) -> Option<Found> {
-    let number = number_of(alloc, layer, settings, given, module, fault);
+    let number = number_of(alloc, basis, settings, module, fault);
     if number.is_none() && !spans_of(fault).is_empty() {
         return None;
     }
-    match found_in(alloc, layer, module, fault, number) {
+    match found_in(alloc, basis.layer.as_ref(), module, fault, number) {
         Ok(found) => found,
         Err(_) => None,
     }
@@ -47,35 +46,41 @@ fn spans_of(fault: &ModuleFault) -> &[Span] {
 /// The number of the statement that has a fault. None where no statement has it, and out of memory.
 fn number_of(
     alloc: Global,
-    layer: Option<&Recorded>,
+    basis: &Basis,
     settings: Settings,
-    given: Given,
     module: &Module,
     fault: &ModuleFault,
 ) -> Option<usize> {
     if spans_of(fault).is_empty() {
         return None;
     }
-    let Ok(numbered) = numbered_module(alloc, module) else {
-        return None;
-    };
-    match judge_again(alloc, layer, settings, given, &numbered) {
-        Ok(_) => None,
-        Err(again) => number_in(spans_of(&again)),
+    match numbered_module(alloc, module) {
+        Ok(numbered) => {
+            let number = number_again(alloc, basis, settings, &numbered);
+            drop(numbered);
+            number
+        }
+        Err(_) => None,
     }
 }
 
-/// Judges a module over these facts, or over computed ones.
-fn judge_again(
+/// The number of the statement that has the fault of a module whose spans are numbers.
+fn number_again(
     alloc: Global,
-    layer: Option<&Recorded>,
+    basis: &Basis,
     settings: Settings,
-    given: Given,
-    module: &Module,
-) -> Result<ModuleInfo, ModuleFault> {
-    match layer {
-        Some(layer) => check_module(alloc, Lent { layer }, settings, given, module),
-        None => check_module(alloc, Typed, settings, given, module),
+    numbered: &Module,
+) -> Option<usize> {
+    match basis.judge(alloc, settings, numbered) {
+        Ok(infos) => {
+            drop(infos);
+            None
+        }
+        Err(again) => {
+            let number = number_in(spans_of(&again));
+            drop(again);
+            number
+        }
     }
 }
 

@@ -18,7 +18,7 @@ pub struct Lent<'a> {
 impl Below for Lent<'_> {
     ghost use Rattle.naga_layers.specs.Recorded.Meaning.{recorded_meaning};
     ghost use Rattle.naga_layers.specs.Recorded.Laws.{one_type_each, one_use_each, types_in_range, no_struct_values};
-    ghost use Rattle.layer_uses.specs.Kinds.{kinds_one_each};
+    ghost use Rattle.naga_layers.specs.Kinds.{kinds_one_each};
 
     ghost meaning = { λ lent. recorded_meaning lent.layer.now };
 

@@ -86,5 +86,7 @@ pub fn reply_to<W: Write>(
         Replies form text (W.contents writer.old) (W.contents writer.new) status) }
 {
     let examined = bytes.examine(alloc);
-    reply(alloc, writer, &examined, form)
+    let replied = reply(alloc, writer, &examined, form);
+    drop(examined);
+    replied
 }

@@ -5,7 +5,7 @@ use Rattle.ir_flags.specs.Bits.{contains, DATA, SIZED, COPY, HOST_SHAREABLE, CRE
 use Rattle.ir_flags.specs.declared.valid.TypeFlags.{TypeFlags}
 use Rattle.ir_types.specs.declared.types.ArraySize.{ArraySize}
 use Rattle.ir_types.specs.declared.types.ArraySize.TheVariants as size
-use Rattle.ir_facts.specs.declared.valid.types.Disalignment.{Disalignment}
+use Rattle.ir_errors.specs.declared.types.Disalignment.{Disalignment}
 use Rattle.ir_facts.specs.declared.valid.types.TypeInfo.{TypeInfo}
 use Rattle.layer_types.specs.declared.parts.Part.{Part}
 use Rattle.layer_types.specs.Leaves.{all_of}

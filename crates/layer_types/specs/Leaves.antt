@@ -12,7 +12,7 @@ use Rattle.ir_types.specs.declared.types.ScalarKind.{ScalarKind}
 use Rattle.ir_types.specs.declared.types.ScalarKind.TheVariants as kind
 use Rattle.ir_types.specs.declared.types.TypeInner.{TypeInner}
 use Rattle.ir_types.specs.declared.types.TypeInner.TheVariants as inner
-use Rattle.ir_facts.specs.declared.valid.types.ImmediateError.{ImmediateError}
+use Rattle.ir_errors.specs.declared.types.ImmediateError.{ImmediateError}
 use Rattle.ir_facts.specs.declared.valid.types.TypeInfo.{TypeInfo}
 use Rattle.layer_types.specs.Sizes.{aligned_components_of}
 

@@ -8,8 +8,8 @@ use Rattle.ir_types.specs.declared.types.Binding.{Binding}
 use Rattle.ir_types.specs.declared.types.Binding.TheVariants as binding
 use Rattle.ir_types.specs.declared.types.StructMember.{StructMember}
 use Rattle.ir_types.specs.declared.types.Type.{«Type» as IrType}
-use Rattle.ir_facts.specs.declared.valid.types.Disalignment.{Disalignment}
-use Rattle.ir_facts.specs.declared.valid.types.ImmediateError.{ImmediateError}
+use Rattle.ir_errors.specs.declared.types.Disalignment.{Disalignment}
+use Rattle.ir_errors.specs.declared.types.ImmediateError.{ImmediateError}
 use Rattle.ir_facts.specs.declared.valid.types.TypeInfo.{TypeInfo}
 use Rattle.layer_types.specs.declared.parts.Part.{Part}
 use Rattle.layer_types.specs.declared.structs.Laid.{Laid}

@@ -92,5 +92,7 @@ pub(crate) fn judge_into(alloc: Global, text: &[u8], out: &mut [u8], form: Form)
     ensures { IsAnswered form text.now result out.old out.new }
 {
     let examined = examine(alloc, text);
-    tell(alloc, &examined, out, form)
+    let answer = tell(alloc, &examined, out, form);
+    drop(examined);
+    answer
 }

@@ -13,7 +13,7 @@ pub use Rattle.ir_module.specs.declared.module.EntryPoint.{EntryPoint}
 pub use Rattle.ir_module.specs.declared.module.GlobalVariable.{GlobalVariable}
 pub use Rattle.ir_module.specs.declared.module.Module.{Module}
 pub use Rattle.ir_module.specs.declared.module.ResourceBinding.{ResourceBinding}
-pub use Rattle.ir_module.specs.declared.module.ShaderStage.{ShaderStage}
+pub use Rattle.ir_types.specs.declared.stage.ShaderStage.{ShaderStage}
 pub use Rattle.ir_module.specs.declared.statements.Block.{Block}
 pub use Rattle.ir_module.specs.declared.statements.Statement.{Statement}
 pub use Rattle.ir_module.specs.Tree.{Return, Switch}

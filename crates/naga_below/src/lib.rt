@@ -5,9 +5,9 @@
 pub use ir_arena::{
     Arena, Duplicate, Handle, MAX_LEN, Range, Refusal, Sequence, Span, Tagged, WithSpan, tag,
 };
+pub use ir_errors::{Disalignment, ExpressionError, ImmediateError};
 pub use ir_facts::{
-    Disalignment, ExpressionError, ExpressionKind, ExpressionKindTracker, FunctionInfo,
-    ImmediateError, ModuleInfo, Settings, TypeInfo,
+    ExpressionKind, ExpressionKindTracker, FunctionInfo, ModuleInfo, Settings, TypeInfo,
 };
 pub use ir_flags::{
     Barrier, Capabilities, GlobalUse, MemoryDecorations, ShaderStages, StorageAccess,
@@ -15,14 +15,15 @@ pub use ir_flags::{
 };
 pub use ir_misfits::{fits_entry, fits_function, fits_globals, fits_types};
 pub use ir_module::{
-    AtomicFunction, Block, CollectiveOperation, Constant, CooperativeData, EarlyDepthTest,
-    EntryPoint, Expression, Function, FunctionArgument, FunctionResult, GatherMode, GlobalVariable,
-    Literal, LocalVariable, Located, MeshOutputTopology, MeshStageInfo, Module, Operands, Override,
-    RayPipelineFunction, RayQueryFunction, ResourceBinding, ShaderStage, SpecialTypes, Statement,
-    SubgroupOperation, SwitchCase, SwitchValue, listed_operands, operand, operand_count,
+    Block, CollectiveOperation, Constant, CooperativeData, EarlyDepthTest, EntryPoint, Expression,
+    Function, FunctionArgument, FunctionResult, GatherMode, GlobalVariable, Literal, LocalVariable,
+    Located, MeshOutputTopology, MeshStageInfo, Module, Operands, Override, RayPipelineFunction,
+    RayQueryFunction, ResourceBinding, SpecialTypes, Statement, SubgroupOperation, SwitchCase,
+    listed_operands, operand, operand_count,
 };
 pub use ir_types::{
-    AddressSpace, ArraySize, Binding, BuiltIn, Identical, ImageClass, ImageDimension,
-    Interpolation, Members, Name, Sampling, Scalar, ScalarKind, StorageFormat, StructMember, Type,
-    TypeInner, TypeResolution, UniqueArena, VectorSize, clone_name, compare_types, type_tests_law,
+    AddressSpace, ArraySize, AtomicFunction, Binding, BuiltIn, Identical, ImageClass,
+    ImageDimension, Interpolation, Members, Name, Sampling, Scalar, ScalarKind, ShaderStage,
+    StorageFormat, StructMember, SwitchValue, Type, TypeInner, TypeResolution, UniqueArena,
+    VectorSize, clone_name, compare_types, type_tests_law,
 };

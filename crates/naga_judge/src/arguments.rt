@@ -2,7 +2,7 @@
 
 use clap::{Arg, ArgAction, ArgMatches, Command, Error};
 use json_verdict::files::Output;
-use std::alloc::Global;
+use std::alloc::{AllocError, Global};
 
 /// What the program is asked for.
 #[derive(Drop)]
@@ -54,40 +54,76 @@ fn output_of(matches: &ArgMatches<'_>) -> Output {
     }
 }
 
-/// The options.
-fn options<'a>(alloc: Global) -> Result<Command<'a>, Error> {
-    let explain = Arg::new(alloc, "explain")
+/// The option for a listing of what is refused.
+fn explain<'a>(alloc: Global) -> Arg<'a> {
+    Arg::new(alloc, "explain")
         .long("explain")
         .action(ArgAction::SetTrue)
-        .help("List the function or entry point that is refused, and say why it is");
+        .help("List the function or entry point that is refused, and say why it is")
+}
+
+/// The option for a verdict as JSON.
+fn json<'a>(alloc: Global) -> Result<Arg<'a>, AllocError> {
     let json = Arg::new(alloc, "json")
         .long("json")
         .action(ArgAction::SetTrue)
-        .conflicts_with("explain")?
         .help("Write the verdict as one line of JSON");
+    json.conflicts_with("explain")
+}
+
+/// The option for one document a line.
+fn json_lines<'a>(alloc: Global) -> Result<Arg<'a>, AllocError> {
     let lines = Arg::new(alloc, "json-lines")
         .long("json-lines")
         .action(ArgAction::SetTrue)
-        .conflicts_with("json")?
-        .conflicts_with("explain")?
         .help("Read one document per line, and write one line of JSON for each");
-    let quiet = Arg::new(alloc, "quiet")
+    lines.conflicts_with("json")?.conflicts_with("explain")
+}
+
+/// The option for an exit status alone.
+fn quiet<'a>(alloc: Global) -> Arg<'a> {
+    Arg::new(alloc, "quiet")
         .long("quiet")
         .short('q')
         .action(ArgAction::SetTrue)
-        .help("Write no verdict: the exit status says which it is");
-    let files = Arg::new(alloc, "FILE")
+        .help("Write no verdict: the exit status says which it is")
+}
+
+/// The files that are judged.
+fn files<'a>(alloc: Global) -> Arg<'a> {
+    Arg::new(alloc, "FILE")
         .action(ArgAction::Append)
         .num_args(0..)
-        .help("Documents to judge");
-    let command = Command::new(alloc, "naga_judge")
+        .help("Documents to judge")
+}
+
+/// The program without its options.
+fn program<'a>(alloc: Global) -> Command<'a> {
+    Command::new(alloc, "naga_judge")
         .version("0.1.0")
         .about("Validates shader modules: reads JSON documents, writes verdicts")
         .after_help(AFTER_HELP)
-        .arg(explain)?
-        .arg(json)?
-        .arg(lines)?
-        .arg(quiet)?
-        .arg(files)?;
-    Ok(command)
+}
+
+/// Adds an option, or the files.
+fn add<'a>(words: &mut Vec<Arg<'a>>, word: Arg<'a>) -> Result<(), AllocError> {
+    words.push(word)?;
+    Ok(())
+}
+
+/// The options, and the files.
+fn words<'a>(alloc: Global) -> Result<Vec<Arg<'a>>, AllocError> {
+    let mut words = Vec::new(alloc);
+    add(&mut words, explain(alloc))?;
+    add(&mut words, json(alloc)?)?;
+    add(&mut words, json_lines(alloc)?)?;
+    add(&mut words, quiet(alloc))?;
+    add(&mut words, files(alloc))?;
+    Ok(words)
+}
+
+/// The program with its options.
+fn options<'a>(alloc: Global) -> Result<Command<'a>, AllocError> {
+    let words = words(alloc)?;
+    program(alloc).args(words)
 }

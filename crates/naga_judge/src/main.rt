@@ -8,6 +8,7 @@
 mod arguments;
 
 use crate::arguments::{Request, request_of};
+use clap::Error;
 use clap::error::ErrorKind;
 use json_verdict::files::{MEMORY, Output, failure, run_files, run_reader};
 use json_verdict::run::{Form, run_document};
@@ -32,22 +33,43 @@ fn answer(rt: &HostRuntime) -> io::Result<u8> {
         Err(error) => return Err(error),
     };
     let words: Vec<String> = arguments.collect(alloc)?;
-    let request = match request_of(alloc, words.as_slice()) {
-        Ok(request) => request,
-        Err(error) => {
-            let is_wanting = error.kind() == ErrorKind::OutOfMemory;
-            error.print(rt)?;
-            return Ok(if is_wanting {
-                MEMORY
-            } else {
-                error.exit_code() as u8
-            });
+    let answered = answer_words(rt, words.as_slice());
+    drop(words);
+    answered
+}
+
+/// Does what these words ask for.
+fn answer_words(rt: &HostRuntime, words: &[String]) -> io::Result<u8> {
+    match request_of(rt.alloc(), words) {
+        Ok(request) => {
+            let answered = answer_request(rt, &request);
+            drop(request);
+            answered
         }
-    };
-    if request.is_quiet {
-        run(rt, &mut io::sink(), &request)
+        Err(error) => {
+            let told = tell(rt, &error);
+            drop(error);
+            told
+        }
+    }
+}
+
+/// Writes what is wrong with the words, or the help or the version that they ask for, and answers the exit status.
+fn tell(rt: &HostRuntime, error: &Error) -> io::Result<u8> {
+    error.print(rt)?;
+    if error.kind() == ErrorKind::OutOfMemory {
+        Ok(MEMORY)
     } else {
-        run(rt, &mut io::writer(rt), &request)
+        Ok(error.exit_code() as u8)
+    }
+}
+
+/// Does what is asked for.
+fn answer_request(rt: &HostRuntime, request: &Request<'_>) -> io::Result<u8> {
+    if request.is_quiet {
+        run(rt, &mut io::sink(), request)
+    } else {
+        run(rt, &mut io::writer(rt), request)
     }
 }
 

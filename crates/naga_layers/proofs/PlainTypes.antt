@@ -7,8 +7,8 @@ use Rattle.ir_module.specs.declared.expressions.Expression.{Expression}
 use Rattle.ir_module.specs.declared.functions.Function.{Function}
 use Rattle.ir_module.specs.declared.module.Module.{Module}
 use Rattle.ir_types.specs.declared.typifier.TypeResolution.{TypeResolution}
-use Rattle.ir_facts.specs.declared.valid.expression_error.ExpressionError.TheVariants.{Lower}
-use Rattle.check_errors.specs.declared.function.FunctionError.TheVariants.{Expression as InExpression}
+use Rattle.ir_errors.specs.declared.expression.ExpressionError.TheVariants.{Lower}
+use Rattle.ir_errors.specs.declared.function.FunctionError.TheVariants.{Expression as InExpression}
 use Rattle.naga_layers.specs.Plain.Types.{types_from, type_of, or_refuse}
 
 module _ (m : Module) (f : Function) (earlier : List TypeResolution) (xs : List Expression) (i : ℕ) (x : Expression) (lt : i < length xs) (is : slice_get xs i ≡ Some x) (place : length earlier ≡ i) where

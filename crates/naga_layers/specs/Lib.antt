@@ -1,2 +1,10 @@
+pub mod Joins
+pub mod Roots
+pub mod Stages
+pub mod Walk
+pub mod Uses
+pub mod Kinds
+pub mod Lengths
 pub mod Plain
 pub mod Recorded
+pub mod Typed

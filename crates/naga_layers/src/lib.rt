@@ -1,12 +1,21 @@
 //! For users: three lower layers: `Recorded` answers recorded facts, `Typed` computes, `Plain` types the plainest expressions.
 #![tactic(auto)]
 
+pub mod joins;
+pub mod kinds;
 pub mod plain;
 pub mod recorded;
+pub mod roots;
+pub mod stages;
+pub mod typed;
+pub mod uses;
+pub mod walk;
 
 pub use crate::plain::Plain;
 pub use crate::recorded::Recorded;
-pub use layer_facts::{
+pub use crate::typed::Typed;
+pub use ir_facts::{
     ExpressionFact, Facts, FunctionFact, InfoFact, LowerFunctionError, MeshAnalysisFact,
 };
-pub use layer_typed::{Rule, Typed, Untyped, global_types, type_infos};
+pub use layer_expressions::{Rule, Untyped, global_types};
+pub use layer_types::type_infos;

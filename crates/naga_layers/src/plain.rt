@@ -1,24 +1,25 @@
 //! The plain lower layer: a small one, for `naga_check` and for tests.
 
 ghost use Rattle.std.specs.Prelude.{◌≡◌, IfOk};
-ghost use Rattle.check_errors.specs.Answers.{Answers, Exactly};
+ghost use Rattle.ir_facts.specs.Answers.{Answers, Exactly};
 ghost use Rattle.naga_layers.specs.Plain.Infos.{plain_info};
 ghost use Rattle.naga_layers.specs.Plain.Meaning.{plain_layer};
 
 mod types;
 mod uses;
 
+use crate::kinds::kinds_of;
 use crate::plain::types::types_of;
 use crate::plain::uses::uses_of;
-use check_errors::below::Below;
-use check_errors::function::FunctionError;
-use check_errors::mesh::MeshAnalysis;
 use ir_arena::arena::Arena;
 use ir_arena::handle::Handle;
 use ir_arena::span::Refusal;
 use ir_arena::tag;
+use ir_errors::expression::ExpressionError;
+use ir_errors::function::FunctionError;
+use ir_facts::below::Below;
 use ir_facts::proc::expression_kinds::ExpressionKindTracker;
-use ir_facts::valid::expression_error::ExpressionError;
+use ir_facts::proc::mesh::MeshAnalysis;
 use ir_facts::valid::info::{FunctionInfo, ModuleInfo};
 use ir_facts::valid::settings::Settings;
 use ir_flags::capabilities::Capabilities;
@@ -27,7 +28,6 @@ use ir_module::expressions::Expression;
 use ir_module::functions::Function;
 use ir_module::module::{MeshOutputTopology, MeshStageInfo, Module};
 use layer_types::size_of;
-use layer_uses::kinds_of;
 use std::alloc::{AllocError, Global};
 
 /// A lower layer that types the simplest expressions, and refuses any other as `Lower(1)`.
@@ -90,7 +90,7 @@ fn info_of(
 impl Below for Plain {
     ghost use Rattle.naga_layers.specs.Plain.Meaning.{plain_meaning};
     ghost use Rattle.naga_layers.specs.Plain.Laws.{info_one_type_each, info_one_use_each, info_types_in_range, info_no_struct_values};
-    ghost use Rattle.layer_uses.specs.Kinds.{kinds_one_each};
+    ghost use Rattle.naga_layers.specs.Kinds.{kinds_one_each};
 
     ghost meaning = { plain_meaning };
 

@@ -3,21 +3,25 @@
 ghost use Rattle.std.specs.Prelude.{◌≡◌, IfOk};
 ghost use Rattle.std.specs.List.{list_all};
 ghost use Rattle.std.specs.Option.{option_copied};
-ghost use Rattle.check_errors.specs.Answers.{Answers, Exactly};
-ghost use Rattle.layer_facts.specs.Facts.{info_of, fault_of, unknown_analysis, analysis_at};
+ghost use Rattle.ir_facts.specs.Answers.{Answers, Exactly};
+ghost use Rattle.ir_facts.specs.Facts.{fault_of};
+ghost use Rattle.ir_facts.specs.Facts.{info_of, unknown_analysis, analysis_at};
 ghost use Rattle.naga_layers.specs.Recorded.Asked.{fact_asked};
 ghost use Rattle.naga_layers.specs.Recorded.Infos.{is_lawful_type, is_lawful_info, expression_said, USELESS, recorded_info, recorded_stages};
 
-use check_errors::below::Below;
-use check_errors::function::FunctionError;
-use check_errors::mesh::{MeshAnalysis, MeshFault};
+use crate::kinds::kinds_of;
 use ir_arena::arena::Arena;
 use ir_arena::handle::Handle;
 use ir_arena::sequence::Sequence;
 use ir_arena::span::{Refusal, WithSpan};
 use ir_arena::tag;
+use ir_errors::expression::ExpressionError;
+use ir_errors::function::FunctionError;
+use ir_errors::mesh::MeshFault;
+use ir_facts::below::Below;
+use ir_facts::facts::{ExpressionFact, Facts, FunctionFact, InfoFact, MeshAnalysisFact};
 use ir_facts::proc::expression_kinds::ExpressionKindTracker;
-use ir_facts::valid::expression_error::ExpressionError;
+use ir_facts::proc::mesh::MeshAnalysis;
 use ir_facts::valid::info::{FunctionInfo, ModuleInfo};
 use ir_facts::valid::settings::Settings;
 use ir_flags::capabilities::Capabilities;
@@ -27,8 +31,6 @@ use ir_module::functions::Function;
 use ir_module::module::{MeshOutputTopology, MeshStageInfo, Module};
 use ir_types::types::TypeInner;
 use ir_types::typifier::TypeResolution;
-use layer_facts::facts::{ExpressionFact, Facts, FunctionFact, InfoFact, MeshAnalysisFact};
-use layer_uses::kinds_of;
 use std::alloc::{AllocError, Global};
 
 /// A lower layer that answers recorded facts. It keeps the laws of lower layers, whatever the facts and the module are.
@@ -216,7 +218,7 @@ fn analysis_at(facts: &Facts, output: Handle<tag::GlobalVariable>) -> MeshAnalys
 impl Below for Recorded {
     ghost use Rattle.naga_layers.specs.Recorded.Meaning.{recorded_meaning};
     ghost use Rattle.naga_layers.specs.Recorded.Laws.{one_type_each, one_use_each, types_in_range, no_struct_values};
-    ghost use Rattle.layer_uses.specs.Kinds.{kinds_one_each};
+    ghost use Rattle.naga_layers.specs.Kinds.{kinds_one_each};
 
     ghost meaning = { recorded_meaning };
 

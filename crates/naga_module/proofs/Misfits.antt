@@ -8,7 +8,7 @@ use Rattle.ir_module.specs.declared.functions.Function.{Function}
 use Rattle.ir_module.specs.declared.module.EntryPoint.{EntryPoint}
 use Rattle.ir_module.specs.declared.module.GlobalVariable.{GlobalVariable}
 use Rattle.ir_module.specs.declared.module.Module.{Module}
-use Rattle.ir_facts.specs.declared.valid.types.Disalignment.{Disalignment}
+use Rattle.ir_errors.specs.declared.types.Disalignment.{Disalignment}
 use Rattle.ir_facts.specs.declared.valid.types.TypeInfo.{TypeInfo}
 use Rattle.ir_facts.specs.Each.{EachAt}
 use Rattle.ir_facts.specs.Fits.{FitsTypes, FitsGlobals, FitsFunction, FitsEntry}
@@ -28,7 +28,7 @@ use Rattle.ir_misfits.specs.OfEntries.{entry_points}
 use Rattle.ir_misfits.proofs.Exact.{Exact, nothing, said, point_then, point_alone, named_alone, both, each_exact, all_exact}
 use Rattle.ir_misfits.proofs.ExactParts.{types_exact, globals_exact, entry_exact}
 use Rattle.ir_misfits.proofs.ExactBodies.{function_exact}
-use Rattle.check_errors.specs.Meaning.{Meaning}
+use Rattle.ir_facts.specs.Meaning.{Meaning}
 use Rattle.check_entry.specs.EntryJudgement.{HasPayloadSizes}
 use Rattle.check_statement.specs.ValidatorParts.{AreInfosOf, NamesTypes}
 use Rattle.naga_module.specs.Misfits.{layout_points, info_points, one_info_each, infos_points, module_function_points, entry_point_points, is_task_payload, size_points, module_points, AllFits}

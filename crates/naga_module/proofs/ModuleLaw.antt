@@ -9,8 +9,8 @@ use Rattle.ir_facts.specs.declared.valid.info.FunctionInfo.{FunctionInfo}
 use Rattle.ir_facts.specs.declared.valid.info.ModuleInfo.{ModuleInfo}
 use Rattle.ir_facts.specs.declared.valid.settings.Settings.{Settings}
 use Rattle.ir_facts.specs.declared.valid.types.TypeInfo.{TypeInfo}
-use Rattle.check_errors.specs.Meaning.{Meaning}
-use Rattle.check_errors.specs.WhatIsChecked.{checks_blocks, checks_expressions, checks_bindings}
+use Rattle.ir_facts.specs.Meaning.{Meaning}
+use Rattle.ir_facts.specs.WhatIsChecked.{checks_blocks, checks_expressions, checks_bindings}
 use Rattle.check_body.proofs.Chains.{of_all_infos, of_other_entries, fits_calls_below}
 use Rattle.check_body.proofs.FunctionLaw.{is_sound, fills_once, is_of_all_stages, has_no_return_in_continuing, has_whole_switches}
 use Rattle.check_body.specs.Chains.{infos_below, IsVettedInfo}

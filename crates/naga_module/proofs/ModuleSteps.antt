@@ -5,7 +5,7 @@ use Rattle.ir_module.specs.declared.module.Module.{Module}
 use Rattle.ir_facts.specs.declared.valid.info.ModuleInfo.{ModuleInfo}
 use Rattle.ir_facts.specs.declared.valid.settings.Settings.{Settings}
 use Rattle.ir_facts.specs.declared.valid.types.TypeInfo.{TypeInfo}
-use Rattle.check_errors.specs.Meaning.{Meaning}
+use Rattle.ir_facts.specs.Meaning.{Meaning}
 use Rattle.check_entry.specs.EntryJudgement.{HasPayloadSizes}
 use Rattle.check_scope.specs.declared.trace.TraceState.{TraceState}
 use Rattle.naga_module.specs.CodeModule.{Leads, EntriesStop}

@@ -13,8 +13,8 @@ use Rattle.ir_module.specs.declared.module.Module.{Module}
 use Rattle.ir_facts.specs.declared.valid.info.ModuleInfo.{ModuleInfo}
 use Rattle.ir_facts.specs.declared.valid.settings.Settings.{Settings}
 use Rattle.ir_facts.specs.declared.valid.types.TypeInfo.{TypeInfo}
-use Rattle.check_errors.specs.Meaning.{Meaning}
-use Rattle.check_errors.specs.declared.function.FunctionError.{FunctionError}
+use Rattle.ir_facts.specs.Meaning.{Meaning}
+use Rattle.ir_errors.specs.declared.function.FunctionError.{FunctionError}
 use Rattle.check_entry.specs.EntryFaults.{fault_of}
 use Rattle.check_entry.specs.EntryJudgement.{entry_judgement}
 use Rattle.check_body.specs.InOrder.{with_info}

@@ -13,7 +13,7 @@ use Rattle.ir_module.specs.declared.statements.Block.{out-roll-Block}
 use Rattle.ir_module.specs.declared.statements.Statement.{Statement}
 use Rattle.ir_module.specs.declared.statements.Statement as ir
 use Rattle.ir_facts.specs.declared.valid.info.FunctionInfo.{FunctionInfo}
-use Rattle.check_errors.specs.declared.function.FunctionError.{FunctionError}
+use Rattle.ir_errors.specs.declared.function.FunctionError.{FunctionError}
 use Rattle.naga_runs.specs.Judgement.{judgement, state_after}
 use Rattle.check_scope.specs.BodyTrees.{body_of, emitted_operands}
 use Rattle.check_body.specs.Chains.{Calls, Through, CallsBelow, infos_below, IsVettedInfo}

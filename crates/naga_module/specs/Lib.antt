@@ -9,8 +9,8 @@ pub mod WorkedChain
 pub use Rattle.check_scope.specs.BodyTrees.{body_of}
 pub use Rattle.check_scope.specs.Context.{pre_emitted_of}
 pub use Rattle.check_scope.specs.declared.trace.TraceState.{TraceState}
-pub use Rattle.check_errors.specs.Meaning.{Meaning}
-pub use Rattle.check_errors.specs.WhatIsChecked.{checks_blocks, checks_expressions, checks_bindings}
+pub use Rattle.ir_facts.specs.Meaning.{Meaning}
+pub use Rattle.ir_facts.specs.WhatIsChecked.{checks_blocks, checks_expressions, checks_bindings}
 pub use Rattle.check_statement.specs.FunctionJudgement.{FunctionOutcome}
 unfoldable pub use Rattle.check_statement.specs.FunctionJudgement.{function_judgement}
 pub use Rattle.check_statement.specs.ValidatorParts.{AreInfosOf}

@@ -8,7 +8,7 @@ use Rattle.ir_module.specs.declared.module.EntryPoint.{EntryPoint}
 use Rattle.ir_module.specs.declared.module.GlobalVariable.{GlobalVariable}
 use Rattle.ir_module.specs.declared.module.Module.{Module}
 use Rattle.ir_facts.specs.declared.valid.settings.Settings.{Settings}
-use Rattle.ir_facts.specs.declared.valid.types.Disalignment.{Disalignment}
+use Rattle.ir_errors.specs.declared.types.Disalignment.{Disalignment}
 use Rattle.ir_facts.specs.declared.valid.types.TypeInfo.{TypeInfo}
 use Rattle.ir_facts.specs.Each.{EachAt}
 use Rattle.ir_facts.specs.Fits.{FitsTypes, FitsGlobals, FitsFunction, FitsEntry}
@@ -25,7 +25,7 @@ use Rattle.ir_misfits.specs.OfTypes.{types_points}
 use Rattle.ir_misfits.specs.OfGlobals.{globals_points}
 use Rattle.ir_misfits.specs.OfFunctions.{function_points}
 use Rattle.ir_misfits.specs.OfEntries.{entry_points}
-use Rattle.check_errors.specs.Meaning.{Meaning}
+use Rattle.ir_facts.specs.Meaning.{Meaning}
 use Rattle.check_entry.specs.EntryJudgement.{HasPayloadSizes}
 use Rattle.check_statement.specs.ValidatorParts.{AreInfosOf}
 use Rattle.naga_module.specs.ModuleJudgement.{first_infos}

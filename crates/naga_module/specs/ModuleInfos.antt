@@ -4,12 +4,12 @@ use Rattle.ir_facts.specs.Fits.{FitsFunction, FitsEntry}
 use Rattle.ir_module.specs.declared.functions.Function.{Function}
 use Rattle.ir_module.specs.declared.module.EntryPoint.{EntryPoint}
 use Rattle.ir_module.specs.declared.module.Module.{Module}
-use Rattle.ir_module.specs.declared.module.ShaderStage.TheVariants.{Vertex}
+use Rattle.ir_types.specs.declared.stage.ShaderStage.TheVariants.{Vertex}
 use Rattle.ir_facts.specs.declared.valid.info.FunctionInfo.{FunctionInfo}
 use Rattle.ir_facts.specs.declared.valid.info.ModuleInfo.{ModuleInfo}
 use Rattle.ir_facts.specs.declared.valid.settings.Settings.{Settings}
 use Rattle.ir_facts.specs.declared.valid.types.TypeInfo.{TypeInfo}
-use Rattle.check_errors.specs.Meaning.{Meaning}
+use Rattle.ir_facts.specs.Meaning.{Meaning}
 use Rattle.check_body.specs.Chains.{IsVettedInfo, AreVetted}
 use Rattle.check_entry.specs.EntryJudgement.{entry_judgement}
 use Rattle.check_scope.specs.declared.trace.TraceState.{TraceState}

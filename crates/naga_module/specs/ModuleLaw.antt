@@ -9,7 +9,7 @@ use Rattle.ir_types.specs.declared.typifier.TypeResolution.{TypeResolution}
 use Rattle.ir_facts.specs.declared.valid.info.ModuleInfo.{ModuleInfo}
 use Rattle.ir_facts.specs.declared.valid.settings.Settings.{Settings}
 use Rattle.ir_facts.specs.declared.valid.types.TypeInfo.{TypeInfo}
-use Rattle.check_errors.specs.Meaning.{Meaning}
+use Rattle.ir_facts.specs.Meaning.{Meaning}
 use Rattle.naga_runs.specs.Soundness.{RunsAreSure}
 use Rattle.check_scope.specs.BodyTrees.{body_of}
 use Rattle.check_body.specs.Accepted.{ResultsAreFilledOnce, StagesAreOfAll}
@@ -17,7 +17,7 @@ use Rattle.check_body.specs.Chains.{ChainsKeepTo}
 use Rattle.check_body.specs.Shapes.{HasNoReturnInContinuing, HasWholeSwitches}
 use Rattle.check_scope.specs.Context.{pre_emitted_of}
 use Rattle.check_entry.specs.EntryUses.{only}
-use Rattle.check_errors.specs.WhatIsChecked.{checks_blocks, checks_expressions, checks_bindings}
+use Rattle.ir_facts.specs.WhatIsChecked.{checks_blocks, checks_expressions, checks_bindings}
 use Rattle.naga_valid.specs.EntryFacts.{BindingsAreDistinct, GroupsAreDistinct}
 use Rattle.naga_module.specs.ModuleInfos.{infos_before, OfFunctions, OfEntryPoints, ModuleIsJudged}
 use Rattle.naga_module.specs.ModuleJudgement.{Fits, IsJudgement, IsJudgementOrMemory}

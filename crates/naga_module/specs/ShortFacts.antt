@@ -9,10 +9,10 @@ use Rattle.ir_module.specs.declared.module.Module.{Module}
 use Rattle.ir_facts.specs.Points.{Point, points_of_each}
 use Rattle.ir_misfits.specs.declared.misfit.Owner.{Owner}
 use Rattle.ir_misfits.specs.declared.misfit.Owner.TheVariants as owner
-use Rattle.layer_facts.specs.declared.facts.Facts.{Facts}
-use Rattle.layer_facts.specs.declared.facts.FunctionFact.{FunctionFact}
-use Rattle.layer_facts.specs.declared.facts.FunctionFact.TheVariants.{Info, Error}
-use Rattle.layer_facts.specs.declared.facts.InfoFact.{InfoFact}
+use Rattle.ir_facts.specs.declared.facts.Facts.{Facts}
+use Rattle.ir_facts.specs.declared.facts.FunctionFact.{FunctionFact}
+use Rattle.ir_facts.specs.declared.facts.FunctionFact.TheVariants.{Info, Error}
+use Rattle.ir_facts.specs.declared.facts.InfoFact.{InfoFact}
 use Rattle.check_faults.specs.declared.shortage.Shortage.{Shortage}
 use Rattle.check_faults.specs.declared.shortage.Shortage.TheVariants as short
 

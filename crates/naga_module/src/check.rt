@@ -7,7 +7,7 @@ ghost use Rattle.naga_module.specs.ModuleLaw.{ModuleHolds, ModuleFillsOnce, Modu
 ghost use Rattle.check_faults.specs.declared.module.ModuleFault.TheVariants as fault;
 ghost use Rattle.check_statement.specs.ValidatorParts.{AreInfosOf, no_traces};
 ghost use Rattle.ir_facts.specs.Fits.{FitsTypes, FitsGlobals};
-ghost use Rattle.check_errors.specs.WhatIsChecked.{checks_blocks, checks_expressions, checks_bindings};
+ghost use Rattle.ir_facts.specs.WhatIsChecked.{checks_blocks, checks_expressions, checks_bindings};
 
 mod entries;
 mod functions;
@@ -16,14 +16,14 @@ mod globals;
 use crate::check::entries::validate_entry_points;
 use crate::check::functions::validate_functions;
 use crate::check::globals::validate_globals;
-use check_errors::below::Below;
-use check_errors::function::FunctionError;
-use check_errors::interface::GlobalVariableError;
 use check_faults::module::ModuleFault;
 use ir_arena::handle::Handle;
 use ir_arena::sequence::Sequence;
 use ir_arena::span::WithSpan;
 use ir_arena::tag;
+use ir_errors::function::FunctionError;
+use ir_errors::interface::GlobalVariableError;
+use ir_facts::below::Below;
 use ir_facts::valid::info::ModuleInfo;
 use ir_facts::valid::settings::Settings;
 use ir_facts::valid::types::TypeInfo;

@@ -9,10 +9,11 @@ ghost use Rattle.naga_module.specs.Misfits.{layout_points, info_points, one_info
 ghost use Rattle.naga_module.specs.ModuleJudgement.{IsJudgement};
 
 use crate::check::Given;
-use check_errors::below::Below;
 use ir_arena::handle::Handle;
 use ir_arena::tag;
-use ir_facts::valid::types::{Disalignment, TypeInfo};
+use ir_errors::types::Disalignment;
+use ir_facts::below::Below;
+use ir_facts::valid::types::TypeInfo;
 use ir_misfits::entry::check_entry_fits;
 use ir_misfits::function::check_function_fits;
 use ir_misfits::globals::check_globals_fit;

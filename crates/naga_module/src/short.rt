@@ -8,12 +8,12 @@ ghost use Rattle.check_faults.specs.declared.shortage.Shortage.TheVariants.{Type
 ghost use Rattle.naga_module.specs.ShortFacts.{type_points, info_points, fact_points, function_shortages, entry_shortages, shortages};
 
 use check_faults::shortage::Shortage;
+use ir_facts::{Facts, FunctionFact, InfoFact};
 use ir_misfits::misfit::Owner;
 use ir_module::functions::Function;
 use ir_module::module::Module;
 use ir_types::types::TypeInner;
 use ir_types::typifier::TypeResolution;
-use layer_facts::{Facts, FunctionFact, InfoFact};
 
 /// What is missing in the facts about a function, or about the function of an entry point, or breaks a law: the first in the
 /// order of [`Shortage`], but that `expressions` is last. It takes no memory.

@@ -1,6 +1,6 @@
-pub use Rattle.check_errors.specs.Answers.{Right, FirstOf, Exactly, Finds, Answers, read_by}
-pub use Rattle.check_errors.specs.Lawful.{IsNoStruct}
-pub use Rattle.check_errors.specs.Meaning.{Meaning, HasOneTypeEach, HasOneUseEach, HasTypesInRange, HasNoStructValues, HasOneKindEach}
+pub use Rattle.ir_facts.specs.Answers.{Right, FirstOf, Exactly, Finds, Answers, read_by}
+pub use Rattle.ir_facts.specs.Lawful.{IsNoStruct}
+pub use Rattle.ir_facts.specs.Meaning.{Meaning, HasOneTypeEach, HasOneUseEach, HasTypesInRange, HasNoStructValues, HasOneKindEach}
 pub use Rattle.check_variables.specs.AllowedUses.{allowed_use}
 pub use Rattle.check_variables.specs.Globals.{global_points}
 pub use Rattle.check_variables.specs.Locals.{local_points}

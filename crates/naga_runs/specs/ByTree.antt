@@ -3,7 +3,7 @@
 use Rattle.std.specs.Prelude.{ℕ, Bool, true, false, List, Option, Some, None, Result, Ok, ◌≡◌, ◌∷◌, ◌++◌, []}
 use Rattle.ir_module.specs.Tree.{Act, Stmt, Body, Cases, Leaf, Block, Branch, Switch, Loop, Break, Continue, Return, Kill, Done, Then, NoCase, OneCase}
 use Rattle.ir_module.specs.declared.statements.Statement.{Statement}
-use Rattle.ir_module.specs.declared.statements.SwitchValue.{SwitchValue}
+use Rattle.ir_types.specs.declared.operations.SwitchValue.{SwitchValue}
 use Rattle.ir_arena.specs.declared.span.Span.{Span}
 use Rattle.naga_runs.specs.Handles.{Handles}
 use Rattle.ir_facts.specs.Points.{first_fault, answer, and_then}

@@ -1,6 +1,6 @@
 -- What each kind of statement uses and puts, in the order in which it is checked, read off the statement itself.
 use Rattle.ir_module.specs.declared.statements.Statement as s
-use Rattle.ir_module.specs.declared.operations.AtomicFunction.TheVariants as atomic
+use Rattle.ir_types.specs.declared.operations.AtomicFunction.TheVariants as atomic
 use Rattle.ir_module.specs.declared.operations.GatherMode.TheVariants as gather
 use Rattle.ir_module.specs.declared.operations.RayQueryFunction.TheVariants as query
 use Rattle.ir_module.specs.declared.operations.RayPipelineFunction.TheVariants.{TraceRay}
@@ -9,7 +9,7 @@ use Rattle.ir_module.specs.Tree.{Act, Use, Put}
 use Rattle.ir_module.specs.declared.statements.Block.{Block}
 use Rattle.ir_module.specs.View.{tree_of}
 use Rattle.ir_flags.specs.declared.ir.Barrier.{Barrier}
-use Rattle.ir_module.specs.declared.operations.AtomicFunction.{AtomicFunction}
+use Rattle.ir_types.specs.declared.operations.AtomicFunction.{AtomicFunction}
 use Rattle.ir_module.specs.declared.operations.CollectiveOperation.{CollectiveOperation}
 use Rattle.ir_module.specs.declared.operations.CooperativeData.{CooperativeData}
 use Rattle.ir_module.specs.declared.statements.Statement.{Statement}

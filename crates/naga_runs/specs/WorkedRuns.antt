@@ -1,5 +1,5 @@
 -- Runs of some bodies, worked by hand from the definitions in words. Handles below 7.
-use Rattle.ir_module.specs.declared.statements.SwitchValue.TheVariants.{Default}
+use Rattle.ir_types.specs.declared.operations.SwitchValue.TheVariants.{Default}
 use Rattle.std.specs.Prelude.{ℕ, true, List, Option, Some, None, map, ◌≡◌, ◌∷◌, []}
 use Rattle.ir_module.specs.Tree.{Act, Body, Use, Put, Switch, Loop, Break, Continue, Return, Kill, Done, Then, NoCase, OneCase}
 use Rattle.naga_runs.specs.Machine.{Outcome, Run, run, events_of, outcome_of, Next, Returned, Ended, Stopped, Stuck}

@@ -6,16 +6,16 @@ use Rattle.ir_facts.specs.Points.{first_fault, answer, and_then, within}
 use Rattle.ir_module.specs.declared.module.EntryPoint.{EntryPoint}
 use Rattle.ir_module.specs.declared.module.MeshStageInfo.{MeshStageInfo}
 use Rattle.ir_module.specs.declared.module.Module.{Module}
-use Rattle.ir_module.specs.declared.module.ShaderStage.{ShaderStage}
-use Rattle.ir_module.specs.declared.module.ShaderStage.TheVariants as stage
+use Rattle.ir_types.specs.declared.stage.ShaderStage.{ShaderStage}
+use Rattle.ir_types.specs.declared.stage.ShaderStage.TheVariants as stage
 use Rattle.ir_flags.specs.declared.valid.GlobalUse.{GlobalUse}
 use Rattle.ir_facts.specs.declared.valid.info.FunctionInfo.{FunctionInfo}
 use Rattle.ir_facts.specs.declared.valid.info.ModuleInfo.{ModuleInfo}
 use Rattle.ir_facts.specs.declared.valid.settings.Settings.{Settings}
 use Rattle.ir_facts.specs.declared.valid.types.TypeInfo.{TypeInfo}
 use Rattle.check_variables.specs.AllowedUses.{join}
-use Rattle.check_errors.specs.Meaning.{Meaning}
-use Rattle.check_errors.specs.declared.function.FunctionError.{FunctionError}
+use Rattle.ir_facts.specs.Meaning.{Meaning}
+use Rattle.ir_errors.specs.declared.function.FunctionError.{FunctionError}
 use Rattle.check_entry.specs.EntryFaults.{EntryFault, fault_of}
 use Rattle.check_entry.specs.EntryJudgement.{entry_judgement, of_function, interface_points, interface_step, entry_outcome}
 use Rattle.check_entry.specs.Start.{start_points}

@@ -8,14 +8,14 @@ use Rattle.ir_module.specs.Tree.{Cases, Switch}
 use Rattle.ir_module.specs.declared.module.EntryPoint.{EntryPoint}
 use Rattle.ir_module.specs.declared.module.MeshStageInfo.{MeshStageInfo}
 use Rattle.ir_module.specs.declared.module.Module.{Module}
-use Rattle.ir_module.specs.declared.module.ShaderStage.{ShaderStage}
-use Rattle.ir_module.specs.declared.module.ShaderStage.TheVariants as stage
+use Rattle.ir_types.specs.declared.stage.ShaderStage.{ShaderStage}
+use Rattle.ir_types.specs.declared.stage.ShaderStage.TheVariants as stage
 use Rattle.ir_facts.specs.declared.valid.info.FunctionInfo.{FunctionInfo}
 use Rattle.ir_facts.specs.declared.valid.settings.Settings.{Settings}
 use Rattle.ir_facts.specs.declared.valid.types.TypeInfo.{TypeInfo}
 use Rattle.ir_types.specs.Types.{resolved, scalar_kind_of}
 use Rattle.ir_types.specs.declared.typifier.TypeResolution.{TypeResolution}
-use Rattle.check_errors.specs.Meaning.{Meaning}
+use Rattle.ir_facts.specs.Meaning.{Meaning}
 use Rattle.check_variables.specs.AllowedUses.{join}
 use Rattle.check_body.specs.Accepted.{StagesAreOfAll}
 use Rattle.check_body.specs.Shapes.{StandsAt, AreWhole}

@@ -23,7 +23,7 @@ use Rattle.ir_facts.specs.declared.valid.types.TypeInfo.{TypeInfo}
 use Rattle.check_varyings.proofs.Seeing.{goes_own_way}
 use Rattle.check_varyings.proofs.TypesAt.{inner_is, named_at}
 use Rattle.check_varyings.specs.BuiltIns.{built_in_rule, canonical, is_same_built_in}
-use Rattle.check_errors.specs.TypeInfos.{type_has}
+use Rattle.ir_facts.specs.TypeInfos.{type_has}
 use Rattle.check_varyings.specs.VaryingFaults.{Itself}
 use Rattle.check_varyings.specs.Varyings.{Part, Placed, Bound, BlendSources, UnboundMember, Unbound, built_in_points, go_same_way, is_built_in, member_part, member_parts, part_points, parts_of, placed, placed_parts, placed_points, ruled_points, seen_at, unbound_parts, group_parts}
 use Rattle.check_varyings.specs.declared.varying.MeshOutputType.TheVariants.{Neither}

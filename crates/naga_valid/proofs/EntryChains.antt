@@ -10,14 +10,14 @@ use Rattle.ir_facts.specs.Points.{first_fault, within}
 use Rattle.ir_module.specs.declared.module.EntryPoint.{EntryPoint}
 use Rattle.ir_module.specs.declared.module.MeshStageInfo.{MeshStageInfo}
 use Rattle.ir_module.specs.declared.module.Module.{Module}
-use Rattle.ir_module.specs.declared.module.ShaderStage.{ShaderStage}
-use Rattle.ir_module.specs.declared.module.ShaderStage.TheVariants as stage
+use Rattle.ir_types.specs.declared.stage.ShaderStage.{ShaderStage}
+use Rattle.ir_types.specs.declared.stage.ShaderStage.TheVariants as stage
 use Rattle.ir_flags.specs.declared.valid.GlobalUse.{GlobalUse}
 use Rattle.ir_flags.specs.declared.valid.ShaderStages.{ShaderStages}
 use Rattle.ir_facts.specs.declared.valid.info.FunctionInfo.{FunctionInfo}
 use Rattle.ir_facts.specs.declared.valid.settings.Settings.{Settings}
 use Rattle.ir_facts.specs.declared.valid.types.TypeInfo.{TypeInfo}
-use Rattle.check_errors.specs.Meaning.{Meaning}
+use Rattle.ir_facts.specs.Meaning.{Meaning}
 use Rattle.check_body.specs.Accepted.{AreAmong}
 use Rattle.check_entry.specs.EntryFaults.{fault_of}
 use Rattle.check_entry.specs.EntryJudgement.{used_points, interface_points}

@@ -15,8 +15,8 @@ use Rattle.ir_module.specs.declared.module.EntryPoint.{EntryPoint}
 use Rattle.ir_module.specs.declared.module.GlobalVariable.{GlobalVariable}
 use Rattle.ir_module.specs.declared.module.Module.{Module}
 use Rattle.ir_module.specs.declared.module.ResourceBinding.{ResourceBinding}
-use Rattle.ir_module.specs.declared.module.ShaderStage.{ShaderStage}
-use Rattle.ir_module.specs.declared.module.ShaderStage.TheVariants.{Vertex}
+use Rattle.ir_types.specs.declared.stage.ShaderStage.{ShaderStage}
+use Rattle.ir_types.specs.declared.stage.ShaderStage.TheVariants.{Vertex}
 use Rattle.ir_types.specs.declared.types.Binding.{Binding}
 use Rattle.ir_types.specs.declared.types.Binding.TheVariants as binding
 use Rattle.ir_types.specs.declared.types.StructMember.{StructMember}
@@ -29,9 +29,9 @@ use Rattle.ir_facts.specs.declared.valid.info.FunctionInfo.{FunctionInfo}
 use Rattle.ir_facts.specs.declared.valid.settings.Settings.{Settings}
 use Rattle.ir_facts.specs.declared.valid.types.TypeInfo.{TypeInfo}
 use Rattle.check_varyings.specs.BuiltIns.{canonical, is_same_built_in}
-use Rattle.check_errors.specs.WhatIsChecked.{checks_bindings}
-use Rattle.check_errors.specs.Meaning.{Meaning}
-use Rattle.check_errors.specs.TypeInfos.{type_has}
+use Rattle.ir_facts.specs.WhatIsChecked.{checks_bindings}
+use Rattle.ir_facts.specs.Meaning.{Meaning}
+use Rattle.ir_facts.specs.TypeInfos.{type_has}
 use Rattle.check_varyings.specs.Varyings.{Bound, is_built_in, member_part, member_parts, parts_of, unbound_parts}
 use Rattle.check_entry.specs.EntryFaults.{EntryFault, fault_of}
 use Rattle.check_entry.specs.UsedGlobals.{binding_at, binding_points, global_points, globals_points, immediate_points, is_bound_to, is_same_binding, is_some_use, is_taken_before, is_used, use_points}

@@ -16,8 +16,8 @@ use Rattle.ir_facts.specs.declared.valid.info.FunctionInfo.{FunctionInfo}
 use Rattle.ir_facts.specs.declared.valid.settings.Settings.{Settings}
 use Rattle.ir_facts.specs.declared.valid.types.TypeInfo.{TypeInfo}
 use Rattle.check_varyings.specs.Locations.{carried_type, interpolation_points, location_points, per_vertex_points, sharing_points}
-use Rattle.check_errors.specs.WhatIsChecked.{checks_bindings}
-use Rattle.check_errors.specs.Meaning.{Meaning}
+use Rattle.ir_facts.specs.WhatIsChecked.{checks_bindings}
+use Rattle.ir_facts.specs.Meaning.{Meaning}
 use Rattle.check_varyings.specs.VaryingFaults.{VaryingFault, Itself}
 use Rattle.check_varyings.specs.Varyings.{Item, Part, Placed, Bound, BlendSources, UnboundMember, Unbound, blend_points, group_points_from, is_at, item_points, part_points, placed, placed_parts, placed_points, seen_at, group_parts}
 use Rattle.check_varyings.specs.declared.varying.MeshOutputType.TheVariants.{VertexOutput, PrimitiveOutput}

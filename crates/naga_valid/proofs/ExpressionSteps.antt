@@ -6,11 +6,11 @@ use Rattle.ir_arena.specs.declared.span.Refusal.{Refusal}
 use Rattle.ir_arena.specs.declared.span.Refusal.TheVariants as refusal
 use Rattle.ir_flags.specs.declared.valid.ShaderStages.{ShaderStages}
 use Rattle.ir_facts.specs.declared.valid.info.FunctionInfo.{FunctionInfo}
-use Rattle.check_errors.specs.Answers.{Answers, Exactly}
-use Rattle.check_errors.specs.Meaning.{Meaning}
-use Rattle.check_errors.specs.declared.function.FunctionError.{FunctionError}
+use Rattle.ir_facts.specs.Answers.{Answers, Exactly}
+use Rattle.ir_facts.specs.Meaning.{Meaning}
+use Rattle.ir_errors.specs.declared.function.FunctionError.{FunctionError}
 use Rattle.check_scope.specs.Context.{Context}
-use Rattle.check_errors.specs.WhatIsChecked.{checks_expressions}
+use Rattle.ir_facts.specs.WhatIsChecked.{checks_expressions}
 use Rattle.check_statement.specs.ExpressionStages.{with_stages, of_expression, mask_at, stages_from, expressions_step}
 use Rattle.check_statement.specs.Stages.{meet}
 

@@ -13,15 +13,15 @@ use Rattle.ir_facts.specs.declared.valid.info.ModuleInfo.{ModuleInfo}
 use Rattle.ir_facts.specs.declared.valid.settings.Settings.{Settings}
 use Rattle.ir_flags.specs.declared.valid.ShaderStages.{ShaderStages}
 use Rattle.ir_facts.specs.declared.valid.types.TypeInfo.{TypeInfo}
-use Rattle.check_errors.specs.Answers.{IsFirstFault, Answers, Exactly}
-use Rattle.check_errors.specs.Meaning.{Meaning, HasOneTypeEach, HasTypesInRange, HasNoStructValues, HasOneKindEach}
-use Rattle.check_errors.specs.declared.function.FunctionError.{FunctionError}
+use Rattle.ir_facts.specs.Answers.{IsFirstFault, Answers, Exactly}
+use Rattle.ir_facts.specs.Meaning.{Meaning, HasOneTypeEach, HasTypesInRange, HasNoStructValues, HasOneKindEach}
+use Rattle.ir_errors.specs.declared.function.FunctionError.{FunctionError}
 use Rattle.naga_runs.specs.Judgement.{viewed}
 use Rattle.naga_runs.specs.Visits.{Visit}
 use Rattle.check_scope.specs.Context.{Context, ContextFits}
 use Rattle.check_statement.specs.Declarations.{declaration_points}
 use Rattle.check_statement.specs.ExpressionStages.{with_stages, expressions_step}
-use Rattle.check_errors.specs.WhatIsChecked.{checks_blocks}
+use Rattle.ir_facts.specs.WhatIsChecked.{checks_blocks}
 use Rattle.check_statement.specs.FunctionJudgement.{FunctionOutcome, body_judgement, outcome_left, judged_with, declarations_step, expressions_known, context_with, lower_step, function_judgement}
 use Rattle.check_scope.specs.Results.{filled_before, filled_points}
 use Rattle.check_statement.specs.walk.AskedContext.{asked_context, known_behind}

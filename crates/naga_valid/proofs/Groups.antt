@@ -26,7 +26,7 @@ use Rattle.check_entry.specs.EntryFaults.{EntryFault, OfResult, Other, fault_of}
 use Rattle.check_entry.specs.EntryVaryings.{declared_points, is_struct, output_points, place_of, result_item}
 use Rattle.check_faults.specs.declared.entry.EntryPointError.{EntryPointError}
 use Rattle.check_faults.specs.declared.entry.EntryPointError.TheVariants as fault
-use Rattle.check_errors.specs.Answers.{Answers, FirstOf, read_by}
+use Rattle.ir_facts.specs.Answers.{Answers, FirstOf, read_by}
 
 module _ (types : List IrType) (infos : List TypeInfo) where
   parts_more : (items : List Item) (x : Item) → group_parts types infos (items ++ x ∷ []) ≡ group_parts types infos items ++ placed_parts types infos x

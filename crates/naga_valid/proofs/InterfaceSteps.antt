@@ -8,8 +8,8 @@ use Rattle.ir_arena.specs.declared.span.Refusal.{Refusal}
 use Rattle.ir_facts.specs.declared.valid.info.FunctionInfo.{FunctionInfo}
 use Rattle.ir_facts.specs.declared.valid.settings.Settings.{Settings}
 use Rattle.ir_facts.specs.declared.valid.types.TypeInfo.{TypeInfo}
-use Rattle.check_errors.specs.Answers.{Answers, FirstOf, read_by}
-use Rattle.check_errors.specs.Meaning.{Meaning}
+use Rattle.ir_facts.specs.Answers.{Answers, FirstOf, read_by}
+use Rattle.ir_facts.specs.Meaning.{Meaning}
 use Rattle.check_entry.specs.EntryFaults.{EntryFault, fault_of}
 use Rattle.check_entry.specs.EntryJudgement.{used_points}
 use Rattle.check_entry.specs.EntryUses.{stage_points}

@@ -8,7 +8,7 @@ use Rattle.ir_module.specs.declared.module.GlobalVariable.{GlobalVariable}
 use Rattle.ir_module.specs.declared.module.Module.{Module}
 use Rattle.ir_flags.specs.declared.valid.GlobalUse.{GlobalUse}
 use Rattle.ir_flags.specs.declared.valid.ValidationFlags.{ValidationFlags}
-use Rattle.check_errors.specs.Meaning.{Meaning}
+use Rattle.ir_facts.specs.Meaning.{Meaning}
 use Rattle.check_entry.specs.UsedGlobals.{binding_points, global_points, globals_points, immediate_points, points_if_used, use_points, used_global_points, used_immediates}
 use Rattle.check_entry.proofs.EntrySteps.{both_pass}
 use Rattle.check_faults.specs.declared.entry.EntryPointError.TheVariants as fault

@@ -5,8 +5,8 @@ use Rattle.ir_module.specs.declared.module.Module.{Module}
 use Rattle.ir_facts.specs.declared.valid.info.ModuleInfo.{ModuleInfo}
 use Rattle.ir_facts.specs.declared.valid.settings.Settings.{Settings}
 use Rattle.ir_facts.specs.declared.valid.types.TypeInfo.{TypeInfo}
-use Rattle.check_errors.specs.Meaning.{Meaning}
-use Rattle.check_errors.specs.WhatIsChecked.{checks_blocks, checks_expressions}
+use Rattle.ir_facts.specs.Meaning.{Meaning}
+use Rattle.ir_facts.specs.WhatIsChecked.{checks_blocks, checks_expressions}
 use Rattle.check_body.specs.Accepted.{ResultsAreFilledOnce, StagesAreOfAll}
 use Rattle.check_body.specs.Shapes.{HasNoReturnInContinuing, HasWholeSwitches}
 use Rattle.check_entry.specs.EntryJudgement.{entry_judgement}

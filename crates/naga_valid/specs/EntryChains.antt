@@ -5,7 +5,7 @@ use Rattle.ir_module.specs.declared.module.Module.{Module}
 use Rattle.ir_facts.specs.declared.valid.info.ModuleInfo.{ModuleInfo}
 use Rattle.ir_facts.specs.declared.valid.settings.Settings.{Settings}
 use Rattle.ir_facts.specs.declared.valid.types.TypeInfo.{TypeInfo}
-use Rattle.check_errors.specs.Meaning.{Meaning}
+use Rattle.ir_facts.specs.Meaning.{Meaning}
 use Rattle.naga_runs.specs.Soundness.{RunsAreSure}
 use Rattle.check_scope.specs.BodyTrees.{body_of}
 use Rattle.check_body.specs.Chains.{CallsBelow, AreVetted, ChainsKeepTo}
@@ -13,7 +13,7 @@ use Rattle.check_scope.specs.Context.{pre_emitted_of}
 use Rattle.check_entry.specs.EntryJudgement.{entry_judgement}
 use Rattle.check_entry.specs.EntryUses.{only}
 use Rattle.check_statement.specs.FunctionJudgement.{FunctionOutcome}
-use Rattle.check_errors.specs.WhatIsChecked.{checks_blocks}
+use Rattle.ir_facts.specs.WhatIsChecked.{checks_blocks}
 use Rattle.check_scope.specs.declared.trace.TraceState.{TraceState}
 use Rattle.std.specs.Prelude.{length}
 

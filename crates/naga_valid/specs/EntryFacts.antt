@@ -11,7 +11,7 @@ use Rattle.ir_module.specs.declared.module.GlobalVariable.{GlobalVariable}
 use Rattle.ir_module.specs.declared.module.MeshStageInfo.{MeshStageInfo}
 use Rattle.ir_module.specs.declared.module.Module.{Module}
 use Rattle.ir_module.specs.declared.module.ResourceBinding.{ResourceBinding}
-use Rattle.ir_module.specs.declared.module.ShaderStage.TheVariants.{Vertex}
+use Rattle.ir_types.specs.declared.stage.ShaderStage.TheVariants.{Vertex}
 use Rattle.ir_types.specs.declared.types.Binding.{Binding}
 use Rattle.ir_types.specs.declared.types.Binding.TheVariants as binding
 use Rattle.ir_types.specs.declared.types.StructMember.{StructMember}
@@ -23,8 +23,8 @@ use Rattle.ir_facts.specs.declared.valid.info.ModuleInfo.{ModuleInfo}
 use Rattle.ir_facts.specs.declared.valid.settings.Settings.{Settings}
 use Rattle.ir_facts.specs.declared.valid.types.TypeInfo.{TypeInfo}
 use Rattle.check_varyings.specs.BuiltIns.{canonical}
-use Rattle.check_errors.specs.WhatIsChecked.{checks_bindings}
-use Rattle.check_errors.specs.Meaning.{Meaning}
+use Rattle.ir_facts.specs.WhatIsChecked.{checks_bindings}
+use Rattle.ir_facts.specs.Meaning.{Meaning}
 use Rattle.check_varyings.specs.Varyings.{Item, Part, Placed, Bound, BlendSources, group_parts}
 use Rattle.check_varyings.specs.declared.varying.MeshOutputType.TheVariants.{VertexOutput, PrimitiveOutput}
 use Rattle.check_entry.specs.EntryJudgement.{entry_judgement}

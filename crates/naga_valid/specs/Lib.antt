@@ -2,9 +2,9 @@ pub mod EntryFacts
 pub mod EntryChains
 pub mod EntryBodies
 pub use Rattle.ir_facts.specs.Fits.{FitsTypes, FitsGlobals, FitsFunction, FitsEntry}
-pub use Rattle.check_errors.specs.Answers.{Right, FirstOf, Exactly, Answers, read_by}
-pub use Rattle.check_errors.specs.WhatIsChecked.{checks_bindings}
-pub use Rattle.check_errors.specs.Meaning.{Meaning}
+pub use Rattle.ir_facts.specs.Answers.{Right, FirstOf, Exactly, Answers, read_by}
+pub use Rattle.ir_facts.specs.WhatIsChecked.{checks_bindings}
+pub use Rattle.ir_facts.specs.Meaning.{Meaning}
 pub use Rattle.naga_runs.specs.Soundness.{RunsAreSure}
 pub use Rattle.check_body.specs.Accepted.{ResultsAreFilledOnce, StagesAreOfAll}
 pub use Rattle.check_scope.specs.BodyTrees.{body_of}
@@ -14,7 +14,7 @@ pub use Rattle.check_body.specs.Shapes.{HasNoReturnInContinuing, HasWholeSwitche
 pub use Rattle.check_body.specs.Chains.{Reaches, AreVetted, ChainsKeepTo, ChainsAreKept}
 pub use Rattle.check_statement.specs.FunctionJudgement.{FunctionOutcome, outcome_of}
 pub use Rattle.check_statement.specs.ValidatorParts.{AreInfosOf}
-pub use Rattle.check_errors.specs.WhatIsChecked.{checks_blocks, checks_expressions}
+pub use Rattle.ir_facts.specs.WhatIsChecked.{checks_blocks, checks_expressions}
 unfoldable pub use Rattle.check_statement.specs.FunctionJudgement.{function_judgement}
 pub use Rattle.naga_valid.specs.EntryChains.{AcceptedEntryIsSound, AcceptedEntryKeepsItsStage}
 pub use Rattle.naga_valid.specs.EntryBodies.{AcceptedEntryFillsOnce, AcceptedEntryIsOfAllStages, AcceptedEntryHasNoReturnInContinuing, AcceptedEntryHasWholeSwitches}

@@ -14,10 +14,10 @@ mod varyings;
 mod whole;
 
 use bitflags::Flags;
-use check_errors::below::Below;
 use check_scope::table::Table;
 use check_scope::trace::{TraceRayVertexReturnState, TraceState};
 use ir_arena::sequence::Sequence;
+use ir_facts::below::Below;
 use ir_facts::valid::settings::Settings;
 use ir_facts::valid::types::TypeInfo;
 use ir_flags::capabilities::Capabilities;

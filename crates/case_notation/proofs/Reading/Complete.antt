@@ -3,7 +3,7 @@ use Rattle.std.proofs.Common.{◌≡◌, ◌≤◌, ◌<◌, ◌+◌, ℕ, List,
 use Rattle.std.specs.Prelude.{option_and_then}
 use Rattle.std.proofs.lemmas.Grind.{common_steps}
 use Rattle.std.proofs.lemmas.Bool.{le-leb}
-use Rattle.ir_module.specs.declared.statements.SwitchValue.{SwitchValue}
+use Rattle.ir_types.specs.declared.operations.SwitchValue.{SwitchValue}
 use Rattle.ir_module.specs.declared.statements.Block as b
 use Rattle.ir_module.specs.declared.statements.Located.{Located}
 use Rattle.ir_module.specs.declared.statements.Statement.{Statement}

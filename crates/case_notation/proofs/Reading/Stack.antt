@@ -5,7 +5,7 @@ use Rattle.std.proofs.lemmas.List.{reverse-append, length-reverse, length-map, l
 use Rattle.ir_module.specs.declared.statements.Block.{Block}
 use Rattle.ir_module.specs.declared.statements.Located.{Located}
 use Rattle.ir_module.specs.declared.statements.SwitchCase.{SwitchCase}
-use Rattle.ir_module.specs.declared.statements.SwitchValue.{SwitchValue}
+use Rattle.ir_types.specs.declared.operations.SwitchValue.{SwitchValue}
 use Rattle.case_notation.specs.declared.case.ReadError.{ReadError}
 use Rattle.case_notation.specs.declared.reader.parts.Frame.{Frame}
 use Rattle.case_notation.specs.declared.reader.parts.Kind.{Kind}

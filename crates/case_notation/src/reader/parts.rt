@@ -1,7 +1,8 @@
 //! What the reader keeps of a body that isn't whole: the open parts, and what may come next.
 
 use ir_arena::sequence::Sequence;
-use ir_module::statements::{Block, Located, SwitchCase, SwitchValue};
+use ir_module::statements::{Block, Located, SwitchCase};
+use ir_types::operations::SwitchValue;
 
 /// What the newest statement may still get.
 #[derive(Clone, Copy, Debug)]

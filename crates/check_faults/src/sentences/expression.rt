@@ -1,7 +1,7 @@
 //! Errors of expressions.
 
 use crate::sentences::Explain;
-use ir_facts::valid::expression_error::ExpressionError;
+use ir_errors::expression::ExpressionError;
 
 impl Explain for ExpressionError {
     fn sentence(&self) -> &'static str {

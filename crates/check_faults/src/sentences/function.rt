@@ -1,7 +1,7 @@
 //! Errors of functions.
 
 use crate::sentences::{Explain, explain_inside};
-use check_errors::function::{
+use ir_errors::function::{
     AtomicError, CallError, FunctionError, LocalVariableError, SubgroupError,
 };
 use std::fmt;

@@ -1,8 +1,8 @@
 //! Errors of globals, of inputs and outputs, and of meshes.
 
 use crate::sentences::Explain;
-use check_errors::interface::{GlobalVariableError, VaryingError};
-use check_errors::mesh::MeshFault;
+use ir_errors::interface::{GlobalVariableError, VaryingError};
+use ir_errors::mesh::MeshFault;
 
 impl Explain for GlobalVariableError {
     fn sentence(&self) -> &'static str {

@@ -3,9 +3,9 @@ use Rattle.std.specs.Prelude.{◌≤◌, ◌==◌, ℕ, ℤ, List, pos, int_le, 
 use Rattle.std.specs.Int.{cast_unsigned, w32}
 use Rattle.std.specs.List.{All, Contains, list_any, count_by}
 use Rattle.ir_module.specs.Tree.{Cases}
-use Rattle.ir_module.specs.declared.statements.SwitchValue.{SwitchValue}
-use Rattle.ir_module.specs.declared.statements.SwitchValue.TheVariants.{I32, U32, Default}
-use Rattle.check_errors.specs.declared.function.FunctionError.TheVariants.{InvalidSwitchType, MissingDefaultCase, LastCaseFallTrough}
+use Rattle.ir_types.specs.declared.operations.SwitchValue.{SwitchValue}
+use Rattle.ir_types.specs.declared.operations.SwitchValue.TheVariants.{I32, U32, Default}
+use Rattle.ir_errors.specs.declared.function.FunctionError.TheVariants.{InvalidSwitchType, MissingDefaultCase, LastCaseFallTrough}
 use Rattle.naga_runs.specs.Visits.{Place}
 use Rattle.check_scope.specs.Context.{Context}
 use Rattle.check_flow.specs.Switch.{is_default, values_of, last_falls_through}

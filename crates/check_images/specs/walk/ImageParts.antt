@@ -2,14 +2,14 @@
 use Rattle.std.specs.Prelude.{ℕ, Bool, [], ◌∷◌, ◌++◌, Option}
 use Rattle.ir_types.specs.Formats.{format_scalar}
 use Rattle.ir_types.specs.TypeTests.{is_scalar}
-use Rattle.ir_module.specs.declared.operations.AtomicFunction.{AtomicFunction}
+use Rattle.ir_types.specs.declared.operations.AtomicFunction.{AtomicFunction}
 use Rattle.ir_types.specs.declared.types.ImageClass.{ImageClass}
 use Rattle.ir_types.specs.declared.types.ImageDimension.{ImageDimension}
 use Rattle.ir_types.specs.declared.types.StorageFormat.{StorageFormat}
-use Rattle.ir_facts.specs.declared.valid.expression_error.ExpressionError.{ExpressionError}
-use Rattle.ir_facts.specs.declared.valid.expression_error.ExpressionError.TheVariants as wrong
-use Rattle.check_errors.specs.declared.function.FunctionError.{FunctionError}
-use Rattle.check_errors.specs.declared.function.FunctionError.TheVariants.{InvalidImageAtomic, InvalidImageStore, InvalidImageAtomicValue, InvalidStoreValue}
+use Rattle.ir_errors.specs.declared.expression.ExpressionError.{ExpressionError}
+use Rattle.ir_errors.specs.declared.expression.ExpressionError.TheVariants as wrong
+use Rattle.ir_errors.specs.declared.function.FunctionError.{FunctionError}
+use Rattle.ir_errors.specs.declared.function.FunctionError.TheVariants.{InvalidImageAtomic, InvalidImageStore, InvalidImageAtomicValue, InvalidStoreValue}
 use Rattle.naga_runs.specs.Visits.{Place}
 use Rattle.check_scope.specs.Context.{Context}
 use Rattle.check_images.specs.ImageAtomic.{change_point, takes_atomics, format_points}

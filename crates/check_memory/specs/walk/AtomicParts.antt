@@ -1,9 +1,9 @@
 -- Parts of the check list of Atomic, as the code checks them: work of lemmas, cited by functions that the validator alone calls.
 use Rattle.std.specs.Prelude.{ℕ, not, [], ◌∷◌, ◌++◌, Option, is_some}
-use Rattle.ir_module.specs.declared.operations.AtomicFunction.{AtomicFunction}
+use Rattle.ir_types.specs.declared.operations.AtomicFunction.{AtomicFunction}
 use Rattle.ir_types.specs.declared.types.AddressSpace.{AddressSpace}
 use Rattle.ir_types.specs.declared.types.Scalar.{Scalar}
-use Rattle.check_errors.specs.declared.function.AtomicError.TheVariants as wrong
+use Rattle.ir_errors.specs.declared.function.AtomicError.TheVariants as wrong
 use Rattle.naga_runs.specs.Handles.{Handles}
 use Rattle.naga_runs.specs.Visits.{Place}
 use Rattle.check_memory.specs.Atomic.{atomic_point, are_equivalent_at, is_exchange_result, is_result_like, is_comparison, scalar_points, atomic_result_points}

@@ -2,7 +2,7 @@
 -- validator alone calls.
 use Rattle.std.specs.Prelude.{ℕ, [], ◌∷◌, ◌++◌}
 use Rattle.ir_module.specs.declared.operations.GatherMode.{GatherMode}
-use Rattle.check_errors.specs.declared.function.SubgroupError.TheVariants as wrong
+use Rattle.ir_errors.specs.declared.function.SubgroupError.TheVariants as wrong
 use Rattle.naga_runs.specs.Visits.{Place}
 use Rattle.check_scope.specs.Context.{Context}
 use Rattle.check_scope.specs.ScopePoints.{Points, use_point, put_point}

@@ -4,7 +4,7 @@ use ir_flags::capabilities::Capabilities;
 use ir_flags::valid::{ShaderStages, SubgroupOperationSet, ValidationFlags};
 
 /// Which checks run, and what the target can do.
-#[derive(Clone, Copy, PartialEq, Eq, Debug)]
+#[derive(Clone, Copy, PartialEq, Eq, Hash, Debug)]
 pub struct Settings {
     pub flags: ValidationFlags,
     pub capabilities: Capabilities,

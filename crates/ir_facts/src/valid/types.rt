@@ -2,20 +2,13 @@
 
 use ir_arena::handle::Handle;
 use ir_arena::tag;
+use ir_errors::types::{Disalignment, ImmediateError};
 use ir_flags::valid::TypeFlags;
-
-/// Why a layout is bad: a number that no check reads.
-#[derive(Clone, Copy, PartialEq, Eq, Debug)]
-pub struct Disalignment(pub u32);
-
-/// Why a type can't be an immediate: a number that no check reads.
-#[derive(Clone, Copy, PartialEq, Eq, Debug)]
-pub struct ImmediateError(pub u32);
 
 /// The info of a type: what it can be used for. Infos are indexed by the handles of a module's types.
 ///
 /// A layout is the alignment in bytes. An Err in its place has the inner type that makes the layout bad, and why.
-#[derive(Clone, Copy, PartialEq, Eq, Debug)]
+#[derive(Clone, Copy, PartialEq, Eq, Hash, Debug)]
 pub struct TypeInfo {
     pub flags: TypeFlags,
     pub storage_layout: Result<u32, (Handle<tag::Type>, Disalignment)>,

@@ -26,10 +26,10 @@ use Rattle.ir_types.specs.declared.typifier.TypeResolution.{TypeResolution}
 use Rattle.ir_types.specs.declared.typifier.TypeResolution.TheVariants.{Handle, Value}
 use Rattle.ir_flags.specs.declared.valid.GlobalUse.{GlobalUse}
 use Rattle.ir_facts.specs.declared.valid.info.FunctionInfo.{FunctionInfo}
-use Rattle.check_errors.specs.Lawful.{IsNoStruct}
-use Rattle.check_errors.specs.declared.function.FunctionError.{FunctionError}
-use Rattle.check_errors.specs.declared.function.FunctionError.TheVariants.{Expression as InExpression}
-use Rattle.ir_facts.specs.declared.valid.expression_error.ExpressionError.TheVariants.{Lower}
+use Rattle.ir_facts.specs.Lawful.{IsNoStruct}
+use Rattle.ir_errors.specs.declared.function.FunctionError.{FunctionError}
+use Rattle.ir_errors.specs.declared.function.FunctionError.TheVariants.{Expression as InExpression}
+use Rattle.ir_errors.specs.declared.expression.ExpressionError.TheVariants.{Lower}
 use Rattle.naga_layers.specs.Plain.Infos.{plain_info, info_of_types, with_types}
 use Rattle.naga_layers.specs.Plain.Types.{type_at, pointer_to, global_type, known_type, loaded_type, own_type, type_of, or_refuse, types_from}
 use Rattle.naga_layers.specs.Plain.Uses.{with_all_named}

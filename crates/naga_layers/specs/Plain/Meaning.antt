@@ -2,9 +2,9 @@
 use Rattle.std.specs.Prelude.{[], ◌∷◌, None, Ok}
 use Rattle.ir_flags.specs.Bits.{ALL_STAGES}
 use Rattle.ir_module.specs.declared.module.MeshOutputTopology.TheVariants.{Points}
-use Rattle.check_errors.specs.Meaning.{Meaning}
+use Rattle.ir_facts.specs.Meaning.{Meaning}
 use Rattle.layer_types.specs.Sizes.{size_at}
-use Rattle.layer_uses.specs.Kinds.{kinds_from}
+use Rattle.naga_layers.specs.Kinds.{kinds_from}
 use Rattle.naga_layers.specs.Plain.Infos.{plain_info}
 use Rattle.naga_layers.specs.declared.plain.Plain.{Plain}
 

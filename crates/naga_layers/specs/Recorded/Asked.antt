@@ -2,8 +2,8 @@
 use Rattle.std.specs.Prelude.{Option, length, nat_lt, slice_get, if◌then◌else◌}
 use Rattle.ir_module.specs.declared.module.Module.{Module}
 use Rattle.ir_facts.specs.declared.valid.info.ModuleInfo.{ModuleInfo}
-use Rattle.layer_facts.specs.declared.facts.Facts.{Facts}
-use Rattle.layer_facts.specs.declared.facts.FunctionFact.{FunctionFact}
+use Rattle.ir_facts.specs.declared.facts.Facts.{Facts}
+use Rattle.ir_facts.specs.declared.facts.FunctionFact.{FunctionFact}
 
 -- where fewer functions have infos than the module has functions, that of the next function; else that of the next entry
 -- point

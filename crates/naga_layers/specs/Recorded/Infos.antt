@@ -6,18 +6,19 @@ use Rattle.ir_module.specs.declared.module.Module.{Module}
 use Rattle.ir_types.specs.declared.types.TypeInner.TheVariants as inner
 use Rattle.ir_types.specs.declared.typifier.TypeResolution.{TypeResolution}
 use Rattle.ir_types.specs.declared.typifier.TypeResolution.TheVariants.{Handle, Value}
-use Rattle.ir_facts.specs.declared.valid.expression_error.ExpressionError.{ExpressionError}
-use Rattle.ir_facts.specs.declared.valid.expression_error.ExpressionError.TheVariants.{Lower}
+use Rattle.ir_errors.specs.declared.expression.ExpressionError.{ExpressionError}
+use Rattle.ir_errors.specs.declared.expression.ExpressionError.TheVariants.{Lower}
 use Rattle.ir_flags.specs.declared.valid.ShaderStages.{ShaderStages}
 use Rattle.ir_facts.specs.declared.valid.info.FunctionInfo.{FunctionInfo}
-use Rattle.check_errors.specs.declared.function.FunctionError.{FunctionError}
-use Rattle.check_errors.specs.declared.function.FunctionError.TheVariants.{Expression as InExpression}
-use Rattle.layer_facts.specs.Facts.{fault_of, info_of}
-use Rattle.layer_facts.specs.declared.facts.ExpressionFact.{ExpressionFact}
-use Rattle.layer_facts.specs.declared.facts.ExpressionFact.TheVariants.{Stages, Error as ExpressionRefused}
-use Rattle.layer_facts.specs.declared.facts.FunctionFact.{FunctionFact}
-use Rattle.layer_facts.specs.declared.facts.FunctionFact.TheVariants.{Info, Error as FunctionRefused}
-use Rattle.layer_facts.specs.declared.facts.InfoFact.{InfoFact}
+use Rattle.ir_errors.specs.declared.function.FunctionError.{FunctionError}
+use Rattle.ir_errors.specs.declared.function.FunctionError.TheVariants.{Expression as InExpression}
+use Rattle.ir_facts.specs.Facts.{info_of}
+use Rattle.ir_facts.specs.Facts.{fault_of}
+use Rattle.ir_facts.specs.declared.facts.ExpressionFact.{ExpressionFact}
+use Rattle.ir_facts.specs.declared.facts.ExpressionFact.TheVariants.{Stages, Error as ExpressionRefused}
+use Rattle.ir_facts.specs.declared.facts.FunctionFact.{FunctionFact}
+use Rattle.ir_facts.specs.declared.facts.FunctionFact.TheVariants.{Info, Error as FunctionRefused}
+use Rattle.ir_facts.specs.declared.facts.InfoFact.{InfoFact}
 
 -- what the type names is one of n types, also inside a value, and it is no struct as a value
 abbrev pub is_lawful_type : ℕ → TypeResolution → Bool

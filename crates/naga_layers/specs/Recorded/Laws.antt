@@ -13,13 +13,13 @@ use Rattle.ir_types.specs.declared.typifier.TypeResolution.{TypeResolution}
 use Rattle.ir_types.specs.declared.typifier.TypeResolution.TheVariants.{Handle, Value}
 use Rattle.ir_facts.specs.declared.valid.info.FunctionInfo.{FunctionInfo}
 use Rattle.ir_facts.specs.declared.valid.info.ModuleInfo.{ModuleInfo}
-use Rattle.check_errors.specs.Lawful.{IsNoStruct}
+use Rattle.ir_facts.specs.Lawful.{IsNoStruct}
 use Rattle.naga_layers.specs.Recorded.Asked.{fact_asked}
-use Rattle.layer_facts.specs.Facts.{info_of}
+use Rattle.ir_facts.specs.Facts.{info_of}
 use Rattle.naga_layers.specs.Recorded.Infos.{is_lawful_type, is_lawful_info, recorded_info, USELESS}
-use Rattle.layer_facts.specs.declared.facts.FunctionFact.{FunctionFact}
-use Rattle.layer_facts.specs.declared.facts.FunctionFact.TheVariants.{Info, Error as FunctionRefused}
-use Rattle.layer_facts.specs.declared.facts.InfoFact.{InfoFact}
+use Rattle.ir_facts.specs.declared.facts.FunctionFact.{FunctionFact}
+use Rattle.ir_facts.specs.declared.facts.FunctionFact.TheVariants.{Info, Error as FunctionRefused}
+use Rattle.ir_facts.specs.declared.facts.InfoFact.{InfoFact}
 use Rattle.naga_layers.specs.declared.recorded.Recorded.{Recorded}
 
 -- a type that is lawful names types that are there, and is no struct as a value

@@ -1,10 +1,10 @@
 -- What the layer of recorded facts means.
 use Rattle.std.specs.Prelude.{[], slice_get}
 use Rattle.std.specs.Option.{option_flatten}
-use Rattle.check_errors.specs.Meaning.{Meaning}
-use Rattle.layer_uses.specs.Kinds.{kinds_from}
+use Rattle.ir_facts.specs.Meaning.{Meaning}
+use Rattle.naga_layers.specs.Kinds.{kinds_from}
 use Rattle.naga_layers.specs.Recorded.Asked.{fact_asked}
-use Rattle.layer_facts.specs.Facts.{analysis_of, analysis_at}
+use Rattle.ir_facts.specs.Facts.{analysis_of, analysis_at}
 use Rattle.naga_layers.specs.Recorded.Infos.{recorded_info, recorded_stages}
 use Rattle.naga_layers.specs.declared.recorded.Recorded.{Recorded}
 

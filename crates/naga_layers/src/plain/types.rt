@@ -2,17 +2,17 @@
 
 ghost use Rattle.std.specs.Prelude.{◌≡◌, [], IfOk, option_and_then, slice_get};
 ghost use Rattle.ir_arena.specs.declared.span.Refusal.TheVariants.{Fault};
-ghost use Rattle.ir_facts.specs.declared.valid.expression_error.ExpressionError.TheVariants.{Lower};
-ghost use Rattle.check_errors.specs.Answers.{Answers, Exactly};
-ghost use Rattle.check_errors.specs.declared.function.FunctionError.TheVariants.{Expression as InExpression};
+ghost use Rattle.ir_errors.specs.declared.expression.ExpressionError.TheVariants.{Lower};
+ghost use Rattle.ir_facts.specs.Answers.{Answers, Exactly};
+ghost use Rattle.ir_errors.specs.declared.function.FunctionError.TheVariants.{Expression as InExpression};
 ghost use Rattle.naga_layers.specs.Plain.Types.{type_at, pointer_to, global_type, loaded_type, first_of, own_type, type_of, types_from};
 
-use check_errors::function::FunctionError;
 use ir_arena::handle::Handle;
 use ir_arena::sequence::Sequence;
 use ir_arena::span::{Refusal, WithSpan};
 use ir_arena::tag;
-use ir_facts::valid::expression_error::ExpressionError;
+use ir_errors::expression::ExpressionError;
+use ir_errors::function::FunctionError;
 use ir_module::expressions::Expression;
 use ir_module::functions::Function;
 use ir_module::module::{GlobalVariable, Module};

@@ -7,9 +7,9 @@ ghost use Rattle.naga_module.specs.ModuleJudgement.{EntriesAnswer};
 ghost use Rattle.check_statement.specs.ValidatorParts.{AreInfosOf};
 ghost use Rattle.check_entry.specs.EntryJudgement.{HasPayloadSizes};
 
-use check_errors::below::Below;
 use check_faults::module::ModuleFault;
 use ir_arena::span::Refusal;
+use ir_facts::below::Below;
 use ir_facts::valid::info::ModuleInfo;
 use ir_misfits::fits::{fits_entry, fits_function};
 use ir_module::module::{EntryPoint, Module};

@@ -5,11 +5,11 @@ ghost use Rattle.ir_facts.specs.Fits.{FitsTypes};
 ghost use Rattle.naga_module.specs.CodeModule.{Leads, Stops};
 ghost use Rattle.check_statement.specs.ValidatorParts.{AreInfosOf};
 
-use check_errors::below::Below;
 use check_faults::module::ModuleFault;
 use ir_arena::handle::Handle;
 use ir_arena::span::Refusal;
 use ir_arena::tag;
+use ir_facts::below::Below;
 use ir_facts::valid::info::ModuleInfo;
 use ir_misfits::fits::fits_function;
 use ir_module::module::Module;

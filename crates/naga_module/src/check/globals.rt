@@ -6,9 +6,9 @@ ghost use Rattle.naga_module.specs.ModuleJudgement.{globals_step};
 ghost use Rattle.check_faults.specs.declared.module.ModuleFault.TheVariants as fault;
 ghost use Rattle.check_statement.specs.ValidatorParts.{AreInfosOf};
 
-use check_errors::below::Below;
 use check_faults::module::ModuleFault;
 use ir_arena::handle::Handle;
+use ir_facts::below::Below;
 use ir_facts::valid::info::ModuleInfo;
 use ir_module::module::Module;
 use naga_valid::validator::Validator;

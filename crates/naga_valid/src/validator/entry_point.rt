@@ -2,9 +2,9 @@
 
 ghost use Rattle.std.specs.Prelude.{◌≡◌, true, OnOk, OnErr, IfOk, length};
 ghost use Rattle.ir_facts.specs.Fits.{FitsTypes, FitsFunction, FitsEntry};
-ghost use Rattle.ir_module.specs.declared.module.ShaderStage.TheVariants.{Vertex};
+ghost use Rattle.ir_types.specs.declared.stage.ShaderStage.TheVariants.{Vertex};
 ghost use Rattle.naga_runs.specs.Soundness.{RunsAreSure};
-ghost use Rattle.check_errors.specs.WhatIsChecked.{checks_bindings};
+ghost use Rattle.ir_facts.specs.WhatIsChecked.{checks_bindings};
 ghost use Rattle.check_body.specs.Accepted.{ResultsAreFilledOnce, StagesAreOfAll};
 ghost use Rattle.check_scope.specs.BodyTrees.{body_of};
 ghost use Rattle.check_body.specs.Chains.{AreVetted, ChainsKeepTo};
@@ -15,16 +15,16 @@ ghost use Rattle.naga_valid.specs.EntryFacts.{argument_parts, BindingsAreDistinc
 ghost use Rattle.check_entry.specs.Start.{start_points};
 ghost use Rattle.check_entry.specs.EntryUses.{only};
 ghost use Rattle.check_statement.specs.ValidatorParts.{AreInfosOf};
-ghost use Rattle.check_errors.specs.WhatIsChecked.{checks_blocks, checks_expressions};
-ghost use Rattle.check_errors.specs.Answers.{read_by};
+ghost use Rattle.ir_facts.specs.WhatIsChecked.{checks_blocks, checks_expressions};
+ghost use Rattle.ir_facts.specs.Answers.{read_by};
 ghost use Rattle.check_statement.specs.FunctionJudgement.{outcome_of};
 ghost use Rattle.check_entry.specs.EntryFaults.{fault_of};
 
 use crate::validator::Validator;
 use crate::validator::entry::EntryContext;
-use check_errors::below::Below;
 use check_faults::entry::EntryPointError;
 use ir_arena::span::Refusal;
+use ir_facts::below::Below;
 use ir_facts::valid::info::{FunctionInfo, ModuleInfo};
 use ir_module::module::{EntryPoint, Module};
 use std::alloc::Global;

@@ -1,22 +1,22 @@
 //! The checks of a function's expressions, each by the lower layer.
 
 ghost use Rattle.std.specs.Prelude.{◌≡◌, OnOk, Result, Err};
-ghost use Rattle.ir_facts.specs.declared.valid.expression_error.ExpressionError.{ExpressionError as Source};
+ghost use Rattle.ir_errors.specs.declared.expression.ExpressionError.{ExpressionError as Source};
 ghost use Rattle.ir_flags.specs.declared.valid.ShaderStages.{ShaderStages as Mask};
-ghost use Rattle.check_errors.specs.Answers.{Answers, Exactly, leaving};
+ghost use Rattle.ir_facts.specs.Answers.{Answers, Exactly, leaving};
 ghost use Rattle.check_statement.specs.ExpressionStages.{with_stages, of_expression, expressions_step};
 ghost use Rattle.check_statement.specs.walk.AskedContext.{asked_by};
 
 use crate::validator::Validator;
 use crate::validator::judge::FunctionContext;
 use bitflags::Flags;
-use check_errors::below::Below;
-use check_errors::function::FunctionError;
 use ir_arena::handle::Handle;
 use ir_arena::span::Refusal;
 use ir_arena::tag;
+use ir_errors::expression::ExpressionError;
+use ir_errors::function::FunctionError;
+use ir_facts::below::Below;
 use ir_facts::proc::expression_kinds::ExpressionKindTracker;
-use ir_facts::valid::expression_error::ExpressionError;
 use ir_facts::valid::info::FunctionInfo;
 use ir_flags::valid::{ShaderStages, ValidationFlags};
 use std::alloc::Global;

@@ -8,9 +8,9 @@ ghost use Rattle.check_entry.specs.GlobalPoints.{module_global_points};
 ghost use Rattle.check_statement.specs.ValidatorParts.{AreInfosOf};
 
 use crate::validator::Validator;
-use check_errors::below::Below;
-use check_errors::interface::GlobalVariableError;
 use check_variables::global::check_global;
+use ir_errors::interface::GlobalVariableError;
+use ir_facts::below::Below;
 use ir_facts::proc::expression_kinds::ExpressionKindTracker;
 use ir_facts::valid::info::ModuleInfo;
 use ir_facts::valid::settings::Settings;

@@ -7,7 +7,7 @@ ghost use Rattle.check_entry.specs.TakenBindings.{AreTaken};
 ghost use Rattle.check_entry.specs.UsedGlobals.{used_payload_points, use_points, global_points, globals_points};
 ghost use Rattle.check_entry.specs.EntryJudgement.{HasPayloadSizes};
 ghost use Rattle.check_entry.specs.EntryFaults.{fault_of};
-ghost use Rattle.check_errors.specs.Answers.{Answers, Finds, FirstOf, read_by};
+ghost use Rattle.ir_facts.specs.Answers.{Answers, Finds, FirstOf, read_by};
 
 use crate::validator::Validator;
 use crate::validator::entry::InterfaceContext;
@@ -17,11 +17,11 @@ use check_entry::bindings::{binding_holds, check_binding, take_binding};
 use check_entry::globals::{
     check_allowed, check_immediates, is_task_payload, is_used_immediate, use_holds, uses_of,
 };
-use check_errors::below::Below;
 use check_faults::entry::EntryPointError;
 use check_faults::refused::RefusedEntry;
 use ir_arena::handle::Handle;
 use ir_arena::tag;
+use ir_facts::below::Below;
 use ir_flags::valid::GlobalUse;
 use ir_module::module::{GlobalVariable, Module, ResourceBinding};
 use ir_types::types::AddressSpace;

@@ -2,7 +2,7 @@
 
 ghost use Rattle.std.specs.Prelude.{◌≡◌, length};
 ghost use Rattle.ir_facts.specs.Fits.{FitsTypes, FitsFunction};
-ghost use Rattle.check_errors.specs.Answers.{Answers, Exactly};
+ghost use Rattle.ir_facts.specs.Answers.{Answers, Exactly};
 ghost use Rattle.check_scope.specs.walk.SeenContext.{context_of};
 ghost use Rattle.check_statement.specs.ValidatorParts.{AreInfosOf};
 ghost use Rattle.check_statement.specs.walk.AskedContext.{asked_by, judgement_by};
@@ -11,11 +11,11 @@ use crate::validator::Validator;
 use check_body::declarations::check_declarations;
 use check_body::function::validate_body;
 use check_entry::outcome::FunctionOutcome;
-use check_errors::below::Below;
-use check_errors::function::FunctionError;
 use check_scope::context::BlockContext;
 use check_scope::table::Table;
 use ir_arena::span::Refusal;
+use ir_errors::function::FunctionError;
+use ir_facts::below::Below;
 use ir_facts::proc::expression_kinds::ExpressionKindTracker;
 use ir_facts::valid::info::{FunctionInfo, ModuleInfo};
 use ir_flags::valid::ValidationFlags;

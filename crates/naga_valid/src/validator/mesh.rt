@@ -4,15 +4,15 @@ ghost use Rattle.std.specs.Prelude.{◌≡◌};
 ghost use Rattle.ir_facts.specs.Points.{within};
 ghost use Rattle.check_entry.specs.EntryFaults.{fault_of};
 ghost use Rattle.check_entry.specs.Mesh.{said_points};
-ghost use Rattle.check_errors.specs.Answers.{Answers, FirstOf, read_by};
+ghost use Rattle.ir_facts.specs.Answers.{Answers, FirstOf, read_by};
 
 use crate::validator::Validator;
 use crate::validator::entry::InterfaceContext;
 use check_entry::answers::answer;
 use check_entry::mesh::{check_stated, mesh_error};
-use check_errors::below::Below;
-use check_errors::mesh::MeshAnalysis;
 use check_faults::refused::RefusedEntry;
+use ir_facts::below::Below;
+use ir_facts::proc::mesh::MeshAnalysis;
 use ir_module::module::MeshStageInfo;
 
 impl<B: Below> Validator<B> {

@@ -14,7 +14,7 @@ ghost use Rattle.check_entry.specs.Mesh.{mesh_points};
 ghost use Rattle.check_entry.specs.EntryVaryings.{argument_points, declared_points, has_built_in, is_struct, output_item, output_points, outputs_points, place_of, primitive_points, result_parts, result_points, vertex_points};
 ghost use Rattle.check_statement.specs.ValidatorParts.{AreInfosOf};
 ghost use Rattle.check_faults.specs.declared.entry.EntryPointError.TheVariants as fault;
-ghost use Rattle.check_errors.specs.Answers.{Answers, FirstOf, read_by};
+ghost use Rattle.ir_facts.specs.Answers.{Answers, FirstOf, read_by};
 
 use crate::validator::Validator;
 use crate::validator::entry::InterfaceContext;
@@ -24,13 +24,13 @@ use check_entry::mesh::check_variable;
 use check_entry::varyings::{
     argument_refused, check_returned, has_one_of_indices, is_struct, result_refused,
 };
-use check_errors::below::Below;
 use check_faults::entry::EntryPointError;
 use check_faults::refused::RefusedEntry;
 use check_varyings::item::check_varying_item;
 use check_varyings::varying::{MeshOutputType, VaryingPlace, VaryingState};
 use ir_arena::handle::Handle;
 use ir_arena::tag;
+use ir_facts::below::Below;
 use ir_module::module::{EntryPoint, MeshStageInfo};
 use ir_types::built_in::BuiltIn;
 

@@ -35,7 +35,7 @@ impl<'a> Faltering<'a> {
 
 impl<'a> Below for Faltering<'a> {
     ghost use Rattle.naga_layers.specs.Plain.Laws.{info_one_type_each, info_one_use_each, info_types_in_range, info_no_struct_values};
-    ghost use Rattle.layer_uses.specs.Kinds.{kinds_one_each};
+    ghost use Rattle.naga_layers.specs.Kinds.{kinds_one_each};
     ghost use Rattle.naga_layers.specs.Plain.Meaning.{plain_meaning};
 
     ghost meaning = { λ layer. plain_meaning layer.plain };

@@ -2,7 +2,7 @@ use Rattle.std.proofs.Common.{rules, ◌≡◌, Some, None, sym, subst}
 use Rattle.std.proofs.lemmas.Option.{get_or_from_slice_get}
 use Rattle.std.specs.Prelude.{slice_get}
 use Rattle.ir_facts.specs.Points.{first_fault}
-use Rattle.check_errors.specs.Answers.{Answers, FirstOf}
+use Rattle.ir_facts.specs.Answers.{Answers, FirstOf}
 use Rattle.check_statement.specs.Declarations.{variable_points}
 use Rattle.check_scope.specs.walk.SeenContext.{context_of}
 use Rattle.check_body.proofs.Each.{each_stops, each_passes}

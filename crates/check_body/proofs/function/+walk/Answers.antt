@@ -3,7 +3,7 @@ use Rattle.ir_module.specs.declared.statements.Block.{the_lemmas}
 use Rattle.ir_module.proofs.Rows.{body_of-list, tree_of-switch}
 use Rattle.ir_module.specs.View as view
 use Rattle.check_scope.specs.BodyTrees.{emitted_operands, tree_of, list_of, cases_of, block_of}
-use Rattle.check_errors.specs.Answers.{Answers, Exactly}
+use Rattle.ir_facts.specs.Answers.{Answers, Exactly}
 use Rattle.check_statement.specs.Ready.{IsStatementReady, IsBodyReady}
 use Rattle.check_scope.specs.walk.SeenContext.{context_of}
 use Rattle.check_statement.specs.walk.State.{kept, with_statement}

@@ -1,5 +1,5 @@
 use Rattle.std.proofs.Common.{rules, arith, ◌≡◌, Ok, sym, subst}
-use Rattle.check_errors.specs.Answers.{Answers, Exactly}
+use Rattle.ir_facts.specs.Answers.{Answers, Exactly}
 use Rattle.check_statement.specs.FunctionJudgement.{body_judgement}
 use Rattle.check_scope.specs.Results.{filled_points}
 use Rattle.check_scope.specs.BodyTrees.{emitted_operands}

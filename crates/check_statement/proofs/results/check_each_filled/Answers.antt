@@ -1,5 +1,5 @@
 use Rattle.std.proofs.Common.{◌≡◌, Some, true, false, length, sym, ap, ◌∙◌}
-use Rattle.check_errors.specs.declared.function.FunctionError.TheVariants.{UnvisitedExpression}
+use Rattle.ir_errors.specs.declared.function.FunctionError.TheVariants.{UnvisitedExpression}
 use Rattle.check_scope.specs.Results.{is_unfilled}
 use Rattle.check_scope.specs.walk.SeenContext.{context_of}
 use Rattle.check_scope.specs.walk.Table.{filled_in}

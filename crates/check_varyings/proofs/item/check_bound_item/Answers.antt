@@ -1,7 +1,7 @@
 use Rattle.std.proofs.Common.{rules, Result, Ok}
 use Rattle.ir_arena.specs.declared.span.Refusal.{Refusal}
 use Rattle.check_varyings.specs.Varyings.{seen_in}
-use Rattle.check_errors.specs.declared.interface.VaryingError.{VaryingError}
+use Rattle.ir_errors.specs.declared.interface.VaryingError.{VaryingError}
 use Rattle.check_varyings.proofs.PlainFaults.{part_answers}
 use Rattle.check_varyings.proofs.item.check_bound_item.Goals as goal
 

@@ -5,7 +5,7 @@ use Rattle.check_varyings.specs.Varyings.{Bound, seen_in}
 use Rattle.check_varyings.proofs.Kept.{more_is, on_ok}
 use Rattle.check_varyings.proofs.Members.{one_part}
 use Rattle.check_varyings.proofs.item.check_varying_item.Goals as goal
-use Rattle.check_errors.specs.Answers.{Answers, FirstOf, read_by}
+use Rattle.ir_facts.specs.Answers.{Answers, FirstOf, read_by}
 
 pub returns-in-Some-clause-fault : goal.returns-in-Some-clause-fault
 returns-in-Some-clause-fault c =

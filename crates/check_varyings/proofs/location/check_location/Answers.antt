@@ -1,6 +1,6 @@
 use Rattle.std.proofs.Common.{rules, not, ◌||◌, ◌++◌}
 use Rattle.ir_flags.specs.Capabilities.{MESH_SHADER, has_capability}
-use Rattle.check_errors.specs.declared.interface.VaryingError.TheVariants.{UnsupportedCapability}
+use Rattle.ir_errors.specs.declared.interface.VaryingError.TheVariants.{UnsupportedCapability}
 use Rattle.check_varyings.specs.Locations.{carried_type, interpolation_points, per_vertex_points, sharing_points}
 use Rattle.check_varyings.specs.Varyings.{seen_in}
 use Rattle.check_varyings.proofs.Behind.{fault_behind, fault_first}

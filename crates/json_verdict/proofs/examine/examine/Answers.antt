@@ -1,6 +1,6 @@
 use Rattle.std.proofs.Common.{Ok, Err, subst}
 use Rattle.json_document.specs.ReadsDocument.{ReadsDocument}
-use Rattle.json_values.specs.Failures.{IsUnreadable}
+use Rattle.json_document.specs.Failures.{IsUnreadable}
 use Rattle.json_verdict.proofs.Misfits.{refused_has, unreadable_judges}
 use Rattle.json_verdict.proofs.examine.examine.Goals as goal
 
@@ -10,8 +10,8 @@ returns-in-Err-Unreadable-clause-judged c =
     let read : ReadsDocument c.args.text.now (Err c.in-Err-Unreadable.field-0) = subst (ReadsDocument c.args.text.now) c.in-Err-Unreadable.is c.read_text-id.ensures.document in
     unreadable_judges _ _ _ (read refused) c.alone.ensures.verdict
 
-pub returns-clause-misfit : goal.returns-clause-misfit
-returns-clause-misfit c =
+pub returns-in-Err-judge-clause-misfit : goal.returns-in-Err-judge-clause-misfit
+returns-in-Err-judge-clause-misfit c =
     let read : ReadsDocument c.args.text.now (Ok c.in-Ok.document) = subst (ReadsDocument c.args.text.now) c.in-Ok.is c.read_text-id.ensures.document in
-    refused_has c.args.text.now c.in-Ok.document c.in-Ok-new.basis c.refusal.result.verdict c.in-Err-judge.fault c.refusal.result.misfit
-    read c.in-Ok-new.ensures c.in-Err-judge.ensures c.refusal.ensures.verdict c.refusal.ensures.misfit
+    refused_has c.args.text.now c.in-Ok.document c.in-Ok-new.basis c.refusal-examined.result.verdict c.in-Err-judge.fault c.refusal-examined.result.misfit
+    read c.in-Ok-new.ensures c.in-Err-judge.ensures c.refusal-examined.ensures.verdict c.refusal-examined.ensures.misfit

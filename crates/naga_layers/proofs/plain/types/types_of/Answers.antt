@@ -1,7 +1,7 @@
 use Rattle.std.proofs.Common.{◌≡◌, Err, None, Some, sym, ap, ◌∙◌, rules}
 use Rattle.std.proofs.lemmas.List.{length-append}
-use Rattle.ir_facts.specs.declared.valid.expression_error.ExpressionError.TheVariants.{Lower}
-use Rattle.check_errors.specs.declared.function.FunctionError.TheVariants.{Expression as InExpression}
+use Rattle.ir_errors.specs.declared.expression.ExpressionError.TheVariants.{Lower}
+use Rattle.ir_errors.specs.declared.function.FunctionError.TheVariants.{Expression as InExpression}
 use Rattle.naga_layers.specs.Plain.Types.{type_of}
 use Rattle.naga_layers.proofs.PlainTypes.{none_here, some_here}
 use Rattle.naga_layers.proofs.plain.types.types_of.Goals as goal

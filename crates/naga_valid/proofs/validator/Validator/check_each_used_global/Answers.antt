@@ -3,7 +3,7 @@ use Rattle.ir_facts.specs.Points.{first_fault, points_of_each}
 use Rattle.check_entry.specs.UsedGlobals.{global_points}
 use Rattle.check_entry.proofs.EntrySteps.{each_meets, each_goes_on}
 use Rattle.naga_valid.proofs.validator.Validator.check_each_used_global.Goals as goal
-use Rattle.check_errors.specs.Answers.{Answers, FirstOf}
+use Rattle.ir_facts.specs.Answers.{Answers, FirstOf}
 
 pub returns-in_err-answer : goal.returns-in_err-answer
 returns-in_err-answer g c =

@@ -5,7 +5,7 @@ use Rattle.check_entry.specs.Mesh.{variable_points, said_points, mesh_points}
 use Rattle.check_entry.specs.EntryVaryings.{outputs_points}
 use Rattle.check_entry.proofs.EntrySteps.{judges_first, judges_second}
 use Rattle.naga_valid.proofs.validator.Validator.check_mesh.Goals as goal
-use Rattle.check_errors.specs.Answers.{Answers, FirstOf, read_by}
+use Rattle.ir_facts.specs.Answers.{Answers, FirstOf, read_by}
 
 pub returns-in_err-answer : goal.returns-in_err-answer
 returns-in_err-answer g c =

@@ -12,7 +12,7 @@ use Rattle.check_faults.specs.declared.entry.EntryPointError.{EntryPointError}
 use Rattle.check_faults.specs.declared.entry.EntryPointError.TheVariants as fault
 use Rattle.check_entry.proofs.EntrySteps.{passes_within}
 use Rattle.naga_valid.proofs.validator.Validator.check_output.Goals as goal
-use Rattle.check_errors.specs.Answers.{Answers, FirstOf, IsFirstFault, read_by, refusal_read_by}
+use Rattle.ir_facts.specs.Answers.{Answers, FirstOf, IsFirstFault, read_by, refusal_read_by}
 use Rattle.check_varyings.specs.VaryingFaults.{varying_fault_of}
 
 pub returns-in-Ok-clause-fault : goal.returns-in-Ok-clause-fault

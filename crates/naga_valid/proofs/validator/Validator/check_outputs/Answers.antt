@@ -5,7 +5,7 @@ use Rattle.check_varyings.specs.declared.varying.MeshOutputType.TheVariants.{Ver
 use Rattle.check_entry.specs.EntryVaryings.{output_item, place_of, primitive_points, vertex_points}
 use Rattle.check_entry.proofs.EntrySteps.{judges_first, judges_second}
 use Rattle.naga_valid.proofs.validator.Validator.check_outputs.Goals as goal
-use Rattle.check_errors.specs.Answers.{Answers, FirstOf, read_by}
+use Rattle.ir_facts.specs.Answers.{Answers, FirstOf, read_by}
 use Rattle.check_entry.specs.EntryFaults.{fault_of}
 
 pub returns-in_err-check_vertex_output : goal.returns-in_err-check_vertex_output

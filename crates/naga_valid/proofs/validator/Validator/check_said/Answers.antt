@@ -1,11 +1,11 @@
 use Rattle.std.proofs.Common.{rules, ◌≡◌, ◌++◌, None, Option, sym, subst}
-use Rattle.check_errors.specs.declared.mesh.MeshAnalysis.{MeshAnalysis}
-use Rattle.check_errors.specs.declared.mesh.MeshFault.{MeshFault}
+use Rattle.ir_facts.specs.declared.proc.mesh.MeshAnalysis.{MeshAnalysis}
+use Rattle.ir_errors.specs.declared.mesh.MeshFault.{MeshFault}
 use Rattle.check_entry.specs.Mesh.{analysis_points, stated_points, said_points}
 use Rattle.check_entry.specs.EntryAnswers.{EntryPoints}
 use Rattle.check_entry.proofs.EntrySteps.{judges_within}
 use Rattle.naga_valid.proofs.validator.Validator.check_said.Goals as goal
-use Rattle.check_errors.specs.Answers.{Answers, FirstOf}
+use Rattle.ir_facts.specs.Answers.{Answers, FirstOf}
 
 pub returns : goal.returns
 returns g c =

@@ -3,7 +3,7 @@ use Rattle.ir_facts.specs.Points.{first_fault}
 use Rattle.check_entry.specs.UsedGlobals.{binding_points, use_points}
 use Rattle.naga_valid.proofs.EntryGlobals.{use_refused, binding_decides}
 use Rattle.naga_valid.proofs.validator.Validator.check_used_global.Goals as goal
-use Rattle.check_errors.specs.Answers.{Finds, FirstOf}
+use Rattle.ir_facts.specs.Answers.{Finds, FirstOf}
 
 pub returns-in_err-check_use : goal.returns-in_err-check_use
 returns-in_err-check_use g c =

@@ -13,7 +13,7 @@ use Rattle.check_faults.specs.declared.entry.EntryPointError.TheVariants as faul
 use Rattle.check_entry.proofs.EntrySteps.{judges_first, refuses_as}
 use Rattle.naga_valid.proofs.Groups.{last_fails, last_holds, output_by_position}
 use Rattle.naga_valid.proofs.validator.Validator.check_vertex_output.Goals as goal
-use Rattle.check_errors.specs.Answers.{Answers, FirstOf, read_by}
+use Rattle.ir_facts.specs.Answers.{Answers, FirstOf, read_by}
 
 pub returns-in_err-check_output-clause-fault : goal.returns-in_err-check_output-clause-fault
 returns-in_err-check_output-clause-fault g c =

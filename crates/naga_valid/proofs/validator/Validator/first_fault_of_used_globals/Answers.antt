@@ -3,7 +3,7 @@ use Rattle.check_entry.specs.UsedGlobals.{immediate_points, global_points}
 use Rattle.ir_facts.specs.Points.{points_of_each}
 use Rattle.check_entry.proofs.EntrySteps.{meets_first, meets_second, judges_within}
 use Rattle.naga_valid.proofs.validator.Validator.first_fault_of_used_globals.Goals as goal
-use Rattle.check_errors.specs.Answers.{Answers, FirstOf}
+use Rattle.ir_facts.specs.Answers.{Answers, FirstOf}
 
 pub returns-in_err-answer : goal.returns-in_err-answer
 returns-in_err-answer g c =

@@ -4,7 +4,7 @@ use Rattle.check_entry.specs.EntryJudgement.{AnswersAfter, entry_judgement}
 use Rattle.check_entry.specs.Start.{start_points}
 use Rattle.naga_valid.proofs.EntryJudgement.{start_refuses}
 use Rattle.naga_valid.proofs.validator.Validator.judge_entry_point.Goals as goal
-use Rattle.check_errors.specs.Answers.{refusal_read_by}
+use Rattle.ir_facts.specs.Answers.{refusal_read_by}
 use Rattle.check_entry.specs.EntryFaults.{fault_of}
 
 pub returns-in-Err-clause-judged : goal.returns-in-Err-clause-judged

@@ -1,6 +1,6 @@
 use Rattle.std.proofs.Common.{rules, ◌≡◌, true, false, Ok, Err, sym, subst}
-use Rattle.check_errors.specs.Answers.{Answers, Exactly}
-use Rattle.check_errors.specs.WhatIsChecked.{checks_blocks}
+use Rattle.ir_facts.specs.Answers.{Answers, Exactly}
+use Rattle.ir_facts.specs.WhatIsChecked.{checks_blocks}
 use Rattle.check_scope.specs.Context.{ContextFits}
 use Rattle.check_statement.proofs.Parts.{ready}
 use Rattle.check_statement.specs.FunctionJudgement.{function_judgement, lower_step}

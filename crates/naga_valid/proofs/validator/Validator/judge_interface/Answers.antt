@@ -1,7 +1,7 @@
 use Rattle.std.proofs.Common.{rules, ◌≡◌, None, subst}
 use Rattle.ir_facts.specs.Points.{first_fault, within}
 use Rattle.ir_facts.specs.declared.valid.info.FunctionInfo.{FunctionInfo}
-use Rattle.check_errors.specs.Answers.{Answers, FirstOf, read_by}
+use Rattle.ir_facts.specs.Answers.{Answers, FirstOf, read_by}
 use Rattle.check_entry.specs.EntryFaults.{fault_of}
 use Rattle.check_entry.specs.EntryJudgement.{used_points}
 use Rattle.check_entry.specs.EntryUses.{payload_points, with_own_uses}

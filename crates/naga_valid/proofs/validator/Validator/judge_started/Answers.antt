@@ -5,7 +5,7 @@ use Rattle.check_statement.specs.ValidatorParts.{Parts}
 use Rattle.naga_valid.proofs.EntryJudgement.{function_refuses, interface_decides}
 use Rattle.naga_valid.proofs.EntryUses.{one_use_each}
 use Rattle.naga_valid.proofs.validator.Validator.judge_started.Goals as goal
-use Rattle.check_errors.specs.Answers.{Answers, Exactly, read_by}
+use Rattle.ir_facts.specs.Answers.{Answers, Exactly, read_by}
 use Rattle.check_entry.specs.EntryFaults.{fault_of}
 
 pub returns-in-Err-clause-judged : goal.returns-in-Err-clause-judged

@@ -1,6 +1,6 @@
 use Rattle.std.proofs.Common.{rules, refl, ◌≡◌, Ok, Err, length, ap, subst}
 use Rattle.ir_facts.specs.declared.valid.info.FunctionInfo.{FunctionInfo}
-use Rattle.check_errors.specs.Answers.{Answers, Exactly}
+use Rattle.ir_facts.specs.Answers.{Answers, Exactly}
 use Rattle.check_statement.specs.ExpressionStages.{of_expression}
 use Rattle.check_statement.specs.walk.AskedContext.{asked_context}
 use Rattle.check_statement.specs.Stages.{meet}

@@ -1,5 +1,0 @@
-pub mod Blocks
-pub mod Counts
-pub mod Lists
-pub mod Names
-pub mod Types

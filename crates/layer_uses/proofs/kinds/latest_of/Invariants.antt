@@ -1,8 +1,0 @@
-use Rattle.std.proofs.Common.{◌≡◌, drop}
-use Rattle.ir_facts.specs.declared.proc.expression_kinds.ExpressionKind.TheVariants.{Const}
-use Rattle.layer_uses.specs.Kinds.{latest_of}
-use Rattle.layer_uses.proofs.kinds.latest_of.Given as goal
-
-abbrev pub invariant-loop-handle : goal.invariant-loop-handle
-invariant-loop-handle l =
-    latest_of l.earlier l.latest (drop l.handle-index l.operands) ≡ latest_of l.earlier Const l.operands

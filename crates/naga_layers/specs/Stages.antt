@@ -1,0 +1,46 @@
+-- The stages that expressions may run in.
+use Rattle.std.specs.Prelude.{Option, None, Some, Result, Ok, Err, slice_get}
+use Rattle.ir_flags.specs.Bits.{ALL_STAGES, FRAGMENT, COMPUTE, COMPUTE_LIKE}
+use Rattle.ir_flags.specs.declared.valid.ShaderStages.{ShaderStages}
+use Rattle.ir_errors.specs.declared.expression.ExpressionError.{ExpressionError}
+use Rattle.ir_errors.specs.declared.expression.ExpressionError.TheVariants.{Lower}
+use Rattle.ir_facts.specs.declared.valid.info.FunctionInfo.{FunctionInfo}
+use Rattle.ir_facts.specs.declared.valid.info.ModuleInfo.{ModuleInfo}
+use Rattle.ir_facts.specs.declared.valid.settings.Settings.{Settings}
+use Rattle.ir_module.specs.declared.expressions.Expression.{Expression}
+use Rattle.ir_module.specs.declared.expressions.Expression.TheVariants as e
+use Rattle.layer_forms.specs.declared.images.LevelKind.{LevelKind}
+use Rattle.layer_forms.specs.declared.images.LevelKind.TheVariants as level
+use Rattle.layer_forms.specs.declared.images.Sampling.{Sampling}
+use Rattle.layer_forms.specs.Images.{sampling_of}
+
+-- a level that depends on neighbors needs the fragment stage
+abbrev pub level_stages : LevelKind → ShaderStages
+level_stages level.Auto = FRAGMENT
+level_stages level.Bias = FRAGMENT
+level_stages level.Zero = ALL_STAGES
+level_stages level.Exact = ALL_STAGES
+level_stages level.Gradient = ALL_STAGES
+
+abbrev pub sample_stages : Option Sampling → ShaderStages
+sample_stages None = ALL_STAGES
+sample_stages (Some form) = level_stages form.level
+
+-- the result of a call runs where the callee does, of which the info is there
+abbrev pub callee_stages : Option FunctionInfo → Result ShaderStages ExpressionError
+callee_stages None = Err (Lower 1)
+callee_stages (Some info) = Ok info.available_stages
+
+-- derivatives, and samples whose level depends on neighbors: the fragment stage; results of calls: the callee's; of uniform
+-- loads from a work group: those of computing; of subgroup operations: those that the settings name; cooperative operations:
+-- the compute stage; all others run in every stage
+abbrev pub stages_of : Settings → ModuleInfo → Option Expression → Result ShaderStages ExpressionError
+stages_of settings infos (Some (e.Derivative hs d)) = Ok FRAGMENT
+stages_of settings infos (Some (e.ImageSample hs d)) = Ok (sample_stages (sampling_of d))
+stages_of settings infos (Some (e.CallResult f)) = callee_stages (slice_get infos.functions f)
+stages_of settings infos (Some (e.WorkGroupUniformLoadResult t)) = Ok COMPUTE_LIKE
+stages_of settings infos (Some e.SubgroupBallotResult) = Ok settings.subgroup_stages
+stages_of settings infos (Some (e.SubgroupOperationResult t)) = Ok settings.subgroup_stages
+stages_of settings infos (Some (e.CooperativeLoad hs d)) = Ok COMPUTE
+stages_of settings infos (Some (e.CooperativeMultiplyAdd hs d)) = Ok COMPUTE
+stages_of settings infos _ = Ok ALL_STAGES
