@@ -4,7 +4,8 @@ use Rattle.std.specs.Fmt.{digit_glyph}
 use Rattle.std.specs.Io.KnownBytes.{Appends}
 use Rattle.ir_flags.specs.declared.valid.ShaderStages.{ShaderStages}
 use Rattle.ir_errors.specs.declared.function.FunctionError.{FunctionError}
-use Rattle.case_run.specs.FaultNames.{fault_name, inner_text, fault_handle}
+use Rattle.ir_errors.specs.Names.{function_error_name}
+use Rattle.case_run.specs.FaultNames.{inner_text, fault_handle}
 use Rattle.case_run.specs.CaseJudgement.{IsJudgementOf, stages_of_last}
 use Rattle.case_notation.specs.Case.{Case, Reads}
 use Rattle.naga_module.specs.ModuleJudgement.{Answer}
@@ -31,7 +32,7 @@ abbrev pub accepted_line : ShaderStages → List ℕ
 accepted_line stages = codes "ok " ++ (stages_text stages ++ newline)
 
 abbrev pub fault_line : FunctionError → List ℕ
-fault_line fault = codes "fault " ++ (fault_name fault ++ (inner_text fault ++ (handle_text (fault_handle fault) ++ newline)))
+fault_line fault = codes "fault " ++ (function_error_name fault ++ (inner_text fault ++ (handle_text (fault_handle fault) ++ newline)))
 
 abbrev pub unreadable_line : List ℕ
 unreadable_line = codes "unreadable" ++ newline

@@ -5,7 +5,7 @@ ghost use Rattle.std.specs.Io.KnownBytes.{Appends};
 ghost use Rattle.case_run.specs.FaultNames.{inner_text};
 ghost use Rattle.case_run.specs.Line.{accepted_line, fault_line, handle_text, hex_digit};
 
-use crate::faults::{call_name, expression_name, fault_handle, fault_name};
+use crate::faults::{call_name, fault_handle};
 use bitflags::Flags;
 use ir_arena::handle::Handle;
 use ir_arena::tag;
@@ -83,7 +83,7 @@ fn write_fault<W: Write>(fault: &FunctionError, writer: &mut W) -> io::Result<()
     ensures { OnOk result (Appends (W.contents writer.old) (W.contents writer.new) (fault_line fault.now)) }
 {
     writer.write_all(b"fault ")?;
-    writer.write_all(fault_name(fault))?;
+    writer.write_all(fault.name().as_bytes())?;
     write_inner(fault, writer)?;
     write_handle(fault_handle(fault), writer)?;
     writer.write_all(b"\n")
@@ -95,12 +95,12 @@ fn write_inner<W: Write>(fault: &FunctionError, writer: &mut W) -> io::Result<()
     ensures { OnOk result (Appends (W.contents writer.old) (W.contents writer.new) (inner_text fault.now)) }
 {
     let name = match fault {
-        FunctionError::Expression { source, .. } => expression_name(*source),
+        FunctionError::Expression { source, .. } => source.name(),
         FunctionError::InvalidCall { error, .. } => call_name(*error),
         _ => return Ok(()),
     };
     writer.write_all(b"/")?;
-    writer.write_all(name)
+    writer.write_all(name.as_bytes())
 }
 
 /// A space and a handle, if there is one.

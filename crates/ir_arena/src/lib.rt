@@ -5,6 +5,7 @@
 pub mod arena;
 pub mod duplicate;
 pub mod handle;
+pub mod positions;
 pub mod range;
 pub mod sequence;
 pub mod span;

@@ -1,5 +1,8 @@
 //! Errors of expressions.
 
+ghost use Rattle.std.specs.Prelude.{◌≡◌};
+ghost use Rattle.ir_errors.specs.Names.{expression_error_name};
+
 use ir_arena::handle::Handle;
 use ir_arena::tag;
 use ir_flags::ir::StorageAccess;
@@ -33,10 +36,13 @@ pub enum ExpressionError {
     Lower(u32),
 }
 
-/// Writes the variant's name.
-impl fmt::Display for ExpressionError {
-    fn fmt<W: fmt::Write>(&self, f: &mut fmt::Formatter<W>) -> fmt::Result {
-        f.write_str(match self {
+impl ExpressionError {
+    /// The variant's name, as naga has it.
+    #[tactic(auto, unfolding(crate::specs::Names::expression_error_name))]
+    pub fn name(&self) -> &'static str
+        ensures { result.now ≡ expression_error_name self.now }
+    {
+        match self {
             ExpressionError::NotInScope => "NotInScope",
             ExpressionError::ExpectedGlobalVariable => "ExpectedGlobalVariable",
             ExpressionError::ExpectedBindingArrayType(_) => "ExpectedBindingArrayType",
@@ -48,7 +54,14 @@ impl fmt::Display for ExpressionError {
             ExpressionError::InvalidImageStorageAccess(_) => "InvalidImageStorageAccess",
             ExpressionError::InvalidImageFormat(_) => "InvalidImageFormat",
             ExpressionError::Lower(_) => "Lower",
-        })
+        }
+    }
+}
+
+/// Writes the variant's name.
+impl fmt::Display for ExpressionError {
+    fn fmt<W: fmt::Write>(&self, f: &mut fmt::Formatter<W>) -> fmt::Result {
+        f.write_str(self.name())
     }
 }
 

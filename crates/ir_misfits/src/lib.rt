@@ -11,6 +11,7 @@ pub mod globals;
 pub mod laws;
 pub mod misfit;
 pub mod naming;
+mod numbered;
 pub mod signature;
 pub mod texts;
 pub mod types;

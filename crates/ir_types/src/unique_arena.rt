@@ -1,16 +1,16 @@
 //! Arenas in which no two values are equal.
 
-ghost use Rattle.std.specs.Prelude.{◌≡◌, ◌↔◌, ◌<◌, ◌≤◌, ◌++◌, ◌∷◌, [], true, Contains, IsTrue, IfOk, OnOk, OnErr, Some, length, slice_get};
+ghost use Rattle.std.specs.Prelude.{◌≡◌, ◌↔◌, ◌<◌, ◌≤◌, ◌++◌, ◌∷◌, [], true, Contains, IsTrue, IfOk, IfSome, IfNone, OnOk, OnErr, Some, length, slice_get};
 ghost use Rattle.ir_arena.specs.Limits.{max_len};
-ghost use Rattle.ir_types.specs.Unique.{AreDistinct};
+ghost use Rattle.ir_types.specs.Unique.{AreDistinct, hash_of};
 
 use crate::types::Type;
-use indexmap::IndexSet;
 use ir_arena::arena::MAX_LEN;
 use ir_arena::handle::{Handle, Tagged};
+use ir_arena::positions::Positions;
 use ir_arena::span::Span;
 use std::alloc::{AllocError, Global};
-use std::hash::Hash;
+use std::hash::{FoldHasher, Hash, Hasher};
 use std::marker::Model;
 use std::ops::Index;
 
@@ -25,25 +25,35 @@ impl Identical for Type {
     ghost identical = { type_same };
 }
 
+/// The hash of a value.
+#[tactic(auto, unfolding(crate::specs::Unique::hash_of))]
+fn hash_of<T: Hash>(value: &T) -> u64
+    ensures { result ≡ hash_of T.hash_input value.now }
+{
+    let mut hasher = FoldHasher::default();
+    value.hash(&mut hasher);
+    hasher.finish()
+}
+
 /// A list of at most [`MAX_LEN`](ir_arena::arena::MAX_LEN) values of which no two are equal.
 ///
 /// Each has the span of its first insertion. Contracts see the list of the values.
 #[derive(Drop)]
 pub struct UniqueArena<T: Tagged + Eq + Hash> {
-    set: IndexSet<T>,
+    values: Vec<T>,
     spans: Vec<Span>,
+    positions: Positions,
 }
 
 impl<T: Tagged + Eq + Hash> Model for UniqueArena<T> {
-    ghost use Rattle.std.specs.Prelude.{◌≡◌, ◌≤◌, List, length};
-    ghost use Rattle.indexmap.specs.IndexSet.{index_set_len};
-    ghost use Rattle.ir_arena.specs.Limits.{max_len};
+    ghost use Rattle.std.specs.Prelude.{List, length};
+    ghost use Rattle.ir_types.specs.Unique.{AreKept};
 
     ghost Value = { List T };
 
-    ghost view = { λ a. a.set.keys };
+    ghost view = { λ a. a.values.items };
 
-    ghost invariant = { (λ a. (index_set_len a.set ≡ length a.spans.items) × (length a.set.keys ≤ max_len)) };
+    ghost invariant = { λ a. AreKept T.hash_input a.values.items (length a.spans.items) a.positions };
 }
 
 impl<T: Tagged + Eq + Hash + Drop> UniqueArena<T> {
@@ -52,8 +62,9 @@ impl<T: Tagged + Eq + Hash + Drop> UniqueArena<T> {
         ensures { result ≡ [] }
     {
         UniqueArena {
-            set: IndexSet::new(alloc),
+            values: Vec::new(alloc),
             spans: Vec::new(alloc),
+            positions: Positions::new(alloc),
         }
     }
 }
@@ -65,14 +76,14 @@ impl<T: Tagged + Eq + Hash> UniqueArena<T> {
         ensures len { result ≡ length self.now }
         ensures small { result ≤ max_len }
     {
-        self.set.len()
+        self.values.len()
     }
 
     /// Whether there is no value, so that no handle is in range.
     pub fn is_empty(&self) -> bool
         ensures { IsTrue result ↔ (self.now ≡ []) }
     {
-        self.set.len() == 0
+        self.values.len() == 0
     }
 
     /// Whether no further value can be added.
@@ -90,6 +101,32 @@ impl<T: Tagged + Eq + Hash> UniqueArena<T> {
     }
 }
 
+impl<T: Tagged + Identical + Hash> UniqueArena<T> {
+    /// The place of an equal value, whose hash is given.
+    fn find(&self, hash: u64, value: &T) -> Option<u32>
+        requires { hash ≡ hash_of T.hash_input value.now }
+        ensures found { IfSome result (λ place. slice_get self.now place ≡ Some value.now) }
+        ensures absent { IfNone result (¬ Contains self.now value.now) }
+    {
+        let mut next = self.positions.last(hash);
+        while let Some(place) = next {
+            if self.values[place as usize] == *value {
+                return Some(place);
+            }
+            next = self.positions.before(place);
+        }
+        None
+    }
+
+    /// The values in the order of their first insertion, indexed by their handles.
+    pub fn as_slice(&self) -> &[T]
+        ensures values { result.now ≡ self.now }
+        ensures distinct { AreDistinct self.now }
+    {
+        self.values.as_slice()
+    }
+}
+
 impl<T: Tagged + Identical + Hash + Drop> UniqueArena<T> {
     /// Returns the handle of the equal value. If there is none, adds this one at the end. The arena must not be full.
     ///
@@ -101,29 +138,22 @@ impl<T: Tagged + Identical + Hash + Drop> UniqueArena<T> {
         ensures added { ¬ Contains self.old value → OnOk result (self.new ≡ self.old ++ value ∷ []) }
         ensures err { OnErr result (self.new ≡ self.old) }
     {
-        self.spans.push(span)?;
-        match self.set.insert_full(value) {
-            Ok((place, is_new)) => {
-                if !is_new {
-                    let _ = self.spans.pop();
-                }
-                Ok(Handle::new(place as u32))
-            }
-            Err(refused) => {
-                let _ = self.spans.pop();
-                Err(AllocError::from(refused))
-            }
+        let hash = hash_of(&value);
+        if let Some(place) = self.find(hash, &value) {
+            return Ok(Handle::new(place));
         }
-    }
-}
-
-impl<T: Tagged + Identical + Hash> UniqueArena<T> {
-    /// The values in the order of their first insertion, indexed by their handles.
-    pub fn as_slice(&self) -> &[T]
-        ensures values { result.now ≡ self.now }
-        ensures distinct { AreDistinct self.now }
-    {
-        self.set.as_slice()
+        let count = self.values.len();
+        self.values.push(value)?;
+        if let Err(refused) = self.spans.push(span) {
+            self.values.truncate(count);
+            return Err(AllocError::from(refused));
+        }
+        if let Err(refused) = self.positions.push(hash) {
+            self.values.truncate(count);
+            self.spans.truncate(count);
+            return Err(refused);
+        }
+        Ok(Handle::new(count as u32))
     }
 }
 
@@ -150,6 +180,6 @@ impl<T: Tagged + Eq + Hash> Index<Handle<T::Tag>> for UniqueArena<T> {
     ghost index_gives = { λ a h value. slice_get a h ≡ Some value };
 
     fn index(&self, handle: Handle<T::Tag>) -> &T {
-        &self.set[handle.index()]
+        &self.values[handle.index()]
     }
 }

@@ -13,24 +13,13 @@ use Rattle.ir_errors.specs.declared.function.LocalVariableError.{LocalVariableEr
 use Rattle.ir_errors.specs.declared.function.LocalVariableError.TheVariants as locals
 use Rattle.ir_errors.specs.declared.function.FunctionError.{FunctionError}
 use Rattle.ir_errors.specs.declared.function.FunctionError.TheVariants as functions
+use Rattle.ir_errors.specs.Names.{expression_error_name, function_error_name}
 use Rattle.json_faults.specs.Form.{holding, number_form, one_field, optional, three_fields, three_items, two_fields, two_items, variant}
 use Rattle.json_faults.specs.Names.{image_dimension_form, storage_format_form}
 use Rattle.json_faults.specs.Sets.{capabilities_form, storage_access_form, subgroup_operations_form}
 use Rattle.json_faults.specs.Types.{atomic_function_form, image_class_form, space_form, switch_value_form, type_form}
 
 -- a fault of an expression
-unfoldable pub expression_error_name : ExpressionError → List ℕ
-expression_error_name expressions.NotInScope = codes "NotInScope"
-expression_error_name expressions.ExpectedGlobalVariable = codes "ExpectedGlobalVariable"
-expression_error_name (expressions.ExpectedBindingArrayType _) = codes "ExpectedBindingArrayType"
-expression_error_name (expressions.ExpectedImageType _) = codes "ExpectedImageType"
-expression_error_name (expressions.InvalidImageClass _) = codes "InvalidImageClass"
-expression_error_name (expressions.InvalidImageCoordinateType _ _) = codes "InvalidImageCoordinateType"
-expression_error_name expressions.InvalidImageArrayIndex = codes "InvalidImageArrayIndex"
-expression_error_name (expressions.InvalidImageArrayIndexType _) = codes "InvalidImageArrayIndexType"
-expression_error_name (expressions.InvalidImageStorageAccess _) = codes "InvalidImageStorageAccess"
-expression_error_name (expressions.InvalidImageFormat _) = codes "InvalidImageFormat"
-expression_error_name (expressions.Lower _) = codes "Lower"
 
 -- what it holds
 unfoldable pub expression_error_held : ExpressionError → Option Json
@@ -95,61 +84,6 @@ local_error_form locals.InitializerType = string (codes "InitializerType")
 local_error_form locals.NonConstOrOverrideInitializer = string (codes "NonConstOrOverrideInitializer")
 
 -- a fault of a function
-unfoldable pub function_error_name : FunctionError → List ℕ
-function_error_name (functions.Expression _ _) = codes "Expression"
-function_error_name (functions.ExpressionAlreadyInScope _) = codes "ExpressionAlreadyInScope"
-function_error_name (functions.LocalVariable _ _ _) = codes "LocalVariable"
-function_error_name (functions.InvalidArgumentType _ _) = codes "InvalidArgumentType"
-function_error_name functions.NonConstructibleReturnType = codes "NonConstructibleReturnType"
-function_error_name (functions.InvalidArgumentPointerSpace _ _ _) = codes "InvalidArgumentPointerSpace"
-function_error_name functions.BreakOutsideOfLoopOrSwitch = codes "BreakOutsideOfLoopOrSwitch"
-function_error_name functions.ContinueOutsideOfLoop = codes "ContinueOutsideOfLoop"
-function_error_name functions.InvalidReturnSpot = codes "InvalidReturnSpot"
-function_error_name (functions.InvalidReturnType _ _) = codes "InvalidReturnType"
-function_error_name (functions.InvalidIfType _) = codes "InvalidIfType"
-function_error_name (functions.InvalidSwitchType _) = codes "InvalidSwitchType"
-function_error_name (functions.ConflictingSwitchCase _) = codes "ConflictingSwitchCase"
-function_error_name functions.ConflictingCaseType = codes "ConflictingCaseType"
-function_error_name functions.MissingDefaultCase = codes "MissingDefaultCase"
-function_error_name functions.MultipleDefaultCases = codes "MultipleDefaultCases"
-function_error_name functions.LastCaseFallTrough = codes "LastCaseFallTrough"
-function_error_name (functions.InvalidStorePointer _) = codes "InvalidStorePointer"
-function_error_name (functions.InvalidStoreTexture _ _) = codes "InvalidStoreTexture"
-function_error_name (functions.InvalidStoreValue _ _ _) = codes "InvalidStoreValue"
-function_error_name (functions.InvalidStoreTypes _ _) = codes "InvalidStoreTypes"
-function_error_name (functions.InvalidImageStore _) = codes "InvalidImageStore"
-function_error_name (functions.InvalidImageAtomic _) = codes "InvalidImageAtomic"
-function_error_name (functions.InvalidImageAtomicFunction _) = codes "InvalidImageAtomicFunction"
-function_error_name (functions.InvalidImageAtomicValue _) = codes "InvalidImageAtomicValue"
-function_error_name (functions.InvalidCall _ _) = codes "InvalidCall"
-function_error_name (functions.InvalidAtomic _) = codes "InvalidAtomic"
-function_error_name (functions.InvalidRayQueryExpression _) = codes "InvalidRayQueryExpression"
-function_error_name (functions.InvalidAccelerationStructure _) = codes "InvalidAccelerationStructure"
-function_error_name (functions.MissingAccelerationStructureVertexReturn _ _) = codes "MissingAccelerationStructureVertexReturn"
-function_error_name (functions.MissingRayQueryVertexReturn _) = codes "MissingRayQueryVertexReturn"
-function_error_name (functions.InvalidRayDescriptor _) = codes "InvalidRayDescriptor"
-function_error_name (functions.InvalidRayQueryType _) = codes "InvalidRayQueryType"
-function_error_name (functions.InvalidHitDistanceType _) = codes "InvalidHitDistanceType"
-function_error_name (functions.MissingCapability _) = codes "MissingCapability"
-function_error_name (functions.NonUniformControlFlow _ _ _) = codes "NonUniformControlFlow"
-function_error_name (functions.PipelineInputRegularFunction _) = codes "PipelineInputRegularFunction"
-function_error_name functions.PipelineOutputRegularFunction = codes "PipelineOutputRegularFunction"
-function_error_name (functions.NonUniformWorkgroupUniformLoad _) = codes "NonUniformWorkgroupUniformLoad"
-function_error_name (functions.WorkgroupUniformLoadExpressionMismatch _) = codes "WorkgroupUniformLoadExpressionMismatch"
-function_error_name (functions.WorkgroupUniformLoadInvalidPointer _) = codes "WorkgroupUniformLoadInvalidPointer"
-function_error_name (functions.InvalidSubgroup _) = codes "InvalidSubgroup"
-function_error_name (functions.InvalidCooperativeStoreTarget _) = codes "InvalidCooperativeStoreTarget"
-function_error_name (functions.InvalidCooperativeDataPointer _) = codes "InvalidCooperativeDataPointer"
-function_error_name (functions.EmitResult _) = codes "EmitResult"
-function_error_name (functions.UnvisitedExpression _) = codes "UnvisitedExpression"
-function_error_name (functions.InvalidMeshFunctionCall _) = codes "InvalidMeshFunctionCall"
-function_error_name (functions.ConflictingMeshOutputTypes _ _) = codes "ConflictingMeshOutputTypes"
-function_error_name (functions.ConflictingTaskPayloadVariables _ _) = codes "ConflictingTaskPayloadVariables"
-function_error_name (functions.InvalidMeshShaderOutputType _) = codes "InvalidMeshShaderOutputType"
-function_error_name functions.InvalidPayloadType = codes "InvalidPayloadType"
-function_error_name (functions.InvalidPayloadAddressSpace _) = codes "InvalidPayloadAddressSpace"
-function_error_name (functions.MismatchedPayloadType _ _) = codes "MismatchedPayloadType"
-function_error_name functions.PayloadPointerNotGlobal = codes "PayloadPointerNotGlobal"
 
 -- what it holds
 unfoldable pub function_error_held : FunctionError → Option Json

@@ -1,7 +1,6 @@
 //! Faults of expressions.
 
-ghost use Rattle.std.specs.Prelude.{◌≡◌};
-ghost use Rattle.json_faults.specs.Faults.{expression_error_name, expression_error_form};
+ghost use Rattle.json_faults.specs.Faults.{expression_error_form};
 
 use crate::parts::{holding, holding_pair};
 use crate::to_json::ToJson;
@@ -9,32 +8,12 @@ use crate::writer::JsonWriter;
 use ir_errors::ExpressionError;
 use std::alloc::AllocError;
 
-/// The name of a fault of an expression.
-#[tactic(auto, unfolding(crate::specs::Faults::expression_error_name))]
-fn expression_error_name(error: &ExpressionError) -> &'static str
-    ensures { result.now ≡ expression_error_name error.now }
-{
-    match error {
-        ExpressionError::NotInScope => "NotInScope",
-        ExpressionError::ExpectedGlobalVariable => "ExpectedGlobalVariable",
-        ExpressionError::ExpectedBindingArrayType(..) => "ExpectedBindingArrayType",
-        ExpressionError::ExpectedImageType(..) => "ExpectedImageType",
-        ExpressionError::InvalidImageClass(..) => "InvalidImageClass",
-        ExpressionError::InvalidImageCoordinateType(..) => "InvalidImageCoordinateType",
-        ExpressionError::InvalidImageArrayIndex => "InvalidImageArrayIndex",
-        ExpressionError::InvalidImageArrayIndexType(..) => "InvalidImageArrayIndexType",
-        ExpressionError::InvalidImageStorageAccess(..) => "InvalidImageStorageAccess",
-        ExpressionError::InvalidImageFormat(..) => "InvalidImageFormat",
-        ExpressionError::Lower(..) => "Lower",
-    }
-}
-
 impl ToJson for ExpressionError {
     ghost form = { expression_error_form };
 
     #[tactic(auto, unfolding(crate::specs::Faults::expression_error_form, crate::specs::Faults::expression_error_held, crate::specs::Form::variant))]
     fn write_json(&self, out: &mut JsonWriter) -> Result<(), AllocError> {
-        let variant = expression_error_name(self);
+        let variant = self.name();
         match self {
             ExpressionError::NotInScope
             | ExpressionError::ExpectedGlobalVariable

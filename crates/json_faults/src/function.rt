@@ -1,7 +1,7 @@
 //! Faults of functions.
 
 ghost use Rattle.std.specs.Prelude.{◌≡◌};
-ghost use Rattle.json_faults.specs.Faults.{call_error_form, atomic_error_form, subgroup_error_form, local_error_form, function_error_name, function_error_form};
+ghost use Rattle.json_faults.specs.Faults.{call_error_form, atomic_error_form, subgroup_error_form, local_error_form, function_error_form};
 ghost use Rattle.json_faults.specs.Form.{number_form};
 
 use crate::parts::{
@@ -134,78 +134,12 @@ impl ToJson for LocalVariableError {
     }
 }
 
-/// The name of a fault of a function.
-#[tactic(auto, unfolding(crate::specs::Faults::function_error_name))]
-fn function_error_name(error: &FunctionError) -> &'static str
-    ensures { result.now ≡ function_error_name error.now }
-{
-    match error {
-        FunctionError::Expression { .. } => "Expression",
-        FunctionError::ExpressionAlreadyInScope(..) => "ExpressionAlreadyInScope",
-        FunctionError::LocalVariable { .. } => "LocalVariable",
-        FunctionError::InvalidArgumentType { .. } => "InvalidArgumentType",
-        FunctionError::NonConstructibleReturnType => "NonConstructibleReturnType",
-        FunctionError::InvalidArgumentPointerSpace { .. } => "InvalidArgumentPointerSpace",
-        FunctionError::BreakOutsideOfLoopOrSwitch => "BreakOutsideOfLoopOrSwitch",
-        FunctionError::ContinueOutsideOfLoop => "ContinueOutsideOfLoop",
-        FunctionError::InvalidReturnSpot => "InvalidReturnSpot",
-        FunctionError::InvalidReturnType { .. } => "InvalidReturnType",
-        FunctionError::InvalidIfType(..) => "InvalidIfType",
-        FunctionError::InvalidSwitchType(..) => "InvalidSwitchType",
-        FunctionError::ConflictingSwitchCase(..) => "ConflictingSwitchCase",
-        FunctionError::ConflictingCaseType => "ConflictingCaseType",
-        FunctionError::MissingDefaultCase => "MissingDefaultCase",
-        FunctionError::MultipleDefaultCases => "MultipleDefaultCases",
-        FunctionError::LastCaseFallTrough => "LastCaseFallTrough",
-        FunctionError::InvalidStorePointer(..) => "InvalidStorePointer",
-        FunctionError::InvalidStoreTexture { .. } => "InvalidStoreTexture",
-        FunctionError::InvalidStoreValue { .. } => "InvalidStoreValue",
-        FunctionError::InvalidStoreTypes { .. } => "InvalidStoreTypes",
-        FunctionError::InvalidImageStore(..) => "InvalidImageStore",
-        FunctionError::InvalidImageAtomic(..) => "InvalidImageAtomic",
-        FunctionError::InvalidImageAtomicFunction(..) => "InvalidImageAtomicFunction",
-        FunctionError::InvalidImageAtomicValue(..) => "InvalidImageAtomicValue",
-        FunctionError::InvalidCall { .. } => "InvalidCall",
-        FunctionError::InvalidAtomic(..) => "InvalidAtomic",
-        FunctionError::InvalidRayQueryExpression(..) => "InvalidRayQueryExpression",
-        FunctionError::InvalidAccelerationStructure(..) => "InvalidAccelerationStructure",
-        FunctionError::MissingAccelerationStructureVertexReturn(..) =>
-            "MissingAccelerationStructureVertexReturn",
-        FunctionError::MissingRayQueryVertexReturn(..) => "MissingRayQueryVertexReturn",
-        FunctionError::InvalidRayDescriptor(..) => "InvalidRayDescriptor",
-        FunctionError::InvalidRayQueryType(..) => "InvalidRayQueryType",
-        FunctionError::InvalidHitDistanceType(..) => "InvalidHitDistanceType",
-        FunctionError::MissingCapability(..) => "MissingCapability",
-        FunctionError::NonUniformControlFlow(..) => "NonUniformControlFlow",
-        FunctionError::PipelineInputRegularFunction { .. } => "PipelineInputRegularFunction",
-        FunctionError::PipelineOutputRegularFunction => "PipelineOutputRegularFunction",
-        FunctionError::NonUniformWorkgroupUniformLoad(..) => "NonUniformWorkgroupUniformLoad",
-        FunctionError::WorkgroupUniformLoadExpressionMismatch(..) =>
-            "WorkgroupUniformLoadExpressionMismatch",
-        FunctionError::WorkgroupUniformLoadInvalidPointer(..) =>
-            "WorkgroupUniformLoadInvalidPointer",
-        FunctionError::InvalidSubgroup(..) => "InvalidSubgroup",
-        FunctionError::InvalidCooperativeStoreTarget(..) => "InvalidCooperativeStoreTarget",
-        FunctionError::InvalidCooperativeDataPointer(..) => "InvalidCooperativeDataPointer",
-        FunctionError::EmitResult(..) => "EmitResult",
-        FunctionError::UnvisitedExpression(..) => "UnvisitedExpression",
-        FunctionError::InvalidMeshFunctionCall(..) => "InvalidMeshFunctionCall",
-        FunctionError::ConflictingMeshOutputTypes(..) => "ConflictingMeshOutputTypes",
-        FunctionError::ConflictingTaskPayloadVariables(..) => "ConflictingTaskPayloadVariables",
-        FunctionError::InvalidMeshShaderOutputType(..) => "InvalidMeshShaderOutputType",
-        FunctionError::InvalidPayloadType => "InvalidPayloadType",
-        FunctionError::InvalidPayloadAddressSpace(..) => "InvalidPayloadAddressSpace",
-        FunctionError::MismatchedPayloadType(..) => "MismatchedPayloadType",
-        FunctionError::PayloadPointerNotGlobal => "PayloadPointerNotGlobal",
-    }
-}
-
 impl ToJson for FunctionError {
     ghost form = { function_error_form };
 
     #[tactic(auto, unfolding(crate::specs::Faults::function_error_form, crate::specs::Faults::function_error_held, crate::specs::Form::variant))]
     fn write_json(&self, out: &mut JsonWriter) -> Result<(), AllocError> {
-        let variant = function_error_name(self);
+        let variant = self.name();
         match self {
             FunctionError::NonConstructibleReturnType
             | FunctionError::BreakOutsideOfLoopOrSwitch

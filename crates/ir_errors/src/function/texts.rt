@@ -1,12 +1,18 @@
 //! What the errors of functions print.
 
+ghost use Rattle.std.specs.Prelude.{◌≡◌};
+ghost use Rattle.ir_errors.specs.Names.{function_error_name};
+
 use crate::function::FunctionError;
 use std::fmt;
 
-/// Writes the variant's name.
-impl fmt::Display for FunctionError {
-    fn fmt<W: fmt::Write>(&self, f: &mut fmt::Formatter<W>) -> fmt::Result {
-        f.write_str(match self {
+impl FunctionError {
+    /// The variant's name, as naga has it.
+    #[tactic(auto, unfolding(crate::specs::Names::function_error_name))]
+    pub fn name(&self) -> &'static str
+        ensures { result.now ≡ function_error_name self.now }
+    {
+        match self {
             FunctionError::Expression { .. } => "Expression",
             FunctionError::ExpressionAlreadyInScope(_) => "ExpressionAlreadyInScope",
             FunctionError::LocalVariable { .. } => "LocalVariable",
@@ -65,7 +71,14 @@ impl fmt::Display for FunctionError {
             FunctionError::InvalidPayloadAddressSpace(_) => "InvalidPayloadAddressSpace",
             FunctionError::MismatchedPayloadType(_, _) => "MismatchedPayloadType",
             FunctionError::PayloadPointerNotGlobal => "PayloadPointerNotGlobal",
-        })
+        }
+    }
+}
+
+/// Writes the variant's name.
+impl fmt::Display for FunctionError {
+    fn fmt<W: fmt::Write>(&self, f: &mut fmt::Formatter<W>) -> fmt::Result {
+        f.write_str(self.name())
     }
 }
 

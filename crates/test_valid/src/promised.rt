@@ -1,5 +1,4 @@
-//! Tests of what `check_module` promises: facts of accepted modules, which a user's crate proves by citing its clauses.
-#![tactic(auto)]
+//! What `check_module` promises: facts of accepted modules, which a user's crate proves by citing its clauses.
 
 ghost use Rattle.std.specs.Prelude.{ℕ, ◌≡◌, [], ◌∷◌, true, false, Option, Some, slice_get, IfOk, OnOk};
 ghost use Rattle.naga_below.specs.{CallResult, EntryPoint, Function, FunctionInfo, ResourceBinding, Return};

@@ -1,7 +1,7 @@
 use Rattle.std.proofs.Common.{◌≡◌, drop}
 use Rattle.ir_facts.specs.Points.{first_fault, points_from, points_of_each}
 use Rattle.ir_misfits.specs.OfBodies.{call_argument_points}
-use Rattle.ir_misfits.proofs.body.Numbered.check_call_arguments.Given as goal
+use Rattle.ir_misfits.proofs.numbered.Numbered.check_call_arguments.Given as goal
 
 -- what is left decides
 abbrev pub invariant-loop-index : goal.invariant-loop-index

@@ -1,4 +1,4 @@
-use Rattle.test_module.proofs.judge.Goals as goal
+use Rattle.test_valid.proofs.promised.judge.Goals as goal
 
 pub returns-clause-bindings : goal.returns-clause-bindings
 returns-clause-bindings c = λ on first info is known. (c.in_ok-infos.ensures.bindings on).bindings 0 first info is known
