@@ -30,354 +30,124 @@ pub struct Case {
     pub workload: Workload,
 }
 
+/// The case of a body: its name, its statements and its shape.
+macro_rules! body {
+    ($name:expr, $statements:expr, $shape:expr) => {
+        Case {
+            name: $name,
+            statements: $statements,
+            workload: Workload::Body($shape),
+        }
+    };
+}
+
+/// Lists that hold each other 200 deep, each so wide.
+macro_rules! nest {
+    ($name:expr, $statements:expr, $holder:expr, $width:expr) => {
+        body!($name, $statements, Shape::Nest { holder: $holder, depth: 200, width: $width })
+    };
+}
+
 /// The cases of bodies.
 pub static BODIES: [Case; 50] = [
-    Case {
-        name: "a emit 1000",
-        statements: 1000,
-        workload: Workload::Body(Shape::Emits(1000)),
-    },
-    Case {
-        name: "a emit 10000",
-        statements: 10000,
-        workload: Workload::Body(Shape::Emits(10000)),
-    },
-    Case {
-        name: "a emit 100000",
-        statements: 100000,
-        workload: Workload::Body(Shape::Emits(100000)),
-    },
-    Case {
-        name: "a emit 1000000",
-        statements: 1000000,
-        workload: Workload::Body(Shape::Emits(1000000)),
-    },
-    Case {
-        name: "a store 1000",
-        statements: 1000,
-        workload: Workload::Body(Shape::Stores(1000)),
-    },
-    Case {
-        name: "a store 10000",
-        statements: 10000,
-        workload: Workload::Body(Shape::Stores(10000)),
-    },
-    Case {
-        name: "a store 100000",
-        statements: 100000,
-        workload: Workload::Body(Shape::Stores(100000)),
-    },
-    Case {
-        name: "a store 1000000",
-        statements: 1000000,
-        workload: Workload::Body(Shape::Stores(1000000)),
-    },
-    Case {
-        name: "a call 1000",
-        statements: 1000,
-        workload: Workload::Body(Shape::Calls(1000)),
-    },
-    Case {
-        name: "a call 10000",
-        statements: 10000,
-        workload: Workload::Body(Shape::Calls(10000)),
-    },
-    Case {
-        name: "a call 100000",
-        statements: 100000,
-        workload: Workload::Body(Shape::Calls(100000)),
-    },
-    Case {
-        name: "a call 1000000",
-        statements: 1000000,
-        workload: Workload::Body(Shape::Calls(1000000)),
-    },
-    Case {
-        name: "a mix 1000",
-        statements: 1000,
-        workload: Workload::Body(Shape::Mix(1000)),
-    },
-    Case {
-        name: "a mix 10000",
-        statements: 10000,
-        workload: Workload::Body(Shape::Mix(10000)),
-    },
-    Case {
-        name: "a mix 100000",
-        statements: 100000,
-        workload: Workload::Body(Shape::Mix(100000)),
-    },
-    Case {
-        name: "a mix 1000000",
-        statements: 1000000,
-        workload: Workload::Body(Shape::Mix(1000000)),
-    },
-    Case {
-        name: "b block depth 200 width 100",
-        statements: 40400,
-        workload: Workload::Body(Shape::Nest {
-            holder: Holder::Block,
-            depth: 200,
-            width: 100,
-        }),
-    },
-    Case {
-        name: "b if depth 200 width 100",
-        statements: 40400,
-        workload: Workload::Body(Shape::Nest {
-            holder: Holder::If,
-            depth: 200,
-            width: 100,
-        }),
-    },
-    Case {
-        name: "b loop depth 200 width 100",
-        statements: 40400,
-        workload: Workload::Body(Shape::Nest {
-            holder: Holder::Loop,
-            depth: 200,
-            width: 100,
-        }),
-    },
-    Case {
-        name: "b mix depth 200 width 100",
-        statements: 40400,
-        workload: Workload::Body(Shape::Nest {
-            holder: Holder::Mix,
-            depth: 200,
-            width: 100,
-        }),
-    },
-    Case {
-        name: "b block depth 200 width 2",
-        statements: 1004,
-        workload: Workload::Body(Shape::Nest {
-            holder: Holder::Block,
-            depth: 200,
-            width: 2,
-        }),
-    },
-    Case {
-        name: "b block depth 200 width 25",
-        statements: 10250,
-        workload: Workload::Body(Shape::Nest {
-            holder: Holder::Block,
-            depth: 200,
-            width: 25,
-        }),
-    },
-    Case {
-        name: "b block depth 200 width 250",
-        statements: 100700,
-        workload: Workload::Body(Shape::Nest {
-            holder: Holder::Block,
-            depth: 200,
-            width: 250,
-        }),
-    },
-    Case {
-        name: "b block depth 200 width 2500",
-        statements: 1005200,
-        workload: Workload::Body(Shape::Nest {
-            holder: Holder::Block,
-            depth: 200,
-            width: 2500,
-        }),
-    },
-    Case {
-        name: "b if depth 200 width 2",
-        statements: 1004,
-        workload: Workload::Body(Shape::Nest {
-            holder: Holder::If,
-            depth: 200,
-            width: 2,
-        }),
-    },
-    Case {
-        name: "b if depth 200 width 25",
-        statements: 10250,
-        workload: Workload::Body(Shape::Nest {
-            holder: Holder::If,
-            depth: 200,
-            width: 25,
-        }),
-    },
-    Case {
-        name: "b if depth 200 width 250",
-        statements: 100700,
-        workload: Workload::Body(Shape::Nest {
-            holder: Holder::If,
-            depth: 200,
-            width: 250,
-        }),
-    },
-    Case {
-        name: "b if depth 200 width 2500",
-        statements: 1005200,
-        workload: Workload::Body(Shape::Nest {
-            holder: Holder::If,
-            depth: 200,
-            width: 2500,
-        }),
-    },
-    Case {
-        name: "b loop depth 200 width 2",
-        statements: 1004,
-        workload: Workload::Body(Shape::Nest {
-            holder: Holder::Loop,
-            depth: 200,
-            width: 2,
-        }),
-    },
-    Case {
-        name: "b loop depth 200 width 25",
-        statements: 10250,
-        workload: Workload::Body(Shape::Nest {
-            holder: Holder::Loop,
-            depth: 200,
-            width: 25,
-        }),
-    },
-    Case {
-        name: "b loop depth 200 width 250",
-        statements: 100700,
-        workload: Workload::Body(Shape::Nest {
-            holder: Holder::Loop,
-            depth: 200,
-            width: 250,
-        }),
-    },
-    Case {
-        name: "b loop depth 200 width 2500",
-        statements: 1005200,
-        workload: Workload::Body(Shape::Nest {
-            holder: Holder::Loop,
-            depth: 200,
-            width: 2500,
-        }),
-    },
-    Case {
-        name: "b mix depth 200 width 2",
-        statements: 1004,
-        workload: Workload::Body(Shape::Nest {
-            holder: Holder::Mix,
-            depth: 200,
-            width: 2,
-        }),
-    },
-    Case {
-        name: "b mix depth 200 width 25",
-        statements: 10250,
-        workload: Workload::Body(Shape::Nest {
-            holder: Holder::Mix,
-            depth: 200,
-            width: 25,
-        }),
-    },
-    Case {
-        name: "b mix depth 200 width 250",
-        statements: 100700,
-        workload: Workload::Body(Shape::Nest {
-            holder: Holder::Mix,
-            depth: 200,
-            width: 250,
-        }),
-    },
-    Case {
-        name: "b mix depth 200 width 2500",
-        statements: 1005200,
-        workload: Workload::Body(Shape::Nest {
-            holder: Holder::Mix,
-            depth: 200,
-            width: 2500,
-        }),
-    },
-    Case {
-        name: "c own 10000 blocks of 10",
-        statements: 30000,
-        workload: Workload::Body(Shape::Own {
+    body!("a emit 1000", 1000, Shape::Emits(1000)),
+    body!("a emit 10000", 10000, Shape::Emits(10000)),
+    body!("a emit 100000", 100000, Shape::Emits(100000)),
+    body!("a emit 1000000", 1000000, Shape::Emits(1000000)),
+    body!("a store 1000", 1000, Shape::Stores(1000)),
+    body!("a store 10000", 10000, Shape::Stores(10000)),
+    body!("a store 100000", 100000, Shape::Stores(100000)),
+    body!("a store 1000000", 1000000, Shape::Stores(1000000)),
+    body!("a call 1000", 1000, Shape::Calls(1000)),
+    body!("a call 10000", 10000, Shape::Calls(10000)),
+    body!("a call 100000", 100000, Shape::Calls(100000)),
+    body!("a call 1000000", 1000000, Shape::Calls(1000000)),
+    body!("a mix 1000", 1000, Shape::Mix(1000)),
+    body!("a mix 10000", 10000, Shape::Mix(10000)),
+    body!("a mix 100000", 100000, Shape::Mix(100000)),
+    body!("a mix 1000000", 1000000, Shape::Mix(1000000)),
+    nest!("b block depth 200 width 100", 40400, Holder::Block, 100),
+    nest!("b if depth 200 width 100", 40400, Holder::If, 100),
+    nest!("b loop depth 200 width 100", 40400, Holder::Loop, 100),
+    nest!("b mix depth 200 width 100", 40400, Holder::Mix, 100),
+    nest!("b block depth 200 width 2", 1004, Holder::Block, 2),
+    nest!("b block depth 200 width 25", 10250, Holder::Block, 25),
+    nest!("b block depth 200 width 250", 100700, Holder::Block, 250),
+    nest!("b block depth 200 width 2500", 1005200, Holder::Block, 2500),
+    nest!("b if depth 200 width 2", 1004, Holder::If, 2),
+    nest!("b if depth 200 width 25", 10250, Holder::If, 25),
+    nest!("b if depth 200 width 250", 100700, Holder::If, 250),
+    nest!("b if depth 200 width 2500", 1005200, Holder::If, 2500),
+    nest!("b loop depth 200 width 2", 1004, Holder::Loop, 2),
+    nest!("b loop depth 200 width 25", 10250, Holder::Loop, 25),
+    nest!("b loop depth 200 width 250", 100700, Holder::Loop, 250),
+    nest!("b loop depth 200 width 2500", 1005200, Holder::Loop, 2500),
+    nest!("b mix depth 200 width 2", 1004, Holder::Mix, 2),
+    nest!("b mix depth 200 width 25", 10250, Holder::Mix, 25),
+    nest!("b mix depth 200 width 250", 100700, Holder::Mix, 250),
+    nest!("b mix depth 200 width 2500", 1005200, Holder::Mix, 2500),
+    body!(
+        "c own 10000 blocks of 10",
+        30000,
+        Shape::Own {
             blocks: 10000,
-            loads: 10,
-        }),
-    },
-    Case {
-        name: "c own 333 blocks of 10",
-        statements: 999,
-        workload: Workload::Body(Shape::Own {
+            loads: 10
+        }
+    ),
+    body!(
+        "c own 333 blocks of 10",
+        999,
+        Shape::Own {
             blocks: 333,
-            loads: 10,
-        }),
-    },
-    Case {
-        name: "c own 3333 blocks of 10",
-        statements: 9999,
-        workload: Workload::Body(Shape::Own {
+            loads: 10
+        }
+    ),
+    body!(
+        "c own 3333 blocks of 10",
+        9999,
+        Shape::Own {
             blocks: 3333,
-            loads: 10,
-        }),
-    },
-    Case {
-        name: "c own 33333 blocks of 10",
-        statements: 99999,
-        workload: Workload::Body(Shape::Own {
+            loads: 10
+        }
+    ),
+    body!(
+        "c own 33333 blocks of 10",
+        99999,
+        Shape::Own {
             blocks: 33333,
-            loads: 10,
-        }),
-    },
-    Case {
-        name: "c own 333333 blocks of 10",
-        statements: 999999,
-        workload: Workload::Body(Shape::Own {
+            loads: 10
+        }
+    ),
+    body!(
+        "c own 333333 blocks of 10",
+        999999,
+        Shape::Own {
             blocks: 333333,
-            loads: 10,
-        }),
-    },
-    Case {
-        name: "c stores 10000 blocks of 10",
-        statements: 110000,
-        workload: Workload::Body(Shape::Blocks {
+            loads: 10
+        }
+    ),
+    body!(
+        "c stores 10000 blocks of 10",
+        110000,
+        Shape::Blocks {
             blocks: 10000,
-            stores: 10,
-        }),
-    },
-    Case {
-        name: "c switch 1000",
-        statements: 1002,
-        workload: Workload::Body(Shape::Switch(1000)),
-    },
-    Case {
-        name: "c switch 10000",
-        statements: 10002,
-        workload: Workload::Body(Shape::Switch(10000)),
-    },
-    Case {
-        name: "c switch 100000",
-        statements: 100002,
-        workload: Workload::Body(Shape::Switch(100000)),
-    },
-    Case {
-        name: "c switch 1000000",
-        statements: 1000002,
-        workload: Workload::Body(Shape::Switch(1000000)),
-    },
-    Case {
-        name: "c scattered switch 1000",
-        statements: 1002,
-        workload: Workload::Body(Shape::Scattered(1000)),
-    },
-    Case {
-        name: "c scattered switch 10000",
-        statements: 10002,
-        workload: Workload::Body(Shape::Scattered(10000)),
-    },
-    Case {
-        name: "c scattered switch 100000",
-        statements: 100002,
-        workload: Workload::Body(Shape::Scattered(100000)),
-    },
-    Case {
-        name: "c scattered switch 1000000",
-        statements: 1000002,
-        workload: Workload::Body(Shape::Scattered(1000000)),
-    },
+            stores: 10
+        }
+    ),
+    body!("c switch 1000", 1002, Shape::Switch(1000)),
+    body!("c switch 10000", 10002, Shape::Switch(10000)),
+    body!("c switch 100000", 100002, Shape::Switch(100000)),
+    body!("c switch 1000000", 1000002, Shape::Switch(1000000)),
+    body!("c scattered switch 1000", 1002, Shape::Scattered(1000)),
+    body!("c scattered switch 10000", 10002, Shape::Scattered(10000)),
+    body!(
+        "c scattered switch 100000",
+        100002,
+        Shape::Scattered(100000)
+    ),
+    body!(
+        "c scattered switch 1000000",
+        1000002,
+        Shape::Scattered(1000000)
+    ),
 ];

@@ -111,4 +111,4 @@ module _ (xs : List ℕ) (y : ℕ) where
               let l : k < length before = let e2 = are.lengths in omega arith in
               let r : k ≤ length xs = omega arith in
               of_longer xs (y ∷ []) k x p r
-                  (are.of_places k x p (sym (slice_get_left xs (y ∷ []) k earlier) ∙ there) (sym (slice_get_left before (b ∷ []) k l) ∙ kept))
+              (are.of_places k x p (sym (slice_get_left xs (y ∷ []) k earlier) ∙ there) (sym (slice_get_left before (b ∷ []) k l) ∙ kept))

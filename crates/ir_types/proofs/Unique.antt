@@ -64,10 +64,10 @@ distinct_push {T} xs x d absent j k y at_j at_k = by (nat_eq j (length xs)) (nat
 pub kept_push : {T : Type 0} (given : T → HashWrites) (xs : List T) (spans : ℕ) (hashes : List ℕ) (x : T) → AreKept given xs spans hashes → length xs < max_len
     → (Contains xs x → ⊥) → AreKept given (xs ++ x ∷ []) (spans + 1) (hashes ++ hash_of given x ∷ [])
 kept_push given xs spans hashes x are room absent = record {
-    spanned = ap (λ n. n + 1) are.spanned ∙ sym (length_push xs x);
-    hashed = ap (λ hs. hs ++ hash_of given x ∷ []) are.hashed ∙ sym (map_push (hash_of given) xs x);
-    small = let n = length_push xs x in omega arith;
-    distinct = distinct_push xs x are.distinct absent
+  spanned = ap (λ n. n + 1) are.spanned ∙ sym (length_push xs x);
+  hashed = ap (λ hs. hs ++ hash_of given x ∷ []) are.hashed ∙ sym (map_push (hash_of given) xs x);
+  small = let n = length_push xs x in omega arith;
+  distinct = distinct_push xs x are.distinct absent;
 }
 
 -- A value is looked for from the last place of its hash to the first.

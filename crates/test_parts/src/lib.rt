@@ -1,4 +1,4 @@
-//! Tests of what stands below `naga_valid`: the IR, errors and their messages, inputs and outputs, lower layers and what they compute.
+//! Tests of inputs and outputs, and of lower layers and what they compute.
 #![tactic(auto)]
 
 #[cfg(test)]

@@ -12,9 +12,7 @@ macro_rules! holds {
     };
 }
 
-mod errors;
 mod holding;
-mod ir;
 mod layers;
 mod typed;
 mod varyings;

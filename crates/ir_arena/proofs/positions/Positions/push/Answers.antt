@@ -27,9 +27,9 @@ invariant_of-self-inside-in-Err-insert c =
     let befores_longer : c.push-2.new.self.items ≡ befores ++ c.last-before.result ∷ [] = search rules in
     let count : length xs ≡ c.len-count.result = search rules in
     let xs_same : xs ≡ c.truncate-in-Err-insert.new.self.items =
-        sym (c.truncate-in-Err-insert.ensures.items ∙ ap (take c.len-count.result) xs_longer ∙ take_at xs (c.args.hash ∷ []) c.len-count.result count) in
+    sym (c.truncate-in-Err-insert.ensures.items ∙ ap (take c.len-count.result) xs_longer ∙ take_at xs (c.args.hash ∷ []) c.len-count.result count) in
     let before_same : befores ≡ c.truncate-in-Err-insert-2.new.self.items =
-        sym (c.truncate-in-Err-insert-2.ensures.items ∙ ap (take c.len-count.result) befores_longer ∙ take_at befores (c.last-before.result ∷ []) c.len-count.result (c.self.inside.linked.lengths ∙ count)) in
+    sym (c.truncate-in-Err-insert-2.ensures.items ∙ ap (take c.len-count.result) befores_longer ∙ take_at befores (c.last-before.result ∷ []) c.len-count.result (c.self.inside.linked.lengths ∙ count)) in
     let entries : c.insert.new.self.entries ≡ c.self.inside.last.entries = search rules in
     let last_same : get nat_eq c.self.inside.last ≡ get nat_eq c.insert.new.self = ap (λ es. λ x. lookup (nat_eq x) es) (sym entries) in
     (subst (λ f. AreLinked c.truncate-in-Err-insert.new.self.items c.truncate-in-Err-insert-2.new.self.items f) last_same (subst (λ bs. AreLinked c.truncate-in-Err-insert.new.self.items bs (get nat_eq c.self.inside.last)) before_same (subst (λ ys. AreLinked ys befores (get nat_eq c.self.inside.last)) xs_same c.self.inside.linked)), tt)

@@ -11,8 +11,8 @@ loop-next-init g c =
     let h = hash_of g.T.Hash.hash_input in
     let hashes : c.self.inside.positions ≡ map h c.args.self.now = c.self.invariant.hashed ∙ ap (map h) c.self.view_is in
     begins h c.args.self.now c.args.value.now c.last-next.result
-        (subst (λ hs. IsLastBefore hs (length hs) (h c.args.value.now) c.last-next.result) hashes
-            (subst (λ n. IsLastBefore c.self.inside.positions (length c.self.inside.positions) n c.last-next.result) c.requires c.last-next.ensures))
+    (subst (λ hs. IsLastBefore hs (length hs) (h c.args.value.now) c.last-next.result) hashes
+    (subst (λ n. IsLastBefore c.self.inside.positions (length c.self.inside.positions) n c.last-next.result) c.requires c.last-next.ensures))
 
 pub index-requires : goal.index-requires
 index-requires g c =
@@ -56,10 +56,10 @@ loop-next-preserved g c =
     let long : length c.self.inside.values.items ≡ length xs = ap length c.self.view_is in
     let within : place < length c.self.inside.values.items = omega arith in
     let there : slice_get xs place ≡ Some c.index.result.now =
-        ap (λ ys. slice_get ys place) (sym c.self.view_is) ∙ slice_get_read c.self.inside.values.items (length c.self.inside.values.items) place c.index.result.now refl within c.index.ensures in
+    ap (λ ys. slice_get ys place) (sym c.self.view_is) ∙ slice_get_read c.self.inside.values.items (length c.self.inside.values.items) place c.index.result.now refl within c.index.ensures in
     let other : slice_get xs place ≡ Some v → ⊥ = λ at.
-        let same : c.index.result.now ≡ v = same_Some _ _ (sym there ∙ at) in
-        true≢false (sym ((g.met.T.Eq.laws).refl v) ∙ ap (λ x. g.T.PartialEq.eq x v) (sym same) ∙ sym c.eq.ensures ∙ c.if-eq.false) in
+    let same : c.index.result.now ≡ v = same_Some _ _ (sym there ∙ at) in
+    true≢false (sym ((g.met.T.Eq.laws).refl v) ∙ ap (λ x. g.T.PartialEq.eq x v) (sym same) ∙ sym c.eq.ensures ∙ c.if-eq.false) in
     let hashes : c.self.inside.positions ≡ map h xs = c.self.invariant.hashed ∙ ap (map h) c.self.view_is in
     let hash_there : slice_get c.self.inside.positions place ≡ Some (h v) = ap (λ hs. slice_get hs place) hashes ∙ (c.loop-next.invariant.0 place c.in-Some.is).1 in
     let last = subst (λ hs. IsLastBefore hs place (h v) c.before-next.result) hashes (c.before-next.ensures (h v) hash_there) in

@@ -1,0 +1,30 @@
+//! Tests of the IR and of errors by themselves.
+//!
+//! A test makes what owns memory by a helper, hands references to helpers that assert, and lets it go by `drop`: so the
+//! proofs stay small.
+
+use std::process::Abort;
+
+/// What `assert!` does, by a call: a function that asserts much is then quick to prove.
+macro_rules! holds {
+    ($rt:expr; $holds:expr) => {
+        crate::tests::holding::assert_holds($rt, stringify!($holds), $holds)
+    };
+}
+
+mod errors;
+mod holding;
+mod ir;
+
+/// What there was memory for.
+fn made<T, E>(rt: &impl Abort, answer: Result<T, E>) -> T {
+    match answer {
+        Ok(value) => value,
+        Err(_) => panic!(rt; "no memory"),
+    }
+}
+
+/// Two values are equal.
+fn expect_equal<T: PartialEq>(rt: &impl Abort, first: &T, second: &T) {
+    holds!(rt; *first == *second);
+}
