@@ -23,6 +23,15 @@ pub fn elements<'v>(alloc: Global, value: &Node<'v>) -> Result<Items<'v>, ReadEr
     }
 }
 
+/// The list without room for more items, as few come where blocks lie in one another.
+pub fn fitted<T>(list: Sequence<T>) -> Sequence<T>
+    ensures { result ≡ list }
+{
+    let mut items = list.into_vec();
+    items.shrink_to_fit();
+    Sequence::from(items)
+}
+
 /// A list, item by item.
 impl<T: FromJson> FromJson for Sequence<T> {
     ghost stands_for = { list_of T.stands_for };
@@ -39,7 +48,7 @@ impl<T: FromJson> FromJson for Sequence<T> {
                 Err(error) => return Err(error),
             }
         }
-        Ok(list)
+        Ok(fitted(list))
     }
 }
 

@@ -11,7 +11,7 @@ ghost use Rattle.json_document.specs.Document.Statements.{span_of, bare_from, st
 use crate::read::error::ReadError;
 use crate::read::from_json::{FromJson, Held, has_field};
 use crate::read::leaves::{LeafName, read_leaf};
-use crate::read::list::elements;
+use crate::read::list::{elements, fitted};
 use crate::read::variant::{Variant, read_variant};
 use ir_arena::{Sequence, Span};
 use ir_module::{Block, Located, Statement, SwitchCase};
@@ -159,7 +159,7 @@ fn read_statements(
             Err(error) => return Err(error.within(Step::Index(list.len()))),
         }
     }
-    Ok(list)
+    Ok(fitted(list))
 }
 
 /// A statement with its span, or without one, which is 0..0.
@@ -352,7 +352,7 @@ fn read_cases(alloc: Global, levels: usize, value: &Node) -> Result<Sequence<Swi
             Err(error) => return Err(error.within(Step::Index(cases.len()))),
         }
     }
-    Ok(cases)
+    Ok(fitted(cases))
 }
 
 #[cycle(block)]
