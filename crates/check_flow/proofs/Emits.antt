@@ -115,15 +115,21 @@ module _ (context : Context) (place : Place) (h : ℕ) where
       let kind = first_holds (not (is_result (expression_at context h))) (EmitResult h) (operands ++ puts) e in
       not_holds (is_in_scope place h) (first_holds (not (is_in_scope place h)) (ExpressionAlreadyInScope h) [] (both_hold operands puts kind.1).1).0
 
--- the points of one handle, where it is of a kind that an Emit emits and it is asked first whether its operands hold
-module _ (context : Context) (place : Place) (h : ℕ) (o : Option Expression) (is : o ≡ expression_at context h) (kind : is_result o ≡ false) (used : Bool) (asked : IsTrue used ↔ AllHold (map (use_point place) (operands_if o))) where
-  pub emitted_passes : used ≡ true → IsTrue (not (is_in_scope place h)) ↔ AllHold (emitted_points context place place h)
+-- the points of one handle, where it is asked first whether it is of a kind that an Emit emits and its operands hold
+module _ (context : Context) (place : Place) (h : ℕ) (o : Option Expression) (is : o ≡ expression_at context h) (ready : Bool) (asked : IsTrue ready ↔ ((is_result o ≡ false) × AllHold (map (use_point place) (operands_if o)))) where
+  pub emitted_passes : ready ≡ true → IsTrue (not (is_in_scope place h)) ↔ AllHold (emitted_points context place place h)
   emitted_passes holds =
-      (λ new. emitted_once context place h o is kind (asked.0 holds) (not_holds (is_in_scope place h) new), λ all. ap not (emitted_new context place h all))
+      (λ new. emitted_once context place h o is (asked.0 holds).0 (asked.0 holds).1 (not_holds (is_in_scope place h) new), λ all. ap not (emitted_new context place h all))
 
-  pub emitted_fails : used ≡ false → IsTrue false ↔ AllHold (emitted_points context place place h)
-  emitted_fails fails = (λ e. cc, λ all. sym fails ∙ asked.1 (operands_fit all))
+  pub emitted_fails : ready ≡ false → IsTrue false ↔ AllHold (emitted_points context place place h)
+  emitted_fails fails = (λ e. cc, λ all. sym fails ∙ asked.1 (kind_fits all, operands_fit all))
     where
+      kind_fits : first_fault (emitted_points context place place h) ≡ None → is_result o ≡ false
+      kind_fits all =
+          let kind = is_result (expression_at context h) in
+          let operands = map (use_point place) (emitted_operands context.fun h) in
+          ap is_result is ∙ not_holds kind (first_holds (not kind) (EmitResult h) (operands ++ puts context place h) all).0
+
       operands_fit : first_fault (emitted_points context place place h) ≡ None → first_fault (map (use_point place) (operands_if o)) ≡ None
       operands_fit all =
           let operands = map (use_point place) (emitted_operands context.fun h) in

@@ -6,7 +6,6 @@ use Rattle.std.specs.List.{list_any, AllByRecursion}
 use Rattle.std.specs.Prelude.{Contains, take, if◌then◌else◌}
 use Rattle.ir_module.specs.declared.statements.SwitchCase.{SwitchCase, out-SwitchCase}
 use Rattle.ir_types.specs.declared.operations.SwitchValue.{SwitchValue}
-use Rattle.ir_facts.proofs.Points.{first_of_both}
 use Rattle.ir_facts.specs.Points.{Point, within}
 use Rattle.naga_runs.specs.Handles.{Handles, with_handle}
 use Rattle.ir_module.specs.View.{list_cases}

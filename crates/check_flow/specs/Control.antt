@@ -1,8 +1,6 @@
 -- The check lists of Emit, If, Return, Break and Continue, and of a break condition.
-use Rattle.std.specs.Prelude.{ℕ, zero, suc, Bool, true, false, not, ◌&&◌, ◌||◌, nat_le, nat_lt, map, ◌-◌, [], ◌∷◌, ◌++◌, Option, None, Some, is_none}
+use Rattle.std.specs.Prelude.{ℕ, zero, suc, Bool, false, not, ◌&&◌, ◌||◌, nat_le, nat_lt, map, ◌-◌, [], ◌∷◌, ◌++◌, Option, None, Some, is_none}
 use Rattle.std.specs.Option.{option_map}
-use Rattle.ir_types.specs.declared.types.ScalarKind.{ScalarKind}
-use Rattle.ir_types.specs.declared.types.ScalarKind.TheVariants as kind
 use Rattle.ir_types.specs.declared.types.TypeInner.{TypeInner}
 use Rattle.ir_types.specs.declared.types.TypeInner.TheVariants as inner
 use Rattle.ir_types.specs.declared.typifier.TypeResolution.TheVariants.{Handle}

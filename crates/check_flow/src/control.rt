@@ -1,6 +1,6 @@
 //! The check lists of Emit, If, Return, Break and Continue, and of a break condition.
 
-ghost use Rattle.std.specs.Prelude.{◌≡◌, ◌<◌, ◌≤◌, ◌↔◌, IsTrue, OnOk, length, map};
+ghost use Rattle.std.specs.Prelude.{◌≡◌, ◌<◌, ◌≤◌, ◌↔◌, false, IsTrue, OnOk, length, map};
 ghost use Rattle.std.specs.Option.{option_copied};
 ghost use Rattle.check_flow.specs.Control.{emit_points, emitted_points, is_bool_scalar, condition_points, declared_type, is_returned_as, return_points, break_points, continue_points};
 ghost use Rattle.check_scope.specs.Results.{is_result};
@@ -100,16 +100,14 @@ fn emitted_holds(
     ensures operands { KnowsOperands (emitted_operands (context_of context.now).fun) operands.new scope.now }
 {
     let expression = context.expression(handle);
-    if is_result(expression) {
-        return false;
-    }
     if !operands_hold(scope, operands, context, handle, expression) {
         return false;
     }
     !scope.contains(handle)
 }
 
-/// Whether every run has put the operands of an expression.
+/// Whether an expression is no result of another statement, and every run has put its operands. Its kind is asked for
+/// once, the frequent ones first.
 fn operands_hold(
     scope: &ScopeColumn,
     operands: &mut OperandColumn,
@@ -120,16 +118,19 @@ fn operands_hold(
     requires there { handle < length (context_of context.now).fun.expressions }
     requires expression { option_copied expression ≡ expression_at (context_of context.now) handle }
     requires operands { KnowsOperands (emitted_operands (context_of context.now).fun) operands.old scope.now }
-    ensures holds { IsTrue result ↔ AllHold
-        (map (use_point (place_at (known scope.now))) (operands_if (option_copied expression.entry))) }
+    ensures holds { IsTrue result ↔ ((is_result (option_copied expression.entry) ≡ false) × AllHold
+        (map (use_point (place_at (known scope.now))) (operands_if (option_copied expression.entry)))) }
     ensures operands { KnowsOperands (emitted_operands (context_of context.now).fun) operands.new scope.now }
 {
     match expression {
         Some(Expression::Load { pointer }) => scope.may_use(*pointer),
         Some(Expression::AccessIndex { base, .. }) => scope.may_use(*base),
         Some(Expression::Access { base, index }) => scope.may_use(*base) && scope.may_use(*index),
-        Some(expression) => {
-            let list = listed_operands(expression);
+        Some(other) => {
+            if is_result(expression) {
+                return false;
+            }
+            let list = listed_operands(other);
             if list.len() < LONG_LIST {
                 return listed_hold(scope, list);
             }

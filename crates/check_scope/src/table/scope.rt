@@ -57,8 +57,9 @@ impl ScopeColumn {
         ensures { result ≡ (known self.now).scope handle }
     {
         match self.numbers.as_slice().get(handle.index()) {
+            // most that is asked for was put by no scope
+            Some(0) | None => false,
             Some(number) => self.states[*number] != ScopeState::Closed,
-            None => false,
         }
     }
 
