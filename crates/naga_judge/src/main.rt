@@ -5,13 +5,11 @@
 //! several documents the largest.
 #![tactic(auto)]
 
-mod arguments;
-
-use crate::arguments::{Request, request_of};
 use clap::Error;
 use clap::error::ErrorKind;
 use json_verdict::files::{MEMORY, Output, failure, run_files, run_reader};
 use json_verdict::run::{Form, run_document};
+use judge_arguments::{Request, request_of};
 use std::alloc::Global;
 use std::io;
 use std::io::{Read, Write};
@@ -64,6 +62,19 @@ fn tell(rt: &HostRuntime, error: &Error) -> io::Result<u8> {
     }
 }
 
+/// What is written of each document.
+fn output_of(request: &Request<'_>) -> Output {
+    if request.is_lines {
+        Output::JsonLines
+    } else if request.is_json {
+        Output::Json
+    } else if request.is_explained {
+        Output::Listing
+    } else {
+        Output::Verdict
+    }
+}
+
 /// Does what is asked for.
 fn answer_request(rt: &HostRuntime, request: &Request<'_>) -> io::Result<u8> {
     if request.is_quiet {
@@ -75,10 +86,11 @@ fn answer_request(rt: &HostRuntime, request: &Request<'_>) -> io::Result<u8> {
 
 /// Judges the files, or standard input, and answers the exit status. An Err is that of the reader or the writer.
 fn run<W: Write>(rt: &HostRuntime, writer: &mut W, request: &Request<'_>) -> io::Result<u8> {
+    let output = output_of(request);
     if !request.files.is_empty() {
-        return Ok(run_files(rt, writer, request.output, request.files.as_slice()));
+        return Ok(run_files(rt, writer, output, request.files.as_slice()));
     }
-    run_input(rt.alloc(), &mut rt.reader(), writer, request.output)
+    run_input(rt.alloc(), &mut rt.reader(), writer, output)
 }
 
 /// Judges what a reader gives, and answers the exit status. An Err is that of the reader or the writer.

@@ -1,15 +1,19 @@
-//! The command line.
+//! The command line of the program `naga_judge`: its options, and what they ask for.
+#![tactic(auto)]
 
-use clap::{Arg, ArgAction, ArgMatches, Command, Error};
-use json_verdict::files::Output;
+use clap::{Arg, ArgAction, Command, Error};
 use std::alloc::{AllocError, Global};
 
-/// What the program is asked for.
+/// What the program is asked for. Of `--json-lines`, `--json` and `--explain` one is given at most.
 #[derive(Drop)]
 pub struct Request<'a> {
-    /// What is written of each document.
-    pub output: Output,
-    /// Whether nothing is written to standard output.
+    /// Whether each line is a document (`--json-lines`).
+    pub is_lines: bool,
+    /// Whether the verdict is written as JSON (`--json`).
+    pub is_json: bool,
+    /// Whether what is refused is listed, with the reason (`--explain`).
+    pub is_explained: bool,
+    /// Whether nothing is written to standard output (`--quiet`).
     pub is_quiet: bool,
     /// The files that are judged. None are standard input.
     pub files: Vec<&'a str>,
@@ -35,23 +39,12 @@ pub fn request_of<'a>(alloc: Global, words: &'a [String]) -> Result<Request<'a>,
         }
     }
     Ok(Request {
-        output: output_of(&matches),
+        is_lines: matches.get_flag("json-lines"),
+        is_json: matches.get_flag("json"),
+        is_explained: matches.get_flag("explain"),
         is_quiet: matches.get_flag("quiet"),
         files,
     })
-}
-
-/// What is written of each document.
-fn output_of(matches: &ArgMatches<'_>) -> Output {
-    if matches.get_flag("json-lines") {
-        Output::JsonLines
-    } else if matches.get_flag("json") {
-        Output::Json
-    } else if matches.get_flag("explain") {
-        Output::Listing
-    } else {
-        Output::Verdict
-    }
 }
 
 /// The option for a listing of what is refused.
