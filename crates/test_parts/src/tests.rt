@@ -24,8 +24,3 @@ fn made<T, E>(rt: &impl Abort, answer: Result<T, E>) -> T {
         Err(_) => panic!(rt; "no memory"),
     }
 }
-
-/// Two values are equal.
-fn expect_equal<T: PartialEq>(rt: &impl Abort, first: &T, second: &T) {
-    holds!(rt; *first == *second);
-}
