@@ -7,7 +7,7 @@ use bitflags::{Flag, Flags, bitflag_items};
 use std::fmt;
 
 /// What the target can do beyond what all targets can. Bit k is the k-th name in alphabetical order, counted from 0.
-#[derive(Clone, Copy, PartialEq, Eq, PartialOrd, Ord, Hash)]
+#[derive(Clone, Copy, PartialEq, Eq, Hash)]
 pub struct Capabilities(pub u32);
 
 bitflag_items! {

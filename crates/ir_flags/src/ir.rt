@@ -7,7 +7,7 @@ use bitflags::{Flag, Flags, bitflag_items};
 use std::fmt;
 
 /// What may be done with a storage buffer or a storage image: bit 0 load, bit 1 store, bit 2 atomic operations.
-#[derive(Clone, Copy, PartialEq, Eq, PartialOrd, Ord, Hash)]
+#[derive(Clone, Copy, PartialEq, Eq, Hash)]
 pub struct StorageAccess(pub u8);
 
 bitflag_items! {
@@ -62,7 +62,7 @@ impl StorageAccess {
 }
 
 /// Which memory a barrier orders: bit 0 storage, bit 1 workgroup, bit 2 subgroup, bit 3 textures.
-#[derive(Clone, Copy, PartialEq, Eq, PartialOrd, Ord, Hash)]
+#[derive(Clone, Copy, PartialEq, Eq, Hash)]
 pub struct Barrier(pub u8);
 
 bitflag_items! {
@@ -119,7 +119,7 @@ impl Barrier {
 }
 
 /// How a global is decorated in SPIR-V's terms: bit 0 `Coherent`, bit 1 `Volatile`.
-#[derive(Clone, Copy, PartialEq, Eq, PartialOrd, Ord, Hash)]
+#[derive(Clone, Copy, PartialEq, Eq, Hash)]
 pub struct MemoryDecorations(pub u8);
 
 bitflag_items! {

@@ -7,7 +7,7 @@ use bitflags::{Flag, Flags, bitflag_items};
 use std::fmt;
 
 /// Which checks run. Bit k is the k-th name, counted from 0.
-#[derive(Clone, Copy, PartialEq, Eq, PartialOrd, Ord, Hash)]
+#[derive(Clone, Copy, PartialEq, Eq, Hash)]
 pub struct ValidationFlags(pub u8);
 
 bitflag_items! {
@@ -67,7 +67,7 @@ impl ValidationFlags {
 }
 
 /// What a type can be used for. Bit k is the k-th name, counted from 0.
-#[derive(Clone, Copy, PartialEq, Eq, PartialOrd, Ord, Hash)]
+#[derive(Clone, Copy, PartialEq, Eq, Hash)]
 pub struct TypeFlags(pub u8);
 
 bitflag_items! {
@@ -135,7 +135,7 @@ impl TypeFlags {
 }
 
 /// How a function uses a global. Bit k is the k-th name, counted from 0.
-#[derive(Clone, Copy, PartialEq, Eq, PartialOrd, Ord, Hash)]
+#[derive(Clone, Copy, PartialEq, Eq, Hash)]
 pub struct GlobalUse(pub u8);
 
 bitflag_items! {
@@ -192,7 +192,7 @@ impl GlobalUse {
 }
 
 /// The groups of subgroup operations that a target has. Bit k is the k-th name, counted from 0.
-#[derive(Clone, Copy, PartialEq, Eq, PartialOrd, Ord, Hash)]
+#[derive(Clone, Copy, PartialEq, Eq, Hash)]
 pub struct SubgroupOperationSet(pub u8);
 
 bitflag_items! {
@@ -260,7 +260,7 @@ impl SubgroupOperationSet {
 /// The stages in which a function may run. Bit k is the k-th stage, counted from 0.
 ///
 /// `COMPUTE_LIKE` is compute, mesh and task.
-#[derive(Clone, Copy, PartialEq, Eq, PartialOrd, Ord, Hash)]
+#[derive(Clone, Copy, PartialEq, Eq, Hash)]
 pub struct ShaderStages(pub u16);
 
 bitflag_items! {
