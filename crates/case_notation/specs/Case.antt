@@ -1,7 +1,7 @@
 -- A case, and the inputs that read as it.
 use Rattle.std.specs.Prelude.{◌≡◌, ◌≤◌, ℕ, Bool, List, ◌∷◌, ◌++◌, length, codes}
-use Rattle.ir_module.specs.Tree.{Body}
-use Rattle.ir_module.specs.View.{body_of, no_operands}
+use Rattle.ir_statements.specs.Tree.{Body}
+use Rattle.ir_statements.specs.View.{body_of, no_operands}
 use Rattle.case_notation.specs.declared.bench.Bench.{Bench}
 use Rattle.case_notation.specs.declared.case.Case as declared
 use Rattle.case_notation.specs.declared.token.Token.{Token}

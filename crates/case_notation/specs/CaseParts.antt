@@ -1,9 +1,9 @@
 -- The parts of a body that are open while it is read: what was read of a part's statement, and the list around it.
 use Rattle.std.specs.Prelude.{ℕ, Bool, List, []}
-use Rattle.ir_module.specs.declared.statements.Block as b
-use Rattle.ir_module.specs.declared.statements.Located.{Located}
-use Rattle.ir_module.specs.declared.statements.SwitchCase.{SwitchCase}
-use Rattle.ir_types.specs.declared.operations.SwitchValue.{SwitchValue}
+use Rattle.ir_statements.specs.declared.statements.Block as b
+use Rattle.ir_statements.specs.declared.statements.Located.{Located}
+use Rattle.ir_statements.specs.declared.statements.SwitchCase.{SwitchCase}
+use Rattle.ir_statements.specs.declared.operations.SwitchValue.{SwitchValue}
 use Rattle.case_notation.specs.declared.reader.parts.Brace.{Brace}
 use Rattle.case_notation.specs.declared.reader.parts.Brace.TheVariants as brace
 use Rattle.case_notation.specs.declared.reader.parts.Kind.{Kind}

@@ -1,10 +1,10 @@
 -- Which tokens spell which statements.
 use Rattle.std.specs.Prelude.{◌≡◌, ◌≤◌, ◌+◌, ◌⊎◌, ℕ, suc, Bool, true, false, List, [], ◌∷◌, ◌++◌, Option, Some, None, max}
 use Rattle.ir_arena.specs.declared.span.Span.{Span}
-use Rattle.ir_module.specs.declared.statements.Statement.{Statement}
-use Rattle.ir_module.specs.declared.statements.Statement as statement
-use Rattle.ir_module.specs.Tree.{Stmt, Leaf, Block, Branch, Switch, Loop, Break, Continue, Return, Kill, Body, Done, Then, Cases, NoCase, OneCase}
-use Rattle.ir_module.specs.View.{tree_of, no_operands}
+use Rattle.ir_statements.specs.declared.statements.Statement.{Statement}
+use Rattle.ir_statements.specs.declared.statements.Statement as statement
+use Rattle.ir_statements.specs.Tree.{Stmt, Leaf, Block, Branch, Switch, Loop, Break, Continue, Return, Kill, Body, Done, Then, Cases, NoCase, OneCase}
+use Rattle.ir_statements.specs.View.{tree_of, no_operands}
 use Rattle.ir_flags.specs.Bits.{NO_MEMORY}
 use Rattle.case_notation.specs.declared.token.Token.{Token}
 use Rattle.case_notation.specs.declared.token.Token.TheVariants as token

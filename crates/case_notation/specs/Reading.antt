@@ -1,10 +1,10 @@
 -- How the statements are read, a token at a time: what the private functions of the reader do. No public contract cites
 -- this; it is proved to read what the grammar spells, and nothing else.
 use Rattle.std.specs.Prelude.{ℕ, true, false, List, [], ◌∷◌, ◌++◌, length, Option, Some, None, nat_lt, nat_le, if◌then◌else◌, option_and_then}
-use Rattle.ir_module.specs.declared.statements.Block.{Block}
-use Rattle.ir_module.specs.declared.statements.Located.{Located}
-use Rattle.ir_module.specs.declared.statements.Statement as ir
-use Rattle.ir_module.specs.declared.statements.SwitchCase.{SwitchCase, SwitchCase'}
+use Rattle.ir_statements.specs.declared.statements.Block.{Block}
+use Rattle.ir_statements.specs.declared.statements.Located.{Located}
+use Rattle.ir_statements.specs.declared.statements.Statement as ir
+use Rattle.ir_statements.specs.declared.statements.SwitchCase.{SwitchCase, SwitchCase'}
 use Rattle.case_notation.specs.declared.token.Token.{Token}
 use Rattle.case_notation.specs.declared.token.Token.TheVariants as token
 use Rattle.case_notation.specs.declared.reader.parts.Tail.{Tail}

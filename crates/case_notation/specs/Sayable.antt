@@ -1,8 +1,8 @@
 -- Bodies that the notation can say.
 use Rattle.std.specs.Prelude.{ℕ, Bool, true, false, List, [], ◌∷◌, Option, Some, None, ◌&&◌, IsTrue, length, nat_lt, nat_le}
-use Rattle.ir_module.specs.declared.statements.Statement.{Statement}
-use Rattle.ir_module.specs.declared.statements.Statement as statement
-use Rattle.ir_module.specs.Tree.{Stmt, Leaf, Block, Branch, Switch, Loop, Break, Continue, Return, Kill, Body, Done, Then, Cases, NoCase, OneCase}
+use Rattle.ir_statements.specs.declared.statements.Statement.{Statement}
+use Rattle.ir_statements.specs.declared.statements.Statement as statement
+use Rattle.ir_statements.specs.Tree.{Stmt, Leaf, Block, Branch, Switch, Loop, Break, Continue, Return, Kill, Body, Done, Then, Cases, NoCase, OneCase}
 use Rattle.case_notation.specs.Bench.{names_of, callees_of}
 use Rattle.case_notation.specs.declared.bench.Bench.{Bench}
 

@@ -1,7 +1,7 @@
 -- What the functions that go over a text do. No public contract cites this.
 use Rattle.std.specs.Prelude.{◌≡◌, ◌<◌, ◌≤◌, ℕ, Bool, not, List, [], ◌∷◌, length, take, drop}
 use Rattle.std.specs.List.{AllPass, prefix_len}
-use Rattle.ir_module.specs.Tree.{Body}
+use Rattle.ir_statements.specs.Tree.{Body}
 use Rattle.case_notation.specs.declared.bench.Bench.{Bench}
 use Rattle.case_notation.specs.declared.token.Token.{Token}
 use Rattle.case_notation.specs.Grammar.{Spells, depth}

@@ -2,8 +2,8 @@
 use Rattle.std.specs.Prelude.{true, ◌≡◌, ◌<◌, ◌^◌, ◌++◌, ℕ, List, [], ◌∷◌, Some, codes, decimal, slice_get, FitsSigned}
 use Rattle.std.specs.Fmt.{signed_decimal}
 use Rattle.std.specs.Int.{w32}
-use Rattle.ir_types.specs.declared.operations.SwitchValue.{SwitchValue}
-use Rattle.ir_types.specs.declared.operations.SwitchValue.TheVariants.{I32, U32, Default}
+use Rattle.ir_statements.specs.declared.operations.SwitchValue.{SwitchValue}
+use Rattle.ir_statements.specs.declared.operations.SwitchValue.TheVariants.{I32, U32, Default}
 use Rattle.case_notation.specs.declared.bench.Bench.{Bench}
 use Rattle.case_notation.specs.declared.token.Token.{Token}
 use Rattle.case_notation.specs.declared.token.Token.TheVariants as token

@@ -1,6 +1,6 @@
 -- What the reader holds, as the state of its definitions: the newest open part stands first.
 use Rattle.std.specs.Prelude.{List, Option, Result, map, reverse}
-use Rattle.ir_module.specs.declared.statements.Located.{Located}
+use Rattle.ir_statements.specs.declared.statements.Located.{Located}
 use Rattle.case_notation.specs.declared.case.ReadError.{ReadError}
 use Rattle.case_notation.specs.declared.reader.parts.Frame.{Frame}
 use Rattle.case_notation.specs.declared.reader.Reader.{Reader}

@@ -1,8 +1,8 @@
 //! Statements and blocks of the IR, as the reader makes them. Each statement has the same span.
 
 ghost use Rattle.std.specs.Prelude.{◌≡◌, ◌++◌, ◌∷◌, [], OnOk};
-ghost use Rattle.ir_module.specs.declared.statements.Statement as ir;
-ghost use Rattle.ir_module.specs.declared.statements.SwitchCase.{SwitchCase'};
+ghost use Rattle.ir_statements.specs.declared.statements.Statement as ir;
+ghost use Rattle.ir_statements.specs.declared.statements.SwitchCase.{SwitchCase'};
 ghost use Rattle.case_notation.specs.CaseBlocks.{block_from, placed};
 ghost use Rattle.case_notation.specs.Grammar.{emitting, call_of, store_of, control_barrier};
 
@@ -13,8 +13,8 @@ use ir_arena::sequence::Sequence;
 use ir_arena::span::Span;
 use ir_arena::tag;
 use ir_flags::ir::Barrier;
-use ir_module::statements::{Block, Located, Statement, SwitchCase};
-use ir_types::operations::SwitchValue;
+use ir_statements::operations::SwitchValue;
+use ir_statements::statements::{Block, Located, Statement, SwitchCase};
 use std::alloc::{AllocError, Global};
 
 /// The expression of a bench at this index.

@@ -9,7 +9,7 @@ use crate::bench::Bench;
 use crate::head::options_of;
 use crate::reader::read_body;
 use crate::words::first_word;
-use ir_module::statements::Block;
+use ir_statements::statements::Block;
 use std::alloc::{AllocError, AllocFailed, Global};
 
 /// How many bytes an input may have.

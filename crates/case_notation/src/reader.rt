@@ -1,8 +1,8 @@
 //! Reads the statements of a body, a token at a time, with a stack of the parts that are open.
 
 ghost use Rattle.std.specs.Prelude.{◌≡◌, List, Some, None, option_and_then, IfOk, IsErrOf};
-ghost use Rattle.ir_module.specs.Tree.{Body};
-ghost use Rattle.ir_module.specs.View.{body_of, no_operands};
+ghost use Rattle.ir_statements.specs.Tree.{Body};
+ghost use Rattle.ir_statements.specs.View.{body_of, no_operands};
 ghost use Rattle.case_notation.specs.CaseBlocks.{block_of};
 ghost use Rattle.case_notation.specs.declared.token.Token as declared;
 ghost use Rattle.case_notation.specs.Feeding.{Ends};
@@ -22,7 +22,7 @@ use crate::reader::parts::{Brace, Frame, Naming, Tail, Wants};
 use crate::token::{Token, token_of};
 use crate::words::first_word;
 use ir_arena::sequence::Sequence;
-use ir_module::statements::{Block, Located, Statement};
+use ir_statements::statements::{Block, Located, Statement};
 use std::alloc::Global;
 
 /// How many braces may be open at once.

@@ -9,7 +9,7 @@ ghost use Rattle.case_notation.specs.Text.{IsTextOf};
 
 use crate::bench::Bench;
 use crate::value::value_of;
-use ir_types::operations::SwitchValue;
+use ir_statements::operations::SwitchValue;
 
 /// What a word after the options means.
 #[derive(Clone, Copy, PartialEq, Eq, Debug)]

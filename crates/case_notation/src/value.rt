@@ -3,11 +3,11 @@
 ghost use Rattle.std.specs.Prelude.{◌≡◌, ◌<◌, ◌≤◌, ◌-◌, ◌^◌, MatchOption, ℕ, ℤ, IfSome, IfNone, FitsSigned, decimal};
 ghost use Rattle.std.specs.Fmt.{signed_decimal};
 ghost use Rattle.std.specs.Int.{w32};
-ghost use Rattle.ir_types.specs.declared.operations.SwitchValue as value;
+ghost use Rattle.ir_statements.specs.declared.operations.SwitchValue as value;
 ghost use Rattle.case_notation.specs.Text.{IsValueText};
 ghost use Rattle.case_notation.specs.Lookup.{begins_number, begins_signed};
 
-use ir_types::operations::SwitchValue;
+use ir_statements::operations::SwitchValue;
 use std::str;
 
 /// Whether a text begins as that of a number does: with a digit, which is no zero unless it stands alone.

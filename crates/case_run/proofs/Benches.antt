@@ -8,9 +8,9 @@ use Rattle.ir_facts.specs.Each.{EachAt}
 use Rattle.ir_facts.specs.Fits.{FitsTypes, FitsGlobals, GlobalFits, FitsFunction, MemberCountFits, NameEarlierExpressions, ReferencesFit, LocalFits}
 use Rattle.ir_facts.specs.FitsBody.{LeafFits, StatementFits, BodyFits, CasesFit, CalleeFits, SignatureFits}
 use Rattle.ir_module.specs.Operands.{operands_of}
-use Rattle.ir_module.specs.View.{body_of, no_operands}
-use Rattle.ir_module.specs.declared.statements.Block.{Block}
-use Rattle.ir_module.specs.Tree.{Stmt, Leaf, Block as Nested, Branch, Switch, Loop, Break, Continue, Return, Kill, Body, Done, Then, Cases, NoCase, OneCase}
+use Rattle.ir_statements.specs.View.{body_of, no_operands}
+use Rattle.ir_statements.specs.declared.statements.Block.{Block}
+use Rattle.ir_statements.specs.Tree.{Stmt, Leaf, Block as Nested, Branch, Switch, Loop, Break, Continue, Return, Kill, Body, Done, Then, Cases, NoCase, OneCase}
 use Rattle.ir_types.specs.Types.{NamesTypesBelow, ResolutionFits}
 use Rattle.ir_module.specs.declared.expressions.Expression.{Expression}
 use Rattle.ir_module.specs.declared.expressions.Expression.TheVariants.{CallResult, Unary}
@@ -18,13 +18,13 @@ use Rattle.ir_module.specs.declared.functions.FunctionArgument.{FunctionArgument
 use Rattle.ir_module.specs.declared.module.Constant.{Constant}
 use Rattle.ir_module.specs.declared.module.Module.{Module}
 use Rattle.ir_module.specs.declared.module.Override.{Override}
-use Rattle.ir_module.specs.declared.statements.Statement.{Statement}
-use Rattle.ir_module.specs.declared.statements.Statement as statement
+use Rattle.ir_statements.specs.declared.statements.Statement.{Statement}
+use Rattle.ir_statements.specs.declared.statements.Statement as statement
 use Rattle.ir_types.specs.declared.types.Type.{«Type» as IrType}
 use Rattle.case_notation.specs.Bench.{names_of, callees_of}
 use Rattle.case_run.specs.BenchModule.{bench_types, shared_expressions, bench_expressions, bench_locals, bench_function, bench_functions, bench_module, callee_block, callee_function}
 use Rattle.case_notation.specs.CaseBlocks.{list_of}
-use Rattle.check_statement.specs.ValidatorParts.{NamesTypes, AreInfosOf}
+use Rattle.check_entry.specs.TypeInfos.{NamesTypes, AreInfosOf}
 use Rattle.ir_facts.specs.declared.valid.settings.Settings.{Settings}
 use Rattle.case_run.specs.CaseJudgement.{bench_infos, IsPlainAnswer}
 use Rattle.naga_module.specs.ModuleJudgement.{Answer, Fits, first_infos}

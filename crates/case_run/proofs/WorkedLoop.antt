@@ -1,12 +1,12 @@
 -- The tree of a block with operands, list by list.
 use Rattle.std.proofs.Common.{◌≡◌, ◌∙◌, ℕ, zero, suc, List, Some, refl, ap, arith}
 use Rattle.std.proofs.lemmas.Bool.Decides.{nat_tests}
-use Rattle.ir_module.proofs.Rows.{body_of-list}
-use Rattle.ir_module.specs.Tree.{Body, Branch, Loop, Continue, Done, Then}
-use Rattle.ir_module.specs.View.{list_body}
-use Rattle.ir_module.specs.View as view
-use Rattle.ir_module.specs.declared.statements.Block.{roll-Block, out-roll-Block}
-use Rattle.ir_module.specs.declared.statements.Located.{Located}
+use Rattle.ir_statements.proofs.Rows.{body_of-list}
+use Rattle.ir_statements.specs.Tree.{Body, Branch, Loop, Continue, Done, Then}
+use Rattle.ir_statements.specs.View.{list_body}
+use Rattle.ir_statements.specs.View as view
+use Rattle.ir_statements.specs.declared.statements.Block.{roll-Block, out-roll-Block}
+use Rattle.ir_statements.specs.declared.statements.Located.{Located}
 use Rattle.check_scope.specs.BodyTrees.{emitted_operands}
 use Rattle.check_scope.specs.Context.{pre_emitted_of}
 use Rattle.naga_runs.specs.Samples.{given, one, emit_3, may_continue_here, skipping_loop, sure_loop}

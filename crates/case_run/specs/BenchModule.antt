@@ -1,13 +1,13 @@
 -- The module of a bench, and its last function, into which the body of a case is put.
 use Rattle.std.specs.Prelude.{List, [], ◌∷◌, ◌++◌, None, Some}
-use Rattle.ir_module.specs.Tree.{Done, Then, Return}
+use Rattle.ir_statements.specs.Tree.{Done, Then, Return}
 use Rattle.ir_types.specs.Types.{bool_scalar}
 use Rattle.ir_module.specs.declared.expressions.Expression.{Expression}
 use Rattle.ir_module.specs.declared.expressions.Expression.TheVariants.{Literal, Unary, LocalVariable as LocalPointer, Load, CallResult}
 use Rattle.ir_module.specs.declared.functions.Function.{Function}
 use Rattle.ir_module.specs.declared.functions.LocalVariable.{LocalVariable}
 use Rattle.ir_module.specs.declared.module.Module.{Module}
-use Rattle.ir_module.specs.declared.statements.Block.{Block}
+use Rattle.ir_statements.specs.declared.statements.Block.{Block}
 use Rattle.ir_types.specs.declared.types.Scalar.{Scalar}
 use Rattle.ir_types.specs.declared.types.ScalarKind.TheVariants.{Sint, Uint}
 use Rattle.ir_types.specs.declared.types.Type.{«Type» as IrType}

@@ -1,7 +1,7 @@
 -- The two loops whose runs are worked by hand are bodies of bench P: `loop { if t { continue } { } emit e1 } { } break_if e1`,
 -- and the one with its Emit first. The handles that need no emission are those of the bench's function.
 use Rattle.std.specs.Prelude.{ℕ, ◌≡◌}
-use Rattle.ir_module.specs.Tree.{Body}
+use Rattle.ir_statements.specs.Tree.{Body}
 use Rattle.check_scope.specs.BodyTrees.{body_of}
 use Rattle.check_scope.specs.Context.{pre_emitted_of}
 use Rattle.naga_runs.specs.Samples.{given, skipping_loop, sure_loop}

@@ -12,7 +12,7 @@ use ir_arena::span::Span;
 use ir_module::expressions::{Expression, Literal};
 use ir_module::functions::{Function, FunctionResult, LocalVariable};
 use ir_module::module::Module;
-use ir_module::statements::{Block, Statement};
+use ir_statements::statements::{Block, Statement};
 use ir_types::types::{Scalar, Type, TypeInner};
 use ir_types::unique_arena::UniqueArena;
 use std::alloc::{AllocError, Global};

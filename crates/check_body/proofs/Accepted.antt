@@ -6,10 +6,10 @@ use Rattle.std.proofs.lemmas.Option.{slice_get_within}
 use Rattle.std.specs.Int.Bits.{and_self}
 use Rattle.std.specs.List.{AllByRecursion}
 use Rattle.std.specs.Prelude.{map, if◌then◌else◌}
-use Rattle.ir_module.specs.Tree.{Body, Leaf}
+use Rattle.ir_statements.specs.Tree.{Body, Leaf}
 use Rattle.ir_module.specs.declared.expressions.Expression.{Expression}
 use Rattle.ir_module.specs.declared.expressions.Expression.TheVariants as e
-use Rattle.ir_module.specs.declared.statements.Statement as ir
+use Rattle.ir_statements.specs.declared.statements.Statement as ir
 use Rattle.ir_flags.specs.declared.valid.ShaderStages.{ShaderStages}
 use Rattle.ir_errors.specs.declared.function.FunctionError.{FunctionError}
 use Rattle.ir_errors.specs.declared.function.FunctionError.TheVariants.{UnvisitedExpression}

@@ -6,19 +6,19 @@ use Rattle.std.specs.List.{AllByRecursion}
 use Rattle.std.specs.Prelude.{Contains, map, take, if◌then◌else◌}
 use Rattle.ir_facts.specs.Fits.{FitsFunction}
 use Rattle.ir_facts.specs.FitsBody.{StatementFits, BodyFits, CasesFit}
-use Rattle.ir_module.specs.Tree.{Stmt, Body, Cases, Leaf, Block, Branch, Switch, Loop, Done, Then, NoCase, OneCase}
-use Rattle.ir_module.specs.View.{no_operands}
+use Rattle.ir_statements.specs.Tree.{Stmt, Body, Cases, Leaf, Block, Branch, Switch, Loop, Done, Then, NoCase, OneCase}
+use Rattle.ir_statements.specs.View.{no_operands}
 use Rattle.ir_module.specs.declared.functions.Function.{Function}
 use Rattle.ir_module.specs.declared.module.Module.{Module}
-use Rattle.ir_module.specs.declared.statements.Statement.{Statement}
-use Rattle.ir_module.specs.declared.statements.Statement as ir
+use Rattle.ir_statements.specs.declared.statements.Statement.{Statement}
+use Rattle.ir_statements.specs.declared.statements.Statement as ir
 use Rattle.ir_arena.specs.declared.span.Span.{Span}
 use Rattle.ir_flags.specs.declared.valid.ShaderStages.{ShaderStages}
 use Rattle.ir_facts.specs.declared.valid.info.FunctionInfo.{FunctionInfo}
 use Rattle.ir_facts.specs.declared.valid.info.ModuleInfo.{ModuleInfo}
 use Rattle.ir_facts.specs.declared.valid.settings.Settings.{Settings}
 use Rattle.ir_facts.specs.declared.valid.types.TypeInfo.{TypeInfo}
-use Rattle.ir_module.specs.Tree.{Act}
+use Rattle.ir_statements.specs.Tree.{Act}
 use Rattle.ir_facts.proofs.OtherOperands.{body_fits-other}
 use Rattle.ir_facts.specs.Meaning.{Meaning}
 use Rattle.naga_runs.proofs.Laws.{all_listed}

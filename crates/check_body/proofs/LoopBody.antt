@@ -1,7 +1,7 @@
 -- The body list of a Loop as the code goes through it, statement by statement.
 use Rattle.std.proofs.Common.{◌≡◌, ℕ, ◌≤◌, Bool, true, false, Option, Some, None, List, [], ◌++◌, append-nil, append_assoc, refl, subst, sym, ap, ◌∙◌}
 use Rattle.std.specs.Prelude.{if◌then◌else◌}
-use Rattle.ir_module.specs.Tree.{Stmt, Body, Done, Then}
+use Rattle.ir_statements.specs.Tree.{Stmt, Body, Done, Then}
 use Rattle.naga_runs.specs.Must.{holds_continue}
 use Rattle.check_scope.specs.declared.table.ScopeColumn.{ScopeColumn}
 use Rattle.check_scope.specs.declared.table.ScopeState.TheVariants.{Open}

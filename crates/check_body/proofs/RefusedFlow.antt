@@ -2,11 +2,11 @@
 use Rattle.std.proofs.Common.{◌≡◌, ℕ, zero, suc, ◌≤◌, ◌==◌, Bool, true, false, List, [], ◌∷◌, ◌++◌, None, Some, Option, ap, ◌∙◌, arith}
 use Rattle.std.specs.List.{AllByRecursion}
 use Rattle.std.specs.Prelude.{⊤, map, slice_get, if◌then◌else◌}
-use Rattle.ir_module.specs.Tree.{Act, Cases, Use, Put}
-use Rattle.ir_module.specs.View.{emitted, put_if}
+use Rattle.ir_statements.specs.Tree.{Act, Cases, Use, Put}
+use Rattle.ir_statements.specs.View.{emitted, put_if}
 use Rattle.ir_module.specs.declared.functions.FunctionArgument.{FunctionArgument}
-use Rattle.ir_types.specs.declared.operations.SwitchValue.{SwitchValue}
-use Rattle.ir_types.specs.declared.operations.SwitchValue.TheVariants as case
+use Rattle.ir_statements.specs.declared.operations.SwitchValue.{SwitchValue}
+use Rattle.ir_statements.specs.declared.operations.SwitchValue.TheVariants as case
 use Rattle.ir_types.specs.declared.types.ScalarKind.{ScalarKind}
 use Rattle.ir_facts.specs.Points.{within}
 use Rattle.ir_errors.specs.declared.function.FunctionError.TheVariants.{InvalidCall}

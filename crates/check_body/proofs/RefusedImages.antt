@@ -1,9 +1,9 @@
 -- What the points of ImageStore and ImageAtomic say where they fail.
 use Rattle.std.proofs.Common.{ℕ, List, [], ◌∷◌, ◌++◌, None, Some, Option}
 use Rattle.std.specs.Prelude.{⊤}
-use Rattle.ir_module.specs.Tree.{Act, Use}
-use Rattle.ir_module.specs.View.{used_if}
-use Rattle.ir_types.specs.declared.operations.AtomicFunction.{AtomicFunction}
+use Rattle.ir_statements.specs.Tree.{Act, Use}
+use Rattle.ir_statements.specs.View.{used_if}
+use Rattle.ir_statements.specs.declared.operations.AtomicFunction.{AtomicFunction}
 use Rattle.ir_flags.specs.declared.capabilities.Capabilities.{Capabilities}
 use Rattle.ir_types.specs.Formats.{format_scalar}
 use Rattle.ir_types.specs.TypeTests.{is_scalar}

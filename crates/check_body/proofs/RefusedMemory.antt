@@ -1,10 +1,10 @@
 -- What the points of Atomic, Store, WorkGroupUniformLoad and CooperativeStore say where they fail.
 use Rattle.std.proofs.Common.{ℕ, Bool, List, [], ◌∷◌, None, Some, Option}
 use Rattle.std.specs.Prelude.{⊤, is_some}
-use Rattle.ir_module.specs.Tree.{Act, Use, Put}
-use Rattle.ir_module.specs.View.{atomic_acts}
-use Rattle.ir_types.specs.declared.operations.AtomicFunction.{AtomicFunction}
-use Rattle.ir_types.specs.declared.operations.AtomicFunction.TheVariants as atomic
+use Rattle.ir_statements.specs.Tree.{Act, Use, Put}
+use Rattle.ir_statements.specs.View.{atomic_acts}
+use Rattle.ir_statements.specs.declared.operations.AtomicFunction.{AtomicFunction}
+use Rattle.ir_statements.specs.declared.operations.AtomicFunction.TheVariants as atomic
 use Rattle.ir_flags.specs.declared.capabilities.Capabilities.{Capabilities}
 use Rattle.ir_types.specs.declared.types.AddressSpace.{AddressSpace}
 use Rattle.ir_types.specs.declared.types.Scalar.{Scalar}

@@ -1,11 +1,11 @@
 -- What the points at any visit say where they fail.
 use Rattle.std.proofs.Common.{◌≡◌, ◌-◌, Bool, true, false, [], None, Some, subst, sym, arith}
 use Rattle.std.specs.Prelude.{⊤}
-use Rattle.ir_module.specs.Tree.{Leaf, Block, Branch, Switch, Loop, Break, Continue, Return, Kill}
-use Rattle.ir_module.specs.View.{statement_acts}
-use Rattle.ir_module.specs.declared.operations.RayPipelineFunction.TheVariants.{TraceRay}
-use Rattle.ir_module.specs.declared.statements.Statement.{Statement}
-use Rattle.ir_module.specs.declared.statements.Statement as ir
+use Rattle.ir_statements.specs.Tree.{Leaf, Block, Branch, Switch, Loop, Break, Continue, Return, Kill}
+use Rattle.ir_statements.specs.View.{statement_acts}
+use Rattle.ir_statements.specs.declared.operations.RayPipelineFunction.TheVariants.{TraceRay}
+use Rattle.ir_statements.specs.declared.statements.Statement.{Statement}
+use Rattle.ir_statements.specs.declared.statements.Statement as ir
 use Rattle.naga_runs.specs.Abilities.{node_jump}
 use Rattle.naga_runs.specs.Guards.{IsRead}
 use Rattle.naga_runs.specs.Positions.{Node, NoNode, StatementNode, BreakIfNode}

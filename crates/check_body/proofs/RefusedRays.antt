@@ -1,10 +1,10 @@
 -- What the points of RayQuery and TraceRay say where they fail.
 use Rattle.std.proofs.Common.{ℕ, [], ◌∷◌, Option}
 use Rattle.std.specs.Prelude.{⊤}
-use Rattle.ir_module.specs.Tree.{Use}
-use Rattle.ir_module.specs.View.{query_acts}
-use Rattle.ir_module.specs.declared.operations.RayQueryFunction.{RayQueryFunction}
-use Rattle.ir_module.specs.declared.operations.RayQueryFunction.TheVariants as query
+use Rattle.ir_statements.specs.Tree.{Use}
+use Rattle.ir_statements.specs.View.{query_acts}
+use Rattle.ir_statements.specs.declared.operations.RayQueryFunction.{RayQueryFunction}
+use Rattle.ir_statements.specs.declared.operations.RayQueryFunction.TheVariants as query
 use Rattle.naga_runs.specs.Visits.{Place}
 use Rattle.check_rays.specs.RayQuery.{ray_query_points}
 use Rattle.check_rays.specs.RayTrace.{trace_ray_points}

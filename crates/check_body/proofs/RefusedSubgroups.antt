@@ -1,13 +1,13 @@
 -- What the points of the subgroup statements and of barriers say where they fail.
 use Rattle.std.proofs.Common.{ℕ, Bool, true, false, [], ◌∷◌, ◌++◌, None, Some, Option}
 use Rattle.std.specs.Prelude.{⊤}
-use Rattle.ir_module.specs.Tree.{Use, Put}
-use Rattle.ir_module.specs.View.{used_if, mode_acts}
-use Rattle.ir_module.specs.declared.operations.GatherMode.{GatherMode}
-use Rattle.ir_module.specs.declared.operations.GatherMode.TheVariants as gather
+use Rattle.ir_statements.specs.Tree.{Use, Put}
+use Rattle.ir_statements.specs.View.{used_if, mode_acts}
+use Rattle.ir_statements.specs.declared.operations.GatherMode.{GatherMode}
+use Rattle.ir_statements.specs.declared.operations.GatherMode.TheVariants as gather
 use Rattle.ir_flags.specs.declared.ir.Barrier.{Barrier}
-use Rattle.ir_module.specs.declared.operations.CollectiveOperation.{CollectiveOperation}
-use Rattle.ir_module.specs.declared.operations.SubgroupOperation.{SubgroupOperation}
+use Rattle.ir_statements.specs.declared.operations.CollectiveOperation.{CollectiveOperation}
+use Rattle.ir_statements.specs.declared.operations.SubgroupOperation.{SubgroupOperation}
 use Rattle.naga_runs.specs.Visits.{Place}
 use Rattle.check_scope.specs.Context.{Context}
 use Rattle.check_subgroups.specs.Barrier.{is_of_subgroup, barrier_points}

@@ -9,10 +9,10 @@ use Rattle.std.specs.List.{AllByRecursion, list_any}
 use Rattle.std.specs.Prelude.{map, is_none}
 use Rattle.ir_facts.proofs.Points.{first_holds, both_hold, not_holds}
 use Rattle.ir_facts.specs.Points.{first_fault, answer, and_then}
-use Rattle.ir_module.specs.Tree.{Stmt, Body, Cases, Switch, Return}
+use Rattle.ir_statements.specs.Tree.{Stmt, Body, Cases, Switch, Return}
 use Rattle.ir_types.specs.Unique.{AreDistinct}
-use Rattle.ir_types.specs.declared.operations.SwitchValue.{SwitchValue}
-use Rattle.ir_types.specs.declared.operations.SwitchValue.TheVariants.{I32, U32, Default}
+use Rattle.ir_statements.specs.declared.operations.SwitchValue.{SwitchValue}
+use Rattle.ir_statements.specs.declared.operations.SwitchValue.TheVariants.{I32, U32, Default}
 use Rattle.ir_types.specs.declared.types.ScalarKind.{ScalarKind}
 use Rattle.ir_types.specs.declared.types.ScalarKind.TheVariants as kind
 use Rattle.ir_errors.specs.declared.function.FunctionError.{FunctionError}

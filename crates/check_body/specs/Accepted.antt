@@ -1,10 +1,10 @@
 -- What else holds of a body that is accepted: each result is filled once, and the stages that are left are stages of all.
 use Rattle.std.specs.List.{AllByRecursion}
 use Rattle.std.specs.Prelude.{ℕ, ◌+◌, ◌≡◌, ⊤, Bool, List, [], ◌∷◌, ◌++◌, Some, map, slice_get, if◌then◌else◌}
-use Rattle.ir_module.specs.Tree.{Body, Leaf}
+use Rattle.ir_statements.specs.Tree.{Body, Leaf}
 use Rattle.ir_module.specs.declared.expressions.Expression.TheVariants as e
 use Rattle.ir_module.specs.declared.functions.Function.{Function}
-use Rattle.ir_module.specs.declared.statements.Statement as ir
+use Rattle.ir_statements.specs.declared.statements.Statement as ir
 use Rattle.ir_flags.specs.declared.valid.ShaderStages.{ShaderStages}
 use Rattle.ir_facts.specs.declared.valid.info.ModuleInfo.{ModuleInfo}
 use Rattle.naga_runs.specs.Positions.{Node, NoNode, StatementNode, BreakIfNode, node_at}

@@ -1,7 +1,7 @@
 -- The infos of a module, function by function; and the functions that a body calls.
 use Rattle.std.specs.Prelude.{ℕ, List, [], ◌∷◌, ◌++◌}
-use Rattle.ir_module.specs.Tree.{Body, Leaf}
-use Rattle.ir_module.specs.declared.statements.Statement as ir
+use Rattle.ir_statements.specs.Tree.{Body, Leaf}
+use Rattle.ir_statements.specs.declared.statements.Statement as ir
 use Rattle.ir_facts.specs.declared.valid.info.FunctionInfo.{FunctionInfo}
 use Rattle.ir_facts.specs.declared.valid.info.ModuleInfo.{ModuleInfo}
 use Rattle.naga_runs.specs.Positions.{Node, StatementNode}

@@ -1,12 +1,12 @@
 -- The shape of a body that is accepted: where its Returns stand, and which cases its Switches have.
 use Rattle.std.specs.List.{list_any, count_by}
 use Rattle.std.specs.Prelude.{ℕ, ◌≡◌, ⊤, Bool, false, Option, Some, All, Contains, slice_get, option_and_then}
-use Rattle.ir_module.specs.Tree.{Stmt, Body, Cases, Switch, Return}
+use Rattle.ir_statements.specs.Tree.{Stmt, Body, Cases, Switch, Return}
 use Rattle.ir_types.specs.Types.{resolved, scalar_kind_of}
 use Rattle.ir_types.specs.Unique.{AreDistinct}
 use Rattle.ir_module.specs.declared.module.Module.{Module}
-use Rattle.ir_types.specs.declared.operations.SwitchValue.{SwitchValue}
-use Rattle.ir_types.specs.declared.operations.SwitchValue.TheVariants.{I32, U32, Default}
+use Rattle.ir_statements.specs.declared.operations.SwitchValue.{SwitchValue}
+use Rattle.ir_statements.specs.declared.operations.SwitchValue.TheVariants.{I32, U32, Default}
 use Rattle.ir_types.specs.declared.types.ScalarKind.{ScalarKind}
 use Rattle.ir_types.specs.declared.types.ScalarKind.TheVariants.{Sint, Uint}
 use Rattle.ir_facts.specs.declared.valid.info.FunctionInfo.{FunctionInfo}

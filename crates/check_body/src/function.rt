@@ -24,7 +24,7 @@ use check_statement::results::check_filled;
 use check_statement::state::BodyOutcome;
 use check_statement::statement::{check_break_if, validate_own};
 use ir_arena::handle::Handle;
-use ir_module::statements::{Block, Located, Statement, SwitchCase};
+use ir_statements::statements::{Block, Located, Statement, SwitchCase};
 use naga_runs::Abilities;
 use std::alloc::Global;
 

@@ -5,8 +5,8 @@ pub mod UsedGlobals
 pub mod EntryFaults
 pub mod EntryVaryings
 pub mod Mesh
-pub mod EntryJudgement
+pub mod InterfacePoints
+pub mod TypeInfos
 pub mod GlobalPoints
 pub mod TakenBindings
-pub use Rattle.check_entry.specs.EntryJudgement.{HasPayloadSizes, AnswersAfter}
-unfoldable pub use Rattle.check_entry.specs.EntryJudgement.{entry_judgement}
+pub use Rattle.check_entry.specs.InterfacePoints.{HasPayloadSizes}

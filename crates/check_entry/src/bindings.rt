@@ -29,7 +29,7 @@ fn binding_at(module: &Module, index: usize) -> Option<ResourceBinding>
 }
 
 /// Whether bindings aren't checked, or no earlier global that is used has this one.
-pub fn binding_holds(
+pub(crate) fn binding_holds(
     flags: ValidationFlags,
     taken: &BTreeSet<ResourceBinding>,
     binding: Option<ResourceBinding>,
@@ -44,7 +44,7 @@ pub fn binding_holds(
 }
 
 /// Where bindings are checked, no earlier global that is used has this one.
-pub fn check_binding(
+pub(crate) fn check_binding(
     flags: ValidationFlags,
     taken: &BTreeSet<ResourceBinding>,
     handle: Handle<tag::GlobalVariable>,
@@ -63,7 +63,7 @@ pub fn check_binding(
 }
 
 /// The bindings with that of one global more, where it is used.
-pub fn take_binding(
+pub(crate) fn take_binding(
     module: &Module,
     info: &FunctionInfo,
     taken: &mut BTreeSet<ResourceBinding>,

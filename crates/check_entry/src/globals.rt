@@ -21,7 +21,7 @@ use ir_types::stage::ShaderStage;
 use ir_types::types::{AddressSpace, ImageClass, TypeInner};
 
 /// How a global is used.
-pub fn uses_of(info: &FunctionInfo, index: usize) -> Option<GlobalUse>
+pub(crate) fn uses_of(info: &FunctionInfo, index: usize) -> Option<GlobalUse>
     ensures { result ≡ slice_get info.now.global_uses index }
 {
     info.global_uses.as_slice().get(index).copied()
@@ -38,7 +38,7 @@ pub(crate) fn is_used(info: &FunctionInfo, index: usize) -> bool
 }
 
 /// Of immediates at most one is used.
-pub fn check_immediates(module: &Module, info: &FunctionInfo) -> Result<(), EntryPointError>
+pub(crate) fn check_immediates(module: &Module, info: &FunctionInfo) -> Result<(), EntryPointError>
     ensures { Finds (FirstOf (immediate_points info.now.global_uses «module».now.global_variables)) result }
 {
     if count_used_immediates(module, info) > 1 {
@@ -60,7 +60,7 @@ fn count_used_immediates(module: &Module, info: &FunctionInfo) -> usize
 }
 
 /// Whether a global is an immediate that is used.
-pub fn is_used_immediate(module: &Module, info: &FunctionInfo, index: usize) -> bool
+pub(crate) fn is_used_immediate(module: &Module, info: &FunctionInfo, index: usize) -> bool
     ensures { result ≡ is_used_immediate info.now.global_uses «module».now.global_variables index }
 {
     match module.global_variables.as_slice().get(index) {
@@ -70,14 +70,19 @@ pub fn is_used_immediate(module: &Module, info: &FunctionInfo, index: usize) -> 
 }
 
 /// Whether a space is that of task payloads.
-pub fn is_task_payload(space: AddressSpace) -> bool
+pub(crate) fn is_task_payload(space: AddressSpace) -> bool
     ensures { result ≡ is_task_payload space }
 {
     matches!(space, AddressSpace::TaskPayload)
 }
 
 /// Whether every use of a global is allowed, and the global holds no payload.
-pub fn use_holds(module: &Module, stage: ShaderStage, var: &GlobalVariable, uses: GlobalUse) -> bool
+pub(crate) fn use_holds(
+    module: &Module,
+    stage: ShaderStage,
+    var: &GlobalVariable,
+    uses: GlobalUse,
+) -> bool
     ensures { (payload : Option ℕ) (size : Option ℕ) (h : ℕ) → IsTrue result → first_fault
         (used_payload_points payload size h var.now.space ++ (ray_points stage var.now.space
         ++ allowed_points «module».now.types stage h var.now uses)) ≡ None }
@@ -101,7 +106,7 @@ pub fn use_holds(module: &Module, stage: ShaderStage, var: &GlobalVariable, uses
 
 /// A ray payload is used at a stage that has one, and every use of a global is one that is allowed.
 #[tactic(auto, using(crate::proofs::EntrySteps::finding))]
-pub fn check_allowed(
+pub(crate) fn check_allowed(
     module: &Module,
     stage: ShaderStage,
     handle: Handle<tag::GlobalVariable>,
@@ -152,7 +157,7 @@ fn is_within(allowed: Option<GlobalUse>, uses: GlobalUse) -> bool
 }
 
 /// The type at a handle.
-pub fn inner_at(module: &Module, ty: Handle<tag::Type>) -> Option<&TypeInner>
+pub(crate) fn inner_at(module: &Module, ty: Handle<tag::Type>) -> Option<&TypeInner>
     ensures { option_copied result ≡ inner_at «module».now.types ty }
 {
     match module.types.as_slice().get(ty.index()) {

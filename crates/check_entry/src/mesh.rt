@@ -15,7 +15,7 @@ use ir_module::module::{MeshOutputTopology, MeshStageInfo, Module};
 use ir_types::types::AddressSpace;
 
 /// What is wrong with the output variable, as a fault of the entry point.
-pub fn mesh_error(found: MeshFault) -> EntryPointError
+pub(crate) fn mesh_error(found: MeshFault) -> EntryPointError
     ensures { result ≡ mesh_error found }
 {
     match found {
@@ -34,7 +34,7 @@ fn is_in_work_group(module: &Module, global: Handle<tag::GlobalVariable>) -> boo
 }
 
 /// The output variable lies in a work group.
-pub fn check_variable(module: &Module, mesh: &MeshStageInfo) -> Result<(), EntryPointError>
+pub(crate) fn check_variable(module: &Module, mesh: &MeshStageInfo) -> Result<(), EntryPointError>
     ensures { Finds (FirstOf (variable_points «module».now mesh.now)) result }
 {
     if !is_in_work_group(module, mesh.output_variable) {
@@ -103,7 +103,7 @@ fn has_topology(capabilities: Capabilities, topology: MeshOutputTopology) -> boo
 
 /// What is said of the mesh, where this is implied, with these overrides of its two numbers: just that; and where it is
 /// one of points, the target has these.
-pub fn check_stated(
+pub(crate) fn check_stated(
     capabilities: Capabilities,
     module: &Module,
     overrides: &[Option<Handle<tag::Override>>; 2],

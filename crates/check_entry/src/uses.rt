@@ -186,7 +186,7 @@ fn only(stage: ShaderStage) -> ShaderStages
 }
 
 /// What the function does is for this stage.
-pub fn check_stage(
+pub(crate) fn check_stage(
     alloc: Global,
     stage: ShaderStage,
     available: ShaderStages,

@@ -35,7 +35,7 @@ use ir_types::types::{Scalar, TypeInner, VectorSize};
 use std::alloc::{AllocError, Global};
 
 /// Whether a type is a struct.
-pub fn is_struct(inner: Option<&TypeInner>) -> bool
+pub(crate) fn is_struct(inner: Option<&TypeInner>) -> bool
     ensures { result ≡ it_is is_struct (option_copied inner.entry) }
 {
     matches!(inner, Some(TypeInner::Struct { .. }))
@@ -56,7 +56,7 @@ fn is_three_counts(inner: Option<&TypeInner>) -> bool
 }
 
 /// What a stage has to return, where a position is among its outputs or not.
-pub fn check_returned(
+pub(crate) fn check_returned(
     alloc: Global,
     module: &Module,
     stage: ShaderStage,
@@ -149,7 +149,11 @@ fn returns_counts(module: &Module, declared: Option<FunctionResult>) -> bool
 /// The refusal of an argument, counted from 0.
 #[cold]
 #[inline(never)]
-pub fn argument_refused(alloc: Global, index: u32, refused: Refusal<VaryingError>) -> RefusedEntry
+pub(crate) fn argument_refused(
+    alloc: Global,
+    index: u32,
+    refused: Refusal<VaryingError>,
+) -> RefusedEntry
     ensures { (points : List (Point Given)) → IsFirstFault points (refusal_read_by varying_fault_of refused) →
         IsFirstFault (within (OfArgument index) points) (refusal_read_by fault_of result) }
 {
@@ -165,7 +169,7 @@ pub fn argument_refused(alloc: Global, index: u32, refused: Refusal<VaryingError
 /// The refusal of the result, or of an output of a mesh.
 #[cold]
 #[inline(never)]
-pub fn result_refused(alloc: Global, refused: Refusal<VaryingError>) -> RefusedEntry
+pub(crate) fn result_refused(alloc: Global, refused: Refusal<VaryingError>) -> RefusedEntry
     ensures { (points : List (Point Given)) → IsFirstFault points (refusal_read_by varying_fault_of refused) →
         IsFirstFault (within OfResult points) (refusal_read_by fault_of result) }
 {
@@ -176,7 +180,7 @@ pub fn result_refused(alloc: Global, refused: Refusal<VaryingError>) -> RefusedE
 }
 
 /// Whether exactly one of the three built-ins of indices is there.
-pub fn has_one_of_indices(state: &VaryingState) -> bool
+pub(crate) fn has_one_of_indices(state: &VaryingState) -> bool
     ensures { result ≡ is_one_of_three ((seen_in state.now).built_ins PointIndex)
         ((seen_in state.now).built_ins LineIndices) ((seen_in state.now).built_ins TriangleIndices) }
 {

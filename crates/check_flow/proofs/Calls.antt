@@ -3,8 +3,8 @@ use Rattle.std.proofs.Common.{◌≡◌, ℕ, zero, suc, ◌<◌, ◌==◌, Bool
 use Rattle.std.proofs.lemmas.Bool.Decides.{nat_tests}
 use Rattle.std.specs.Option.{option_map, option_or}
 use Rattle.std.specs.Prelude.{◌↔◌, IfSome, IsErr, IsTrue, is_some, map}
-use Rattle.ir_module.specs.Tree.{Act, Use}
-use Rattle.ir_module.specs.View.{put_if}
+use Rattle.ir_statements.specs.Tree.{Act, Use}
+use Rattle.ir_statements.specs.View.{put_if}
 use Rattle.ir_module.specs.declared.functions.Function.{Function}
 use Rattle.ir_module.specs.declared.functions.FunctionArgument.{FunctionArgument}
 use Rattle.ir_errors.specs.declared.expression.ExpressionError.TheVariants.{NotInScope}

@@ -5,7 +5,7 @@ use Rattle.std.specs.Option.{option_or}
 use Rattle.std.specs.Prelude.{◌↔◌, ◌≢◌, IsTrue, map, if◌then◌else◌}
 use Rattle.ir_facts.proofs.Points.{first_holds, both_hold, first_of_both, not_holds}
 use Rattle.ir_facts.specs.Points.{first_fault}
-use Rattle.ir_module.specs.View.{emitted}
+use Rattle.ir_statements.specs.View.{emitted}
 use Rattle.ir_arena.specs.declared.span.Refusal.{Refusal}
 use Rattle.ir_errors.specs.declared.expression.ExpressionError.TheVariants.{NotInScope}
 use Rattle.ir_errors.specs.declared.function.FunctionError.{FunctionError}

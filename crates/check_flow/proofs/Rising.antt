@@ -5,9 +5,9 @@ use Rattle.std.proofs.lemmas.Int.{ints}
 use Rattle.std.specs.List.{list_any, AllByRecursion}
 use Rattle.std.specs.Ordering.{int_eq}
 use Rattle.std.specs.Prelude.{if◌then◌else◌}
-use Rattle.ir_module.specs.declared.statements.SwitchCase.{SwitchCase, out-SwitchCase}
-use Rattle.ir_types.specs.declared.operations.SwitchValue.{SwitchValue}
-use Rattle.ir_types.specs.declared.operations.SwitchValue.TheVariants.{I32, U32, Default}
+use Rattle.ir_statements.specs.declared.statements.SwitchCase.{SwitchCase, out-SwitchCase}
+use Rattle.ir_statements.specs.declared.operations.SwitchValue.{SwitchValue}
+use Rattle.ir_statements.specs.declared.operations.SwitchValue.TheVariants.{I32, U32, Default}
 use Rattle.check_flow.specs.declared.switch.Rising.{Rising}
 use Rattle.check_scope.specs.BodyTrees.{case_list}
 use Rattle.check_flow.specs.Switch.{same_value, values_of}

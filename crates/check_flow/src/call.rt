@@ -4,7 +4,7 @@ ghost use Rattle.std.specs.Prelude.{◌≡◌, ◌<◌, ◌↔◌, IsTrue, OnOk,
 ghost use Rattle.std.specs.Option.{option_copied};
 ghost use Rattle.ir_facts.specs.FitsBody.{CalleeFits};
 ghost use Rattle.ir_facts.specs.Points.{within};
-ghost use Rattle.ir_module.specs.View.{put_if};
+ghost use Rattle.ir_statements.specs.View.{put_if};
 ghost use Rattle.ir_errors.specs.declared.expression.ExpressionError.TheVariants.{NotInScope};
 ghost use Rattle.ir_errors.specs.declared.function.CallError.TheVariants.{Argument, ArgumentCount, ArgumentType, ExpressionMismatch, ResultAlreadyInScope, ResultAlreadyPopulated};
 ghost use Rattle.ir_errors.specs.declared.function.FunctionError.TheVariants.{InvalidCall};

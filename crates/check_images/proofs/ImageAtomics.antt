@@ -2,9 +2,9 @@
 use Rattle.std.proofs.Common.{◌≡◌, ℕ, [], ◌∷◌, ◌++◌, Option, None}
 use Rattle.ir_facts.proofs.Points.{both_hold}
 use Rattle.ir_facts.specs.Points.{first_fault}
-use Rattle.ir_module.specs.Tree.{Use}
-use Rattle.ir_module.specs.View.{used_if}
-use Rattle.ir_types.specs.declared.operations.AtomicFunction.{AtomicFunction}
+use Rattle.ir_statements.specs.Tree.{Use}
+use Rattle.ir_statements.specs.View.{used_if}
+use Rattle.ir_statements.specs.declared.operations.AtomicFunction.{AtomicFunction}
 use Rattle.ir_errors.specs.declared.function.FunctionError.TheVariants.{InvalidImageAtomic}
 use Rattle.naga_runs.specs.Soundness.{Fit}
 use Rattle.naga_runs.specs.Visits.{Place}

@@ -7,8 +7,8 @@ use Rattle.ir_types.specs.declared.types.StorageFormat.{StorageFormat}
 use Rattle.ir_types.specs.declared.types.TypeInner.{TypeInner}
 use Rattle.ir_facts.proofs.Points.{both_hold}
 use Rattle.ir_facts.specs.Points.{first_fault}
-use Rattle.ir_module.specs.Tree.{Act, Use}
-use Rattle.ir_module.specs.View.{used_if}
+use Rattle.ir_statements.specs.Tree.{Act, Use}
+use Rattle.ir_statements.specs.View.{used_if}
 use Rattle.ir_errors.specs.declared.expression.ExpressionError.{ExpressionError}
 use Rattle.ir_errors.specs.declared.function.FunctionError.{FunctionError}
 use Rattle.ir_errors.specs.declared.function.FunctionError.TheVariants.{InvalidImageStore}

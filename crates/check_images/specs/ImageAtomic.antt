@@ -9,9 +9,9 @@ use Rattle.ir_facts.specs.Points.{Point}
 use Rattle.ir_types.specs.TypeTests.{is_scalar}
 use Rattle.ir_types.specs.Types.{inner_at}
 use Rattle.ir_flags.specs.declared.ir.StorageAccess.{StorageAccess}
-use Rattle.ir_types.specs.Operations.{is_min_or_max}
-use Rattle.ir_types.specs.declared.operations.AtomicFunction.{AtomicFunction}
-use Rattle.ir_types.specs.declared.operations.AtomicFunction.TheVariants.{Add, And, ExclusiveOr, InclusiveOr}
+use Rattle.ir_statements.specs.Operations.{is_min_or_max}
+use Rattle.ir_statements.specs.declared.operations.AtomicFunction.{AtomicFunction}
+use Rattle.ir_statements.specs.declared.operations.AtomicFunction.TheVariants.{Add, And, ExclusiveOr, InclusiveOr}
 use Rattle.ir_types.specs.declared.types.StorageFormat.{StorageFormat}
 use Rattle.ir_types.specs.declared.types.StorageFormat.TheVariants as formats
 use Rattle.ir_types.specs.declared.types.Type.{«Type» as IrType}

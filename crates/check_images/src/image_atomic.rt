@@ -24,7 +24,7 @@ use ir_errors::expression::ExpressionError;
 use ir_errors::function::FunctionError;
 use ir_flags::capabilities::Capabilities;
 use ir_flags::ir::StorageAccess;
-use ir_types::operations::AtomicFunction;
+use ir_statements::operations::AtomicFunction;
 use ir_types::types::{ImageClass, Scalar, StorageFormat, TypeInner};
 
 /// An operation on a texel: which texel, what is done, and with what value.

@@ -2,7 +2,7 @@
 use Rattle.std.proofs.Common.{◌≡◌, ℕ, true, false, [], ◌∷◌, None}
 use Rattle.ir_facts.proofs.Points.{not_holds}
 use Rattle.ir_facts.specs.Points.{first_fault}
-use Rattle.ir_module.specs.Tree.{Use, Put}
+use Rattle.ir_statements.specs.Tree.{Use, Put}
 use Rattle.naga_runs.specs.Soundness.{Fit}
 use Rattle.naga_runs.specs.Visits.{Place}
 use Rattle.check_scope.specs.Context.{Context}

@@ -1,6 +1,6 @@
 -- What the check list of Store says of uses.
 use Rattle.std.proofs.Common.{◌≡◌, ℕ, [], ◌∷◌, None}
-use Rattle.ir_module.specs.Tree.{Use}
+use Rattle.ir_statements.specs.Tree.{Use}
 use Rattle.naga_runs.specs.Visits.{Place}
 use Rattle.ir_facts.specs.Points.{first_fault}
 use Rattle.naga_runs.specs.Soundness.{Fit}

@@ -4,11 +4,11 @@ use Rattle.ir_flags.specs.Capabilities as capability
 use Rattle.ir_flags.specs.Capabilities.{has_capability}
 use Rattle.ir_types.specs.TypeTests.{is_float_kind}
 use Rattle.ir_types.specs.Types.{bool_scalar, inner_at}
-use Rattle.ir_types.specs.Operations.{is_min_or_max}
+use Rattle.ir_statements.specs.Operations.{is_min_or_max}
 use Rattle.ir_module.specs.declared.expressions.Expression.{Expression}
 use Rattle.ir_module.specs.declared.expressions.Expression.TheVariants as e
-use Rattle.ir_types.specs.declared.operations.AtomicFunction.{AtomicFunction}
-use Rattle.ir_types.specs.declared.operations.AtomicFunction.TheVariants.{Add, Subtract, Exchange}
+use Rattle.ir_statements.specs.declared.operations.AtomicFunction.{AtomicFunction}
+use Rattle.ir_statements.specs.declared.operations.AtomicFunction.TheVariants.{Add, Subtract, Exchange}
 use Rattle.ir_types.specs.declared.types.AddressSpace.{AddressSpace}
 use Rattle.ir_types.specs.declared.types.AddressSpace.TheVariants as space
 use Rattle.ir_types.specs.declared.types.Scalar.{Scalar}

@@ -2,7 +2,7 @@
 
 ghost use Rattle.std.specs.Prelude.{◌≡◌, ◌<◌, OnOk, IfSome, Some, is_some};
 ghost use Rattle.std.specs.Option.{option_copied};
-ghost use Rattle.ir_module.specs.View.{put_if};
+ghost use Rattle.ir_statements.specs.View.{put_if};
 ghost use Rattle.naga_runs.specs.PutsAndUses.{puts_of};
 ghost use Rattle.check_scope.specs.walk.Findings.{RefusesFaultsAlone};
 ghost use Rattle.ir_facts.specs.Answers.{Answers, Finds, FirstOf};
@@ -26,7 +26,7 @@ use ir_arena::tag;
 use ir_errors::function::{AtomicError, FunctionError};
 use ir_flags::capabilities::Capabilities;
 use ir_module::expressions::Expression;
-use ir_types::operations::AtomicFunction;
+use ir_statements::operations::AtomicFunction;
 use ir_types::types::{AddressSpace, Scalar, ScalarKind, TypeInner};
 
 /// An atomic operation: where the atomic is, what is done to it, with which value, and the result that is named, if one is.

@@ -2,9 +2,9 @@
 use Rattle.std.proofs.Common.{◌≡◌, ℕ, Bool, false, None}
 use Rattle.ir_facts.proofs.Points.{not_holds}
 use Rattle.ir_facts.specs.Points.{first_fault}
-use Rattle.ir_module.specs.View.{query_acts}
-use Rattle.ir_module.specs.declared.operations.RayQueryFunction.{RayQueryFunction}
-use Rattle.ir_module.specs.declared.operations.RayQueryFunction.TheVariants as query
+use Rattle.ir_statements.specs.View.{query_acts}
+use Rattle.ir_statements.specs.declared.operations.RayQueryFunction.{RayQueryFunction}
+use Rattle.ir_statements.specs.declared.operations.RayQueryFunction.TheVariants as query
 use Rattle.naga_runs.specs.Soundness.{Fit}
 use Rattle.naga_runs.specs.Visits.{Place}
 use Rattle.check_scope.specs.Context.{Context}

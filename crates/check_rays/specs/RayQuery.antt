@@ -4,8 +4,8 @@ use Rattle.std.specs.Option.{option_map}
 use Rattle.ir_types.specs.Types.{inner_at}
 use Rattle.ir_module.specs.declared.expressions.Expression.{Expression}
 use Rattle.ir_module.specs.declared.expressions.Expression.TheVariants as e
-use Rattle.ir_module.specs.declared.operations.RayQueryFunction.{RayQueryFunction}
-use Rattle.ir_module.specs.declared.operations.RayQueryFunction.TheVariants as query
+use Rattle.ir_statements.specs.declared.operations.RayQueryFunction.{RayQueryFunction}
+use Rattle.ir_statements.specs.declared.operations.RayQueryFunction.TheVariants as query
 use Rattle.ir_types.specs.declared.types.TypeInner.{TypeInner}
 use Rattle.ir_types.specs.declared.types.TypeInner.TheVariants as inner
 use Rattle.ir_errors.specs.declared.function.FunctionError.TheVariants.{InvalidRayQueryExpression, InvalidRayQueryType, InvalidAccelerationStructure, MissingAccelerationStructureVertexReturn, InvalidRayDescriptor, InvalidHitDistanceType}

@@ -3,9 +3,9 @@
 use Rattle.std.specs.Prelude.{ℕ, Bool, true, false, List, [], ◌∷◌, Option, None, Some}
 use Rattle.std.specs.List.{list_any}
 use Rattle.std.specs.Option.{option_or}
-use Rattle.ir_module.specs.Tree.{Leaf}
-use Rattle.ir_module.specs.declared.operations.RayPipelineFunction.TheVariants.{TraceRay}
-use Rattle.ir_module.specs.declared.statements.Statement as ir
+use Rattle.ir_statements.specs.Tree.{Leaf}
+use Rattle.ir_statements.specs.declared.operations.RayPipelineFunction.TheVariants.{TraceRay}
+use Rattle.ir_statements.specs.declared.statements.Statement as ir
 use Rattle.ir_types.specs.declared.types.TypeInner.{TypeInner}
 use Rattle.ir_types.specs.declared.types.TypeInner.TheVariants as inner
 use Rattle.ir_arena.specs.declared.span.Span.{Span}

@@ -3,7 +3,7 @@
 ghost use Rattle.std.specs.Prelude.{◌≡◌, ◌∷◌, [], OnOk};
 ghost use Rattle.std.specs.Option.{option_copied};
 ghost use Rattle.ir_facts.specs.FitsBody.{QueryFits};
-ghost use Rattle.ir_module.specs.View.{query_acts};
+ghost use Rattle.ir_statements.specs.View.{query_acts};
 ghost use Rattle.naga_runs.specs.PutsAndUses.{puts_of};
 ghost use Rattle.check_scope.specs.walk.Findings.{RefusesFaultsAlone};
 ghost use Rattle.ir_facts.specs.Answers.{Answers, Finds, FirstOf};
@@ -24,7 +24,7 @@ use ir_arena::span::Span;
 use ir_arena::tag;
 use ir_errors::function::FunctionError;
 use ir_module::expressions::Expression;
-use ir_module::operations::RayQueryFunction;
+use ir_statements::operations::RayQueryFunction;
 use ir_types::types::{ScalarKind, TypeInner};
 
 /// RayQuery: its query, a local, and what is done with it. The result of a Proceed is in scope afterwards.

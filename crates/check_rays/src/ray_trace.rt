@@ -24,8 +24,8 @@ use ir_arena::span::Span;
 use ir_arena::tag;
 use ir_errors::function::FunctionError;
 use ir_module::expressions::Expression;
-use ir_module::operations::RayPipelineFunction;
-use ir_module::statements::{Located, Statement};
+use ir_statements::operations::RayPipelineFunction;
+use ir_statements::statements::{Located, Statement};
 use ir_types::types::{AddressSpace, TypeInner};
 
 /// A ray that is traced: its acceleration structure, its descriptor and its payload.

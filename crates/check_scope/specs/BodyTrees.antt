@@ -2,14 +2,14 @@
 -- parts.
 use Rattle.std.specs.Prelude.{ℕ, List, [], Option, None, Some, slice_get}
 use Rattle.ir_module.specs.Operands.{operands_of}
-use Rattle.ir_module.specs.Tree.{Stmt, Body, Cases}
-use Rattle.ir_module.specs.View as view
-use Rattle.ir_module.specs.View.{no_operands}
+use Rattle.ir_statements.specs.Tree.{Stmt, Body, Cases}
+use Rattle.ir_statements.specs.View as view
+use Rattle.ir_statements.specs.View.{no_operands}
 use Rattle.ir_module.specs.declared.expressions.Expression.{Expression}
 use Rattle.ir_module.specs.declared.functions.Function.{Function}
-use Rattle.ir_module.specs.declared.statements.Block.{Block}
-use Rattle.ir_module.specs.declared.statements.Located.{Located}
-use Rattle.ir_module.specs.declared.statements.SwitchCase.{SwitchCase}
+use Rattle.ir_statements.specs.declared.statements.Block.{Block}
+use Rattle.ir_statements.specs.declared.statements.Located.{Located}
+use Rattle.ir_statements.specs.declared.statements.SwitchCase.{SwitchCase}
 use Rattle.check_scope.specs.Context.{Context}
 
 abbrev pub operands_if : Option Expression → List ℕ

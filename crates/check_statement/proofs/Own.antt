@@ -1,12 +1,12 @@
 -- A statement that is neither a jump nor asks a condition has the check list of a leaf, which is empty where it holds
 -- others.
 use Rattle.std.proofs.Common.{◌≡◌, ℕ, Option, List, false, refl, sym}
-use Rattle.ir_module.specs.View as view
-use Rattle.ir_module.specs.declared.statements.Block.{Block}
-use Rattle.ir_module.specs.declared.statements.Statement as ir
-use Rattle.ir_module.specs.declared.statements.Statement.{Statement, Switch'}
-use Rattle.ir_module.specs.declared.statements.Statement.TheBlock.{shown-the_row-SwitchCase-0, backs-Statement}
-use Rattle.ir_module.specs.declared.statements.SwitchCase.{SwitchCase}
+use Rattle.ir_statements.specs.View as view
+use Rattle.ir_statements.specs.declared.statements.Block.{Block}
+use Rattle.ir_statements.specs.declared.statements.Statement as ir
+use Rattle.ir_statements.specs.declared.statements.Statement.{Statement, Switch'}
+use Rattle.ir_statements.specs.declared.statements.Statement.TheBlock.{shown-the_row-SwitchCase-0, backs-Statement}
+use Rattle.ir_statements.specs.declared.statements.SwitchCase.{SwitchCase}
 use Rattle.ir_arena.specs.declared.range.Range.{Range}
 use Rattle.ir_arena.specs.declared.span.Span.{Span}
 use Rattle.naga_runs.specs.Visits.{Place}

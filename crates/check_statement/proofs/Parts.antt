@@ -3,17 +3,17 @@ use Rattle.std.proofs.Common.{◌≡◌, ℕ, ◌+◌, ◌<◌, Bool, Option, If
 use Rattle.std.proofs.lemmas.List.{at_drop_more}
 use Rattle.ir_facts.specs.Fits.{FitsFunction}
 use Rattle.ir_facts.specs.FitsBody.{LeafFits}
-use Rattle.ir_module.specs.Tree.{Act, Stmt, Leaf, Block, Branch, Switch, Loop, Body, Then, Cases, OneCase}
-use Rattle.ir_module.specs.declared.statements.Located.{Located}
-use Rattle.ir_module.specs.declared.statements.Statement as ir
-use Rattle.ir_module.specs.declared.statements.Statement.{Statement}
+use Rattle.ir_statements.specs.Tree.{Act, Stmt, Leaf, Block, Branch, Switch, Loop, Body, Then, Cases, OneCase}
+use Rattle.ir_statements.specs.declared.statements.Located.{Located}
+use Rattle.ir_statements.specs.declared.statements.Statement as ir
+use Rattle.ir_statements.specs.declared.statements.Statement.{Statement}
 use Rattle.ir_arena.specs.declared.span.Span.{Span}
-use Rattle.ir_module.specs.declared.statements.SwitchCase.{SwitchCase, out-SwitchCase}
-use Rattle.ir_types.specs.declared.operations.SwitchValue.{SwitchValue}
+use Rattle.ir_statements.specs.declared.statements.SwitchCase.{SwitchCase, out-SwitchCase}
+use Rattle.ir_statements.specs.declared.operations.SwitchValue.{SwitchValue}
 use Rattle.naga_runs.specs.Positions.{StatementNode}
 use Rattle.check_scope.specs.Results.{result_of}
 use Rattle.ir_facts.proofs.OtherOperands.{body_fits-other}
-use Rattle.ir_module.specs.View.{no_operands}
+use Rattle.ir_statements.specs.View.{no_operands}
 use Rattle.check_scope.specs.BodyTrees.{emitted_operands, tree_of, body_of, block_of, list_of, cases_of}
 use Rattle.check_scope.specs.Context.{Context}
 use Rattle.check_statement.specs.Ready.{IsStatementReady, IsBodyReady, AreCasesReady}

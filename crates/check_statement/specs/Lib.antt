@@ -10,6 +10,5 @@ pub mod ExpressionStages
 pub use Rattle.check_scope.specs.BodyTrees.{body_of}
 pub use Rattle.check_scope.specs.Context.{pre_emitted_of}
 pub use Rattle.check_statement.specs.FunctionJudgement.{FunctionOutcome, outcome_of}
-pub use Rattle.check_statement.specs.ValidatorParts.{AreInfosOf}
 pub use Rattle.ir_facts.specs.WhatIsChecked.{checks_blocks, checks_expressions}
 unfoldable pub use Rattle.check_statement.specs.FunctionJudgement.{function_judgement}

@@ -1,7 +1,7 @@
 -- What a body is judged under: what it names is there.
 use Rattle.std.specs.Prelude.{length}
 use Rattle.ir_facts.specs.FitsBody.{StatementFits, BodyFits, CasesFit}
-use Rattle.ir_module.specs.Tree.{Stmt, Body, Cases}
+use Rattle.ir_statements.specs.Tree.{Stmt, Body, Cases}
 use Rattle.check_scope.specs.Context.{Context}
 
 module _ (context : Context) where

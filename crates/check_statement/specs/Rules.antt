@@ -1,10 +1,10 @@
 -- The rules of a body: the check list of each visit, asked with the visits before it, and the stages that are left.
 use Rattle.std.specs.Prelude.{ℕ, List, [], ◌∷◌, Option, None, Some, slice_get}
 use Rattle.ir_flags.specs.Bits as bit
-use Rattle.ir_module.specs.Tree.{Stmt, Leaf, Block, Branch, Switch, Loop, Break, Continue, Return, Kill}
-use Rattle.ir_module.specs.declared.operations.RayPipelineFunction.TheVariants.{TraceRay}
-use Rattle.ir_module.specs.declared.statements.Statement.{Statement, Switch'}
-use Rattle.ir_module.specs.declared.statements.Statement as ir
+use Rattle.ir_statements.specs.Tree.{Stmt, Leaf, Block, Branch, Switch, Loop, Break, Continue, Return, Kill}
+use Rattle.ir_statements.specs.declared.operations.RayPipelineFunction.TheVariants.{TraceRay}
+use Rattle.ir_statements.specs.declared.statements.Statement.{Statement, Switch'}
+use Rattle.ir_statements.specs.declared.statements.Statement as ir
 use Rattle.ir_flags.specs.declared.valid.ShaderStages.{ShaderStages}
 use Rattle.ir_facts.specs.declared.valid.info.FunctionInfo.{FunctionInfo}
 use Rattle.ir_facts.specs.declared.valid.info.ModuleInfo.{ModuleInfo}

@@ -1,7 +1,6 @@
 -- What contracts see of a validator: four parts and nothing else.
-use Rattle.std.specs.Prelude.{ℕ, ◌≡◌, ◌<◌, List, All, IfErr, Option, None, Some, length, []}
+use Rattle.std.specs.Prelude.{List, Option, None, Some, []}
 use Rattle.ir_flags.specs.Bits.{NO_OPERATION, NO_STAGE}
-use Rattle.ir_module.specs.declared.module.Module.{Module}
 use Rattle.ir_flags.specs.declared.capabilities.Capabilities.{Capabilities}
 use Rattle.ir_flags.specs.declared.valid.ValidationFlags.{ValidationFlags}
 use Rattle.ir_facts.specs.declared.valid.settings.Settings.{Settings}
@@ -34,12 +33,3 @@ first_settings flags capabilities =
 -- no ray was traced
 abbrev pub no_traces : TraceState
 no_traces = record { payload = None; vertex_return = NoTraceRays }
-
--- the types that an info names as the cause of a bad layout are there
-abbrev pub NamesTypes : ℕ → TypeInfo → Type 0
-NamesTypes n info = IfErr info.storage_layout (λ e. e.0 < n) × IfErr info.uniform_layout (λ e. e.0 < n)
-
--- there is one info for each type of the module, and what the infos name is there
-pub record AreInfosOf (m : Module) (infos : List TypeInfo) : Type 0 where
-  pub one_each : length infos ≡ length m.types
-  pub named : All (NamesTypes (length m.types)) infos

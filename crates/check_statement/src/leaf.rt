@@ -29,8 +29,8 @@ use check_subgroups::barrier::check_barrier;
 use check_subgroups::subgroup::validate_ballot;
 use check_subgroups::subgroup_collective::{Collective, validate_collective};
 use check_subgroups::subgroup_gather::validate_gather;
-use ir_module::operations::RayPipelineFunction;
-use ir_module::statements::{Located, Statement};
+use ir_statements::operations::RayPipelineFunction;
+use ir_statements::statements::{Located, Statement};
 
 /// The check list of a statement that is neither a jump nor holds others, of another kind than those that bodies have
 /// most; of jumps and of what holds others it is empty. What the statement emits is in scope afterwards. It stands

@@ -9,7 +9,7 @@ use check_scope::context::BlockContext;
 use ir_arena::handle::Handle;
 use ir_arena::tag;
 use ir_flags::valid::ShaderStages;
-use ir_module::statements::{Located, Statement};
+use ir_statements::statements::{Located, Statement};
 
 /// The stages that a statement may run in.
 pub fn stages_of(context: &BlockContext, located: &Located) -> ShaderStages

@@ -2,7 +2,7 @@
 
 ghost use Rattle.std.specs.Prelude.{◌≡◌, ◌<◌, ℕ, List, IfSome};
 ghost use Rattle.naga_runs.specs.Positions.{StatementNode};
-ghost use Rattle.ir_module.specs.View.{tree_of};
+ghost use Rattle.ir_statements.specs.View.{tree_of};
 ghost use Rattle.check_scope.specs.BodyTrees as in_context;
 ghost use Rattle.check_scope.specs.Context.{Context};
 ghost use Rattle.check_scope.specs.Results.{result_of};
@@ -19,7 +19,7 @@ use check_scope::trace::TraceState;
 use ir_arena::handle::Handle;
 use ir_arena::tag;
 use ir_flags::valid::ShaderStages;
-use ir_module::statements::{Located, Statement};
+use ir_statements::statements::{Located, Statement};
 
 /// What the statements so far leave, and after the last one what an accepted body leaves.
 #[derive(Clone, Copy)]

@@ -30,7 +30,7 @@ use ir_arena::handle::Handle;
 use ir_arena::span::Span;
 use ir_arena::tag;
 use ir_flags::valid::ShaderStages;
-use ir_module::statements::{Located, Statement};
+use ir_statements::statements::{Located, Statement};
 use naga_runs::Abilities;
 
 /// A statement itself: its check list, what it puts, which is in scope afterwards, and what it leaves; its parts are

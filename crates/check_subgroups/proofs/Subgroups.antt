@@ -2,12 +2,12 @@
 use Rattle.std.proofs.Common.{◌≡◌, ℕ, Bool, true, false, [], ◌∷◌, ◌++◌, Option, None, Some}
 use Rattle.ir_facts.proofs.Points.{both_hold, not_holds}
 use Rattle.ir_facts.specs.Points.{first_fault}
-use Rattle.ir_module.specs.Tree.{Use, Put}
-use Rattle.ir_module.specs.View.{used_if, mode_acts}
-use Rattle.ir_module.specs.declared.operations.CollectiveOperation.{CollectiveOperation}
-use Rattle.ir_module.specs.declared.operations.GatherMode.{GatherMode}
-use Rattle.ir_module.specs.declared.operations.GatherMode.TheVariants as gather
-use Rattle.ir_module.specs.declared.operations.SubgroupOperation.{SubgroupOperation}
+use Rattle.ir_statements.specs.Tree.{Use, Put}
+use Rattle.ir_statements.specs.View.{used_if, mode_acts}
+use Rattle.ir_statements.specs.declared.operations.CollectiveOperation.{CollectiveOperation}
+use Rattle.ir_statements.specs.declared.operations.GatherMode.{GatherMode}
+use Rattle.ir_statements.specs.declared.operations.GatherMode.TheVariants as gather
+use Rattle.ir_statements.specs.declared.operations.SubgroupOperation.{SubgroupOperation}
 use Rattle.naga_runs.specs.Soundness.{Fit}
 use Rattle.naga_runs.specs.Visits.{Place}
 use Rattle.check_subgroups.specs.walk.SubgroupParts.{gathered_points}

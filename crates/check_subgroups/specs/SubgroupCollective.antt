@@ -1,10 +1,10 @@
 -- The check list of SubgroupCollectiveOperation.
 use Rattle.std.specs.Prelude.{ℕ, Bool, true, false, ◌&&◌, nat_le, [], ◌∷◌, Option, Some}
-use Rattle.ir_module.specs.Subgroups.{operation_group}
-use Rattle.ir_module.specs.declared.operations.CollectiveOperation.{CollectiveOperation}
-use Rattle.ir_module.specs.declared.operations.CollectiveOperation.TheVariants as over
-use Rattle.ir_module.specs.declared.operations.SubgroupOperation.{SubgroupOperation}
-use Rattle.ir_module.specs.declared.operations.SubgroupOperation.TheVariants as op
+use Rattle.ir_statements.specs.Subgroups.{operation_group}
+use Rattle.ir_statements.specs.declared.operations.CollectiveOperation.{CollectiveOperation}
+use Rattle.ir_statements.specs.declared.operations.CollectiveOperation.TheVariants as over
+use Rattle.ir_statements.specs.declared.operations.SubgroupOperation.{SubgroupOperation}
+use Rattle.ir_statements.specs.declared.operations.SubgroupOperation.TheVariants as op
 use Rattle.ir_types.specs.declared.types.Scalar.{Scalar}
 use Rattle.ir_types.specs.declared.types.TypeInner.{TypeInner}
 use Rattle.ir_types.specs.declared.types.TypeInner.TheVariants as inner

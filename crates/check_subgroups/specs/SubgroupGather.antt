@@ -1,8 +1,8 @@
 -- The check list of SubgroupGather.
 use Rattle.std.specs.Prelude.{ℕ, Bool, true, false, not, ◌||◌, [], ◌∷◌, ◌++◌, Option, None, Some, slice_get}
-use Rattle.ir_module.specs.Subgroups.{gather_group}
-use Rattle.ir_module.specs.declared.operations.GatherMode.{GatherMode}
-use Rattle.ir_module.specs.declared.operations.GatherMode.TheVariants as gather
+use Rattle.ir_statements.specs.Subgroups.{gather_group}
+use Rattle.ir_statements.specs.declared.operations.GatherMode.{GatherMode}
+use Rattle.ir_statements.specs.declared.operations.GatherMode.TheVariants as gather
 use Rattle.ir_types.specs.declared.types.Scalar.{Scalar}
 use Rattle.ir_types.specs.declared.types.ScalarKind.TheVariants as kind
 use Rattle.ir_types.specs.declared.types.TypeInner.{TypeInner}

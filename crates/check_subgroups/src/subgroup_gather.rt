@@ -20,7 +20,7 @@ use ir_arena::handle::Handle;
 use ir_arena::span::Span;
 use ir_arena::tag;
 use ir_errors::function::{FunctionError, SubgroupError};
-use ir_module::operations::GatherMode;
+use ir_statements::operations::GatherMode;
 use ir_types::types::{Scalar, TypeInner};
 
 /// SubgroupGather: its index, its argument, and its result, which is in scope afterwards.

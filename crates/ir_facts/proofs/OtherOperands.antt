@@ -1,15 +1,15 @@
 -- A body's tree with the operands of other expressions: only the acts of an Emit differ.
 use Rattle.std.proofs.Common.{◌≡◌, ℕ, List, refl, ap, sym, ◌∙◌, subst}
-use Rattle.ir_module.specs.declared.statements.Statement.{Statement, Switch', Row_of-SwitchCase, end_of-SwitchCase, more_of-SwitchCase}
-use Rattle.ir_module.specs.declared.statements.Statement as s
-use Rattle.ir_module.specs.declared.statements.Block as b
-use Rattle.ir_module.specs.declared.statements.Block.{Block', Row_of-Located, end_of-Located, more_of-Located}
-use Rattle.ir_module.specs.declared.statements.SwitchCase.{SwitchCase'}
+use Rattle.ir_statements.specs.declared.statements.Statement.{Statement, Switch', Row_of-SwitchCase, end_of-SwitchCase, more_of-SwitchCase}
+use Rattle.ir_statements.specs.declared.statements.Statement as s
+use Rattle.ir_statements.specs.declared.statements.Block as b
+use Rattle.ir_statements.specs.declared.statements.Block.{Block', Row_of-Located, end_of-Located, more_of-Located}
+use Rattle.ir_statements.specs.declared.statements.SwitchCase.{SwitchCase'}
 use Rattle.ir_module.specs.declared.module.Module.{Module}
 use Rattle.ir_arena.specs.declared.span.Span.{Span}
-use Rattle.ir_module.specs.View.{statement_acts, tree_of, body_of, row_body, row_cases}
+use Rattle.ir_statements.specs.View.{statement_acts, tree_of, body_of, row_body, row_cases}
 use Rattle.ir_facts.specs.FitsBody.{StatementFits, BodyFits, CasesFit}
-use Rattle.ir_module.specs.Tree.{Stmt, Leaf, Block, Branch, Switch, Loop, Break, Continue, Return, Kill, Body, Done, Then, Cases, NoCase, OneCase}
+use Rattle.ir_statements.specs.Tree.{Stmt, Leaf, Block, Branch, Switch, Loop, Break, Continue, Return, Kill, Body, Done, Then, Cases, NoCase, OneCase}
 
 -- the same tree with the acts that these operands give
 abbrev mutual

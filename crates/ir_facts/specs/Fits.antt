@@ -17,7 +17,7 @@ use Rattle.ir_facts.specs.declared.valid.info.ModuleInfo.{ModuleInfo}
 use Rattle.ir_facts.specs.Each.{EachAt}
 use Rattle.ir_types.specs.Types.{NamesTypesBelow, ResolutionFits, inner_at}
 use Rattle.ir_module.specs.Operands.{operands_of}
-use Rattle.ir_module.specs.View.{body_of, no_operands}
+use Rattle.ir_statements.specs.View.{body_of, no_operands}
 use Rattle.ir_facts.specs.FitsBody.{BodyFits, CalleeFits, SignatureFits, FitsCount}
 
 -- how many members a struct has fits 32 bits

@@ -1,18 +1,18 @@
 -- When whatever the statements of a body name, at any depth, is there.
 use Rattle.std.specs.Prelude.{ℕ, ◌<◌, ◌≤◌, IfSome, IsSomeAnd, All, ⊤, length, slice_get}
-use Rattle.ir_types.specs.declared.operations.AtomicFunction.{AtomicFunction}
-use Rattle.ir_types.specs.declared.operations.AtomicFunction.TheVariants as atomic
-use Rattle.ir_module.specs.declared.operations.GatherMode.{GatherMode}
-use Rattle.ir_module.specs.declared.operations.GatherMode.TheVariants as mode
-use Rattle.ir_module.specs.declared.operations.RayQueryFunction.{RayQueryFunction}
-use Rattle.ir_module.specs.declared.operations.RayQueryFunction.TheVariants as query
-use Rattle.ir_module.specs.declared.operations.RayPipelineFunction.{RayPipelineFunction}
-use Rattle.ir_module.specs.declared.operations.RayPipelineFunction.TheVariants.{TraceRay}
-use Rattle.ir_module.specs.declared.statements.Statement.{Statement, Switch'}
-use Rattle.ir_module.specs.declared.statements.Statement.TheVariants as s
+use Rattle.ir_statements.specs.declared.operations.AtomicFunction.{AtomicFunction}
+use Rattle.ir_statements.specs.declared.operations.AtomicFunction.TheVariants as atomic
+use Rattle.ir_statements.specs.declared.operations.GatherMode.{GatherMode}
+use Rattle.ir_statements.specs.declared.operations.GatherMode.TheVariants as mode
+use Rattle.ir_statements.specs.declared.operations.RayQueryFunction.{RayQueryFunction}
+use Rattle.ir_statements.specs.declared.operations.RayQueryFunction.TheVariants as query
+use Rattle.ir_statements.specs.declared.operations.RayPipelineFunction.{RayPipelineFunction}
+use Rattle.ir_statements.specs.declared.operations.RayPipelineFunction.TheVariants.{TraceRay}
+use Rattle.ir_statements.specs.declared.statements.Statement.{Statement, Switch'}
+use Rattle.ir_statements.specs.declared.statements.Statement.TheVariants as s
 use Rattle.ir_module.specs.declared.functions.Function.{Function}
 use Rattle.ir_module.specs.declared.module.Module.{Module}
-use Rattle.ir_module.specs.Tree.{Stmt, Leaf, Block, Branch, Switch, Loop, Break, Continue, Return, Kill, Body, Done, Then, Cases, NoCase, OneCase}
+use Rattle.ir_statements.specs.Tree.{Stmt, Leaf, Block, Branch, Switch, Loop, Break, Continue, Return, Kill, Body, Done, Then, Cases, NoCase, OneCase}
 
 -- a number of things fits 32 bits
 abbrev pub FitsCount : ℕ → Type 0

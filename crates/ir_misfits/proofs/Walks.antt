@@ -3,10 +3,10 @@ use Rattle.std.proofs.Common.{◌≡◌, ◌<◌, ◌+◌, ℕ, Bool, true, fals
 use Rattle.std.proofs.lemmas.Option.{slice_get_read}
 use Rattle.std.specs.Option.{option_or}
 use Rattle.ir_module.specs.declared.module.Module.{Module}
-use Rattle.ir_module.specs.declared.statements.Located.{Located}
-use Rattle.ir_module.specs.declared.statements.SwitchCase.{SwitchCase, out-SwitchCase}
-use Rattle.ir_module.specs.Tree.{Stmt, Body}
-use Rattle.ir_module.specs.View.{no_operands, tree_of, body_of, list_body, list_cases}
+use Rattle.ir_statements.specs.declared.statements.Located.{Located}
+use Rattle.ir_statements.specs.declared.statements.SwitchCase.{SwitchCase, out-SwitchCase}
+use Rattle.ir_statements.specs.Tree.{Stmt, Body}
+use Rattle.ir_statements.specs.View.{no_operands, tree_of, body_of, list_body, list_cases}
 use Rattle.ir_facts.proofs.Each.{from_here}
 use Rattle.ir_facts.proofs.Points.{first_of_both}
 use Rattle.ir_facts.specs.Points.{first_fault}

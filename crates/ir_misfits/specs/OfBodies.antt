@@ -1,18 +1,18 @@
 -- The misfits of the statements of a body, at any depth.
 use Rattle.std.specs.Prelude.{ℕ, suc, nat_lt, nat_le, List, [], ◌∷◌, ◌++◌, Option, if◌then◌else◌}
 use Rattle.ir_arena.specs.declared.range.Range.{Range}
-use Rattle.ir_types.specs.declared.operations.AtomicFunction.{AtomicFunction}
-use Rattle.ir_types.specs.declared.operations.AtomicFunction.TheVariants as atomic
-use Rattle.ir_module.specs.declared.operations.GatherMode.{GatherMode}
-use Rattle.ir_module.specs.declared.operations.GatherMode.TheVariants as mode
-use Rattle.ir_module.specs.declared.operations.RayQueryFunction.{RayQueryFunction}
-use Rattle.ir_module.specs.declared.operations.RayQueryFunction.TheVariants as query
-use Rattle.ir_module.specs.declared.operations.RayPipelineFunction.{RayPipelineFunction}
-use Rattle.ir_module.specs.declared.operations.RayPipelineFunction.TheVariants.{TraceRay}
-use Rattle.ir_module.specs.declared.statements.Statement.{Statement, Switch'}
-use Rattle.ir_module.specs.declared.statements.Statement.TheVariants as s
+use Rattle.ir_statements.specs.declared.operations.AtomicFunction.{AtomicFunction}
+use Rattle.ir_statements.specs.declared.operations.AtomicFunction.TheVariants as atomic
+use Rattle.ir_statements.specs.declared.operations.GatherMode.{GatherMode}
+use Rattle.ir_statements.specs.declared.operations.GatherMode.TheVariants as mode
+use Rattle.ir_statements.specs.declared.operations.RayQueryFunction.{RayQueryFunction}
+use Rattle.ir_statements.specs.declared.operations.RayQueryFunction.TheVariants as query
+use Rattle.ir_statements.specs.declared.operations.RayPipelineFunction.{RayPipelineFunction}
+use Rattle.ir_statements.specs.declared.operations.RayPipelineFunction.TheVariants.{TraceRay}
+use Rattle.ir_statements.specs.declared.statements.Statement.{Statement, Switch'}
+use Rattle.ir_statements.specs.declared.statements.Statement.TheVariants as s
 use Rattle.ir_module.specs.declared.module.Module.{Module}
-use Rattle.ir_module.specs.Tree.{Stmt, Leaf, Block, Branch, Switch, Loop, Break, Continue, Return, Kill, Body, Done, Then, Cases, NoCase, OneCase}
+use Rattle.ir_statements.specs.Tree.{Stmt, Leaf, Block, Branch, Switch, Loop, Break, Continue, Return, Kill, Body, Done, Then, Cases, NoCase, OneCase}
 use Rattle.ir_facts.specs.Points.{points_of_each}
 use Rattle.ir_misfits.specs.declared.misfit.Owner.{Owner}
 use Rattle.ir_misfits.specs.declared.misfit.StatementField.{StatementField}

@@ -3,7 +3,7 @@
 ghost use Rattle.std.specs.Prelude.{◌≡◌, IfOk};
 ghost use Rattle.std.specs.Result.{result_err};
 ghost use Rattle.ir_facts.specs.Points.{first_fault};
-ghost use Rattle.ir_module.specs.View.{no_operands, tree_of, body_of, list_body, list_cases};
+ghost use Rattle.ir_statements.specs.View.{no_operands, tree_of, body_of, list_body, list_cases};
 ghost use Rattle.ir_misfits.specs.OfBodies.{next, after_statement, after_body, after_cases, call_points, leaf_points, statement_points, body_points, cases_points};
 
 use crate::misfit::{HandleOf, Misfit, Owner, Place, StatementField};
@@ -12,7 +12,7 @@ use crate::signature::check_callee;
 use ir_arena::handle::Handle;
 use ir_arena::tag;
 use ir_module::module::Module;
-use ir_module::statements::{Block, Located, Statement, SwitchCase};
+use ir_statements::statements::{Block, Located, Statement, SwitchCase};
 
 /// Whose body it is, in which module, how many expressions there are, and how many functions calls may name.
 #[derive(Drop)]

@@ -3,7 +3,7 @@
 ghost use Rattle.std.specs.Prelude.{◌≡◌, length};
 ghost use Rattle.std.specs.Result.{result_err};
 ghost use Rattle.ir_facts.specs.Points.{first_fault, points_of_each};
-ghost use Rattle.ir_module.specs.View.{no_operands, body_of};
+ghost use Rattle.ir_statements.specs.View.{no_operands, body_of};
 ghost use Rattle.ir_misfits.specs.OfBodies.{body_points};
 ghost use Rattle.ir_misfits.specs.OfFunctions.{local_points, function_points};
 

@@ -9,8 +9,9 @@ use crate::misfit::{HandleOf, Misfit, Owner, Place, Problem, StatementField};
 use ir_arena::handle::Handle;
 use ir_arena::range::Range;
 use ir_arena::tag;
-use ir_module::operations::{GatherMode, RayPipelineFunction, RayQueryFunction};
-use ir_types::operations::AtomicFunction;
+use ir_statements::operations::{
+    AtomicFunction, GatherMode, RayPipelineFunction, RayQueryFunction,
+};
 
 /// A statement of a function by its number, and how many expressions there are.
 #[derive(Clone, Copy)]

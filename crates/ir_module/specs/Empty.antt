@@ -1,6 +1,6 @@
 -- What holds nothing: a module, a function.
 use Rattle.std.specs.Prelude.{[], None}
-use Rattle.ir_module.specs.Blocks.{empty_block}
+use Rattle.ir_statements.specs.Blocks.{empty_block}
 use Rattle.ir_module.specs.declared.functions.Function.{Function}
 use Rattle.ir_module.specs.declared.module.Module.{Module}
 

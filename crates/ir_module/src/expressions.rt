@@ -6,6 +6,7 @@ use ir_arena::duplicate::Duplicate;
 use ir_arena::handle::{Handle, Tagged};
 use ir_arena::sequence::Sequence;
 use ir_arena::tag;
+use ir_statements::statements::Operands;
 use ir_types::types::Scalar;
 use std::alloc::{AllocError, Global};
 
@@ -15,9 +16,6 @@ pub struct Literal {
     pub scalar: Scalar,
     pub bits: u64,
 }
-
-/// The operands of an expression, or the arguments of a call, in order.
-pub type Operands = Sequence<Handle<tag::Expression>>;
 
 /// An expression. The kinds are naga's.
 ///

@@ -4,12 +4,12 @@ ghost use Rattle.std.specs.Prelude.{◌≡◌, IfOk};
 ghost use Rattle.ir_module.specs.Empty.{empty_function};
 
 use crate::expressions::Expression;
-use crate::statements::Block;
 use ir_arena::arena::Arena;
 use ir_arena::duplicate::{Duplicate, duplicates};
 use ir_arena::handle::{Handle, Tagged};
 use ir_arena::sequence::Sequence;
 use ir_arena::tag;
+use ir_statements::statements::Block;
 use ir_types::name::{Name, clone_name};
 use ir_types::types::Binding;
 use std::alloc::{AllocError, Global};

@@ -1,4 +1,4 @@
-//! Expressions, statements, functions, entry points and modules of the IR: what naga 30.0.1's validator reads of them.
+//! Expressions, functions, entry points and modules of the IR: what naga 30.0.1's validator reads of them.
 //! Users import these from `naga_below`.
 #![tactic(auto)]
 
@@ -6,20 +6,12 @@ pub mod expressions;
 pub mod functions;
 pub mod module;
 pub mod operands;
-pub mod operations;
 pub mod pre_emitted;
-pub mod statements;
-pub mod subgroups;
 
-pub use crate::expressions::{Expression, Literal, Operands};
+pub use crate::expressions::{Expression, Literal};
 pub use crate::functions::{Function, FunctionArgument, FunctionResult, LocalVariable};
 pub use crate::module::{
     Constant, EarlyDepthTest, EntryPoint, GlobalVariable, MeshOutputTopology, MeshStageInfo,
     Module, Override, ResourceBinding, SpecialTypes,
 };
 pub use crate::operands::{listed_operands, operand, operand_count};
-pub use crate::operations::{
-    CollectiveOperation, CooperativeData, GatherMode, RayPipelineFunction, RayQueryFunction,
-    SubgroupOperation,
-};
-pub use crate::statements::{Block, Located, Statement, SwitchCase};

@@ -5,5 +5,4 @@ pub mod Unique
 pub mod EqualBuiltIns
 pub mod EqualTypes
 pub mod TypeTests
-pub mod Operations
 pub use Rattle.ir_types.specs.TypeTests.{is_same_type}

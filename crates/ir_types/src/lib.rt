@@ -4,7 +4,6 @@
 
 pub mod built_in;
 pub mod name;
-pub mod operations;
 pub mod stage;
 pub mod type_methods;
 pub mod types;
@@ -13,7 +12,6 @@ pub mod unique_arena;
 
 pub use crate::built_in::BuiltIn;
 pub use crate::name::{Name, clone_name};
-pub use crate::operations::{AtomicFunction, SwitchValue};
 pub use crate::stage::ShaderStage;
 pub use crate::type_methods::{compare_types, type_tests_law};
 pub use crate::types::{

@@ -2,8 +2,8 @@
 use Rattle.std.proofs.Common.{◌≡◌, ℕ, zero, suc, ◌-◌, List, Some, None, refl, ap, ◌∙◌, arith}
 use Rattle.std.specs.Prelude.{option_map}
 use Rattle.serde_json.specs.Data.{Data}
-use Rattle.ir_module.specs.Blocks as blocks
-use Rattle.ir_module.specs.declared.statements.Located.{Located}
+use Rattle.ir_statements.specs.Blocks as blocks
+use Rattle.ir_statements.specs.declared.statements.Located.{Located}
 use Rattle.json_document.specs.Form.{list_of}
 use Rattle.json_document.specs.Document.Statements.{block_at, located_with}
 

@@ -9,10 +9,10 @@ use Rattle.ir_types.specs.declared.types.ImageClass.{ImageClass}
 use Rattle.ir_types.specs.declared.types.ImageClass.TheVariants as classes
 use Rattle.ir_types.specs.declared.types.ArraySize.{ArraySize}
 use Rattle.ir_types.specs.declared.types.ArraySize.TheVariants as array_sizes
-use Rattle.ir_types.specs.declared.operations.AtomicFunction.{AtomicFunction}
-use Rattle.ir_types.specs.declared.operations.AtomicFunction.TheVariants as atomic_functions
-use Rattle.ir_types.specs.declared.operations.SwitchValue.{SwitchValue}
-use Rattle.ir_types.specs.declared.operations.SwitchValue.TheVariants as switch_values
+use Rattle.ir_statements.specs.declared.operations.AtomicFunction.{AtomicFunction}
+use Rattle.ir_statements.specs.declared.operations.AtomicFunction.TheVariants as atomic_functions
+use Rattle.ir_statements.specs.declared.operations.SwitchValue.{SwitchValue}
+use Rattle.ir_statements.specs.declared.operations.SwitchValue.TheVariants as switch_values
 use Rattle.ir_types.specs.declared.types.Binding.{Binding}
 use Rattle.ir_types.specs.declared.types.Binding.TheVariants as bindings
 use Rattle.ir_types.specs.declared.types.TypeInner.{TypeInner}

@@ -8,10 +8,8 @@ use crate::parts::{
 };
 use crate::to_json::ToJson;
 use crate::writer::JsonWriter;
-use ir_types::{
-    AddressSpace, ArraySize, AtomicFunction, Binding, ImageClass, Scalar, StructMember,
-    SwitchValue, TypeInner,
-};
+use ir_statements::{AtomicFunction, SwitchValue};
+use ir_types::{AddressSpace, ArraySize, Binding, ImageClass, Scalar, StructMember, TypeInner};
 use std::alloc::AllocError;
 
 impl ToJson for Scalar {

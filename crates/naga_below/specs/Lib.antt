@@ -14,9 +14,9 @@ pub use Rattle.ir_module.specs.declared.module.GlobalVariable.{GlobalVariable}
 pub use Rattle.ir_module.specs.declared.module.Module.{Module}
 pub use Rattle.ir_module.specs.declared.module.ResourceBinding.{ResourceBinding}
 pub use Rattle.ir_types.specs.declared.stage.ShaderStage.{ShaderStage}
-pub use Rattle.ir_module.specs.declared.statements.Block.{Block}
-pub use Rattle.ir_module.specs.declared.statements.Statement.{Statement}
-pub use Rattle.ir_module.specs.Tree.{Return, Switch}
+pub use Rattle.ir_statements.specs.declared.statements.Block.{Block}
+pub use Rattle.ir_statements.specs.declared.statements.Statement.{Statement}
+pub use Rattle.ir_statements.specs.Tree.{Return, Switch}
 pub use Rattle.ir_types.specs.declared.types.AddressSpace.{AddressSpace}
 pub use Rattle.ir_types.specs.declared.types.Type.{«Type» as IrType}
 pub use Rattle.ir_types.specs.declared.types.TypeInner.{TypeInner}

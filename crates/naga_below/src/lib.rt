@@ -15,15 +15,17 @@ pub use ir_flags::{
 };
 pub use ir_misfits::{fits_entry, fits_function, fits_globals, fits_types};
 pub use ir_module::{
-    Block, CollectiveOperation, Constant, CooperativeData, EarlyDepthTest, EntryPoint, Expression,
-    Function, FunctionArgument, FunctionResult, GatherMode, GlobalVariable, Literal, LocalVariable,
-    Located, MeshOutputTopology, MeshStageInfo, Module, Operands, Override, RayPipelineFunction,
-    RayQueryFunction, ResourceBinding, SpecialTypes, Statement, SubgroupOperation, SwitchCase,
-    listed_operands, operand, operand_count,
+    Constant, EarlyDepthTest, EntryPoint, Expression, Function, FunctionArgument, FunctionResult,
+    GlobalVariable, Literal, LocalVariable, MeshOutputTopology, MeshStageInfo, Module, Override,
+    ResourceBinding, SpecialTypes, listed_operands, operand, operand_count,
+};
+pub use ir_statements::{
+    AtomicFunction, Block, CollectiveOperation, CooperativeData, GatherMode, Located, Operands,
+    RayPipelineFunction, RayQueryFunction, Statement, SubgroupOperation, SwitchCase, SwitchValue,
 };
 pub use ir_types::{
-    AddressSpace, ArraySize, AtomicFunction, Binding, BuiltIn, Identical, ImageClass,
-    ImageDimension, Interpolation, Members, Name, Sampling, Scalar, ScalarKind, ShaderStage,
-    StorageFormat, StructMember, SwitchValue, Type, TypeInner, TypeResolution, UniqueArena,
-    VectorSize, clone_name, compare_types, type_tests_law,
+    AddressSpace, ArraySize, Binding, BuiltIn, Identical, ImageClass, ImageDimension,
+    Interpolation, Members, Name, Sampling, Scalar, ScalarKind, ShaderStage, StorageFormat,
+    StructMember, Type, TypeInner, TypeResolution, UniqueArena, VectorSize, clone_name,
+    compare_types, type_tests_law,
 };

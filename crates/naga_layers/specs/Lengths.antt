@@ -6,19 +6,19 @@ use Rattle.ir_flags.specs.Bits.{READ, WRITE, QUERY, ATOMIC_USE, NO_USE}
 use Rattle.ir_flags.specs.declared.valid.GlobalUse.{GlobalUse}
 use Rattle.ir_facts.specs.declared.valid.info.FunctionInfo.{FunctionInfo}
 use Rattle.ir_facts.specs.declared.valid.info.ModuleInfo.{ModuleInfo}
-use Rattle.ir_module.specs.View.{no_operands, body_of}
+use Rattle.ir_statements.specs.View.{no_operands, body_of}
 use Rattle.ir_module.specs.declared.expressions.Expression.{Expression}
 use Rattle.ir_module.specs.declared.expressions.Expression.TheVariants as e
 use Rattle.ir_module.specs.declared.functions.Function.{Function}
 use Rattle.ir_module.specs.declared.module.GlobalVariable.{GlobalVariable}
 use Rattle.ir_module.specs.declared.module.Module.{Module}
-use Rattle.ir_module.specs.declared.operations.RayPipelineFunction.{RayPipelineFunction}
-use Rattle.ir_module.specs.declared.operations.RayPipelineFunction.TheVariants.{TraceRay}
-use Rattle.ir_module.specs.declared.operations.RayQueryFunction.{RayQueryFunction}
-use Rattle.ir_module.specs.declared.operations.RayQueryFunction.TheVariants as query
-use Rattle.ir_module.specs.declared.statements.Statement.{Statement}
-use Rattle.ir_module.specs.declared.statements.Statement.TheVariants as s
-use Rattle.ir_module.specs.Tree.{Stmt, Leaf, Block, Branch, Switch, Loop, Body, Done, Then, Cases, NoCase, OneCase}
+use Rattle.ir_statements.specs.declared.operations.RayPipelineFunction.{RayPipelineFunction}
+use Rattle.ir_statements.specs.declared.operations.RayPipelineFunction.TheVariants.{TraceRay}
+use Rattle.ir_statements.specs.declared.operations.RayQueryFunction.{RayQueryFunction}
+use Rattle.ir_statements.specs.declared.operations.RayQueryFunction.TheVariants as query
+use Rattle.ir_statements.specs.declared.statements.Statement.{Statement}
+use Rattle.ir_statements.specs.declared.statements.Statement.TheVariants as s
+use Rattle.ir_statements.specs.Tree.{Stmt, Leaf, Block, Branch, Switch, Loop, Body, Done, Then, Cases, NoCase, OneCase}
 use Rattle.naga_layers.specs.Joins.{with_use, joined_at, joined_from}
 use Rattle.naga_layers.specs.Roots.{root_at, roots_from}
 use Rattle.naga_layers.specs.Walk.{BOTH, call_use, argument_uses, callee_uses, query_uses, pipeline_uses, leaf_uses, statement_uses, body_uses, cases_uses}

@@ -7,7 +7,7 @@ use Rattle.ir_module.specs.declared.expressions.Expression.{Expression}
 use Rattle.ir_module.specs.declared.expressions.Expression.TheVariants as e
 use Rattle.ir_module.specs.declared.functions.Function.{Function}
 use Rattle.ir_module.specs.declared.module.Module.{Module}
-use Rattle.ir_module.specs.View.{no_operands, body_of}
+use Rattle.ir_statements.specs.View.{no_operands, body_of}
 use Rattle.naga_layers.specs.Joins.{with_use}
 use Rattle.naga_layers.specs.Roots.{root_at, roots_from}
 use Rattle.naga_layers.specs.Walk.{body_uses}

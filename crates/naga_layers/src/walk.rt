@@ -2,7 +2,7 @@
 
 ghost use Rattle.std.specs.Prelude.{◌≡◌};
 ghost use Rattle.std.specs.Option.{option_copied};
-ghost use Rattle.ir_module.specs.View.{no_operands, tree_of, body_of, list_body, list_cases};
+ghost use Rattle.ir_statements.specs.View.{no_operands, tree_of, body_of, list_body, list_cases};
 ghost use Rattle.naga_layers.specs.Walk.{call_use, argument_uses, callee_uses, query_uses, pipeline_uses, call_uses, statement_uses, body_uses, cases_uses};
 
 use crate::joins::{join, join_all};
@@ -13,8 +13,8 @@ use ir_arena::tag;
 use ir_facts::valid::info::{FunctionInfo, ModuleInfo};
 use ir_flags::valid::GlobalUse;
 use ir_module::module::GlobalVariable;
-use ir_module::operations::{RayPipelineFunction, RayQueryFunction};
-use ir_module::statements::{Block, Located, Statement, SwitchCase};
+use ir_statements::operations::{RayPipelineFunction, RayQueryFunction};
+use ir_statements::statements::{Block, Located, Statement, SwitchCase};
 use ir_types::types::AddressSpace;
 
 /// Read and written.

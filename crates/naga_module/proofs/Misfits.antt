@@ -29,8 +29,8 @@ use Rattle.ir_misfits.proofs.Exact.{Exact, nothing, said, point_then, point_alon
 use Rattle.ir_misfits.proofs.ExactParts.{types_exact, globals_exact, entry_exact}
 use Rattle.ir_misfits.proofs.ExactBodies.{function_exact}
 use Rattle.ir_facts.specs.Meaning.{Meaning}
-use Rattle.check_entry.specs.EntryJudgement.{HasPayloadSizes}
-use Rattle.check_statement.specs.ValidatorParts.{AreInfosOf, NamesTypes}
+use Rattle.check_entry.specs.InterfacePoints.{HasPayloadSizes}
+use Rattle.check_entry.specs.TypeInfos.{AreInfosOf, NamesTypes}
 use Rattle.naga_module.specs.Misfits.{layout_points, info_points, one_info_each, infos_points, module_function_points, entry_point_points, is_task_payload, size_points, module_points, AllFits}
 use Rattle.naga_module.specs.ModuleJudgement.{first_infos}
 

@@ -13,7 +13,8 @@ use Rattle.ir_facts.specs.declared.valid.types.TypeInfo.{TypeInfo}
 use Rattle.ir_facts.specs.Meaning.{Meaning}
 use Rattle.check_body.proofs.Chains.{none_is_vetted, one_more_is_vetted}
 use Rattle.check_body.specs.Chains.{AreVetted}
-use Rattle.check_entry.specs.EntryJudgement.{HasPayloadSizes, entry_judgement}
+use Rattle.check_entry.specs.InterfacePoints.{HasPayloadSizes}
+use Rattle.naga_valid.specs.EntryJudgement.{entry_judgement}
 use Rattle.check_body.specs.InOrder.{with_info}
 use Rattle.check_statement.specs.FunctionJudgement.{FunctionOutcome, function_judgement}
 use Rattle.check_statement.specs.ValidatorParts.{no_traces}

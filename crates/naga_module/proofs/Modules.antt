@@ -16,7 +16,7 @@ use Rattle.ir_facts.specs.declared.valid.types.TypeInfo.{TypeInfo}
 use Rattle.ir_facts.specs.Meaning.{Meaning}
 use Rattle.ir_errors.specs.declared.function.FunctionError.{FunctionError}
 use Rattle.check_entry.specs.EntryFaults.{fault_of}
-use Rattle.check_entry.specs.EntryJudgement.{entry_judgement}
+use Rattle.naga_valid.specs.EntryJudgement.{entry_judgement}
 use Rattle.check_body.specs.InOrder.{with_info}
 use Rattle.check_statement.specs.FunctionJudgement.{FunctionOutcome, function_judgement}
 use Rattle.check_faults.specs.declared.entry.EntryPointError.{EntryPointError}

@@ -9,7 +9,8 @@ use Rattle.ir_facts.specs.declared.valid.settings.Settings.{Settings}
 use Rattle.ir_facts.specs.declared.valid.types.TypeInfo.{TypeInfo}
 use Rattle.check_body.specs.InOrder.{with_info}
 use Rattle.check_entry.specs.EntryFaults.{EntryFault}
-use Rattle.check_entry.specs.EntryJudgement.{HasPayloadSizes, entry_judgement}
+use Rattle.check_entry.specs.InterfacePoints.{HasPayloadSizes}
+use Rattle.naga_valid.specs.EntryJudgement.{entry_judgement}
 use Rattle.ir_facts.specs.Meaning.{Meaning}
 use Rattle.check_scope.specs.declared.trace.TraceState.{TraceState}
 use Rattle.check_statement.specs.FunctionJudgement.{FunctionOutcome, function_judgement}

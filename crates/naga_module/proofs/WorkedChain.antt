@@ -3,15 +3,15 @@ use Rattle.std.proofs.Common.{◌≡◌, ◌<◌, ◌∙◌, ℕ, zero, suc, fal
 use Rattle.std.proofs.lemmas.List.Elements.{All-contains, All-from_recursion}
 use Rattle.std.specs.List.{AllByRecursion}
 use Rattle.std.specs.Prelude.{Contains, slice_get}
-use Rattle.ir_module.proofs.Rows.{body_of-list}
+use Rattle.ir_statements.proofs.Rows.{body_of-list}
 use Rattle.ir_flags.specs.Bits.{ALL_STAGES}
 use Rattle.ir_facts.specs.Points.{and_then, answer, first_fault}
-use Rattle.ir_module.specs.Tree.{Body}
-use Rattle.ir_module.specs.View.{list_body}
+use Rattle.ir_statements.specs.Tree.{Body}
+use Rattle.ir_statements.specs.View.{list_body}
 use Rattle.ir_module.specs.declared.functions.Function.{Function}
-use Rattle.ir_module.specs.declared.statements.Block.{out-roll-Block}
-use Rattle.ir_module.specs.declared.statements.Statement.{Statement}
-use Rattle.ir_module.specs.declared.statements.Statement as ir
+use Rattle.ir_statements.specs.declared.statements.Block.{out-roll-Block}
+use Rattle.ir_statements.specs.declared.statements.Statement.{Statement}
+use Rattle.ir_statements.specs.declared.statements.Statement as ir
 use Rattle.ir_facts.specs.declared.valid.info.FunctionInfo.{FunctionInfo}
 use Rattle.ir_errors.specs.declared.function.FunctionError.{FunctionError}
 use Rattle.naga_runs.specs.Judgement.{judgement, state_after}

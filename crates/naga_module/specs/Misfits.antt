@@ -26,8 +26,8 @@ use Rattle.ir_misfits.specs.OfGlobals.{globals_points}
 use Rattle.ir_misfits.specs.OfFunctions.{function_points}
 use Rattle.ir_misfits.specs.OfEntries.{entry_points}
 use Rattle.ir_facts.specs.Meaning.{Meaning}
-use Rattle.check_entry.specs.EntryJudgement.{HasPayloadSizes}
-use Rattle.check_statement.specs.ValidatorParts.{AreInfosOf}
+use Rattle.check_entry.specs.InterfacePoints.{HasPayloadSizes}
+use Rattle.check_entry.specs.TypeInfos.{AreInfosOf}
 use Rattle.naga_module.specs.ModuleJudgement.{first_infos}
 
 -- of n types: that which makes a layout bad is there

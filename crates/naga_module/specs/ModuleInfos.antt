@@ -11,7 +11,7 @@ use Rattle.ir_facts.specs.declared.valid.settings.Settings.{Settings}
 use Rattle.ir_facts.specs.declared.valid.types.TypeInfo.{TypeInfo}
 use Rattle.ir_facts.specs.Meaning.{Meaning}
 use Rattle.check_body.specs.Chains.{IsVettedInfo, AreVetted}
-use Rattle.check_entry.specs.EntryJudgement.{entry_judgement}
+use Rattle.naga_valid.specs.EntryJudgement.{entry_judgement}
 use Rattle.check_scope.specs.declared.trace.TraceState.{TraceState}
 use Rattle.naga_valid.specs.EntryFacts.{argument_parts, BuiltInsAreDistinct, ReturnsPosition}
 

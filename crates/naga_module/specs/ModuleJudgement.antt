@@ -15,11 +15,13 @@ use Rattle.ir_facts.specs.declared.valid.settings.Settings.{Settings}
 use Rattle.ir_facts.specs.declared.valid.types.TypeInfo.{TypeInfo}
 use Rattle.ir_facts.specs.Meaning.{Meaning}
 use Rattle.check_entry.specs.EntryFaults.{EntryFault, fault_of}
-use Rattle.check_entry.specs.EntryJudgement.{HasPayloadSizes, entry_judgement}
+use Rattle.check_entry.specs.InterfacePoints.{HasPayloadSizes}
+use Rattle.naga_valid.specs.EntryJudgement.{entry_judgement}
 use Rattle.check_entry.specs.GlobalPoints.{module_global_points}
 use Rattle.check_body.specs.InOrder.{with_info}
 use Rattle.check_statement.specs.FunctionJudgement.{function_judgement}
-use Rattle.check_statement.specs.ValidatorParts.{AreInfosOf, no_traces}
+use Rattle.check_entry.specs.TypeInfos.{AreInfosOf}
+use Rattle.check_statement.specs.ValidatorParts.{no_traces}
 use Rattle.check_scope.specs.declared.trace.TraceState.{TraceState}
 use Rattle.check_faults.specs.declared.module.ModuleFault.{ModuleFault}
 use Rattle.check_faults.specs.declared.module.ModuleFault.TheVariants as fault

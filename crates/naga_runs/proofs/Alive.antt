@@ -2,7 +2,7 @@
 -- none, has put what is in Must.
 use Rattle.std.specs.Prelude.{ℕ, zero, suc, Bool, true, false, Option, Some, ◌≡◌, ◌∷◌, ◌&&◌, if◌then◌else◌, []}
 use Rattle.std.proofs.Common.{refl, sym, ap, ◌∙◌}
-use Rattle.ir_module.specs.Tree.{Stmt, Body, Cases, Block, Branch, Switch, Loop, Continue, Done, Then, NoCase, OneCase}
+use Rattle.ir_statements.specs.Tree.{Stmt, Body, Cases, Block, Branch, Switch, Loop, Continue, Done, Then, NoCase, OneCase}
 use Rattle.naga_runs.specs.DeadCode.{goes_on, continues, list_continues, cases_continue, earlier_go_on, lists_go_on, may_come}
 use Rattle.naga_runs.specs.Handles.{Handles}
 use Rattle.naga_runs.specs.Must.{holds_continue, body_holds_continue, cases_hold_continue, with_sure}

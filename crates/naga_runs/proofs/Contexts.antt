@@ -1,8 +1,8 @@
 -- What a place has from further out, the conditions on the parts of a body there, and how these parts end.
 use Rattle.std.specs.Prelude.{ℕ, suc, Bool, true, false, List, Option, Some, ◌≡◌, ◌∷◌, ◌++◌, [], ◌+◌}
 use Rattle.std.proofs.Common.{refl}
-use Rattle.ir_module.specs.Tree.{Act, Stmt, Body, Cases, Leaf, Block, Branch, Switch, Loop, Break, Continue, Return, Kill, Done, Then, OneCase}
-use Rattle.ir_types.specs.declared.operations.SwitchValue.{SwitchValue}
+use Rattle.ir_statements.specs.Tree.{Act, Stmt, Body, Cases, Leaf, Block, Branch, Switch, Loop, Break, Continue, Return, Kill, Done, Then, OneCase}
+use Rattle.ir_statements.specs.declared.operations.SwitchValue.{SwitchValue}
 use Rattle.naga_runs.specs.Handles.{Handles}
 use Rattle.naga_runs.specs.Abilities.{may_return_from, may_break_from, may_continue_from, node_jump}
 use Rattle.naga_runs.specs.Machine.{Outcome, Next, Broken, Continued, Returned, Ended, Stopped, Stuck}

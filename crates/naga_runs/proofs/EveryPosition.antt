@@ -2,7 +2,7 @@
 use Rattle.std.specs.List.{AllByRecursion}
 use Rattle.std.specs.Prelude.{ℕ, zero, suc, List, Option, Some, None, map, ◌≡◌, ◌⊎◌, ◌∷◌, ◌++◌, [], ◌+◌}
 use Rattle.std.proofs.Common.{refl, ap, subst, arith, inl, inr}
-use Rattle.ir_module.specs.Tree.{Stmt, Body, Cases, Block, Branch, Switch, Loop, Done, Then, NoCase, OneCase}
+use Rattle.ir_statements.specs.Tree.{Stmt, Body, Cases, Block, Branch, Switch, Loop, Done, Then, NoCase, OneCase}
 use Rattle.naga_runs.specs.Positions.{Part, Position, Node, case_at, list_below, condition_node, node_below, node_at, Root, Inner, Accept, Reject, Case, LoopBody, Continuing, Condition, In, NoNode}
 use Rattle.naga_runs.specs.VisitOrder.{condition_positions, positions_from, positions_below, positions_of_cases, positions}
 

@@ -3,7 +3,7 @@ use Rattle.std.proofs.lemmas.List.Elements.{All-contains, All-from_recursion, Co
 use Rattle.std.specs.List.{AllByRecursion, list_any}
 use Rattle.std.specs.Prelude.{ℕ, Bool, true, false, not, List, Contains, ◌≡◌, ◌⊎◌, ◌∷◌, ◌++◌, ◌||◌, [], ◌+◌}
 use Rattle.std.proofs.Common.{refl, sym, ap, subst, arith, inl, inr, ◌∙◌}
-use Rattle.ir_module.specs.Tree.{Body}
+use Rattle.ir_statements.specs.Tree.{Body}
 use Rattle.naga_runs.specs.Abilities.{Jump, node_jump, may_return, may_break, may_continue, NoJump, ToBreak, ToContinue, ToReturn}
 use Rattle.naga_runs.specs.ComesTo.{Comes, IsComeTo, HasNoDeadCode, IsStuckBy}
 use Rattle.naga_runs.specs.DeadCode.{may_come, dead_code}

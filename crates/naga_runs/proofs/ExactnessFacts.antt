@@ -3,7 +3,7 @@ use Rattle.std.proofs.lemmas.List.Elements.{All-contains, All-from_recursion}
 use Rattle.std.specs.List.{AllByRecursion}
 use Rattle.std.specs.Prelude.{ℕ, zero, suc, true, false, List, None, ◌≡◌, ◌∷◌, ◌++◌, []}
 use Rattle.std.proofs.Common.{refl, subst}
-use Rattle.ir_module.specs.Tree.{Stmt, Body, Loop, Break, Then}
+use Rattle.ir_statements.specs.Tree.{Stmt, Body, Loop, Break, Then}
 use Rattle.naga_runs.specs.DeadCode.{may_come}
 use Rattle.naga_runs.specs.ExactnessFacts.{alone, continue_if_0, emits_3, dead_loop, DeadCodeIsRefused, put_twice, second_put, PutIsRefused, continuing_loop, falling_switch, LawApplies}
 use Rattle.naga_runs.specs.Judgement.{judgement, state_after}

@@ -3,9 +3,9 @@ use Rattle.std.proofs.lemmas.List.{append-nil}
 use Rattle.std.specs.List.{AllByRecursion}
 use Rattle.std.specs.Prelude.{ℕ, zero, suc, Bool, true, false, List, Option, Some, None, ◌≡◌, ◌∷◌, ◌++◌, [], ◌+◌}
 use Rattle.std.proofs.Common.{refl, sym, ap, subst, arith, append_assoc, append-nil, ◌∙◌}
-use Rattle.ir_module.specs.Tree.{Act, Stmt, Body, Cases, Use, Put, Leaf, Block, Branch, Switch, Loop, Break, Continue, Return, Kill, Done, Then, NoCase, OneCase}
-use Rattle.ir_module.specs.View.{used_if}
-use Rattle.ir_types.specs.declared.operations.SwitchValue.{SwitchValue}
+use Rattle.ir_statements.specs.Tree.{Act, Stmt, Body, Cases, Use, Put, Leaf, Block, Branch, Switch, Loop, Break, Continue, Return, Kill, Done, Then, NoCase, OneCase}
+use Rattle.ir_statements.specs.View.{used_if}
+use Rattle.ir_statements.specs.declared.operations.SwitchValue.{SwitchValue}
 use Rattle.naga_runs.specs.Handles.{Handles, with_handle}
 use Rattle.naga_runs.specs.Machine.{Event, Outcome, Run, recorded, after, left, by_choice, at_zero, then_rest, then_case, closing, then_close, turn, turns, run_stmt, run_body, run_cases, whole, Next, Broken, Continued, Returned, Ended, Stopped, Stuck, Ran}
 use Rattle.naga_runs.specs.Must.{holds_continue, body_holds_continue, cases_hold_continue, with_sure}

@@ -3,7 +3,7 @@ use Rattle.std.proofs.lemmas.Bool.{eqb-true, eq-eqb}
 use Rattle.std.proofs.lemmas.List.Elements.{Contains-append_left, Contains-append_right, Contains-append_cases}
 use Rattle.std.specs.Prelude.{get_or, ℕ, zero, suc, Bool, true, false, List, Contains, length, ◌≡◌, ◌⊎◌, ◌∷◌, ◌++◌, ◌==◌, if◌then◌else◌, [], ◌<◌}
 use Rattle.std.proofs.Common.{refl, ap, arith, inl, inr}
-use Rattle.ir_module.specs.Tree.{Act, Body, Use, Put, Done, Then}
+use Rattle.ir_statements.specs.Tree.{Act, Body, Use, Put, Done, Then}
 use Rattle.naga_runs.specs.Handles.{Handles, with_handle}
 use Rattle.naga_runs.specs.Must.{holds_continue, with_sure}
 use Rattle.naga_runs.specs.Positions.{statement_at, statement_node}

@@ -2,10 +2,10 @@
 use Rattle.std.specs.List.{AllByRecursion}
 use Rattle.std.specs.Prelude.{ℕ, Bool, true, false, List, Option, Some, None, Result, Ok, Err, map, ◌≡◌, ◌∷◌, ◌++◌, []}
 use Rattle.std.proofs.Common.{refl, sym, ap, subst, append-nil, ◌∙◌}
-use Rattle.ir_module.specs.Tree.{Act, Stmt, Body, Cases, Leaf, Block, Branch, Switch, Loop, Break, Continue, Return, Kill, Done, Then, NoCase, OneCase}
-use Rattle.ir_module.specs.View.{body_of}
-use Rattle.ir_module.specs.declared.statements.Statement.{Statement}
-use Rattle.ir_types.specs.declared.operations.SwitchValue.{SwitchValue}
+use Rattle.ir_statements.specs.Tree.{Act, Stmt, Body, Cases, Leaf, Block, Branch, Switch, Loop, Break, Continue, Return, Kill, Done, Then, NoCase, OneCase}
+use Rattle.ir_statements.specs.View.{body_of}
+use Rattle.ir_statements.specs.declared.statements.Statement.{Statement}
+use Rattle.ir_statements.specs.declared.operations.SwitchValue.{SwitchValue}
 use Rattle.ir_arena.specs.declared.span.Span.{Span}
 use Rattle.ir_facts.specs.Points.{and_then, Point, first_fault, answer}
 use Rattle.naga_runs.specs.ByTree.{past, in_case, in_loop, in_continuing, at_break_if, break_if_visits, body_visits, part_visits, case_visits, judge, judge_visits, judge_body, judge_stmt, judge_parts, judge_cases, judge_break_if, JudgementIsByTree, Compositional}

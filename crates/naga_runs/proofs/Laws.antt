@@ -3,7 +3,7 @@ use Rattle.std.proofs.lemmas.List.Elements.{Contains-append_right}
 use Rattle.std.specs.List.{AllByRecursion}
 use Rattle.std.specs.Prelude.{ℕ, Bool, true, false, List, Option, Contains, ◌≡◌, ◌↔◌, ◌⊎◌, ◌∷◌, ◌++◌, []}
 use Rattle.std.proofs.Common.{refl, sym, ap, subst, arith, append_assoc, inl, inr, ◌∙◌}
-use Rattle.ir_module.specs.Tree.{Act, Body, Use, Put}
+use Rattle.ir_statements.specs.Tree.{Act, Body, Use, Put}
 use Rattle.naga_runs.specs.Handles.{Handles, no_handles, with_handle}
 use Rattle.naga_runs.specs.Abilities.{node_jump}
 use Rattle.naga_runs.specs.Machine.{Event, Run, run_body, whole, run, events_of, outcome_of, Next, Broken, Continued, Returned, Ended, Stopped, Stuck, Ran}

@@ -1,8 +1,8 @@
 -- Where the tree says that a position may be come to, a run comes to it.
 use Rattle.std.specs.Prelude.{ℕ, zero, suc, Bool, true, false, List, Option, Some, None, ◌≡◌, ◌⊎◌, ◌∷◌, ◌++◌, ◌&&◌, [], ◌+◌, ◌≤◌}
 use Rattle.std.proofs.Common.{refl, sym, ap, subst, arith, append_assoc, inl, inr, ◌∙◌}
-use Rattle.ir_module.specs.Tree.{Stmt, Body, Cases, Leaf, Block, Branch, Switch, Loop, Break, Continue, Return, Kill, Done, Then, NoCase, OneCase}
-use Rattle.ir_types.specs.declared.operations.SwitchValue.{SwitchValue}
+use Rattle.ir_statements.specs.Tree.{Stmt, Body, Cases, Leaf, Block, Branch, Switch, Loop, Break, Continue, Return, Kill, Done, Then, NoCase, OneCase}
+use Rattle.ir_statements.specs.declared.operations.SwitchValue.{SwitchValue}
 use Rattle.naga_runs.specs.DeadCode.{goes_on, list_goes_on, turn_goes_on, earlier_go_on, may_come}
 use Rattle.naga_runs.specs.Handles.{Handles}
 use Rattle.naga_runs.specs.Machine.{Outcome, Run, run_stmt, run_body, Next, Continued, Ran}

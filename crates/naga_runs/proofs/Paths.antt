@@ -1,7 +1,7 @@
 -- What stands at a position, seen from a statement and from the list below it.
 use Rattle.std.specs.Prelude.{ℕ, zero, Option, Some, None, Contains, ◌≡◌, ◌∷◌, ◌++◌, []}
 use Rattle.std.proofs.Common.{refl, ap}
-use Rattle.ir_module.specs.Tree.{Stmt, Body, Loop}
+use Rattle.ir_statements.specs.Tree.{Stmt, Body, Loop}
 use Rattle.naga_runs.specs.Positions.{Part, Step, Position, Node, list_below, statement_node, condition_node, node_below, node_at, Condition, In, StatementNode}
 use Rattle.naga_runs.specs.PutsAndUses.{node_acts, puts_of}
 use Rattle.naga_runs.proofs.Joins.{none_in}

@@ -1,7 +1,7 @@
 -- The plainest rules guard what stands at a visit.
 use Rattle.std.specs.Prelude.{ℕ, List, None, ◌≡◌, ◌∷◌, ◌++◌, []}
 use Rattle.std.proofs.Common.{refl, sym, subst}
-use Rattle.ir_module.specs.Tree.{Act, Use, Put, Leaf, Block, Branch, Switch, Loop, Break, Continue, Return, Kill}
+use Rattle.ir_statements.specs.Tree.{Act, Use, Put, Leaf, Block, Branch, Switch, Loop, Break, Continue, Return, Kill}
 use Rattle.naga_runs.specs.Abilities.{Jump, node_jump, NoJump, ToBreak, ToContinue, ToReturn}
 use Rattle.naga_runs.specs.Guards.{FitsIn, IsRead}
 use Rattle.naga_runs.specs.Handles.{Handles, with_handle}

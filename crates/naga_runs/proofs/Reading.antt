@@ -1,15 +1,15 @@
 -- A block of the IR has a tree in which every leaf has the acts that are read off its statement.
-use Rattle.ir_module.specs.declared.statements.Statement.{Switch', Row_of-SwitchCase, end_of-SwitchCase, more_of-SwitchCase}
-use Rattle.ir_module.specs.declared.statements.Statement as s
-use Rattle.ir_module.specs.declared.statements.Block as b
-use Rattle.ir_module.specs.declared.statements.Block.{Block', Row_of-Located, end_of-Located, more_of-Located}
-use Rattle.ir_module.specs.declared.statements.SwitchCase.{SwitchCase, SwitchCase'}
-use Rattle.ir_module.specs.View.{tree_of, body_of, row_body, row_cases, case_with, statement_acts}
+use Rattle.ir_statements.specs.declared.statements.Statement.{Switch', Row_of-SwitchCase, end_of-SwitchCase, more_of-SwitchCase}
+use Rattle.ir_statements.specs.declared.statements.Statement as s
+use Rattle.ir_statements.specs.declared.statements.Block as b
+use Rattle.ir_statements.specs.declared.statements.Block.{Block', Row_of-Located, end_of-Located, more_of-Located}
+use Rattle.ir_statements.specs.declared.statements.SwitchCase.{SwitchCase, SwitchCase'}
+use Rattle.ir_statements.specs.View.{tree_of, body_of, row_body, row_cases, case_with, statement_acts}
 use Rattle.std.specs.List.{AllByRecursion}
 use Rattle.std.specs.Prelude.{⊤, ℕ, List, Option, Some, None, ◌≡◌, ◌++◌}
 use Rattle.std.proofs.Common.{refl, sym, subst}
-use Rattle.ir_module.specs.Tree.{Stmt, Body, Cases, Leaf, Block, Branch, Switch, Loop, Break, Continue, Return, Kill, Done, Then, NoCase, OneCase}
-use Rattle.ir_module.specs.declared.statements.Statement.{Statement}
+use Rattle.ir_statements.specs.Tree.{Stmt, Body, Cases, Leaf, Block, Branch, Switch, Loop, Break, Continue, Return, Kill, Done, Then, NoCase, OneCase}
+use Rattle.ir_statements.specs.declared.statements.Statement.{Statement}
 use Rattle.ir_arena.specs.declared.span.Span.{Span}
 use Rattle.naga_runs.specs.ByTree.{past, in_case, in_loop, in_continuing, at_break_if, break_if_visits, body_visits, part_visits, case_visits}
 use Rattle.naga_runs.specs.Guards.{IsRead, BlocksAreRead}

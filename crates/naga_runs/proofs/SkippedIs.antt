@@ -1,7 +1,7 @@
 -- What is skipped at a position is the union over the Loops that were cut.
 use Rattle.std.specs.Prelude.{ℕ, zero, suc, true, List, Option, Some, None, Contains, ◌≡◌, ◌⊎◌, ◌∷◌, ◌++◌, if◌then◌else◌, []}
 use Rattle.std.proofs.Common.{refl, sym, ap, subst, inl, inr, ◌∙◌}
-use Rattle.ir_module.specs.Tree.{Stmt, Body, Loop, Done, Then}
+use Rattle.ir_statements.specs.Tree.{Stmt, Body, Loop, Done, Then}
 use Rattle.naga_runs.specs.Handles.{Handles, no_handles}
 use Rattle.naga_runs.specs.Positions.{Part, Step, Position, statement_at, list_in, list_below, statement_node, node_at, Root, Inner, Accept, Reject, Case, LoopBody, Continuing, Condition, In, StatementNode}
 use Rattle.naga_runs.specs.Skipped.{with_rest, with_cut, cuts_below, skipped_from, is_behind_body, count_behind, nth_cut, puts_after, IsSkipped, SkippedIsUnion}

@@ -2,7 +2,7 @@
 use Rattle.std.proofs.lemmas.Bool.{eqb-true}
 use Rattle.std.specs.Prelude.{ℕ, Bool, true, false, List, ◌≡◌, ◌∷◌, ◌++◌, ◌==◌, if◌then◌else◌, []}
 use Rattle.std.proofs.Common.{refl, sym, subst}
-use Rattle.ir_module.specs.Tree.{Act, Stmt, Body, Use, Put, Done, Then}
+use Rattle.ir_statements.specs.Tree.{Act, Stmt, Body, Use, Put, Done, Then}
 use Rattle.naga_runs.specs.Handles.{Handles, with_handle}
 use Rattle.naga_runs.specs.Must.{holds_continue, with_sure}
 use Rattle.naga_runs.specs.PutsAndUses.{acts_of, with_acts, with_body}

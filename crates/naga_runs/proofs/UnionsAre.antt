@@ -1,7 +1,7 @@
 -- What is known at a position is the union.
 use Rattle.std.specs.Prelude.{ℕ, true, List, Option, Some, Contains, ◌≡◌, ◌↔◌, ◌⊎◌, ◌∷◌, ◌++◌, [], ◌<◌}
 use Rattle.std.proofs.Common.{refl, sym, ap, subst, arith, inl, inr, ◌∙◌}
-use Rattle.ir_module.specs.Tree.{Stmt, Body, Loop}
+use Rattle.ir_statements.specs.Tree.{Stmt, Body, Loop}
 use Rattle.naga_runs.specs.Handles.{Handles, no_handles}
 use Rattle.naga_runs.specs.Must.{with_sure}
 use Rattle.naga_runs.specs.Positions.{Part, Position, statement_at, list_in, list_below, statement_node, node_at, Continuing, Condition, In, StatementNode}

@@ -2,7 +2,7 @@
 use Rattle.std.specs.List.{AllByRecursion}
 use Rattle.std.specs.Prelude.{get_or, ℕ, zero, suc, List, Option, Some, None, map, Contains, length, ◌≡◌, ◌≢◌, ◌↔◌, ◌⊎◌, ◌∷◌, ◌++◌, [], ◌<◌, ◌≤◌}
 use Rattle.std.proofs.Common.{refl, sym, ap, subst, arith, inl, inr}
-use Rattle.ir_module.specs.Tree.{Stmt, Body, Cases, Leaf, Block, Branch, Switch, Loop, Break, Continue, Return, Kill, Done, Then, NoCase, OneCase}
+use Rattle.ir_statements.specs.Tree.{Stmt, Body, Cases, Leaf, Block, Branch, Switch, Loop, Break, Continue, Return, Kill, Done, Then, NoCase, OneCase}
 use Rattle.naga_runs.specs.ByTree.{past, in_case, in_loop, in_continuing, at_break_if, break_if_visits, body_visits, part_visits, case_visits}
 use Rattle.naga_runs.specs.Handles.{no_handles}
 use Rattle.naga_runs.specs.Positions.{Part, Step, Position, node_at, Root, Inner, Accept, Reject, Case, LoopBody, Continuing, Condition, In, NoNode}

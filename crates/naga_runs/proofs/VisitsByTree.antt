@@ -1,7 +1,7 @@
 -- The visits by positions are those of the walk.
 use Rattle.std.specs.Prelude.{ℕ, suc, List, Option, Some, None, map, ◌≡◌, ◌∷◌, ◌++◌, [], ◌+◌}
 use Rattle.std.proofs.Common.{refl, ap, arith, ◌∙◌}
-use Rattle.ir_module.specs.Tree.{Stmt, Body, Cases, Leaf, Block, Branch, Switch, Loop, Break, Continue, Return, Kill, Done, Then, NoCase, OneCase}
+use Rattle.ir_statements.specs.Tree.{Stmt, Body, Cases, Leaf, Block, Branch, Switch, Loop, Break, Continue, Return, Kill, Done, Then, NoCase, OneCase}
 use Rattle.naga_runs.specs.ByTree.{past, in_case, in_loop, in_continuing, at_break_if, break_if_visits, body_visits, part_visits, case_visits, VisitsAreByTree}
 use Rattle.naga_runs.specs.Must.{with_sure}
 use Rattle.naga_runs.specs.Positions.{Part, Position, case_at, list_below, node_below, node_at, Root, Inner, Accept, Reject, Case, LoopBody, Continuing, Condition, In, StatementNode}

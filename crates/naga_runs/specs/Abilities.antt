@@ -2,7 +2,7 @@
 use Rattle.std.specs.List.{list_any}
 use Rattle.std.specs.Option.{option_or}
 use Rattle.std.specs.Prelude.{Bool, true, false, not, Option, Some, None, ◌≡◌, ◌∷◌, if◌then◌else◌, []}
-use Rattle.ir_module.specs.Tree.{Stmt, Break, Continue, Return}
+use Rattle.ir_statements.specs.Tree.{Stmt, Break, Continue, Return}
 use Rattle.naga_runs.specs.Positions.{Part, Step, Position, Node, Case, LoopBody, Continuing, In, StatementNode}
 
 -- Return is allowed where no step is a continuing part.

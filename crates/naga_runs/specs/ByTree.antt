@@ -1,9 +1,9 @@
 -- Lemma-level work for proofs about code, no promise of its own: the visits and the judgement once more, along the
 -- tree instead of the positions, with one equation for each form of statement. The law says that they are the same.
 use Rattle.std.specs.Prelude.{ℕ, Bool, true, false, List, Option, Some, None, Result, Ok, ◌≡◌, ◌∷◌, ◌++◌, []}
-use Rattle.ir_module.specs.Tree.{Act, Stmt, Body, Cases, Leaf, Block, Branch, Switch, Loop, Break, Continue, Return, Kill, Done, Then, NoCase, OneCase}
-use Rattle.ir_module.specs.declared.statements.Statement.{Statement}
-use Rattle.ir_types.specs.declared.operations.SwitchValue.{SwitchValue}
+use Rattle.ir_statements.specs.Tree.{Act, Stmt, Body, Cases, Leaf, Block, Branch, Switch, Loop, Break, Continue, Return, Kill, Done, Then, NoCase, OneCase}
+use Rattle.ir_statements.specs.declared.statements.Statement.{Statement}
+use Rattle.ir_statements.specs.declared.operations.SwitchValue.{SwitchValue}
 use Rattle.ir_arena.specs.declared.span.Span.{Span}
 use Rattle.naga_runs.specs.Handles.{Handles}
 use Rattle.ir_facts.specs.Points.{first_fault, answer, and_then}

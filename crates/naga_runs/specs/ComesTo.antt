@@ -1,7 +1,7 @@
 -- Comes to, no dead code, stuck by: the words of exactness, read off the trail of a run.
 use Rattle.std.specs.List.{AllByRecursion}
 use Rattle.std.specs.Prelude.{ℕ, List, Contains, ◌≡◌, ◌∷◌, ◌++◌, []}
-use Rattle.ir_module.specs.Tree.{Body}
+use Rattle.ir_statements.specs.Tree.{Body}
 use Rattle.naga_runs.specs.Handles.{Handles}
 use Rattle.naga_runs.specs.Machine.{run, outcome_of, Stuck}
 use Rattle.naga_runs.specs.Positions.{Position}

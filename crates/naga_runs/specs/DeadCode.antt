@@ -1,7 +1,7 @@
 -- Dead code over the tree: whether each position of a body may be come to, computed without a run.
 use Rattle.std.specs.List.{list_any}
 use Rattle.std.specs.Prelude.{ℕ, zero, suc, Bool, true, false, not, Option, Some, is_some, ◌∷◌, ◌||◌, ◌&&◌, []}
-use Rattle.ir_module.specs.Tree.{Stmt, Body, Cases, Leaf, Block, Branch, Switch, Loop, Break, Continue, Kill, Done, Then, NoCase, OneCase}
+use Rattle.ir_statements.specs.Tree.{Stmt, Body, Cases, Leaf, Block, Branch, Switch, Loop, Break, Continue, Kill, Done, Then, NoCase, OneCase}
 use Rattle.naga_runs.specs.Positions.{Position, statement_at, list_below, Continuing, Condition, In}
 use Rattle.naga_runs.specs.VisitOrder.{positions}
 

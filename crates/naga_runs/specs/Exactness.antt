@@ -1,7 +1,7 @@
 -- Exactness: what a position is refused for breaks in some run, dead code aside.
 use Rattle.std.specs.List.{AllByRecursion}
 use Rattle.std.specs.Prelude.{ℕ, true, false, List, Contains, flat_map, ◌≡◌, ◌↔◌, ◌∷◌, ◌++◌, [], ◌<◌}
-use Rattle.ir_module.specs.Tree.{Body}
+use Rattle.ir_statements.specs.Tree.{Body}
 use Rattle.naga_runs.specs.Abilities.{node_jump}
 use Rattle.naga_runs.specs.ComesTo.{Comes, IsComeTo, HasNoDeadCode, IsStuckBy}
 use Rattle.naga_runs.specs.DeadCode.{may_come, dead_code}

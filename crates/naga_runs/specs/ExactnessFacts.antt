@@ -1,9 +1,9 @@
 -- Where exactness ends, a fact each, and two bodies that it speaks of. Of the handles, 0 and 1 are given, 3 needs an
 -- emission.
-use Rattle.ir_module.specs.declared.statements.Statement as s
-use Rattle.ir_types.specs.declared.operations.SwitchValue.TheVariants.{Default}
+use Rattle.ir_statements.specs.declared.statements.Statement as s
+use Rattle.ir_statements.specs.declared.operations.SwitchValue.TheVariants.{Default}
 use Rattle.std.specs.Prelude.{ℕ, true, false, List, Some, None, Err, ◌≡◌, ◌∷◌, []}
-use Rattle.ir_module.specs.Tree.{Stmt, Body, Put, Leaf, Branch, Switch, Loop, Break, Continue, Done, Then, NoCase, OneCase}
+use Rattle.ir_statements.specs.Tree.{Stmt, Body, Put, Leaf, Branch, Switch, Loop, Break, Continue, Done, Then, NoCase, OneCase}
 use Rattle.naga_runs.specs.ComesTo.{Comes, HasNoDeadCode}
 use Rattle.naga_runs.specs.Handles.{Handles}
 use Rattle.naga_runs.specs.Judgement.{judgement}

@@ -1,9 +1,9 @@
 -- From a judgement to the law over runs.
 use Rattle.std.specs.List.{AllByRecursion}
 use Rattle.std.specs.Prelude.{⊤, ℕ, List, None, Ok, ◌≡◌}
-use Rattle.ir_module.specs.Tree.{Body, Leaf, Block as Nested, Branch, Switch, Loop, Break, Continue, Return, Kill}
-use Rattle.ir_module.specs.declared.statements.Block.{Block}
-use Rattle.ir_module.specs.View.{statement_acts, body_of}
+use Rattle.ir_statements.specs.Tree.{Body, Leaf, Block as Nested, Branch, Switch, Loop, Break, Continue, Return, Kill}
+use Rattle.ir_statements.specs.declared.statements.Block.{Block}
+use Rattle.ir_statements.specs.View.{statement_acts, body_of}
 use Rattle.naga_runs.specs.Abilities.{node_jump}
 use Rattle.naga_runs.specs.Handles.{Handles}
 use Rattle.ir_facts.specs.Points.{first_fault}

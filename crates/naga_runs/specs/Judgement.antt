@@ -2,7 +2,7 @@
 -- fails, the state that the visits leave.
 use Rattle.std.specs.Prelude.{List, Result, Ok, Err, ◌≡◌, ◌∷◌, ◌++◌, []}
 use Rattle.ir_facts.specs.Points.{Point, first_fault, answer}
-use Rattle.ir_module.specs.Tree.{Body}
+use Rattle.ir_statements.specs.Tree.{Body}
 use Rattle.naga_runs.specs.Handles.{Handles}
 use Rattle.naga_runs.specs.Visits.{Visit, visits_of}
 

@@ -1,8 +1,8 @@
 -- The machine of runs: what a body records on its way through. A list of choices says each turn that it takes, and a
 -- bound how many turns one execution of a Loop may begin. It computes no values and enters no function that is called.
 use Rattle.std.specs.Prelude.{ℕ, zero, suc, Bool, true, false, List, Option, Some, None, ◌∷◌, ◌++◌, []}
-use Rattle.ir_module.specs.Tree.{Act, Stmt, Body, Cases, Use, Leaf, Block, Branch, Switch, Loop, Break, Continue, Return, Kill, Done, Then, NoCase, OneCase}
-use Rattle.ir_module.specs.View.{used_if}
+use Rattle.ir_statements.specs.Tree.{Act, Stmt, Body, Cases, Use, Leaf, Block, Branch, Switch, Loop, Break, Continue, Return, Kill, Done, Then, NoCase, OneCase}
+use Rattle.ir_statements.specs.View.{used_if}
 use Rattle.naga_runs.specs.Handles.{Handles}
 use Rattle.naga_runs.specs.Positions.{Part, Position, condition_node, Root, Inner, Accept, Reject, Case, LoopBody, Continuing, Condition, In}
 use Rattle.naga_runs.specs.PutsAndUses.{node_acts, with_acts}

@@ -1,7 +1,7 @@
 -- Must: handles of the scope that every run has put where it comes to a position, and that may be used there. It goes by
 -- the tree alone, so a Continue that no run reaches takes handles away all the same.
 use Rattle.std.specs.Prelude.{Bool, true, false, ◌||◌, if◌then◌else◌}
-use Rattle.ir_module.specs.Tree.{Stmt, Body, Cases, Block, Branch, Switch, Continue, Done, Then, NoCase, OneCase}
+use Rattle.ir_statements.specs.Tree.{Stmt, Body, Cases, Block, Branch, Switch, Continue, Done, Then, NoCase, OneCase}
 use Rattle.naga_runs.specs.Handles.{Handles}
 use Rattle.naga_runs.specs.Positions.{Position}
 use Rattle.naga_runs.specs.PutsAndUses.{acts_of, with_acts}

@@ -1,7 +1,7 @@
 -- The plainest rules: uses, puts and jumps alone. They show that the premises of the law over judgements can be met.
 use Rattle.std.specs.Prelude.{ℕ, suc, not, List, Ok, Err, ◌≡◌, ◌∷◌, ◌++◌, []}
-use Rattle.ir_module.specs.Tree.{Act, Use, Put, Leaf}
-use Rattle.ir_module.specs.View.{statement_acts}
+use Rattle.ir_statements.specs.Tree.{Act, Use, Put, Leaf}
+use Rattle.ir_statements.specs.View.{statement_acts}
 use Rattle.naga_runs.specs.Abilities.{Jump, node_jump, NoJump, ToBreak, ToContinue, ToReturn}
 use Rattle.naga_runs.specs.Guards.{SurelyGuards, SurelyReadGuards}
 use Rattle.naga_runs.specs.Handles.{Handles, with_handle}

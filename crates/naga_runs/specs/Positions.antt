@@ -1,6 +1,6 @@
 -- Positions: where a statement or a break condition stands in the statement tree of a body.
 use Rattle.std.specs.Prelude.{ℕ, zero, suc, List, Option, Some, None, ◌∷◌, []}
-use Rattle.ir_module.specs.Tree.{Stmt, Body, Cases, Block, Branch, Switch, Loop, Done, Then, NoCase, OneCase}
+use Rattle.ir_statements.specs.Tree.{Stmt, Body, Cases, Block, Branch, Switch, Loop, Done, Then, NoCase, OneCase}
 
 -- A part of a body or of a statement: the body's own list, the list of a Block, the two lists of an If, the list of
 -- case k of a Switch, the two lists of a Loop, and a Loop's break condition, which counts as a part of its own.

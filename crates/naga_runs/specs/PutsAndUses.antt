@@ -1,7 +1,7 @@
 -- Puts and uses: what a statement does with handles itself, without what its parts do.
 use Rattle.std.specs.Prelude.{ℕ, List, ◌∷◌, ◌++◌, []}
-use Rattle.ir_module.specs.Tree.{Act, Stmt, Body, Use, Put, Leaf, Branch, Switch, Return, Done, Then}
-use Rattle.ir_module.specs.View.{used_if}
+use Rattle.ir_statements.specs.Tree.{Act, Stmt, Body, Use, Put, Leaf, Branch, Switch, Return, Done, Then}
+use Rattle.ir_statements.specs.View.{used_if}
 use Rattle.naga_runs.specs.Handles.{Handles, with_handle}
 use Rattle.naga_runs.specs.Positions.{Node, NoNode, StatementNode, BreakIfNode}
 

@@ -1,10 +1,10 @@
 -- Small bodies that facts speak of. Their handles are those of a function with the expressions 0, 1, 2 (literals) and
 -- 4 (a local), which need no emission, and 3, 5, 6, which do.
-use Rattle.ir_module.specs.declared.statements.Statement as s
-use Rattle.ir_types.specs.declared.operations.SwitchValue.TheVariants.{Default}
+use Rattle.ir_statements.specs.declared.statements.Statement as s
+use Rattle.ir_statements.specs.declared.operations.SwitchValue.TheVariants.{Default}
 use Rattle.std.specs.List.{range_with_len}
 use Rattle.std.specs.Prelude.{ℕ, suc, true, false, List, Some, None, filter, nat_lt, ◌∷◌, ◌||◌, ◌==◌, []}
-use Rattle.ir_module.specs.Tree.{Act, Stmt, Body, Use, Put, Leaf, Block, Branch, Switch, Loop, Break, Continue, Return, Done, Then, NoCase, OneCase}
+use Rattle.ir_statements.specs.Tree.{Act, Stmt, Body, Use, Put, Leaf, Block, Branch, Switch, Loop, Break, Continue, Return, Done, Then, NoCase, OneCase}
 use Rattle.ir_arena.specs.declared.span.Span.{Span}
 use Rattle.naga_runs.specs.Handles.{Handles}
 

@@ -1,6 +1,6 @@
 -- Scope: the handles that may not be put again at a position. Those of it that may be used there are in `Must`.
 use Rattle.std.specs.Prelude.{ℕ, zero, suc, Option, Some, ◌∷◌, []}
-use Rattle.ir_module.specs.Tree.{Stmt, Body, Loop, Done, Then}
+use Rattle.ir_statements.specs.Tree.{Stmt, Body, Loop, Done, Then}
 use Rattle.naga_runs.specs.Handles.{Handles}
 use Rattle.naga_runs.specs.Positions.{Position, statement_at, list_below, Continuing, Condition, In}
 use Rattle.naga_runs.specs.PutsAndUses.{acts_of, with_acts, with_body}

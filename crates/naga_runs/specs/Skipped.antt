@@ -1,6 +1,6 @@
 -- Skipped: what a run leaves out by a Continue although it is in scope where the run goes on.
 use Rattle.std.specs.Prelude.{ℕ, zero, suc, Bool, true, false, List, Option, Some, None, Contains, ◌≡◌, ◌↔◌, ◌∷◌, ◌++◌, if◌then◌else◌, []}
-use Rattle.ir_module.specs.Tree.{Stmt, Body, Loop, Done, Then}
+use Rattle.ir_statements.specs.Tree.{Stmt, Body, Loop, Done, Then}
 use Rattle.naga_runs.specs.Handles.{Handles, no_handles}
 use Rattle.naga_runs.specs.Positions.{Part, Position, statement_at, list_below, node_at, Root, Continuing, Condition, In, StatementNode}
 use Rattle.naga_runs.specs.PutsAndUses.{body_puts, with_body}

@@ -1,7 +1,7 @@
 -- What one body does, and that the law's conditions refuse it and not all: loop { if 0 { continue } { } emit 3 } { } break_if 3,
 -- where 3 has the operand 0.
 use Rattle.std.specs.Prelude.{ℕ, true, false, Option, Some, None, ◌≡◌, ◌≢◌, ◌∷◌, []}
-use Rattle.ir_module.specs.Tree.{Use, Put}
+use Rattle.ir_statements.specs.Tree.{Use, Put}
 use Rattle.naga_runs.specs.Handles.{Handles, with_handle}
 use Rattle.naga_runs.specs.Machine.{Event, run, events_of, outcome_of, Stopped, Stuck}
 use Rattle.naga_runs.specs.Positions.{Root, LoopBody, Condition, In}

@@ -1,7 +1,7 @@
 -- What the law says: where the conditions hold at every position of a body, what holds of every run of it.
 use Rattle.std.specs.List.{AllByRecursion}
 use Rattle.std.specs.Prelude.{ℕ, Bool, true, false, List, Contains, ◌≡◌, ◌≢◌, ◌↔◌, ◌∷◌, ◌++◌, []}
-use Rattle.ir_module.specs.Tree.{Act, Body, Use, Put}
+use Rattle.ir_statements.specs.Tree.{Act, Body, Use, Put}
 use Rattle.naga_runs.specs.Handles.{Handles, with_handle}
 use Rattle.naga_runs.specs.Abilities.{may_return, may_break, may_continue, Jump, node_jump, NoJump, ToBreak, ToContinue, ToReturn}
 use Rattle.naga_runs.specs.Machine.{Event, run, events_of, outcome_of, Stuck}

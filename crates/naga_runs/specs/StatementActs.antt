@@ -1,20 +1,20 @@
 -- What each kind of statement uses and puts, in the order in which it is checked, read off the statement itself.
-use Rattle.ir_module.specs.declared.statements.Statement as s
-use Rattle.ir_types.specs.declared.operations.AtomicFunction.TheVariants as atomic
-use Rattle.ir_module.specs.declared.operations.GatherMode.TheVariants as gather
-use Rattle.ir_module.specs.declared.operations.RayQueryFunction.TheVariants as query
-use Rattle.ir_module.specs.declared.operations.RayPipelineFunction.TheVariants.{TraceRay}
+use Rattle.ir_statements.specs.declared.statements.Statement as s
+use Rattle.ir_statements.specs.declared.operations.AtomicFunction.TheVariants as atomic
+use Rattle.ir_statements.specs.declared.operations.GatherMode.TheVariants as gather
+use Rattle.ir_statements.specs.declared.operations.RayQueryFunction.TheVariants as query
+use Rattle.ir_statements.specs.declared.operations.RayPipelineFunction.TheVariants.{TraceRay}
 use Rattle.std.specs.Prelude.{ℕ, List, Option, Some, None, ◌≡◌, ◌∷◌, ◌==◌, if◌then◌else◌, []}
-use Rattle.ir_module.specs.Tree.{Act, Use, Put}
-use Rattle.ir_module.specs.declared.statements.Block.{Block}
-use Rattle.ir_module.specs.View.{tree_of}
+use Rattle.ir_statements.specs.Tree.{Act, Use, Put}
+use Rattle.ir_statements.specs.declared.statements.Block.{Block}
+use Rattle.ir_statements.specs.View.{tree_of}
 use Rattle.ir_flags.specs.declared.ir.Barrier.{Barrier}
-use Rattle.ir_types.specs.declared.operations.AtomicFunction.{AtomicFunction}
-use Rattle.ir_module.specs.declared.operations.CollectiveOperation.{CollectiveOperation}
-use Rattle.ir_module.specs.declared.operations.CooperativeData.{CooperativeData}
-use Rattle.ir_module.specs.declared.statements.Statement.{Statement}
-use Rattle.ir_module.specs.declared.statements.SwitchCase.{SwitchCase}
-use Rattle.ir_module.specs.declared.operations.SubgroupOperation.{SubgroupOperation}
+use Rattle.ir_statements.specs.declared.operations.AtomicFunction.{AtomicFunction}
+use Rattle.ir_statements.specs.declared.operations.CollectiveOperation.{CollectiveOperation}
+use Rattle.ir_statements.specs.declared.operations.CooperativeData.{CooperativeData}
+use Rattle.ir_statements.specs.declared.statements.Statement.{Statement}
+use Rattle.ir_statements.specs.declared.statements.SwitchCase.{SwitchCase}
+use Rattle.ir_statements.specs.declared.operations.SubgroupOperation.{SubgroupOperation}
 use Rattle.naga_runs.specs.PutsAndUses.{acts_of}
 use Rattle.naga_runs.specs.Samples.{nowhere}
 

@@ -1,7 +1,7 @@
 -- The trail of a run: what it comes to, in order. A run comes to a statement where it begins it, to a break condition
 -- where it reads it. The machine alone says how a statement ends and what is live then; the trail only follows it.
 use Rattle.std.specs.Prelude.{ℕ, zero, suc, Bool, true, false, List, Option, Some, None, ◌∷◌, ◌++◌, []}
-use Rattle.ir_module.specs.Tree.{Stmt, Body, Cases, Block, Branch, Switch, Loop, Done, Then, NoCase, OneCase}
+use Rattle.ir_statements.specs.Tree.{Stmt, Body, Cases, Block, Branch, Switch, Loop, Done, Then, NoCase, OneCase}
 use Rattle.naga_runs.specs.Handles.{Handles}
 use Rattle.naga_runs.specs.Machine.{Run, run_stmt, run_body, Next, Continued, Ran}
 use Rattle.naga_runs.specs.Positions.{Part, Position, Node, Root, Inner, Accept, Reject, Case, LoopBody, Continuing, Condition, In, StatementNode, BreakIfNode}

@@ -1,7 +1,7 @@
 -- Scope and must once more, word by word: as unions over ancestors and siblings, where the definitions go along the
 -- path.
 use Rattle.std.specs.Prelude.{ℕ, true, List, Option, Contains, ◌≡◌, ◌↔◌, ◌∷◌, ◌++◌, if◌then◌else◌, [], ◌<◌}
-use Rattle.ir_module.specs.Tree.{Body, Loop, Done, Then}
+use Rattle.ir_statements.specs.Tree.{Body, Loop, Done, Then}
 use Rattle.naga_runs.specs.Handles.{Handles}
 use Rattle.naga_runs.specs.Must.{holds_continue, must_at}
 use Rattle.naga_runs.specs.Positions.{Part, Position, node_at, Continuing, Condition, In, StatementNode}

@@ -1,6 +1,6 @@
 -- Visits: what stands at a position, with all that a check reads of the position, each read off the position alone.
 use Rattle.std.specs.Prelude.{true, false, List, map}
-use Rattle.ir_module.specs.Tree.{Body}
+use Rattle.ir_statements.specs.Tree.{Body}
 use Rattle.naga_runs.specs.Handles.{Handles}
 use Rattle.naga_runs.specs.Abilities.{may_return_from, may_break_from, may_continue_from}
 use Rattle.naga_runs.specs.Must.{with_sure}

@@ -1,7 +1,7 @@
 -- Witnesses: the run that breaks at what is refused.
 use Rattle.std.specs.Prelude.{ℕ, false, List, Some, Err, Contains, ◌≡◌, ◌∷◌, ◌++◌}
 use Rattle.ir_facts.specs.Points.{first_fault}
-use Rattle.ir_module.specs.Tree.{Act, Body, Use}
+use Rattle.ir_statements.specs.Tree.{Act, Body, Use}
 use Rattle.naga_runs.specs.Abilities.{node_jump}
 use Rattle.naga_runs.specs.ComesTo.{HasNoDeadCode, IsStuckBy}
 use Rattle.naga_runs.specs.Handles.{Handles}

@@ -1,8 +1,8 @@
 -- What a Continue skips and what it does not: what every run has put, the answer of the plainest rules, and runs beside
 -- them, worked by hand from the definitions in words. Handles below 7, at most one turn of each Loop.
 use Rattle.std.specs.Prelude.{ℕ, List, None, Ok, Err, map, ◌≡◌, ◌∷◌, []}
-use Rattle.ir_module.specs.declared.statements.Statement as s
-use Rattle.ir_module.specs.Tree.{Act, Stmt, Body, Use, Put, Leaf, Loop, Done, Then}
+use Rattle.ir_statements.specs.declared.statements.Statement as s
+use Rattle.ir_statements.specs.Tree.{Act, Stmt, Body, Use, Put, Leaf, Loop, Done, Then}
 use Rattle.naga_runs.specs.Machine.{run, events_of, Next, Returned, Stopped, Stuck}
 use Rattle.naga_runs.specs.PlainRules.{NotInScope, ContinueOutside}
 use Rattle.naga_runs.specs.Positions.{Position, Root, LoopBody, Continuing, Condition, In}

@@ -1,7 +1,7 @@
 -- Judgements of small bodies by the plainest rules, worked by hand from the definitions in words.
-use Rattle.ir_types.specs.declared.operations.SwitchValue.TheVariants.{Default}
+use Rattle.ir_statements.specs.declared.operations.SwitchValue.TheVariants.{Default}
 use Rattle.std.specs.Prelude.{ℕ, suc, true, false, not, Some, None, Result, Ok, Err, ◌≡◌, ◌∷◌, ◌==◌, []}
-use Rattle.ir_module.specs.Tree.{Body, Use, Put, Block, Branch, Switch, Loop, Break, Continue, Return, Kill, Done, Then, NoCase, OneCase}
+use Rattle.ir_statements.specs.Tree.{Body, Use, Put, Block, Branch, Switch, Loop, Break, Continue, Return, Kill, Done, Then, NoCase, OneCase}
 use Rattle.naga_runs.specs.Judgement.{Rules, judgement}
 use Rattle.naga_runs.specs.PlainRules.{PlainFault, plain_rules, NotInScope, AlreadyInScope, BreakOutside, ContinueOutside, ReturnInContinuing}
 use Rattle.naga_runs.specs.Positions.{Node, StatementNode, BreakIfNode}

@@ -1,6 +1,6 @@
 -- Positions, scope, must and abilities of some bodies, worked by hand from the definitions in words. Handles below 7.
 use Rattle.std.specs.Prelude.{ℕ, Bool, true, false, List, map, ◌≡◌, ◌∷◌, []}
-use Rattle.ir_module.specs.Tree.{Body}
+use Rattle.ir_statements.specs.Tree.{Body}
 use Rattle.naga_runs.specs.Abilities.{may_return, may_break, may_continue}
 use Rattle.naga_runs.specs.Must.{must_at}
 use Rattle.naga_runs.specs.Positions.{Root, Inner, Accept, Reject, Case, LoopBody, Continuing, Condition, In}

@@ -1,7 +1,7 @@
 -- Runs of some bodies, worked by hand from the definitions in words. Handles below 7.
-use Rattle.ir_types.specs.declared.operations.SwitchValue.TheVariants.{Default}
+use Rattle.ir_statements.specs.declared.operations.SwitchValue.TheVariants.{Default}
 use Rattle.std.specs.Prelude.{ℕ, true, List, Option, Some, None, map, ◌≡◌, ◌∷◌, []}
-use Rattle.ir_module.specs.Tree.{Act, Body, Use, Put, Switch, Loop, Break, Continue, Return, Kill, Done, Then, NoCase, OneCase}
+use Rattle.ir_statements.specs.Tree.{Act, Body, Use, Put, Switch, Loop, Break, Continue, Return, Kill, Done, Then, NoCase, OneCase}
 use Rattle.naga_runs.specs.Machine.{Outcome, Run, run, events_of, outcome_of, Next, Returned, Ended, Stopped, Stuck}
 use Rattle.naga_runs.specs.Positions.{Position, Root, Inner, Accept, Reject, Case, LoopBody, Continuing, Condition, In}
 use Rattle.naga_runs.specs.Samples.{given, members_below, one, only_default, siblings, whole_loop, switches, skipping_twice, continue_in_block, three_emits, several_acts}

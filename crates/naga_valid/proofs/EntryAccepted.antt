@@ -17,7 +17,8 @@ use Rattle.check_variables.specs.AllowedUses.{join}
 use Rattle.ir_facts.specs.Meaning.{Meaning}
 use Rattle.ir_errors.specs.declared.function.FunctionError.{FunctionError}
 use Rattle.check_entry.specs.EntryFaults.{EntryFault, fault_of}
-use Rattle.check_entry.specs.EntryJudgement.{entry_judgement, of_function, interface_points, interface_step, entry_outcome}
+use Rattle.naga_valid.specs.EntryJudgement.{entry_judgement, of_function, interface_step, entry_outcome}
+use Rattle.check_entry.specs.InterfacePoints.{interface_points}
 use Rattle.check_entry.specs.Start.{start_points}
 use Rattle.check_entry.specs.EntryUses.{with_use_of, output_variable_of, with_own_uses, with_uses_at}
 use Rattle.check_entry.specs.EntryVaryings.{are_blend_sources}

@@ -4,7 +4,7 @@ use Rattle.std.specs.Prelude.{if◌then◌else◌, slice_get, option_and_then}
 use Rattle.ir_flags.specs.declared.valid.GlobalUse.{GlobalUse}
 use Rattle.ir_flags.specs.declared.valid.ShaderStages.{ShaderStages}
 use Rattle.ir_flags.specs.Bits.{READ, WRITE}
-use Rattle.ir_module.specs.Tree.{Cases, Switch}
+use Rattle.ir_statements.specs.Tree.{Cases, Switch}
 use Rattle.ir_module.specs.declared.module.EntryPoint.{EntryPoint}
 use Rattle.ir_module.specs.declared.module.MeshStageInfo.{MeshStageInfo}
 use Rattle.ir_module.specs.declared.module.Module.{Module}
@@ -19,7 +19,7 @@ use Rattle.ir_facts.specs.Meaning.{Meaning}
 use Rattle.check_variables.specs.AllowedUses.{join}
 use Rattle.check_body.specs.Accepted.{StagesAreOfAll}
 use Rattle.check_body.specs.Shapes.{StandsAt, AreWhole}
-use Rattle.check_entry.specs.EntryJudgement.{entry_outcome}
+use Rattle.naga_valid.specs.EntryJudgement.{entry_outcome}
 use Rattle.check_entry.specs.EntryUses.{with_use_of, output_variable_of, with_own_uses, with_uses_at}
 use Rattle.check_entry.specs.EntryVaryings.{are_blend_sources}
 use Rattle.check_scope.specs.BodyTrees.{body_of}

@@ -20,7 +20,7 @@ use Rattle.ir_facts.specs.declared.valid.types.TypeInfo.{TypeInfo}
 use Rattle.ir_facts.specs.Meaning.{Meaning}
 use Rattle.check_body.specs.Accepted.{AreAmong}
 use Rattle.check_entry.specs.EntryFaults.{fault_of}
-use Rattle.check_entry.specs.EntryJudgement.{used_points, interface_points}
+use Rattle.check_entry.specs.InterfacePoints.{used_points, interface_points}
 use Rattle.naga_valid.specs.EntryChains.{AcceptedEntryIsSound, AcceptedEntryKeepsItsStage}
 use Rattle.check_entry.specs.UsedGlobals.{globals_points}
 use Rattle.check_entry.specs.Mesh.{mesh_points}

@@ -35,7 +35,7 @@ use Rattle.ir_facts.specs.TypeInfos.{type_has}
 use Rattle.check_varyings.specs.Varyings.{Bound, is_built_in, member_part, member_parts, parts_of, unbound_parts}
 use Rattle.check_entry.specs.EntryFaults.{EntryFault, fault_of}
 use Rattle.check_entry.specs.UsedGlobals.{binding_at, binding_points, global_points, globals_points, immediate_points, is_bound_to, is_same_binding, is_some_use, is_taken_before, is_used, use_points}
-use Rattle.check_entry.specs.EntryJudgement.{interface_points, used_points}
+use Rattle.check_entry.specs.InterfacePoints.{interface_points, used_points}
 use Rattle.check_entry.specs.Mesh.{mesh_points}
 use Rattle.check_entry.specs.EntryUses.{payload_points, stage_points, with_own_uses}
 use Rattle.naga_valid.specs.EntryFacts.{IsUsedAt, BindingsAreDistinct, IsPosition, HasPositionMember, IsReturnedPosition, ReturnsPosition, AcceptedBindingsAreDistinct, AcceptedVertexHasPosition, AcceptedHasAcceptedFunction}
@@ -43,7 +43,7 @@ use Rattle.check_entry.specs.EntryVaryings.{are_blend_sources, argument_points, 
 use Rattle.check_statement.specs.FunctionJudgement.{FunctionOutcome}
 use Rattle.check_faults.specs.declared.entry.EntryPointError.TheVariants.{MissingVertexOutputPosition}
 use Rattle.naga_valid.proofs.EntryAccepted.{accepted_entry, stages_are}
-use Rattle.naga_valid.proofs.EntryGlobals.{points_are}
+use Rattle.check_entry.proofs.EntryGlobals.{points_are}
 
 -- of the points of each item, those of one
 none_at : {A Fault : Type 0} (points : ℕ → A → List (Point Fault)) (n : ℕ) (xs : List A) → first_fault (points_from points n xs) ≡ None →

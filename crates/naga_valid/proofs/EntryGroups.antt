@@ -24,7 +24,7 @@ use Rattle.check_varyings.specs.declared.varying.MeshOutputType.TheVariants.{Ver
 use Rattle.check_varyings.specs.declared.varying.VaryingPlace.{VaryingPlace}
 use Rattle.check_entry.specs.EntryFaults.{EntryFault, OfArgument, OfResult, fault_of}
 use Rattle.check_entry.specs.UsedGlobals.{globals_points}
-use Rattle.check_entry.specs.EntryJudgement.{interface_points}
+use Rattle.check_entry.specs.InterfacePoints.{interface_points}
 use Rattle.naga_valid.specs.EntryFacts.{TakesLocation, LocationsAreDistinct, GroupsAreDistinct, mesh_items, AcceptedLocationsAreDistinct}
 use Rattle.check_entry.specs.Mesh.{mesh_points, said_points, variable_points}
 use Rattle.check_entry.specs.EntryUses.{with_own_uses}

@@ -1,12 +1,7 @@
 pub mod FunctionSteps
 pub mod ExpressionSteps
-pub mod EntrySteps
-pub mod EntryGlobals
 pub mod EntryUses
 pub mod EntryJudgement
-pub mod InterfaceSteps
-pub mod UsedGlobals
-pub mod Groups
 pub mod EntryAccepted
 pub mod GlobalFits
 pub mod EntryChains

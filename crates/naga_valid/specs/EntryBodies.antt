@@ -9,7 +9,7 @@ use Rattle.ir_facts.specs.Meaning.{Meaning}
 use Rattle.ir_facts.specs.WhatIsChecked.{checks_blocks, checks_expressions}
 use Rattle.check_body.specs.Accepted.{ResultsAreFilledOnce, StagesAreOfAll}
 use Rattle.check_body.specs.Shapes.{HasNoReturnInContinuing, HasWholeSwitches}
-use Rattle.check_entry.specs.EntryJudgement.{entry_judgement}
+use Rattle.naga_valid.specs.EntryJudgement.{entry_judgement}
 use Rattle.check_scope.specs.BodyTrees.{body_of}
 use Rattle.check_scope.specs.declared.trace.TraceState.{TraceState}
 use Rattle.check_statement.specs.FunctionJudgement.{FunctionOutcome}

@@ -10,7 +10,7 @@ use Rattle.naga_runs.specs.Soundness.{RunsAreSure}
 use Rattle.check_scope.specs.BodyTrees.{body_of}
 use Rattle.check_body.specs.Chains.{CallsBelow, AreVetted, ChainsKeepTo}
 use Rattle.check_scope.specs.Context.{pre_emitted_of}
-use Rattle.check_entry.specs.EntryJudgement.{entry_judgement}
+use Rattle.naga_valid.specs.EntryJudgement.{entry_judgement}
 use Rattle.check_entry.specs.EntryUses.{only}
 use Rattle.check_statement.specs.FunctionJudgement.{FunctionOutcome}
 use Rattle.ir_facts.specs.WhatIsChecked.{checks_blocks}

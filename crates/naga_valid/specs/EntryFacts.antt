@@ -27,7 +27,7 @@ use Rattle.ir_facts.specs.WhatIsChecked.{checks_bindings}
 use Rattle.ir_facts.specs.Meaning.{Meaning}
 use Rattle.check_varyings.specs.Varyings.{Item, Part, Placed, Bound, BlendSources, group_parts}
 use Rattle.check_varyings.specs.declared.varying.MeshOutputType.TheVariants.{VertexOutput, PrimitiveOutput}
-use Rattle.check_entry.specs.EntryJudgement.{entry_judgement}
+use Rattle.naga_valid.specs.EntryJudgement.{entry_judgement}
 use Rattle.check_entry.specs.EntryVaryings.{argument_item, result_items, output_item}
 use Rattle.check_statement.specs.FunctionJudgement.{FunctionOutcome, function_judgement}
 use Rattle.check_scope.specs.declared.trace.TraceState.{TraceState}

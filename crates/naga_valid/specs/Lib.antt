@@ -1,3 +1,4 @@
+pub mod EntryJudgement
 pub mod EntryFacts
 pub mod EntryChains
 pub mod EntryBodies
@@ -13,7 +14,7 @@ pub use Rattle.check_body.specs.FunctionLaw.{AcceptedIsSound, AcceptedFillsOnce,
 pub use Rattle.check_body.specs.Shapes.{HasNoReturnInContinuing, HasWholeSwitches}
 pub use Rattle.check_body.specs.Chains.{Reaches, AreVetted, ChainsKeepTo, ChainsAreKept}
 pub use Rattle.check_statement.specs.FunctionJudgement.{FunctionOutcome, outcome_of}
-pub use Rattle.check_statement.specs.ValidatorParts.{AreInfosOf}
+pub use Rattle.check_entry.specs.TypeInfos.{AreInfosOf}
 pub use Rattle.ir_facts.specs.WhatIsChecked.{checks_blocks, checks_expressions}
 unfoldable pub use Rattle.check_statement.specs.FunctionJudgement.{function_judgement}
 pub use Rattle.naga_valid.specs.EntryChains.{AcceptedEntryIsSound, AcceptedEntryKeepsItsStage}
@@ -23,5 +24,6 @@ pub use Rattle.naga_valid.specs.EntryFacts.{argument_parts, BindingsAreDistinct,
 pub use Rattle.check_entry.specs.GlobalPoints.{module_global_points}
 pub use Rattle.check_entry.specs.Start.{start_points}
 pub use Rattle.check_entry.specs.EntryUses.{only}
-pub use Rattle.check_entry.specs.EntryJudgement.{HasPayloadSizes, AnswersAfter}
-unfoldable pub use Rattle.check_entry.specs.EntryJudgement.{entry_judgement}
+pub use Rattle.check_entry.specs.InterfacePoints.{HasPayloadSizes}
+pub use Rattle.naga_valid.specs.EntryJudgement.{AnswersAfter}
+unfoldable pub use Rattle.naga_valid.specs.EntryJudgement.{entry_judgement}

@@ -2,6 +2,7 @@
 #![tactic(auto)]
 
 pub mod laws;
+mod outcome;
 pub mod validator;
 
 pub use crate::laws::entry_law;

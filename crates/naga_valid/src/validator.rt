@@ -1,16 +1,15 @@
 //! The validator of functions.
 
 ghost use Rattle.std.specs.Prelude.{◌≡◌, ◌↔◌, IsTrue, []};
-ghost use Rattle.check_statement.specs.ValidatorParts.{Parts, infos_given, first_settings, no_traces, NamesTypes, AreInfosOf};
+ghost use Rattle.check_statement.specs.ValidatorParts.{Parts, infos_given, first_settings, no_traces};
+ghost use Rattle.check_entry.specs.TypeInfos.{NamesTypes, AreInfosOf};
 
 mod entry;
 mod entry_point;
 mod expressions;
 mod global;
-mod globals;
 mod judge;
-mod mesh;
-mod varyings;
+mod payloads;
 mod whole;
 
 use bitflags::Flags;

@@ -1,7 +1,7 @@
 -- A text that is fed to the reader, a word at a time.
 use Rattle.std.proofs.Common.{◌≡◌, ℕ, List, [], ◌∷◌, Some, None, Ok, Err, Result, refl, ap, sym, subst, ◌∙◌}
 use Rattle.std.specs.Prelude.{option_and_then, IfOk, IsErrOf}
-use Rattle.ir_module.specs.declared.statements.Block.{Block}
+use Rattle.ir_statements.specs.declared.statements.Block.{Block}
 use Rattle.case_notation.specs.declared.bench.Bench.{Bench}
 use Rattle.case_notation.specs.declared.case.ReadError.{ReadError}
 use Rattle.case_notation.specs.declared.case.ReadError.TheVariants.{Unreadable, Memory}

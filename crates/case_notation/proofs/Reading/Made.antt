@@ -1,14 +1,14 @@
 -- What is read is the block of its tree.
 use Rattle.std.proofs.Common.{◌≡◌, ℕ, List, Some, None, Ok, Err, Result, sym, ◌∙◌}
 use Rattle.std.specs.Prelude.{IfOk}
-use Rattle.ir_module.specs.Tree.{Body}
+use Rattle.ir_statements.specs.Tree.{Body}
 use Rattle.case_notation.specs.declared.bench.Bench.{Bench}
 use Rattle.case_notation.specs.declared.case.ReadError.{ReadError}
 use Rattle.case_notation.specs.Scanning.{SayBody}
 use Rattle.case_notation.specs.Text.{AreTextsOf}
 use Rattle.case_notation.specs.Words.{IsPrintable, words_of}
-use Rattle.ir_module.specs.View.{body_of, no_operands}
-use Rattle.ir_module.specs.declared.statements.Block.{Block}
+use Rattle.ir_statements.specs.View.{body_of, no_operands}
+use Rattle.ir_statements.specs.declared.statements.Block.{Block}
 use Rattle.case_notation.specs.declared.token.Token.{Token}
 use Rattle.case_notation.specs.CaseBlocks.{block_of}
 use Rattle.case_notation.specs.Reading.{reading_of}

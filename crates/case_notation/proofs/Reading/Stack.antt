@@ -2,10 +2,10 @@
 use Rattle.std.proofs.Common.{Bool, ◌≡◌, ℕ, suc, List, [], ◌∷◌, ◌++◌, Option, None, Result, refl, ap, sym, subst, ◌∙◌, arith, length, get_or, set, take, drop, map}
 use Rattle.std.proofs.Math.Seq.{take-suc-set, split_at}
 use Rattle.std.proofs.lemmas.List.{reverse-append, length-reverse, length-map, length-set, take_all, drop_all}
-use Rattle.ir_module.specs.declared.statements.Block.{Block}
-use Rattle.ir_module.specs.declared.statements.Located.{Located}
-use Rattle.ir_module.specs.declared.statements.SwitchCase.{SwitchCase}
-use Rattle.ir_types.specs.declared.operations.SwitchValue.{SwitchValue}
+use Rattle.ir_statements.specs.declared.statements.Block.{Block}
+use Rattle.ir_statements.specs.declared.statements.Located.{Located}
+use Rattle.ir_statements.specs.declared.statements.SwitchCase.{SwitchCase}
+use Rattle.ir_statements.specs.declared.operations.SwitchValue.{SwitchValue}
 use Rattle.case_notation.specs.declared.case.ReadError.{ReadError}
 use Rattle.case_notation.specs.declared.reader.parts.Frame.{Frame}
 use Rattle.case_notation.specs.declared.reader.parts.Kind.{Kind}

@@ -1,16 +1,16 @@
 -- The blocks that are read and the trees that the grammar spells: each is what the other stands for.
 use Rattle.std.proofs.Common.{◌≡◌, ℕ, List, refl, ap, sym, ◌∙◌, inl, inr}
-use Rattle.ir_module.proofs.Rows.{body_of-list, tree_of-switch}
-use Rattle.ir_module.specs.Tree.{Act, Stmt, Leaf, Block, Branch, Switch, Loop, Break, Continue, Return, Kill, Body, Done, Then, Cases, NoCase, OneCase}
-use Rattle.ir_module.specs.View.{tree_of, list_body, list_cases, no_operands}
-use Rattle.ir_module.specs.View as view
-use Rattle.ir_module.specs.declared.statements.Block as b
-use Rattle.ir_module.specs.declared.statements.Block.{roll-Block, out-roll-Block}
-use Rattle.ir_module.specs.declared.statements.Located.{Located}
-use Rattle.ir_module.specs.declared.statements.Statement.{Statement}
-use Rattle.ir_module.specs.declared.statements.Statement as ir
-use Rattle.ir_module.specs.declared.statements.SwitchCase as case
-use Rattle.ir_module.specs.declared.statements.SwitchCase.{SwitchCase}
+use Rattle.ir_statements.proofs.Rows.{body_of-list, tree_of-switch}
+use Rattle.ir_statements.specs.Tree.{Act, Stmt, Leaf, Block, Branch, Switch, Loop, Break, Continue, Return, Kill, Body, Done, Then, Cases, NoCase, OneCase}
+use Rattle.ir_statements.specs.View.{tree_of, list_body, list_cases, no_operands}
+use Rattle.ir_statements.specs.View as view
+use Rattle.ir_statements.specs.declared.statements.Block as b
+use Rattle.ir_statements.specs.declared.statements.Block.{roll-Block, out-roll-Block}
+use Rattle.ir_statements.specs.declared.statements.Located.{Located}
+use Rattle.ir_statements.specs.declared.statements.Statement.{Statement}
+use Rattle.ir_statements.specs.declared.statements.Statement as ir
+use Rattle.ir_statements.specs.declared.statements.SwitchCase as case
+use Rattle.ir_statements.specs.declared.statements.SwitchCase.{SwitchCase}
 use Rattle.ir_arena.specs.declared.span.Span.{Span}
 use Rattle.case_notation.specs.declared.token.Token.{Token}
 use Rattle.case_notation.specs.CaseBlocks.{block_from, block_of, list_of, located_of, cases_of}

@@ -19,8 +19,8 @@ use Rattle.std.proofs.lemmas.Str.{IsUtf8-from_ascii}
 use Rattle.std.proofs.lemmas.Str.Parse.{digits_value-take-le, IsNumeralModel, numerals_by_value, tells_digits, digit_at, parse_signed_minus, parse_signed_plain}
 use Rattle.std.proofs.lemmas.Fmt.{digits_value-decimal, decimal_nonempty, decimal_digit, first_decimal, digits_decimal, decimal-digits_value, parse-signed_decimal, IsAscii-signed, decimal_injective, signed_decimal_injective}
 use Rattle.std.specs.Str.{bytes_eq}
-use Rattle.ir_types.specs.declared.operations.SwitchValue.{SwitchValue}
-use Rattle.ir_types.specs.declared.operations.SwitchValue.TheVariants.{I32, U32, Default}
+use Rattle.ir_statements.specs.declared.operations.SwitchValue.{SwitchValue}
+use Rattle.ir_statements.specs.declared.operations.SwitchValue.TheVariants.{I32, U32, Default}
 use Rattle.case_notation.specs.Text.{IsValueText}
 use Rattle.case_notation.specs.Lookup.{begins_number, begins_signed}
 

@@ -5,7 +5,7 @@ use crate::case::ReadError;
 use crate::reader::Reader;
 use crate::reader::parts::{Frame, Kind, Tail, Wants};
 use ir_arena::sequence::Sequence;
-use ir_module::statements::{Statement, SwitchCase};
+use ir_statements::statements::{Statement, SwitchCase};
 use std::mem;
 
 impl Reader {

@@ -1,8 +1,8 @@
 //! What the reader keeps of a body that isn't whole: the open parts, and what may come next.
 
 use ir_arena::sequence::Sequence;
-use ir_module::statements::{Block, Located, SwitchCase};
-use ir_types::operations::SwitchValue;
+use ir_statements::operations::SwitchValue;
+use ir_statements::statements::{Block, Located, SwitchCase};
 
 /// What the newest statement may still get.
 #[derive(Clone, Copy, Debug)]

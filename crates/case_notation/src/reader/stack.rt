@@ -9,7 +9,7 @@ use crate::case::ReadError;
 use crate::reader::parts::{Brace, Frame, Kind, Tail, Wants};
 use crate::reader::{MOST_OPEN, Reader};
 use ir_arena::sequence::Sequence;
-use ir_module::statements::{Located, Statement};
+use ir_statements::statements::{Located, Statement};
 use std::alloc::Global;
 use std::mem;
 

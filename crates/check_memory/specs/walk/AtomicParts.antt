@@ -1,6 +1,6 @@
 -- Parts of the check list of Atomic, as the code checks them: work of lemmas, cited by functions that the validator alone calls.
 use Rattle.std.specs.Prelude.{ℕ, not, [], ◌∷◌, ◌++◌, Option, is_some}
-use Rattle.ir_types.specs.declared.operations.AtomicFunction.{AtomicFunction}
+use Rattle.ir_statements.specs.declared.operations.AtomicFunction.{AtomicFunction}
 use Rattle.ir_types.specs.declared.types.AddressSpace.{AddressSpace}
 use Rattle.ir_types.specs.declared.types.Scalar.{Scalar}
 use Rattle.ir_errors.specs.declared.function.AtomicError.TheVariants as wrong

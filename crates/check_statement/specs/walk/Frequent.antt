@@ -1,7 +1,7 @@
 -- The kinds of statements that the code judges apart from the rarer ones, and which of these hold no others. Work of lemmas.
 use Rattle.std.specs.Prelude.{Bool, true, false}
-use Rattle.ir_module.specs.declared.statements.Statement as ir
-use Rattle.ir_module.specs.declared.statements.Statement.{Statement}
+use Rattle.ir_statements.specs.declared.statements.Statement as ir
+use Rattle.ir_statements.specs.declared.statements.Statement.{Statement}
 
 -- the kinds that bodies have most, and those that nothing is checked of
 abbrev pub is_frequent : Statement → Bool

@@ -2,7 +2,7 @@
 -- traces leave. Work of lemmas, cited by functions that the validator alone calls.
 use Rattle.std.specs.Prelude.{List, Option, None, Some, Result, ℕ}
 use Rattle.ir_facts.specs.Points.{first_fault, answer, and_then}
-use Rattle.ir_module.specs.Tree.{Stmt}
+use Rattle.ir_statements.specs.Tree.{Stmt}
 use Rattle.ir_errors.specs.declared.function.FunctionError.{FunctionError}
 use Rattle.ir_flags.specs.declared.valid.ShaderStages.{ShaderStages}
 use Rattle.naga_runs.specs.Handles.{Handles, no_handles, with_handle}

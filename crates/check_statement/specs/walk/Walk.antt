@@ -1,6 +1,6 @@
 -- The judgement along the tree, over what is in scope: work of lemmas, cited by functions that the validator alone calls.
 use Rattle.std.specs.Prelude.{ℕ, List, [], ◌++◌, Option, Result, if◌then◌else◌}
-use Rattle.ir_module.specs.Tree.{Stmt, Body, Done, Then, Cases}
+use Rattle.ir_statements.specs.Tree.{Stmt, Body, Done, Then, Cases}
 use Rattle.ir_errors.specs.declared.function.FunctionError.{FunctionError}
 use Rattle.naga_runs.specs.ByTree.{judge, judge_body, judge_parts, judge_stmt, judge_cases, judge_break_if}
 use Rattle.naga_runs.specs.Positions.{StatementNode}

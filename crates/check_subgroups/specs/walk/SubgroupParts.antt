@@ -1,7 +1,7 @@
 -- Parts of the check lists of subgroup statements, as the code checks them: work of lemmas, cited by functions that the
 -- validator alone calls.
 use Rattle.std.specs.Prelude.{ℕ, [], ◌∷◌, ◌++◌}
-use Rattle.ir_module.specs.declared.operations.GatherMode.{GatherMode}
+use Rattle.ir_statements.specs.declared.operations.GatherMode.{GatherMode}
 use Rattle.ir_errors.specs.declared.function.SubgroupError.TheVariants as wrong
 use Rattle.naga_runs.specs.Visits.{Place}
 use Rattle.check_scope.specs.Context.{Context}

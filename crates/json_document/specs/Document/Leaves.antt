@@ -1,10 +1,10 @@
 -- Statements that hold no others.
 use Rattle.std.specs.Prelude.{codes, Option, option_map}
 use Rattle.serde_json.specs.Data.{Data}
-use Rattle.ir_module.specs.declared.statements.Statement.{Statement}
+use Rattle.ir_statements.specs.declared.statements.Statement.{Statement}
 use Rattle.json_document.specs.declared.read.leaves.LeafName.{LeafName}
 use Rattle.json_document.specs.declared.read.leaves.LeafName.TheVariants as leaf_name
-use Rattle.ir_module.specs.declared.statements.Statement as statement
+use Rattle.ir_statements.specs.declared.statements.Statement as statement
 use Rattle.json_document.specs.Form.{five_fields, four_fields, list_of, made_of_five, made_of_four, made_of_three, made_of_two, one_field, optional, three_fields, two_fields}
 use Rattle.json_document.specs.Numbers.{u32_of}
 use Rattle.json_document.specs.Sets.{barrier_of}

@@ -1,27 +1,27 @@
 -- Operations of atomics, subgroups and rays, and what else statements name.
 use Rattle.std.specs.Prelude.{ℕ, List, [], ◌∷◌, codes, Option, option_map, ⊤}
 use Rattle.serde_json.specs.Data.{Data}
-use Rattle.ir_types.specs.declared.operations.AtomicFunction.{AtomicFunction}
-use Rattle.ir_types.specs.declared.operations.AtomicFunction.TheVariants as atomic_function
-use Rattle.ir_module.specs.declared.operations.SubgroupOperation.{SubgroupOperation}
-use Rattle.ir_module.specs.declared.operations.SubgroupOperation.TheVariants as subgroup_operation
-use Rattle.ir_module.specs.declared.operations.CollectiveOperation.{CollectiveOperation}
-use Rattle.ir_module.specs.declared.operations.CollectiveOperation.TheVariants as collective_operation
-use Rattle.ir_module.specs.declared.operations.GatherMode.{GatherMode}
-use Rattle.ir_module.specs.declared.operations.GatherMode.TheVariants as gather_mode
+use Rattle.ir_statements.specs.declared.operations.AtomicFunction.{AtomicFunction}
+use Rattle.ir_statements.specs.declared.operations.AtomicFunction.TheVariants as atomic_function
+use Rattle.ir_statements.specs.declared.operations.SubgroupOperation.{SubgroupOperation}
+use Rattle.ir_statements.specs.declared.operations.SubgroupOperation.TheVariants as subgroup_operation
+use Rattle.ir_statements.specs.declared.operations.CollectiveOperation.{CollectiveOperation}
+use Rattle.ir_statements.specs.declared.operations.CollectiveOperation.TheVariants as collective_operation
+use Rattle.ir_statements.specs.declared.operations.GatherMode.{GatherMode}
+use Rattle.ir_statements.specs.declared.operations.GatherMode.TheVariants as gather_mode
 use Rattle.json_document.specs.declared.read.operations.GatherName.{GatherName}
 use Rattle.json_document.specs.declared.read.operations.GatherName.TheVariants as gather_name
-use Rattle.ir_module.specs.declared.operations.RayQueryFunction.{RayQueryFunction}
-use Rattle.ir_module.specs.declared.operations.RayQueryFunction.TheVariants as ray_query_function
+use Rattle.ir_statements.specs.declared.operations.RayQueryFunction.{RayQueryFunction}
+use Rattle.ir_statements.specs.declared.operations.RayQueryFunction.TheVariants as ray_query_function
 use Rattle.json_document.specs.declared.read.operations.GatherPlace.{GatherPlace}
 use Rattle.json_document.specs.declared.read.operations.GatherPlace.TheVariants as gather_place
 use Rattle.json_document.specs.declared.read.operations.RayQueryName.{RayQueryName}
 use Rattle.json_document.specs.declared.read.operations.RayQueryName.TheVariants as ray_query_name
-use Rattle.ir_module.specs.declared.operations.RayPipelineFunction.{RayPipelineFunction}
-use Rattle.ir_module.specs.declared.operations.RayPipelineFunction.TheVariants as ray_pipeline_function
-use Rattle.ir_module.specs.declared.operations.CooperativeData.{CooperativeData}
-use Rattle.ir_types.specs.declared.operations.SwitchValue.{SwitchValue}
-use Rattle.ir_types.specs.declared.operations.SwitchValue.TheVariants as switch_value
+use Rattle.ir_statements.specs.declared.operations.RayPipelineFunction.{RayPipelineFunction}
+use Rattle.ir_statements.specs.declared.operations.RayPipelineFunction.TheVariants as ray_pipeline_function
+use Rattle.ir_statements.specs.declared.operations.CooperativeData.{CooperativeData}
+use Rattle.ir_statements.specs.declared.operations.SwitchValue.{SwitchValue}
+use Rattle.ir_statements.specs.declared.operations.SwitchValue.TheVariants as switch_value
 use Rattle.json_document.specs.declared.read.operations.ValueName.{ValueName}
 use Rattle.json_document.specs.declared.read.operations.ValueName.TheVariants as value_name
 use Rattle.ir_arena.specs.declared.range.Range.{Range}

@@ -2,12 +2,12 @@
 use Rattle.std.specs.Prelude.{ℕ, zero, suc, List, [], ◌∷◌, codes, Option, Some, None, option_map, if◌then◌else◌}
 use Rattle.serde_json.specs.Data.{Data}
 use Rattle.serde_json.specs.Find.{as_bool}
-use Rattle.ir_module.specs.Blocks as blocks
-use Rattle.ir_module.specs.declared.statements.Block.{Block}
-use Rattle.ir_module.specs.declared.statements.Located.{Located}
-use Rattle.ir_module.specs.declared.statements.Statement.{Statement}
-use Rattle.ir_module.specs.declared.statements.Statement as statement
-use Rattle.ir_module.specs.declared.statements.SwitchCase.{SwitchCase, SwitchCase'}
+use Rattle.ir_statements.specs.Blocks as blocks
+use Rattle.ir_statements.specs.declared.statements.Block.{Block}
+use Rattle.ir_statements.specs.declared.statements.Located.{Located}
+use Rattle.ir_statements.specs.declared.statements.Statement.{Statement}
+use Rattle.ir_statements.specs.declared.statements.Statement as statement
+use Rattle.ir_statements.specs.declared.statements.SwitchCase.{SwitchCase, SwitchCase'}
 use Rattle.ir_arena.specs.declared.span.Span.{Span}
 use Rattle.json_document.specs.declared.read.leaves.LeafName.TheVariants as leaf
 use Rattle.json_document.specs.declared.read.statements.BareName.{BareName}

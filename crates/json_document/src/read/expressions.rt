@@ -12,7 +12,8 @@ use crate::read::literals::read_literal_by_value;
 use crate::read::named::read_named_parts;
 use crate::read::variant::{Variant, read_variant};
 use ir_arena::Handle;
-use ir_module::{Expression, Literal, Operands};
+use ir_module::{Expression, Literal};
+use ir_statements::Operands;
 use json_nodes::Node;
 use std::alloc::Global;
 

@@ -19,7 +19,7 @@ use crate::read::list::{elements, triple_in};
 use crate::read::number::byte;
 use crate::read::variant::{Variant, read_name, read_variant};
 use ir_arena::{Handle, tag};
-use ir_module::Operands;
+use ir_statements::Operands;
 use json_nodes::{Items, Node};
 use std::alloc::{AllocError, Global};
 

@@ -6,7 +6,7 @@ ghost use Rattle.json_document.specs.Document.Leaves.{atomic_of, call_of, cooper
 
 use crate::read::error::ReadError;
 use crate::read::from_json::Held;
-use ir_module::Statement;
+use ir_statements::Statement;
 
 /// The statements that hold something, and no others.
 #[derive(Clone, Copy)]

@@ -8,7 +8,7 @@ use crate::read::error::ReadError;
 use crate::read::expressions::{Parts, PartsName};
 use crate::read::forms::{Field, Table, operand, read_form, with_piece};
 use crate::read::from_json::Held;
-use ir_module::Operands;
+use ir_statements::Operands;
 
 const SPLAT: [(&str, Field); 2] = [
     ("size", Field::Name(Table::VectorSize)),

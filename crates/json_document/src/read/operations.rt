@@ -7,11 +7,10 @@ use crate::read::error::ReadError;
 use crate::read::from_json::{FromJson, Held};
 use crate::read::variant::{Holding, read_either, read_holding, read_name};
 use ir_arena::{Handle, Range, tag};
-use ir_module::{
-    CollectiveOperation, CooperativeData, GatherMode, RayPipelineFunction, RayQueryFunction,
-    SubgroupOperation,
+use ir_statements::{
+    AtomicFunction, CollectiveOperation, CooperativeData, GatherMode, RayPipelineFunction,
+    RayQueryFunction, SubgroupOperation, SwitchValue,
 };
-use ir_types::{AtomicFunction, SwitchValue};
 use json_nodes::Node;
 use std::alloc::Global;
 

@@ -14,7 +14,7 @@ use crate::read::leaves::{LeafName, read_leaf};
 use crate::read::list::{elements, fitted};
 use crate::read::variant::{Variant, read_variant};
 use ir_arena::{Sequence, Span};
-use ir_module::{Block, Located, Statement, SwitchCase};
+use ir_statements::{Block, Located, Statement, SwitchCase};
 use json_nodes::{Node, Step};
 use std::alloc::Global;
 

@@ -4,8 +4,8 @@ ghost use Rattle.std.specs.Prelude.{◌≡◌, ◌↔◌, [], Ok, IsTrue, OnOk, 
 ghost use Rattle.ir_facts.specs.Fits.{FitsTypes, FitsFunction, FitsEntry};
 ghost use Rattle.naga_module.specs.CodeModule.{EntriesStop};
 ghost use Rattle.naga_module.specs.ModuleJudgement.{EntriesAnswer};
-ghost use Rattle.check_statement.specs.ValidatorParts.{AreInfosOf};
-ghost use Rattle.check_entry.specs.EntryJudgement.{HasPayloadSizes};
+ghost use Rattle.check_entry.specs.TypeInfos.{AreInfosOf};
+ghost use Rattle.check_entry.specs.InterfacePoints.{HasPayloadSizes};
 
 use check_faults::module::ModuleFault;
 use ir_arena::span::Refusal;

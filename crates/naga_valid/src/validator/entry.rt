@@ -1,27 +1,32 @@
 //! The judgement of an entry point: naga's `validate_entry_point`, step by step.
 
-ghost use Rattle.std.specs.Prelude.{◌≡◌, None, OnOk, length};
+ghost use Rattle.std.specs.Prelude.{◌≡◌, None, OnOk, Result, Err, length};
+ghost use Rattle.ir_errors.specs.declared.function.FunctionError.{FunctionError as Inner};
 ghost use Rattle.ir_facts.specs.Points.{first_fault};
 ghost use Rattle.ir_facts.specs.Fits.{FitsTypes, FitsFunction, FitsEntry};
 ghost use Rattle.ir_facts.specs.FitsBody.{SignatureFits};
-ghost use Rattle.check_entry.specs.EntryJudgement.{HasPayloadSizes, entry_judgement, interface_points, interface_step, used_points, AnswersAfter};
+ghost use Rattle.check_entry.specs.InterfacePoints.{HasPayloadSizes, interface_points};
+ghost use Rattle.naga_valid.specs.EntryJudgement.{entry_judgement, interface_step, of_function, AnswersAfter};
 ghost use Rattle.check_entry.specs.EntryUses.{with_own_uses};
 ghost use Rattle.check_entry.specs.EntryVaryings.{with_blending};
 ghost use Rattle.check_entry.specs.Start.{start_points};
-ghost use Rattle.check_statement.specs.ValidatorParts.{AreInfosOf};
-ghost use Rattle.ir_facts.specs.Answers.{Answers, FirstOf, Exactly, read_by};
+ghost use Rattle.check_entry.specs.TypeInfos.{AreInfosOf};
+ghost use Rattle.check_statement.specs.FunctionJudgement.{FunctionOutcome as Outcome};
+ghost use Rattle.ir_facts.specs.Answers.{Answers, FirstOf, Exactly, read_by, refusal_read_by};
 ghost use Rattle.check_entry.specs.EntryFaults.{fault_of};
 
+use crate::outcome::FunctionOutcome;
 use crate::validator::Validator;
 use crate::validator::judge::FunctionContext;
-use check_entry::answers::{refusal_at_start, refusal_of_function};
-use check_entry::outcome::FunctionOutcome;
+use check_entry::answers::refusal_at_start;
+use check_entry::interface::InterfaceContext;
 use check_entry::start::{check_start, start_holds};
-use check_entry::uses::{check_payload, check_stage, insert_own_uses};
+use check_entry::uses::{check_payload, insert_own_uses};
 use check_entry::varyings::set_blending;
 use check_faults::entry::EntryPointError;
 use check_faults::refused::RefusedEntry;
 use ir_arena::span::Refusal;
+use ir_errors::function::FunctionError;
 use ir_facts::below::Below;
 use ir_facts::valid::info::{FunctionInfo, ModuleInfo};
 use ir_module::module::{EntryPoint, Module};
@@ -36,14 +41,17 @@ pub(crate) struct EntryContext<'a> {
     pub(crate) entry_point: &'a EntryPoint,
 }
 
-/// An entry point after its function: its module, and what is known of the function, with what the entry point itself does
-/// with globals.
-#[derive(Clone, Copy)]
-pub(crate) struct InterfaceContext<'a> {
-    pub(crate) alloc: Global,
-    pub(crate) program: &'a Module,
-    pub(crate) entry_point: &'a EntryPoint,
-    pub(crate) info: &'a FunctionInfo,
+/// The refusal of a function, as one of its entry point. It keeps the places.
+#[cold]
+#[inline(never)]
+fn refusal_of_function(refused: Refusal<FunctionError>) -> Refusal<EntryPointError>
+    ensures { (right : Result Outcome Inner) → Answers (Exactly right) (Err refused) → Answers (Exactly (of_function right))
+        (Err (refusal_read_by fault_of result)) }
+{
+    match refused {
+        Refusal::Fault(fault) => Refusal::Fault(fault.into_other()),
+        Refusal::Memory => Refusal::Memory,
+    }
 }
 
 impl<B: Below> Validator<B> {
@@ -144,35 +152,17 @@ impl<B: Below> Validator<B> {
     {
         check_payload(entry.alloc, entry.program, entry.entry_point)?;
         insert_own_uses(info, entry.entry_point);
-        self.check_interface(&InterfaceContext {
+        let interface = InterfaceContext {
             alloc: entry.alloc,
+            below: &self.below,
+            settings: self.settings,
+            infos: self.infos(),
             program: entry.program,
             entry_point: entry.entry_point,
             info: &*info,
-        })?;
+        };
+        interface.check()?;
         set_blending(info, entry.entry_point, entry.program, self.infos());
         Ok(())
-    }
-
-    /// What an entry point that uses globals so puts in and out: its stage, its arguments, its result, the globals and the
-    /// mesh.
-    fn check_interface(&self, entry: &InterfaceContext) -> Result<(), RefusedEntry>
-        requires infos { AreInfosOf entry.now.program.now self.now.types }
-        requires types { FitsTypes entry.now.program.now }
-        requires signature { SignatureFits entry.now.program.now entry.now.entry_point.now.function }
-        requires entry { FitsEntry entry.now.entry_point.now entry.now.program.now }
-        requires sizes { HasPayloadSizes (B.meaning self.now.below) entry.now.program.now }
-        ensures { Answers (FirstOf (used_points (B.meaning self.now.below) self.now.settings self.now.types
-            entry.now.program.now entry.now.entry_point.now entry.now.info.now)) (read_by fault_of result) }
-    {
-        check_stage(
-            entry.alloc,
-            entry.entry_point.stage,
-            entry.info.available_stages,
-        )?;
-        self.check_arguments(entry)?;
-        self.check_result(entry)?;
-        self.check_used_globals(entry)?;
-        self.check_mesh(entry)
     }
 }

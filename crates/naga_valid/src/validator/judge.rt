@@ -4,13 +4,13 @@ ghost use Rattle.std.specs.Prelude.{◌≡◌, length};
 ghost use Rattle.ir_facts.specs.Fits.{FitsTypes, FitsFunction};
 ghost use Rattle.ir_facts.specs.Answers.{Answers, Exactly};
 ghost use Rattle.check_scope.specs.walk.SeenContext.{context_of};
-ghost use Rattle.check_statement.specs.ValidatorParts.{AreInfosOf};
+ghost use Rattle.check_entry.specs.TypeInfos.{AreInfosOf};
 ghost use Rattle.check_statement.specs.walk.AskedContext.{asked_by, judgement_by};
 
+use crate::outcome::FunctionOutcome;
 use crate::validator::Validator;
 use check_body::declarations::check_declarations;
 use check_body::function::validate_body;
-use check_entry::outcome::FunctionOutcome;
 use check_scope::context::BlockContext;
 use check_scope::table::Table;
 use ir_arena::span::Refusal;

@@ -8,7 +8,7 @@ ghost use Rattle.check_scope.specs.BodyTrees.{body_of};
 ghost use Rattle.check_scope.specs.Context.{pre_emitted_of};
 ghost use Rattle.ir_facts.specs.WhatIsChecked.{checks_blocks, checks_expressions};
 ghost use Rattle.check_statement.specs.FunctionJudgement.{function_judgement, outcome_of};
-ghost use Rattle.check_statement.specs.ValidatorParts.{AreInfosOf};
+ghost use Rattle.check_entry.specs.TypeInfos.{AreInfosOf};
 ghost use Rattle.check_body.specs.Shapes.{HasNoReturnInContinuing, HasWholeSwitches};
 ghost use Rattle.ir_facts.specs.Answers.{Answers, Exactly};
 

@@ -1,7 +1,7 @@
 use Rattle.std.proofs.Common.{rules, arith, ◌≡◌, Err, None, Some, ◌||◌, subst, append-nil, ◌++◌, ◌+◌, [], refl, sym, ap, ◌∙◌, drop, append_assoc}
-use Rattle.ir_module.specs.declared.statements.Block.{the_lemmas}
-use Rattle.ir_module.proofs.Rows.{body_of-list, tree_of-switch}
-use Rattle.ir_module.specs.View as view
+use Rattle.ir_statements.specs.declared.statements.Block.{the_lemmas}
+use Rattle.ir_statements.proofs.Rows.{body_of-list, tree_of-switch}
+use Rattle.ir_statements.specs.View as view
 use Rattle.check_scope.specs.BodyTrees.{emitted_operands, tree_of, list_of, cases_of, block_of}
 use Rattle.ir_facts.specs.Answers.{Answers, Exactly}
 use Rattle.check_statement.specs.Ready.{IsStatementReady, IsBodyReady}

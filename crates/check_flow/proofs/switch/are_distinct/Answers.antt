@@ -1,6 +1,6 @@
 use Rattle.std.proofs.Common.{◌≡◌, ◌≤◌, ℕ, [], ◌∷◌, ◌++◌, true, map, sym, ap, ◌∙◌, subst, take}
 use Rattle.std.proofs.lemmas.List.{take_all}
-use Rattle.ir_module.specs.declared.statements.SwitchCase.{out-SwitchCase}
+use Rattle.ir_statements.specs.declared.statements.SwitchCase.{out-SwitchCase}
 use Rattle.check_scope.specs.BodyTrees.{case_list}
 use Rattle.check_flow.specs.Switch.{has_signedness_of, values_of}
 use Rattle.check_flow.specs.walk.SwitchParts.{number_of}

@@ -1,6 +1,6 @@
 use Rattle.std.proofs.Common.{◌≡◌, Some, true, false, take, refl, sym, ◌∙◌}
 use Rattle.std.specs.List.{list_any}
-use Rattle.ir_module.specs.declared.statements.SwitchCase.{out-SwitchCase}
+use Rattle.ir_statements.specs.declared.statements.SwitchCase.{out-SwitchCase}
 use Rattle.check_scope.specs.BodyTrees.{case_list}
 use Rattle.check_flow.specs.Switch.{has_signedness_of, same_value, values_of}
 use Rattle.check_flow.specs.walk.SwitchParts.{risen}

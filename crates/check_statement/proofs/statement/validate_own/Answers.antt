@@ -3,7 +3,7 @@ use Rattle.std.specs.Prelude.{IsErr, IsErrAnd}
 use Rattle.ir_arena.specs.declared.span.Refusal.{Refusal}
 use Rattle.ir_facts.specs.Answers.{IsFirstFault, Answers, FirstOf}
 use Rattle.ir_errors.specs.declared.function.FunctionError.{FunctionError}
-use Rattle.ir_module.specs.View.{put_if}
+use Rattle.ir_statements.specs.View.{put_if}
 use Rattle.check_scope.specs.BodyTrees.{emitted_operands}
 use Rattle.check_scope.specs.ScopePoints.{Points}
 use Rattle.check_scope.specs.walk.Place.{place_at}

@@ -1,7 +1,7 @@
 use Rattle.std.proofs.Common.{ap, ◌∙◌}
-use Rattle.ir_module.proofs.Rows.{tree_of-switch}
-use Rattle.ir_module.specs.View as view
-use Rattle.ir_module.specs.View.{no_operands}
+use Rattle.ir_statements.proofs.Rows.{tree_of-switch}
+use Rattle.ir_statements.specs.View as view
+use Rattle.ir_statements.specs.View.{no_operands}
 use Rattle.check_scope.specs.BodyTrees.{emitted_operands}
 use Rattle.check_scope.specs.walk.SeenContext.{context_of}
 use Rattle.check_statement.specs.walk.State.{kept, seen}

@@ -2,9 +2,9 @@ use Rattle.std.proofs.Common.{◌≡◌, rules, sym, ap, subst, ◌∙◌}
 use Rattle.std.specs.Prelude.{IfOk}
 use Rattle.std.specs.Result.{result_err}
 use Rattle.ir_facts.specs.Points.{first_fault}
-use Rattle.ir_module.specs.Tree.{Stmt}
-use Rattle.ir_module.specs.View.{no_operands, tree_of, list_body, list_cases}
-use Rattle.ir_module.proofs.Rows.{body_of-list, tree_of-switch}
+use Rattle.ir_statements.specs.Tree.{Stmt}
+use Rattle.ir_statements.specs.View.{no_operands, tree_of, list_body, list_cases}
+use Rattle.ir_statements.proofs.Rows.{body_of-list, tree_of-switch}
 use Rattle.ir_misfits.specs.declared.misfit.HandleOf.TheVariants.{Expressions}
 use Rattle.ir_misfits.specs.declared.misfit.Place.TheVariants.{InStatement}
 use Rattle.ir_misfits.specs.declared.misfit.StatementField.TheVariants.{Selector}

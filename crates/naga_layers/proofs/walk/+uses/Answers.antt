@@ -1,6 +1,6 @@
 use Rattle.std.proofs.Common.{ap, ◌∙◌}
-use Rattle.ir_module.specs.View.{no_operands, tree_of}
-use Rattle.ir_module.proofs.Rows.{body_of-list, tree_of-switch}
+use Rattle.ir_statements.specs.View.{no_operands, tree_of}
+use Rattle.ir_statements.proofs.Rows.{body_of-list, tree_of-switch}
 use Rattle.naga_layers.proofs.walk.+uses.Goals as goal
 
 pub use_block-returns : goal.use_block-returns

@@ -1,5 +1,5 @@
 use Rattle.std.proofs.Common.{◌≡◌, drop}
-use Rattle.ir_module.specs.View.{no_operands, list_body, list_cases}
+use Rattle.ir_statements.specs.View.{no_operands, list_body, list_cases}
 use Rattle.naga_layers.specs.Walk.{body_uses, cases_uses}
 use Rattle.naga_layers.proofs.walk.+uses.Given as goal
 

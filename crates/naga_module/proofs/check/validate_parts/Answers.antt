@@ -1,6 +1,6 @@
 use Rattle.std.proofs.Common.{◌≡◌, Ok, inr, refl, sym, subst}
 use Rattle.std.specs.Prelude.{OnOk, IfErr}
-use Rattle.check_entry.specs.EntryJudgement.{HasPayloadSizes}
+use Rattle.check_entry.specs.InterfacePoints.{HasPayloadSizes}
 use Rattle.check_statement.specs.ValidatorParts.{Parts}
 use Rattle.naga_module.specs.CodeModule.{EntriesStop}
 use Rattle.naga_module.specs.ModuleJudgement.{EntriesAnswer}

@@ -4,9 +4,11 @@ use Rattle.ir_facts.specs.Fits.{FitsFunction, FitsEntry}
 use Rattle.ir_facts.specs.declared.valid.info.FunctionInfo.{FunctionInfo}
 use Rattle.ir_module.specs.declared.module.EntryPoint.{EntryPoint}
 use Rattle.check_entry.specs.EntryFaults.{fault_of}
-use Rattle.check_entry.specs.EntryJudgement.{HasPayloadSizes, entry_judgement}
+use Rattle.check_entry.specs.InterfacePoints.{HasPayloadSizes}
+use Rattle.naga_valid.specs.EntryJudgement.{entry_judgement}
 use Rattle.check_statement.specs.FunctionJudgement.{FunctionOutcome}
-use Rattle.check_statement.specs.ValidatorParts.{Parts, AreInfosOf}
+use Rattle.check_statement.specs.ValidatorParts.{Parts}
+use Rattle.check_entry.specs.TypeInfos.{AreInfosOf}
 use Rattle.naga_module.specs.CodeModule.{EntriesLead, EntriesStop}
 use Rattle.check_faults.specs.declared.module.ModuleFault.TheVariants as fault
 use Rattle.naga_module.proofs.Modules.{entry_unfit, entry_faulty, entry_passes, entries_judged, none_left}

@@ -1,6 +1,6 @@
 use Rattle.std.proofs.Common.{rules, ◌≡◌, Some, Err, sym, subst}
 use Rattle.ir_facts.specs.Points.{first_fault}
-use Rattle.check_entry.specs.EntryJudgement.{AnswersAfter, entry_judgement}
+use Rattle.naga_valid.specs.EntryJudgement.{AnswersAfter, entry_judgement}
 use Rattle.check_entry.specs.Start.{start_points}
 use Rattle.naga_valid.proofs.EntryJudgement.{start_refuses}
 use Rattle.naga_valid.proofs.validator.Validator.judge_entry_point.Goals as goal

@@ -1,5 +1,5 @@
 use Rattle.std.proofs.Common.{true, ap, subst}
-use Rattle.check_entry.specs.EntryJudgement.{interface_step, of_function}
+use Rattle.naga_valid.specs.EntryJudgement.{interface_step, of_function}
 use Rattle.check_statement.specs.FunctionJudgement.{function_judgement}
 use Rattle.check_statement.specs.ValidatorParts.{Parts}
 use Rattle.naga_valid.proofs.EntryJudgement.{function_refuses, interface_decides}

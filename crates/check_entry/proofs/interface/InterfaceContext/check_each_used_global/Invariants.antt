@@ -1,0 +1,13 @@
+use Rattle.std.proofs.Common.{◌≡◌, drop}
+use Rattle.ir_facts.specs.Points.{first_fault, points_from}
+use Rattle.check_entry.specs.TakenBindings.{AreTaken}
+use Rattle.check_entry.specs.UsedGlobals.{global_points}
+use Rattle.check_entry.proofs.interface.InterfaceContext.check_each_used_global.Given as goal
+
+-- what is left decides, and the set has what is taken
+abbrev pub invariant-loop-index : goal.invariant-loop-index
+invariant-loop-index g l =
+    let points = global_points (g.B.Below.meaning l.self.below.now) l.self.settings.flags l.self.program.now l.self.entry_point.now l.self.info.now.global_uses in record {
+      faults : first_fault (points_from points l.index (drop l.index l.globals)) ≡ first_fault (points_from points 0 l.globals);
+      taken : AreTaken l.taken l.self.info.now.global_uses l.globals l.index;
+    }

@@ -1,0 +1,55 @@
+use Rattle.std.proofs.Common.{rules, ◌++◌, sym, subst}
+use Rattle.ir_facts.specs.Points.{within}
+use Rattle.check_entry.specs.EntryFaults.{fault_of}
+use Rattle.check_entry.specs.Mesh.{variable_points, said_points, mesh_points}
+use Rattle.check_entry.specs.EntryVaryings.{outputs_points}
+use Rattle.check_entry.proofs.EntrySteps.{judges_first, judges_second}
+use Rattle.check_entry.proofs.interface.InterfaceContext.check_mesh.Goals as goal
+use Rattle.ir_facts.specs.Answers.{Answers, FirstOf, read_by}
+
+pub returns-in_err-answer : goal.returns-in_err-answer
+returns-in_err-answer g c =
+    let below = g.B.Below.meaning c.args.self.now.below.now in
+    let settings = c.args.self.now.settings in
+    let infos = c.args.self.now.infos.now in
+    let program = c.args.self.now.program.now in
+    let ep = c.args.self.now.entry_point.now in
+    let mesh = c.in-Some.mesh in
+    let r = c.from_residual.result in
+    let first = variable_points program mesh in
+    let second = within fault_of (said_points settings.capabilities program (below.mesh_analysis program mesh.output_variable) mesh) in
+    let third = outputs_points settings program.types infos ep mesh.vertex_output_type mesh.primitive_output_type in
+    let here : Answers (FirstOf (within fault_of first)) (read_by fault_of r) = search (rules, c.answer.ensures.judges first c.check_variable.ensures) in
+    subst (λ m. Answers (FirstOf (mesh_points below settings infos program ep m)) (read_by fault_of r)) (sym c.in-Some.is) (judges_first r (within fault_of first) (second ++ third) (search rules) here)
+
+pub returns-in_err-check_said : goal.returns-in_err-check_said
+returns-in_err-check_said g c =
+    let below = g.B.Below.meaning c.args.self.now.below.now in
+    let settings = c.args.self.now.settings in
+    let infos = c.args.self.now.infos.now in
+    let program = c.args.self.now.program.now in
+    let ep = c.args.self.now.entry_point.now in
+    let mesh = c.in-Some.mesh in
+    let r = c.from_residual-in_err-check_said.result in
+    let first = variable_points program mesh in
+    let second = said_points settings.capabilities program (below.mesh_analysis program mesh.output_variable) mesh in
+    let third = outputs_points settings program.types infos ep mesh.vertex_output_type mesh.primitive_output_type in
+    let none = c.in_ok-answer.ensures.judges first c.check_variable.ensures in
+    let here : Answers (FirstOf (within fault_of second)) (read_by fault_of r) = search (rules, c.check_said.ensures) in
+    subst (λ m. Answers (FirstOf (mesh_points below settings infos program ep m)) (read_by fault_of r)) (sym c.in-Some.is) (judges_second r (within fault_of first) (within fault_of second ++ third) none (judges_first r (within fault_of second) third (search rules) here))
+
+pub returns : goal.returns
+returns g c =
+    let below = g.B.Below.meaning c.args.self.now.below.now in
+    let settings = c.args.self.now.settings in
+    let infos = c.args.self.now.infos.now in
+    let program = c.args.self.now.program.now in
+    let ep = c.args.self.now.entry_point.now in
+    let mesh = c.in-Some.mesh in
+    let r = c.check_outputs.result in
+    let first = variable_points program mesh in
+    let second = said_points settings.capabilities program (below.mesh_analysis program mesh.output_variable) mesh in
+    let third = outputs_points settings program.types infos ep mesh.vertex_output_type mesh.primitive_output_type in
+    let none = c.in_ok-answer.ensures.judges first c.check_variable.ensures in
+    let none_said = c.in_ok-check_said.ensures in
+    subst (λ m. Answers (FirstOf (mesh_points below settings infos program ep m)) (read_by fault_of r)) (sym c.in-Some.is) (judges_second r (within fault_of first) (within fault_of second ++ third) none (judges_second r (within fault_of second) third none_said c.check_outputs.ensures))

@@ -1,0 +1,5 @@
+pub mod Tree
+pub mod View
+pub mod Blocks
+pub mod Operations
+pub mod Subgroups
