@@ -22,6 +22,7 @@ use std::alloc::Global;
 
 /// An entry point after its function: by what it is checked, its module with the infos of the types, and what is known of the
 /// function, with what the entry point itself does with globals.
+#[derive_where(Clone, Copy)]
 pub struct InterfaceContext<'a, B> {
     pub alloc: Global,
     pub below: &'a B,

@@ -3,14 +3,14 @@
 ghost use Rattle.std.specs.Prelude.{◌≡◌, ⊤, [], ◌∷◌, codes};
 
 use crate::set_text::write_set;
-use bitflags::{Flag, Flags, bitflag_items};
+use bitflags::{Flag, Flags};
 use std::fmt;
 
 /// What the target can do beyond what all targets can. Bit k is the k-th name in alphabetical order, counted from 0.
 #[derive(Clone, Copy, PartialEq, Eq, Hash)]
 pub struct Capabilities(pub u32);
 
-bitflag_items! {
+named_bits! {
     impl Capabilities: u32 {
         const ACCELERATION_STRUCTURE_BINDING_ARRAY = 0x1;
         const BUFFER_BINDING_ARRAY = 0x2;

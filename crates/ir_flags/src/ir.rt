@@ -3,14 +3,14 @@
 ghost use Rattle.std.specs.Prelude.{◌≡◌, ⊤, [], ◌∷◌, codes};
 
 use crate::set_text::write_set;
-use bitflags::{Flag, Flags, bitflag_items};
+use bitflags::{Flag, Flags};
 use std::fmt;
 
 /// What may be done with a storage buffer or a storage image: bit 0 load, bit 1 store, bit 2 atomic operations.
 #[derive(Clone, Copy, PartialEq, Eq, Hash)]
 pub struct StorageAccess(pub u8);
 
-bitflag_items! {
+named_bits! {
     impl StorageAccess: u8 {
         const LOAD = 0x1;
         const STORE = 0x2;
@@ -65,7 +65,7 @@ impl StorageAccess {
 #[derive(Clone, Copy, PartialEq, Eq, Hash)]
 pub struct Barrier(pub u8);
 
-bitflag_items! {
+named_bits! {
     impl Barrier: u8 {
         const STORAGE = 0x1;
         const WORK_GROUP = 0x2;
@@ -122,7 +122,7 @@ impl Barrier {
 #[derive(Clone, Copy, PartialEq, Eq, Hash)]
 pub struct MemoryDecorations(pub u8);
 
-bitflag_items! {
+named_bits! {
     impl MemoryDecorations: u8 {
         const COHERENT = 0x1;
         const VOLATILE = 0x2;

@@ -3,14 +3,14 @@
 ghost use Rattle.std.specs.Prelude.{◌≡◌, ⊤, [], ◌∷◌, codes};
 
 use crate::set_text::write_set;
-use bitflags::{Flag, Flags, bitflag_items};
+use bitflags::{Flag, Flags};
 use std::fmt;
 
 /// Which checks run. Bit k is the k-th name, counted from 0.
 #[derive(Clone, Copy, PartialEq, Eq, Hash)]
 pub struct ValidationFlags(pub u8);
 
-bitflag_items! {
+named_bits! {
     impl ValidationFlags: u8 {
         const EXPRESSIONS = 0x1;
         const BLOCKS = 0x2;
@@ -70,7 +70,7 @@ impl ValidationFlags {
 #[derive(Clone, Copy, PartialEq, Eq, Hash)]
 pub struct TypeFlags(pub u8);
 
-bitflag_items! {
+named_bits! {
     impl TypeFlags: u8 {
         const DATA = 0x1;
         const SIZED = 0x2;
@@ -138,7 +138,7 @@ impl TypeFlags {
 #[derive(Clone, Copy, PartialEq, Eq, Hash)]
 pub struct GlobalUse(pub u8);
 
-bitflag_items! {
+named_bits! {
     impl GlobalUse: u8 {
         const READ = 0x1;
         const WRITE = 0x2;
@@ -195,7 +195,7 @@ impl GlobalUse {
 #[derive(Clone, Copy, PartialEq, Eq, Hash)]
 pub struct SubgroupOperationSet(pub u8);
 
-bitflag_items! {
+named_bits! {
     impl SubgroupOperationSet: u8 {
         const BASIC = 0x1;
         const VOTE = 0x2;
@@ -263,7 +263,7 @@ impl SubgroupOperationSet {
 #[derive(Clone, Copy, PartialEq, Eq, Hash)]
 pub struct ShaderStages(pub u16);
 
-bitflag_items! {
+named_bits! {
     impl ShaderStages: u16 {
         const VERTEX = 0x1;
         const FRAGMENT = 0x2;

@@ -7,3 +7,4 @@ pub mod OfBodies
 pub mod OfFunctions
 pub mod OfEntries
 pub mod Laws
+pub mod ShortFacts

@@ -1,5 +1,5 @@
-//! The tests of conditions, and what doesn't fit: the first thing that fails one, by its place and what is wrong there. Nothing
-//! allocates. Users import the tests from `naga_below`, and the rest from `naga_module`.
+//! The tests of conditions, and what doesn't fit: the first thing that fails one, by its place and what is wrong there; and which
+//! recorded facts are short. Nothing allocates. Users import the tests from `naga_below`, and the rest from `naga_module`.
 #![tactic(auto)]
 
 pub mod body;
@@ -12,6 +12,7 @@ pub mod laws;
 pub mod misfit;
 pub mod naming;
 mod numbered;
+pub mod short;
 pub mod signature;
 pub mod texts;
 pub mod types;
@@ -25,4 +26,5 @@ pub use crate::misfit::{
     EntryField, HandleOf, Misfit, Owner, Place, Problem, StatementField, TypeField, TypeOwner,
     VariableField,
 };
+pub use crate::short::find_short_fact;
 pub use crate::types::check_types_fit;

@@ -1,3 +1,4 @@
 pub mod Named
 pub mod Status
+pub mod Texts
 pub mod VerdictJson

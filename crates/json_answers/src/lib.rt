@@ -2,6 +2,7 @@
 //! Part of `naga_judge`; no promise to users.
 #![tactic(auto)]
 
+pub mod form;
 pub mod line;
 pub mod lines;
 pub mod named;
@@ -9,4 +10,5 @@ mod pointer;
 mod untyped;
 pub mod verdict;
 
+pub use crate::form::Form;
 pub use crate::verdict::{Examined, Refused, Verdict, alone};

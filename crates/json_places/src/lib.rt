@@ -3,6 +3,7 @@
 #![tactic(auto)]
 
 pub mod found;
+pub mod located;
 pub mod misfits;
 pub mod nodes;
 pub mod numbered;

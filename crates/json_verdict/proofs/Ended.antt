@@ -5,7 +5,7 @@ use Rattle.std.proofs.KnownBytes.{Appends-kept, Appends-nil, Appends-trans}
 use Rattle.std.specs.Prelude.{◌==◌}
 use Rattle.std.specs.Io.KnownBytes.{Keeps}
 use Rattle.json_verdict.specs.Runs.{with_byte, lines_of, IsReply, Replies, AreReplies, RepliesToLines}
-use Rattle.json_verdict.specs.declared.reply.Form.TheVariants as forms
+use Rattle.json_answers.specs.declared.form.Form.TheVariants as forms
 use Rattle.json_verdict.specs.declared.stream.Stream.{Stream}
 use Rattle.json_verdict.specs.walk.Lines.{IsPlain, is_begun, Follows}
 use Rattle.json_verdict.specs.walk.Stream.{Holds}

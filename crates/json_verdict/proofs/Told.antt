@@ -10,7 +10,7 @@ use Rattle.json_answers.specs.Named.{HasItsId}
 use Rattle.json_verdict.specs.Runs.{IsReply, Replies}
 use Rattle.json_answers.specs.declared.verdict.Verdict as judge
 use Rattle.json_answers.specs.declared.verdict.Verdict.TheVariants as verdicts
-use Rattle.json_verdict.specs.declared.reply.Form.{Form}
+use Rattle.json_answers.specs.declared.form.Form.{Form}
 use Rattle.json_verdict.specs.declared.text.Bytes.{Bytes}
 use Rattle.json_verdict.specs.walk.Stream.{Holds, Tells}
 

@@ -1,19 +1,19 @@
 -- What a run writes, and the status that it ends with.
-use Rattle.std.specs.Prelude.{◌≡◌, ℕ, ◌==◌, List, [], ◌∷◌, ◌++◌, Option, codes, max, if◌then◌else◌, ⊤}
+use Rattle.std.specs.Prelude.{◌≡◌, ℕ, ◌==◌, List, [], ◌∷◌, ◌++◌, Option, codes, max, if◌then◌else◌}
 use Rattle.std.specs.Io.KnownBytes.{Appends}
 use Rattle.ir_misfits.specs.declared.misfit.Misfit.{Misfit}
 use Rattle.json_document.specs.declared.id.Id.{Id}
 use Rattle.json_verdict.specs.Judges.{HasMisfit, Judges}
 use Rattle.json_answers.specs.Status.{status_of}
-use Rattle.json_answers.specs.Named.{HasItsId, IsJsonOfNamed}
+use Rattle.json_answers.specs.Texts.{IsTextOf}
+use Rattle.json_answers.specs.Named.{HasItsId}
 use Rattle.json_answers.specs.declared.verdict.Verdict as judge
-use Rattle.json_verdict.specs.declared.reply.Form.{Form}
-use Rattle.json_verdict.specs.declared.reply.Form.TheVariants as forms
+use Rattle.json_answers.specs.declared.form.Form.{Form}
+use Rattle.json_answers.specs.declared.form.Form.TheVariants as forms
 
--- the line of a verdict with its id and its misfit: its JSON and a newline; of the text for a person no more is said than that there is one
+-- the line of a verdict with its id and its misfit: its text in this form, and a newline
 unfoldable pub IsLineOf : Form → Option Id → judge.Verdict → Option Misfit → List ℕ → Type 0
-IsLineOf forms.Json id v misfit line = (text : List ℕ) × IsJsonOfNamed id v misfit text × (line ≡ text ++ codes "\n")
-IsLineOf forms.Lines id v misfit line = ⊤
+IsLineOf form id v misfit line = (text : List ℕ) × IsTextOf form id v misfit text × (line ≡ text ++ codes "\n")
 
 -- The line and the status of a verdict of this text. That there was no memory is a verdict of each text (`Judges`), and needs no id.
 unfoldable pub IsReply : Form → List ℕ → List ℕ → ℕ → Type 0

@@ -7,10 +7,9 @@ ghost use Rattle.naga_module.specs.ModuleJudgement.{IsJudgementOrMemory};
 ghost use Rattle.json_verdict.specs.Basis.{IsBasis, meaning_of};
 ghost use Rattle.json_verdict.specs.Judges.{computed_infos, computed_types, recorded_of};
 
-use crate::lent::Lent;
 use json_document::Known;
 use naga_below::{Module, ModuleInfo, Sequence, Settings, TypeResolution};
-use naga_layers::{Typed, global_types, type_infos};
+use naga_layers::{Lent, Typed, global_types, type_infos};
 use naga_module::{Given, Misfit, ModuleFault, Recorded, check_module, find_misfit};
 use std::alloc::{AllocError, Global};
 

@@ -8,7 +8,6 @@ pub mod examine;
 pub mod files;
 mod find;
 pub mod judge;
-mod lent;
 mod reply;
 pub mod run;
 mod stream;

@@ -5,10 +5,10 @@ ghost use Rattle.json_verdict.specs.Runs.{Replies, RepliesToLines};
 ghost use Rattle.json_verdict.specs.walk.Stream.{Holds};
 ghost use Rattle.json_verdict.specs.walk.Lines.{Follows};
 
-pub use crate::reply::Form;
 use crate::reply::reply_to;
 use crate::stream::Stream;
 use crate::text::Bytes;
+pub use json_answers::Form;
 use std::alloc::Global;
 use std::io;
 use std::io::{Read, Write};

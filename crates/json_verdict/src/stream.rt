@@ -4,8 +4,9 @@ ghost use Rattle.std.specs.Prelude.{◌≡◌, max, ◌++◌, ◌∷◌, ℕ, Li
 ghost use Rattle.json_verdict.specs.Runs.{RepliesToLines};
 ghost use Rattle.json_verdict.specs.walk.Lines.{Follows};
 
-use crate::reply::{Form, reply_to};
+use crate::reply::reply_to;
 use crate::text::Bytes;
+use json_answers::Form;
 use std::alloc::Global;
 use std::io;
 use std::io::Write;

@@ -1,26 +1,21 @@
 -- What the exports answer, and what stands in the caller's memory after a call.
-use Rattle.std.specs.Prelude.{◌≡◌, ◌⊎◌, ◌++◌, ℕ, List, [], ◌∷◌, Option, None, length, take, drop, ⊤}
+use Rattle.std.specs.Prelude.{◌≡◌, ◌⊎◌, ◌++◌, ℕ, List, [], ◌∷◌, Option, None, length, take, drop}
 use Rattle.ir_misfits.specs.declared.misfit.Misfit.{Misfit}
 use Rattle.json_document.specs.declared.id.Id.{Id}
 use Rattle.json_verdict.specs.Judges.{HasMisfit, Judges}
 use Rattle.json_answers.specs.Status.{status_of}
-use Rattle.json_answers.specs.Named.{HasItsId, IsJsonOfNamed}
+use Rattle.json_answers.specs.Named.{HasItsId}
 use Rattle.json_answers.specs.declared.verdict.Verdict as judge
 use Rattle.json_answers.specs.declared.verdict.Verdict.TheVariants as verdict
 use Rattle.check_faults.specs.declared.module.ModuleFault.TheVariants as fault
 use Rattle.leafnurd.specs.declared.reply.Answer.{Answer}
-use Rattle.leafnurd.specs.declared.reply.Form.{Form}
-use Rattle.leafnurd.specs.declared.reply.Form.TheVariants as forms
+use Rattle.json_answers.specs.Texts.{IsTextOf}
+use Rattle.json_answers.specs.declared.form.Form.{Form}
 
 -- These bytes with a text at their front, as much of it as there is room for. Those after the text are as they were,
 -- and there are as many bytes as before.
 abbrev pub laid : List ℕ → List ℕ → List ℕ
 laid text out = take (length out) text ++ drop (length text) out
-
--- the text of a verdict with its id and its misfit: its JSON; of the text for people no more is said than that there is one
-unfoldable pub IsTextOf : Form → Option Id → judge.Verdict → Option Misfit → List ℕ → Type 0
-IsTextOf forms.Json id v misfit text = IsJsonOfNamed id v misfit text
-IsTextOf forms.Lines id v misfit text = ⊤
 
 -- The status is that of this verdict, the length is that of its text, and this text was laid into the caller's bytes.
 abbrev pub Tells : Form → Option Id → judge.Verdict → Option Misfit → Answer → List ℕ → List ℕ → Type 0

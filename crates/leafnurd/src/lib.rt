@@ -8,10 +8,11 @@ mod reply;
 
 ghost use Rattle.std.specs.Prelude.{◌≡◌, length};
 ghost use Rattle.leafnurd.specs.Replies.{IsAnswered, laid, version_text};
-ghost use Rattle.leafnurd.specs.declared.reply.Form.TheVariants as forms;
+ghost use Rattle.json_answers.specs.declared.form.Form.TheVariants as forms;
 
 pub use crate::reply::Answer;
-use crate::reply::{Form, judge_into, lay};
+use crate::reply::{judge_into, lay};
+use json_answers::Form;
 use std::alloc::Global;
 
 /// The version of the library, which its programs have too.

@@ -3,6 +3,7 @@
 
 pub mod joins;
 pub mod kinds;
+pub mod lent;
 pub mod plain;
 pub mod recorded;
 pub mod roots;
@@ -11,6 +12,7 @@ pub mod typed;
 pub mod uses;
 pub mod walk;
 
+pub use crate::lent::Lent;
 pub use crate::plain::Plain;
 pub use crate::recorded::Recorded;
 pub use crate::typed::Typed;

@@ -1,7 +1,6 @@
 pub mod ModuleJudgement
 pub mod CodeModule
 pub mod Misfits
-pub mod ShortFacts
 pub mod ModuleInfos
 pub mod ModuleLaw
 pub mod OneJudgement

@@ -5,20 +5,18 @@
 pub mod check;
 pub mod laws;
 pub mod misfit;
-pub mod short;
 pub mod worked;
 
 pub use crate::check::{Given, check_module};
 pub use crate::laws::module_law;
 pub use crate::misfit::find_misfit;
-pub use crate::short::find_short_fact;
 pub use check_faults::{
     ModuleFault, Shortage, Subject, Whereabouts, write_fault, write_module_fault,
     write_module_fault_lines, write_refusal,
 };
 pub use ir_misfits::{
     EntryField, HandleOf, Misfit, Owner, Place, Problem, StatementField, TypeField, TypeOwner,
-    VariableField,
+    VariableField, find_short_fact,
 };
 pub use naga_layers::{
     ExpressionFact, Facts, FunctionFact, InfoFact, LowerFunctionError, MeshAnalysisFact, Plain,

@@ -9,7 +9,7 @@ use Rattle.json_verdict.specs.Runs.{IsLineOf}
 use Rattle.json_verdict.specs.declared.text.Bytes.{Bytes}
 use Rattle.json_answers.specs.declared.verdict.Verdict as judge
 use Rattle.json_answers.specs.declared.verdict.Verdict.TheVariants as verdicts
-use Rattle.json_verdict.specs.declared.reply.Form.{Form}
+use Rattle.json_answers.specs.declared.form.Form.{Form}
 
 -- how much of a text is kept: one byte more than a document may have
 abbrev pub most : ℕ

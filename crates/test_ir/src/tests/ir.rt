@@ -1,7 +1,9 @@
 //! The IR: tables of cases, each public call once with ample memory, and refused growth.
 
 use crate::tests::made;
-use naga_below::{Arena, Block, Scalar, Span, Statement, Tagged, Type, TypeInner};
+use ir_arena::{Arena, Span, Tagged};
+use ir_statements::{Block, Statement};
+use ir_types::{Scalar, Type, TypeInner};
 use std::process::Abort;
 
 mod arenas;

@@ -2,12 +2,12 @@
 //! asks for them.
 
 use crate::tests::made;
-use naga_below::{
-    Arena, ArraySize, Expression, ExpressionKindTracker, Handle, Literal, Module, Operands, Scalar,
-    Span, Type, TypeInner, UniqueArena, VectorSize,
-};
+use ir_arena::{Arena, Handle, Span};
+use ir_facts::{Below, ExpressionKindTracker};
+use ir_module::{Expression, Literal, Module};
+use ir_statements::Operands;
+use ir_types::{ArraySize, Scalar, Type, TypeInner, UniqueArena, VectorSize};
 use naga_layers::plain::Plain;
-use naga_rules::Below;
 use std::num::NonZeroU32;
 use std::process::Abort;
 

@@ -2,11 +2,16 @@
 //! All else that the `layer_` crates compute is shown by documents of the stored run (`typed`, `computed`).
 
 use crate::tests::made;
-use layer_types::type_infos;
-use naga_below::{
-    AddressSpace, ArraySize, Disalignment, Handle, ImageClass, ImageDimension, Module, Scalar,
-    ScalarKind, Span, StorageAccess, StorageFormat, Type, TypeInfo, TypeInner, UniqueArena,
+use ir_arena::{Handle, Span};
+use ir_errors::Disalignment;
+use ir_facts::TypeInfo;
+use ir_flags::StorageAccess;
+use ir_module::Module;
+use ir_types::{
+    AddressSpace, ArraySize, ImageClass, ImageDimension, Scalar, ScalarKind, StorageFormat, Type,
+    TypeInner, UniqueArena,
 };
+use layer_types::type_infos;
 use std::alloc::Global;
 use std::num::NonZeroU32;
 use std::process::Abort;

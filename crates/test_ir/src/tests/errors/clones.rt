@@ -1,11 +1,11 @@
 //! Clones are equal, texts and spans included.
 
 use crate::tests::{expect_equal, made};
-use naga_below::{
-    BuiltIn, Handle, Members, MeshOutputTopology, MeshStageInfo, Name, Span, StructMember,
-    TypeInner, WithSpan,
-};
-use naga_rules::{FunctionError, LocalVariableError, MeshAnalysis, MeshFault, VaryingError};
+use ir_arena::{Handle, Span, WithSpan};
+use ir_errors::{FunctionError, LocalVariableError, MeshFault, VaryingError};
+use ir_facts::MeshAnalysis;
+use ir_module::{MeshOutputTopology, MeshStageInfo};
+use ir_types::{BuiltIn, Members, Name, StructMember, TypeInner};
 use std::process::Abort;
 
 /// A struct of one named member.

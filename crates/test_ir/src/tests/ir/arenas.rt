@@ -2,9 +2,9 @@
 
 use crate::tests::ir::scalar_type;
 use crate::tests::{expect_equal, made};
-use naga_below::{
-    Arena, Constant, Handle, Scalar, Sequence, Span, Type, TypeInner, UniqueArena, tag,
-};
+use ir_arena::{Arena, Handle, Sequence, Span, tag};
+use ir_module::Constant;
+use ir_types::{Scalar, Type, TypeInner, UniqueArena};
 use std::process::Abort;
 
 const FIRST: Span = Span { start: 1, end: 2 };

@@ -3,11 +3,16 @@
 use crate::tests::ir::{arena_of, block_of, scalar_type};
 use crate::tests::{expect_equal, made};
 use bitflags::Flags;
-use naga_below::{
-    AddressSpace, Arena, Block, Constant, EntryPoint, Expression, Function, FunctionArgument,
-    FunctionResult, GlobalVariable, Handle, LocalVariable, MemoryDecorations, Module, Name,
-    Override, Range, Scalar, Sequence, ShaderStage, Span, SpecialTypes, Statement, StructMember,
-    SwitchCase, SwitchValue, Tagged, Type, TypeInner, TypeResolution, UniqueArena, clone_name,
+use ir_arena::{Arena, Handle, Range, Sequence, Span, Tagged};
+use ir_flags::MemoryDecorations;
+use ir_module::{
+    Constant, EntryPoint, Expression, Function, FunctionArgument, FunctionResult, GlobalVariable,
+    LocalVariable, Module, Override, SpecialTypes,
+};
+use ir_statements::{Block, Statement, SwitchCase, SwitchValue};
+use ir_types::{
+    AddressSpace, Name, Scalar, ShaderStage, StructMember, Type, TypeInner, TypeResolution,
+    UniqueArena, clone_name,
 };
 use std::process::Abort;
 

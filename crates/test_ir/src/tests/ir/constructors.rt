@@ -1,10 +1,10 @@
 //! What is made empty, and what is made of parts.
 
 use crate::tests::{expect_equal, made};
-use naga_below::{
-    Block, ExpressionKind, ExpressionKindTracker, Function, Handle, Located, Module, ModuleInfo,
-    Range, Sequence, Span, Statement,
-};
+use ir_arena::{Handle, Range, Sequence, Span};
+use ir_facts::{ExpressionKind, ExpressionKindTracker, ModuleInfo};
+use ir_module::{Function, Module};
+use ir_statements::{Block, Located, Statement};
 use std::alloc::AllocError;
 use std::process::Abort;
 

@@ -2,10 +2,11 @@
 
 use crate::tests::made;
 use bitflags::Flags;
-use naga_below::{
-    Capabilities, ExpressionError, Handle, Name, Operands, Refusal, ShaderStages, Span, WithSpan,
-    tag,
-};
+use ir_arena::{Handle, Refusal, Span, WithSpan, tag};
+use ir_errors::ExpressionError;
+use ir_flags::{Capabilities, ShaderStages};
+use ir_statements::Operands;
+use ir_types::Name;
 use std::error::Error;
 use std::fmt::Debug;
 use std::process::Abort;

@@ -2,10 +2,12 @@
 
 use crate::tests::made;
 use bitflags::Flags;
-use naga_below::{
-    Barrier, Capabilities, ExpressionError, FunctionInfo, GlobalUse, Handle, MemoryDecorations,
-    Refusal, Sequence, ShaderStages, Span, SubgroupOperationSet, TypeFlags, ValidationFlags,
-    WithSpan,
+use ir_arena::{Handle, Refusal, Sequence, Span, WithSpan};
+use ir_errors::ExpressionError;
+use ir_facts::FunctionInfo;
+use ir_flags::{
+    Barrier, Capabilities, GlobalUse, MemoryDecorations, ShaderStages, SubgroupOperationSet,
+    TypeFlags, ValidationFlags,
 };
 use std::alloc::AllocError;
 use std::process::Abort;

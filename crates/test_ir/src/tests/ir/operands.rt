@@ -1,7 +1,10 @@
 //! The operands of expressions, by a table.
 
 use crate::tests::made;
-use naga_below::{Expression, Handle, Literal, Operands, Scalar, Sequence, operand, operand_count};
+use ir_arena::{Handle, Sequence};
+use ir_module::{Expression, Literal, operand, operand_count};
+use ir_statements::Operands;
+use ir_types::Scalar;
 use std::process::Abort;
 
 /// An expression has these operands, and none behind them.

@@ -3,10 +3,14 @@
 use crate::tests::ir::{arena_of, unnamed};
 use crate::tests::made;
 use bitflags::Flags;
-use naga_below::{
-    AddressSpace, ArraySize, EntryPoint, Expression, Function, GlobalVariable, Handle, ImageClass,
-    ImageDimension, MemoryDecorations, Module, ModuleInfo, ShaderStage, Span, Type, TypeInner,
-    TypeResolution, UniqueArena, fits_entry, fits_globals, tag,
+use ir_arena::{Handle, Span, tag};
+use ir_facts::ModuleInfo;
+use ir_flags::MemoryDecorations;
+use ir_misfits::{fits_entry, fits_globals};
+use ir_module::{EntryPoint, Expression, Function, GlobalVariable, Module};
+use ir_types::{
+    AddressSpace, ArraySize, ImageClass, ImageDimension, ShaderStage, Type, TypeInner,
+    TypeResolution, UniqueArena,
 };
 use std::process::Abort;
 

@@ -6,12 +6,16 @@ ghost use Rattle.ir_types.specs.Types.{ResolutionFits};
 use crate::tests::ir::scalar_type;
 use crate::tests::made;
 use bitflags::Flags;
+use ir_arena::{Handle, Sequence, Span};
+use ir_facts::{ExpressionKind, ExpressionKindTracker};
+use ir_flags::{StorageAccess, SubgroupOperationSet};
 use ir_misfits::fits::names_types_below;
-use naga_below::{
-    AddressSpace, Expression, ExpressionKind, ExpressionKindTracker, GatherMode, Handle,
-    ImageDimension, Module, Name, Scalar, ScalarKind, Sequence, Span, StorageAccess, StorageFormat,
-    StructMember, SubgroupOperation, SubgroupOperationSet, Type, TypeInner, TypeResolution,
-    UniqueArena, VectorSize, compare_types, fits_types,
+use ir_misfits::fits_types;
+use ir_module::{Expression, Module};
+use ir_statements::{GatherMode, SubgroupOperation};
+use ir_types::{
+    AddressSpace, ImageDimension, Name, Scalar, ScalarKind, StorageFormat, StructMember, Type,
+    TypeInner, TypeResolution, UniqueArena, VectorSize, compare_types,
 };
 use std::process::Abort;
 

@@ -7,14 +7,15 @@ use crate::tests::layers::{
 };
 use crate::tests::made;
 use bitflags::Flags;
-use naga_below::{
-    AddressSpace, Arena, Capabilities, Expression, ExpressionError, Function, FunctionInfo,
-    GlobalUse, GlobalVariable, Handle, MemoryDecorations, Module, ModuleInfo, Refusal, Scalar,
-    Settings, ShaderStages, SubgroupOperationSet, TypeInner, TypeResolution, ValidationFlags,
-    VectorSize, tag,
+use ir_arena::{Arena, Handle, Refusal, tag};
+use ir_errors::{ExpressionError, FunctionError};
+use ir_facts::{Below, FunctionInfo, ModuleInfo, Settings};
+use ir_flags::{
+    Capabilities, GlobalUse, MemoryDecorations, ShaderStages, SubgroupOperationSet, ValidationFlags,
 };
+use ir_module::{Expression, Function, GlobalVariable, Module};
+use ir_types::{AddressSpace, Scalar, TypeInner, TypeResolution, VectorSize};
 use naga_layers::plain::Plain;
-use naga_rules::{Below, FunctionError};
 use std::alloc::{AllocError, Global};
 use std::process::Abort;
 

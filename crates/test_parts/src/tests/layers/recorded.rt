@@ -5,13 +5,14 @@ use crate::tests::layers::plain::settings;
 use crate::tests::layers::{LITERAL, add, expect_kinds, expressions_of_kinds, put};
 use crate::tests::made;
 use bitflags::Flags;
-use naga_below::{
-    ExpressionError, Function, FunctionInfo, Handle, MeshOutputTopology, MeshStageInfo, Module,
-    ModuleInfo, Refusal, Scalar, Sequence, ShaderStages, TypeInner,
-};
+use ir_arena::{Handle, Refusal, Sequence};
+use ir_errors::{ExpressionError, MeshFault};
+use ir_facts::{Below, FunctionInfo, MeshAnalysis, ModuleInfo};
+use ir_flags::ShaderStages;
+use ir_module::{Function, MeshOutputTopology, MeshStageInfo, Module};
+use ir_types::{Scalar, TypeInner};
 use naga_layers::recorded::Recorded;
 use naga_layers::{Facts, FunctionFact, LowerFunctionError, MeshAnalysisFact};
-use naga_rules::{Below, MeshAnalysis, MeshFault};
 use std::alloc::Global;
 use std::process::Abort;
 

@@ -3,12 +3,17 @@
 use crate::tests::made;
 use crate::tests::varyings::places::at;
 use bitflags::Flags;
-use naga_below::{
-    Binding, BuiltIn, Capabilities, Handle, Interpolation, Module, Refusal, Scalar, Sequence,
-    ShaderStage, Span, StructMember, Type, TypeFlags, TypeInfo, TypeInner, UniqueArena,
-    ValidationFlags, VectorSize, fits_types,
+use check_varyings::{VaryingPlace, VaryingState, check_varying_item};
+use ir_arena::{Handle, Refusal, Sequence, Span};
+use ir_errors::VaryingError;
+use ir_facts::TypeInfo;
+use ir_flags::{Capabilities, TypeFlags, ValidationFlags};
+use ir_misfits::fits_types;
+use ir_module::Module;
+use ir_types::{
+    Binding, BuiltIn, Interpolation, Scalar, ShaderStage, StructMember, Type, TypeInner,
+    UniqueArena, VectorSize,
 };
-use naga_rules::{VaryingError, VaryingPlace, VaryingState, check_varying_item};
 use std::alloc::AllocError;
 use std::process::Abort;
 

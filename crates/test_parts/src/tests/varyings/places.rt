@@ -1,7 +1,8 @@
 //! Built-ins at places that no entry point has: the outputs of a mesh at other stages, and task payloads at others than a mesh's.
 
-use naga_below::{BuiltIn, Capabilities, ShaderStage, ValidationFlags};
-use naga_rules::{BuiltInRule, MeshOutputType, VaryingPlace, builtin_rule};
+use check_varyings::{BuiltInRule, MeshOutputType, VaryingPlace, builtin_rule};
+use ir_flags::{Capabilities, ValidationFlags};
+use ir_types::{BuiltIn, ShaderStage};
 use std::process::Abort;
 
 /// How many built-ins there are, with both values of `invariant` and of `perspective`.

@@ -1,11 +1,11 @@
 //! Errors inside errors of functions.
 
 use crate::tests::errors::names::expect_named;
-use naga_below::{
-    AddressSpace, AtomicFunction, Capabilities, ExpressionError, Handle, ImageClass,
-    ImageDimension, StorageAccess, StorageFormat, SubgroupOperationSet,
-};
-use naga_rules::{AtomicError, CallError, LocalVariableError, SubgroupError};
+use ir_arena::Handle;
+use ir_errors::{AtomicError, CallError, ExpressionError, LocalVariableError, SubgroupError};
+use ir_flags::{Capabilities, SubgroupOperationSet};
+use ir_statements::AtomicFunction;
+use ir_types::AddressSpace;
 use std::process::Abort;
 
 /// An error of a call.
@@ -72,25 +72,6 @@ fn local_error(index: usize) -> LocalVariableError {
     }
 }
 
-/// An error of an expression.
-fn expression_error(index: usize) -> ExpressionError {
-    let expression = Handle::new(1);
-    let ty = Handle::new(2);
-    match index {
-        0 => ExpressionError::NotInScope,
-        1 => ExpressionError::ExpectedGlobalVariable,
-        2 => ExpressionError::ExpectedBindingArrayType(ty),
-        3 => ExpressionError::ExpectedImageType(ty),
-        4 => ExpressionError::InvalidImageClass(ImageClass::External),
-        5 => ExpressionError::InvalidImageCoordinateType(ImageDimension::D2, expression),
-        6 => ExpressionError::InvalidImageArrayIndex,
-        7 => ExpressionError::InvalidImageArrayIndexType(expression),
-        8 => ExpressionError::InvalidImageStorageAccess(StorageAccess::LOAD),
-        9 => ExpressionError::InvalidImageFormat(StorageFormat::R8Uint),
-        _ => ExpressionError::Lower(7),
-    }
-}
-
 fn expect_call(rt: &(impl Abort + AllocGlobal), index: usize) {
     expect_named(rt, call_error(index));
 }
@@ -110,17 +91,6 @@ fn expect_atomic(rt: &(impl Abort + AllocGlobal), index: usize) {
 fn of_atomics(rt: HostRuntime) {
     for index in 0..11 {
         expect_atomic(&rt, index);
-    }
-}
-
-fn expect_expression(rt: &(impl Abort + AllocGlobal), index: usize) {
-    expect_named(rt, expression_error(index));
-}
-
-#[test]
-fn of_expressions(rt: HostRuntime) {
-    for index in 0..11 {
-        expect_expression(&rt, index);
     }
 }
 

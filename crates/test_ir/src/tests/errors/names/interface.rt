@@ -1,11 +1,11 @@
 //! Errors of globals, of inputs and outputs, and of meshes.
 
 use crate::tests::errors::names::expect_named;
-use naga_below::{
-    AddressSpace, BuiltIn, Capabilities, Disalignment, Handle, ImmediateError, Interpolation,
-    Sampling, ShaderStage, TypeFlags, TypeInner,
-};
-use naga_rules::{Explain, GlobalVariableError, MeshFault, VaryingError};
+use check_faults::Explain;
+use ir_arena::Handle;
+use ir_errors::{Disalignment, GlobalVariableError, ImmediateError, MeshFault, VaryingError};
+use ir_flags::{Capabilities, TypeFlags};
+use ir_types::{AddressSpace, BuiltIn, Interpolation, Sampling, ShaderStage, TypeInner};
 
 fn sampler() -> TypeInner {
     TypeInner::Sampler { comparison: false }

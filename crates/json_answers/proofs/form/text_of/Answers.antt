@@ -2,8 +2,8 @@ use Rattle.std.proofs.Common.{Option, Some, None, Result, Ok, Err}
 use Rattle.std.specs.Prelude.{IfOk, IfSome, ⊤, string_bytes}
 use Rattle.std.specs.Result.{result_ok}
 use Rattle.json_answers.specs.Named.{IsJsonOfNamed}
-use Rattle.leafnurd.specs.Replies.{IsTextOf}
-use Rattle.leafnurd.proofs.reply.text_of.Goals as goal
+use Rattle.json_answers.specs.Texts.{IsTextOf}
+use Rattle.json_answers.proofs.form.text_of.Goals as goal
 
 any : {A : Type 0} (o : Option A) → IfSome o (λ x. ⊤)
 any None = tt

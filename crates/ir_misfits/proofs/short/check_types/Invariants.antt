@@ -1,7 +1,7 @@
 use Rattle.std.proofs.Common.{◌≡◌, drop}
 use Rattle.ir_facts.specs.Points.{first_fault, points_from, points_of_each}
-use Rattle.naga_module.specs.ShortFacts.{type_points}
-use Rattle.naga_module.proofs.short.check_types.Given as goal
+use Rattle.ir_misfits.specs.ShortFacts.{type_points}
+use Rattle.ir_misfits.proofs.short.check_types.Given as goal
 
 -- what is left decides
 abbrev pub invariant-loop-place : goal.invariant-loop-place

@@ -1,12 +1,11 @@
-//! A lower layer that is lent.
+//! Recorded facts that are lent.
 
-use naga_below::{
-    Arena, Capabilities, Expression, ExpressionError, ExpressionKindTracker, Function,
-    FunctionInfo, Handle, Module, ModuleInfo, Refusal, Settings, ShaderStages, ValidationFlags,
-    tag,
-};
-use naga_layers::Recorded;
-use naga_rules::{Below, FunctionError, MeshAnalysis};
+use crate::recorded::Recorded;
+use ir_arena::{Arena, Handle, Refusal, tag};
+use ir_errors::{ExpressionError, FunctionError};
+use ir_facts::{Below, ExpressionKindTracker, FunctionInfo, MeshAnalysis, ModuleInfo, Settings};
+use ir_flags::{Capabilities, ShaderStages, ValidationFlags};
+use ir_module::{Expression, Function, Module};
 use std::alloc::{AllocError, Global};
 
 /// Recorded facts that are lent: it answers what they answer, and they are there afterwards.

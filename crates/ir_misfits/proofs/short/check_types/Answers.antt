@@ -1,7 +1,7 @@
 use Rattle.std.proofs.Common.{rules}
-use Rattle.naga_module.specs.ShortFacts.{type_points}
+use Rattle.ir_misfits.specs.ShortFacts.{type_points}
 use Rattle.ir_misfits.proofs.Lists.{item_stops, item_passes}
-use Rattle.naga_module.proofs.short.check_types.Goals as goal
+use Rattle.ir_misfits.proofs.short.check_types.Goals as goal
 
 pub returns-in_err-check_type : goal.returns-in_err-check_type
 returns-in_err-check_type c =

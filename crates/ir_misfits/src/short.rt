@@ -5,11 +5,11 @@ ghost use Rattle.std.specs.Option.{option_copied};
 ghost use Rattle.std.specs.Result.{result_err};
 ghost use Rattle.ir_facts.specs.Points.{first_fault, points_of_each};
 ghost use Rattle.check_faults.specs.declared.shortage.Shortage.TheVariants.{Types, Uses, UnknownType, Expressions};
-ghost use Rattle.naga_module.specs.ShortFacts.{type_points, info_points, fact_points, function_shortages, entry_shortages, shortages};
+ghost use Rattle.ir_misfits.specs.ShortFacts.{type_points, info_points, fact_points, function_shortages, entry_shortages, shortages};
 
+use crate::misfit::Owner;
 use check_faults::shortage::Shortage;
 use ir_facts::{Facts, FunctionFact, InfoFact};
-use ir_misfits::misfit::Owner;
 use ir_module::functions::Function;
 use ir_module::module::Module;
 use ir_types::types::TypeInner;
@@ -18,7 +18,7 @@ use ir_types::typifier::TypeResolution;
 /// What is missing in the facts about a function, or about the function of an entry point, or breaks a law: the first in the
 /// order of [`Shortage`], but that `expressions` is last. It takes no memory.
 ///
-/// None where the fact is an error; where it is an info that [`Recorded`](naga_layers::Recorded) answers and that has a fact
+/// None where the fact is an error; where it is an info that `Recorded` of `naga_layers` answers and that has a fact
 /// for each expression; and where the module has no such function. With `Some`, and not `Expressions`, `Recorded` refuses
 /// the function with `Expression { handle: 0, source: Lower(0) }`.
 pub fn find_short_fact(facts: &Facts, module: &Module, owner: Owner) -> Option<Shortage>

@@ -1,12 +1,13 @@
 use Rattle.std.proofs.Common.{refl}
 use Rattle.json_answers.proofs.Memory.{memory_json}
+use Rattle.json_answers.specs.Texts.{IsTextOf}
 use Rattle.json_verdict.specs.Runs.{IsLineOf}
-use Rattle.json_verdict.proofs.reply.memory_text.Goals as goal
+use Rattle.json_verdict.proofs.reply.memory_line.Goals as goal
 
 pub returns-in-Lines : goal.returns-in-Lines
-unfolding IsLineOf
-returns-in-Lines c = rw c.in-Lines.is tt
+unfolding IsLineOf IsTextOf
+returns-in-Lines c = rw c.in-Lines.is (_, tt, refl)
 
 pub returns-in-Json : goal.returns-in-Json
-unfolding IsLineOf
+unfolding IsLineOf IsTextOf
 returns-in-Json c = rw c.in-Json.is (_, memory_json, refl)

@@ -1,6 +1,6 @@
 use Rattle.json_answers.proofs.Memory.{memory_json}
-use Rattle.leafnurd.specs.Replies.{IsTextOf}
-use Rattle.leafnurd.proofs.reply.memory_text.Goals as goal
+use Rattle.json_answers.specs.Texts.{IsTextOf}
+use Rattle.json_answers.proofs.form.memory_text.Goals as goal
 
 pub returns-in-Lines : goal.returns-in-Lines
 unfolding IsTextOf
