@@ -20,7 +20,7 @@ use crate::modules::{Program, fill_entry, fill_module};
 use crate::timing::{Stop, Timed, Times, validator};
 use crate::wholes::WHOLES;
 use naga_below::{Module, ModuleInfo, fits_function, fits_types};
-use naga_module::Plain;
+use naga_layers::Plain;
 use naga_valid::Validator;
 use std::alloc::Global;
 use std::{env, io};

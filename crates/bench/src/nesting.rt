@@ -6,7 +6,7 @@ use crate::judge_first;
 use crate::modules::{Program, fill_module};
 use crate::timing::Stop;
 use naga_below::{fits_function, fits_types};
-use naga_module::Plain;
+use naga_layers::Plain;
 use naga_valid::Validator;
 use std::io;
 

@@ -4,7 +4,7 @@ use naga_below::{
     Capabilities, EntryPoint, Function, Module, ModuleInfo, ShaderStages, SubgroupOperationSet,
     TypeFlags, TypeInfo, ValidationFlags, fits_entry, fits_function, fits_types,
 };
-use naga_module::Plain;
+use naga_layers::Plain;
 use naga_rules::Below;
 use naga_valid::Validator;
 use std::alloc::{AllocError, Global};

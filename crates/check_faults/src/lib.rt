@@ -7,7 +7,6 @@ pub mod module;
 pub mod refused;
 pub mod report;
 pub mod sentences;
-pub mod shortage;
 
 pub use crate::entry::EntryPointError;
 pub use crate::module::ModuleFault;
@@ -15,4 +14,3 @@ pub use crate::report::{
     Subject, Whereabouts, write_fault, write_module_fault, write_module_fault_lines, write_refusal,
 };
 pub use crate::sentences::{Explain, explain_inside};
-pub use crate::shortage::Shortage;

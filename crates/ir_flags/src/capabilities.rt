@@ -10,37 +10,74 @@ use std::fmt;
 #[derive(Clone, Copy, PartialEq, Eq, Hash)]
 pub struct Capabilities(pub u32);
 
-named_bits! {
-    impl Capabilities: u32 {
-        const ACCELERATION_STRUCTURE_BINDING_ARRAY = 0x1;
-        const BUFFER_BINDING_ARRAY = 0x2;
-        const CLIP_DISTANCES = 0x4;
-        const CULL_DISTANCE = 0x8;
-        const DRAW_INDEX = 0x10;
-        const EARLY_DEPTH_TEST = 0x20;
-        const IMMEDIATES = 0x40;
-        const MEMORY_DECORATION_COHERENT = 0x80;
-        const MEMORY_DECORATION_VOLATILE = 0x100;
-        const MESH_SHADER = 0x200;
-        const MESH_SHADER_POINT_TOPOLOGY = 0x400;
-        const MULTISAMPLED_SHADING = 0x800;
-        const MULTIVIEW = 0x1000;
-        const PER_VERTEX = 0x2000;
-        const PRIMITIVE_INDEX = 0x4000;
-        const RAY_TRACING_PIPELINE = 0x8000;
-        const SHADER_BARYCENTRICS = 0x10000;
-        const SHADER_FLOAT32_ATOMIC = 0x20000;
-        const SHADER_INT64_ATOMIC_ALL_OPS = 0x40000;
-        const SHADER_INT64_ATOMIC_MIN_MAX = 0x80000;
-        const STORAGE_BUFFER_BINDING_ARRAY = 0x100000;
-        const STORAGE_TEXTURE_16BIT_NORM_FORMATS = 0x200000;
-        const STORAGE_TEXTURE_BINDING_ARRAY = 0x400000;
-        const SUBGROUP = 0x800000;
-        const SUBGROUP_BARRIER = 0x1000000;
-        const TEXTURE_AND_SAMPLER_BINDING_ARRAY = 0x2000000;
-        const TEXTURE_ATOMIC = 0x4000000;
-        const TEXTURE_INT64_ATOMIC = 0x8000000;
-    }
+impl Capabilities {
+    pub const ACCELERATION_STRUCTURE_BINDING_ARRAY: Capabilities = Capabilities(0x1);
+
+    pub const BUFFER_BINDING_ARRAY: Capabilities = Capabilities(0x2);
+
+    pub const CLIP_DISTANCES: Capabilities = Capabilities(0x4);
+
+    pub const CULL_DISTANCE: Capabilities = Capabilities(0x8);
+
+    pub const DRAW_INDEX: Capabilities = Capabilities(0x10);
+
+    pub const EARLY_DEPTH_TEST: Capabilities = Capabilities(0x20);
+
+    pub const IMMEDIATES: Capabilities = Capabilities(0x40);
+
+    pub const MEMORY_DECORATION_COHERENT: Capabilities = Capabilities(0x80);
+
+    pub const MEMORY_DECORATION_VOLATILE: Capabilities = Capabilities(0x100);
+
+    pub const MESH_SHADER: Capabilities = Capabilities(0x200);
+
+    pub const MESH_SHADER_POINT_TOPOLOGY: Capabilities = Capabilities(0x400);
+
+    pub const MULTISAMPLED_SHADING: Capabilities = Capabilities(0x800);
+
+    pub const MULTIVIEW: Capabilities = Capabilities(0x1000);
+
+    pub const PER_VERTEX: Capabilities = Capabilities(0x2000);
+
+    pub const PRIMITIVE_INDEX: Capabilities = Capabilities(0x4000);
+
+    pub const RAY_TRACING_PIPELINE: Capabilities = Capabilities(0x8000);
+
+    pub const SHADER_BARYCENTRICS: Capabilities = Capabilities(0x10000);
+
+    pub const SHADER_FLOAT32_ATOMIC: Capabilities = Capabilities(0x20000);
+
+    pub const SHADER_INT64_ATOMIC_ALL_OPS: Capabilities = Capabilities(0x40000);
+
+    pub const SHADER_INT64_ATOMIC_MIN_MAX: Capabilities = Capabilities(0x80000);
+
+    pub const STORAGE_BUFFER_BINDING_ARRAY: Capabilities = Capabilities(0x100000);
+
+    pub const STORAGE_TEXTURE_16BIT_NORM_FORMATS: Capabilities = Capabilities(0x200000);
+
+    pub const STORAGE_TEXTURE_BINDING_ARRAY: Capabilities = Capabilities(0x400000);
+
+    pub const SUBGROUP: Capabilities = Capabilities(0x800000);
+
+    pub const SUBGROUP_BARRIER: Capabilities = Capabilities(0x1000000);
+
+    pub const TEXTURE_AND_SAMPLER_BINDING_ARRAY: Capabilities = Capabilities(0x2000000);
+
+    pub const TEXTURE_ATOMIC: Capabilities = Capabilities(0x4000000);
+
+    pub const TEXTURE_INT64_ATOMIC: Capabilities = Capabilities(0x8000000);
+
+    /// The bits with their names.
+    pub const FLAGS: &'static [Flag<Capabilities>] = named_bits!(Capabilities:
+        ACCELERATION_STRUCTURE_BINDING_ARRAY, BUFFER_BINDING_ARRAY, CLIP_DISTANCES, CULL_DISTANCE,
+        DRAW_INDEX, EARLY_DEPTH_TEST, IMMEDIATES, MEMORY_DECORATION_COHERENT,
+        MEMORY_DECORATION_VOLATILE, MESH_SHADER, MESH_SHADER_POINT_TOPOLOGY, MULTISAMPLED_SHADING,
+        MULTIVIEW, PER_VERTEX, PRIMITIVE_INDEX, RAY_TRACING_PIPELINE, SHADER_BARYCENTRICS,
+        SHADER_FLOAT32_ATOMIC, SHADER_INT64_ATOMIC_ALL_OPS, SHADER_INT64_ATOMIC_MIN_MAX,
+        STORAGE_BUFFER_BINDING_ARRAY, STORAGE_TEXTURE_16BIT_NORM_FORMATS,
+        STORAGE_TEXTURE_BINDING_ARRAY, SUBGROUP, SUBGROUP_BARRIER,
+        TEXTURE_AND_SAMPLER_BINDING_ARRAY, TEXTURE_ATOMIC, TEXTURE_INT64_ATOMIC
+    );
 }
 
 impl fmt::Debug for Capabilities {

@@ -10,12 +10,16 @@ use std::fmt;
 #[derive(Clone, Copy, PartialEq, Eq, Hash)]
 pub struct StorageAccess(pub u8);
 
-named_bits! {
-    impl StorageAccess: u8 {
-        const LOAD = 0x1;
-        const STORE = 0x2;
-        const ATOMIC = 0x4;
-    }
+impl StorageAccess {
+    pub const LOAD: StorageAccess = StorageAccess(0x1);
+
+    pub const STORE: StorageAccess = StorageAccess(0x2);
+
+    pub const ATOMIC: StorageAccess = StorageAccess(0x4);
+
+    /// The bits with their names.
+    pub const FLAGS: &'static [Flag<StorageAccess>] =
+        named_bits!(StorageAccess: LOAD, STORE, ATOMIC);
 }
 
 impl fmt::Debug for StorageAccess {
@@ -65,13 +69,18 @@ impl StorageAccess {
 #[derive(Clone, Copy, PartialEq, Eq, Hash)]
 pub struct Barrier(pub u8);
 
-named_bits! {
-    impl Barrier: u8 {
-        const STORAGE = 0x1;
-        const WORK_GROUP = 0x2;
-        const SUB_GROUP = 0x4;
-        const TEXTURE = 0x8;
-    }
+impl Barrier {
+    pub const STORAGE: Barrier = Barrier(0x1);
+
+    pub const WORK_GROUP: Barrier = Barrier(0x2);
+
+    pub const SUB_GROUP: Barrier = Barrier(0x4);
+
+    pub const TEXTURE: Barrier = Barrier(0x8);
+
+    /// The bits with their names.
+    pub const FLAGS: &'static [Flag<Barrier>] =
+        named_bits!(Barrier: STORAGE, WORK_GROUP, SUB_GROUP, TEXTURE);
 }
 
 impl fmt::Debug for Barrier {
@@ -122,11 +131,14 @@ impl Barrier {
 #[derive(Clone, Copy, PartialEq, Eq, Hash)]
 pub struct MemoryDecorations(pub u8);
 
-named_bits! {
-    impl MemoryDecorations: u8 {
-        const COHERENT = 0x1;
-        const VOLATILE = 0x2;
-    }
+impl MemoryDecorations {
+    pub const COHERENT: MemoryDecorations = MemoryDecorations(0x1);
+
+    pub const VOLATILE: MemoryDecorations = MemoryDecorations(0x2);
+
+    /// The bits with their names.
+    pub const FLAGS: &'static [Flag<MemoryDecorations>] =
+        named_bits!(MemoryDecorations: COHERENT, VOLATILE);
 }
 
 impl fmt::Debug for MemoryDecorations {

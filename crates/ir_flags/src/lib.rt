@@ -2,21 +2,13 @@
 //! Users import these from `naga_below`.
 #![tactic(auto)]
 
-/// Writes a constant for each bit of a set, and `FLAGS`, which lists them with their names.
+/// The table of a set's bits with their names.
 ///
 /// `bitflag_items!` of `bitflags` also writes operators and formats, which have no contract. A set here has the methods of
 /// [`Flags`](bitflags::Flags), each of which says what bits it gives.
 macro_rules! named_bits {
-    (impl $name:ident: $bits:ty {
-        $(const $flag:ident = $value:expr;)*
-    }) => {
-        impl $name {
-            $(pub const $flag: $name = $name($value);)*
-
-            pub const FLAGS: &'static [Flag<$name>] = &[
-                $(Flag { name: stringify!($flag), value: $name::$flag },)*
-            ];
-        }
+    ($set:ident: $($bit:ident),*) => {
+        &[$(Flag { name: stringify!($bit), value: $set::$bit },)*]
     };
 }
 

@@ -10,13 +10,18 @@ use std::fmt;
 #[derive(Clone, Copy, PartialEq, Eq, Hash)]
 pub struct ValidationFlags(pub u8);
 
-named_bits! {
-    impl ValidationFlags: u8 {
-        const EXPRESSIONS = 0x1;
-        const BLOCKS = 0x2;
-        const STRUCT_LAYOUTS = 0x4;
-        const BINDINGS = 0x8;
-    }
+impl ValidationFlags {
+    pub const EXPRESSIONS: ValidationFlags = ValidationFlags(0x1);
+
+    pub const BLOCKS: ValidationFlags = ValidationFlags(0x2);
+
+    pub const STRUCT_LAYOUTS: ValidationFlags = ValidationFlags(0x4);
+
+    pub const BINDINGS: ValidationFlags = ValidationFlags(0x8);
+
+    /// The bits with their names.
+    pub const FLAGS: &'static [Flag<ValidationFlags>] =
+        named_bits!(ValidationFlags: EXPRESSIONS, BLOCKS, STRUCT_LAYOUTS, BINDINGS);
 }
 
 impl fmt::Debug for ValidationFlags {
@@ -70,17 +75,27 @@ impl ValidationFlags {
 #[derive(Clone, Copy, PartialEq, Eq, Hash)]
 pub struct TypeFlags(pub u8);
 
-named_bits! {
-    impl TypeFlags: u8 {
-        const DATA = 0x1;
-        const SIZED = 0x2;
-        const COPY = 0x4;
-        const IO_SHAREABLE = 0x8;
-        const HOST_SHAREABLE = 0x10;
-        const CREATION_RESOLVED = 0x20;
-        const ARGUMENT = 0x40;
-        const CONSTRUCTIBLE = 0x80;
-    }
+impl TypeFlags {
+    pub const DATA: TypeFlags = TypeFlags(0x1);
+
+    pub const SIZED: TypeFlags = TypeFlags(0x2);
+
+    pub const COPY: TypeFlags = TypeFlags(0x4);
+
+    pub const IO_SHAREABLE: TypeFlags = TypeFlags(0x8);
+
+    pub const HOST_SHAREABLE: TypeFlags = TypeFlags(0x10);
+
+    pub const CREATION_RESOLVED: TypeFlags = TypeFlags(0x20);
+
+    pub const ARGUMENT: TypeFlags = TypeFlags(0x40);
+
+    pub const CONSTRUCTIBLE: TypeFlags = TypeFlags(0x80);
+
+    /// The bits with their names.
+    pub const FLAGS: &'static [Flag<TypeFlags>] = named_bits!(TypeFlags:
+        DATA, SIZED, COPY, IO_SHAREABLE, HOST_SHAREABLE, CREATION_RESOLVED, ARGUMENT, CONSTRUCTIBLE
+    );
 }
 
 impl fmt::Debug for TypeFlags {
@@ -138,13 +153,18 @@ impl TypeFlags {
 #[derive(Clone, Copy, PartialEq, Eq, Hash)]
 pub struct GlobalUse(pub u8);
 
-named_bits! {
-    impl GlobalUse: u8 {
-        const READ = 0x1;
-        const WRITE = 0x2;
-        const QUERY = 0x4;
-        const ATOMIC = 0x8;
-    }
+impl GlobalUse {
+    pub const READ: GlobalUse = GlobalUse(0x1);
+
+    pub const WRITE: GlobalUse = GlobalUse(0x2);
+
+    pub const QUERY: GlobalUse = GlobalUse(0x4);
+
+    pub const ATOMIC: GlobalUse = GlobalUse(0x8);
+
+    /// The bits with their names.
+    pub const FLAGS: &'static [Flag<GlobalUse>] =
+        named_bits!(GlobalUse: READ, WRITE, QUERY, ATOMIC);
 }
 
 impl fmt::Debug for GlobalUse {
@@ -195,16 +215,25 @@ impl GlobalUse {
 #[derive(Clone, Copy, PartialEq, Eq, Hash)]
 pub struct SubgroupOperationSet(pub u8);
 
-named_bits! {
-    impl SubgroupOperationSet: u8 {
-        const BASIC = 0x1;
-        const VOTE = 0x2;
-        const ARITHMETIC = 0x4;
-        const BALLOT = 0x8;
-        const SHUFFLE = 0x10;
-        const SHUFFLE_RELATIVE = 0x20;
-        const QUAD = 0x40;
-    }
+impl SubgroupOperationSet {
+    pub const BASIC: SubgroupOperationSet = SubgroupOperationSet(0x1);
+
+    pub const VOTE: SubgroupOperationSet = SubgroupOperationSet(0x2);
+
+    pub const ARITHMETIC: SubgroupOperationSet = SubgroupOperationSet(0x4);
+
+    pub const BALLOT: SubgroupOperationSet = SubgroupOperationSet(0x8);
+
+    pub const SHUFFLE: SubgroupOperationSet = SubgroupOperationSet(0x10);
+
+    pub const SHUFFLE_RELATIVE: SubgroupOperationSet = SubgroupOperationSet(0x20);
+
+    pub const QUAD: SubgroupOperationSet = SubgroupOperationSet(0x40);
+
+    /// The bits with their names.
+    pub const FLAGS: &'static [Flag<SubgroupOperationSet>] = named_bits!(SubgroupOperationSet:
+        BASIC, VOTE, ARITHMETIC, BALLOT, SHUFFLE, SHUFFLE_RELATIVE, QUAD
+    );
 }
 
 impl fmt::Debug for SubgroupOperationSet {
@@ -263,19 +292,32 @@ impl SubgroupOperationSet {
 #[derive(Clone, Copy, PartialEq, Eq, Hash)]
 pub struct ShaderStages(pub u16);
 
-named_bits! {
-    impl ShaderStages: u16 {
-        const VERTEX = 0x1;
-        const FRAGMENT = 0x2;
-        const COMPUTE = 0x4;
-        const MESH = 0x8;
-        const TASK = 0x10;
-        const RAY_GENERATION = 0x20;
-        const ANY_HIT = 0x40;
-        const CLOSEST_HIT = 0x80;
-        const MISS = 0x100;
-        const COMPUTE_LIKE = 0x1c;
-    }
+impl ShaderStages {
+    pub const VERTEX: ShaderStages = ShaderStages(0x1);
+
+    pub const FRAGMENT: ShaderStages = ShaderStages(0x2);
+
+    pub const COMPUTE: ShaderStages = ShaderStages(0x4);
+
+    pub const MESH: ShaderStages = ShaderStages(0x8);
+
+    pub const TASK: ShaderStages = ShaderStages(0x10);
+
+    pub const RAY_GENERATION: ShaderStages = ShaderStages(0x20);
+
+    pub const ANY_HIT: ShaderStages = ShaderStages(0x40);
+
+    pub const CLOSEST_HIT: ShaderStages = ShaderStages(0x80);
+
+    pub const MISS: ShaderStages = ShaderStages(0x100);
+
+    pub const COMPUTE_LIKE: ShaderStages = ShaderStages(0x1c);
+
+    /// The bits with their names.
+    pub const FLAGS: &'static [Flag<ShaderStages>] = named_bits!(ShaderStages:
+        VERTEX, FRAGMENT, COMPUTE, MESH, TASK, RAY_GENERATION, ANY_HIT, CLOSEST_HIT, MISS,
+        COMPUTE_LIKE
+    );
 }
 
 impl fmt::Debug for ShaderStages {

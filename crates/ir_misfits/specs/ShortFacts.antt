@@ -13,8 +13,8 @@ use Rattle.ir_facts.specs.declared.facts.Facts.{Facts}
 use Rattle.ir_facts.specs.declared.facts.FunctionFact.{FunctionFact}
 use Rattle.ir_facts.specs.declared.facts.FunctionFact.TheVariants.{Info, Error}
 use Rattle.ir_facts.specs.declared.facts.InfoFact.{InfoFact}
-use Rattle.check_faults.specs.declared.shortage.Shortage.{Shortage}
-use Rattle.check_faults.specs.declared.shortage.Shortage.TheVariants as short
+use Rattle.ir_misfits.specs.declared.shortage.Shortage.{Shortage}
+use Rattle.ir_misfits.specs.declared.shortage.Shortage.TheVariants as short
 
 abbrev pub Shortages : Type 0
 Shortages = List (Point Shortage)

@@ -13,6 +13,7 @@ pub mod misfit;
 pub mod naming;
 mod numbered;
 pub mod short;
+pub mod shortage;
 pub mod signature;
 pub mod texts;
 pub mod types;
@@ -27,4 +28,5 @@ pub use crate::misfit::{
     VariableField,
 };
 pub use crate::short::find_short_fact;
+pub use crate::shortage::Shortage;
 pub use crate::types::check_types_fit;

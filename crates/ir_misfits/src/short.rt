@@ -4,11 +4,11 @@ ghost use Rattle.std.specs.Prelude.{◌≡◌, ◌∷◌, ◌==◌, [], nat_lt, 
 ghost use Rattle.std.specs.Option.{option_copied};
 ghost use Rattle.std.specs.Result.{result_err};
 ghost use Rattle.ir_facts.specs.Points.{first_fault, points_of_each};
-ghost use Rattle.check_faults.specs.declared.shortage.Shortage.TheVariants.{Types, Uses, UnknownType, Expressions};
+ghost use Rattle.ir_misfits.specs.declared.shortage.Shortage.TheVariants.{Types, Uses, UnknownType, Expressions};
 ghost use Rattle.ir_misfits.specs.ShortFacts.{type_points, info_points, fact_points, function_shortages, entry_shortages, shortages};
 
 use crate::misfit::Owner;
-use check_faults::shortage::Shortage;
+use crate::shortage::Shortage;
 use ir_facts::{Facts, FunctionFact, InfoFact};
 use ir_module::functions::Function;
 use ir_module::module::Module;

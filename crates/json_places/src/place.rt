@@ -2,7 +2,8 @@
 
 use crate::nodes::{Inside, Node, Part, Position, way_to};
 use crate::spot::Spot;
-use check_faults::{Shortage, Subject};
+use check_faults::Subject;
+use ir_misfits::Shortage;
 use json_nodes::Step;
 use naga_below::Span;
 use std::alloc::{AllocError, Global};

@@ -2,7 +2,8 @@
 
 use crate::nodes::{Node, Position};
 use crate::parts::{Bound, Group, bounds_of, first_of, members_of, second_of};
-use check_faults::{EntryPointError, Shortage};
+use check_faults::EntryPointError;
+use ir_misfits::Shortage;
 use naga_below::{
     Capabilities, EntryPoint, Function, Handle, MeshStageInfo, Module, ShaderStage, Span,
     Statement, TypeInner, tag,

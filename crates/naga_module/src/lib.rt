@@ -11,12 +11,12 @@ pub use crate::check::{Given, check_module};
 pub use crate::laws::module_law;
 pub use crate::misfit::find_misfit;
 pub use check_faults::{
-    ModuleFault, Shortage, Subject, Whereabouts, write_fault, write_module_fault,
-    write_module_fault_lines, write_refusal,
+    ModuleFault, Subject, Whereabouts, write_fault, write_module_fault, write_module_fault_lines,
+    write_refusal,
 };
 pub use ir_misfits::{
-    EntryField, HandleOf, Misfit, Owner, Place, Problem, StatementField, TypeField, TypeOwner,
-    VariableField, find_short_fact,
+    EntryField, HandleOf, Misfit, Owner, Place, Problem, Shortage, StatementField, TypeField,
+    TypeOwner, VariableField, find_short_fact,
 };
 pub use naga_layers::{
     ExpressionFact, Facts, FunctionFact, InfoFact, LowerFunctionError, MeshAnalysisFact, Plain,
