@@ -1,4 +1,4 @@
-//! Tests of the parts of the validator by themselves.
+//! Tests of the IR, of errors and of the parts of the validator by themselves.
 //!
 //! A test makes what owns memory by a helper, hands references to helpers that assert, and lets it go by `drop`: so the
 //! proofs stay small.
@@ -12,7 +12,9 @@ macro_rules! holds {
     };
 }
 
+mod errors;
 mod holding;
+mod ir;
 mod layers;
 mod typed;
 mod varyings;
@@ -23,4 +25,9 @@ fn made<T, E>(rt: &impl Abort, answer: Result<T, E>) -> T {
         Ok(value) => value,
         Err(_) => panic!(rt; "no memory"),
     }
+}
+
+/// Two values are equal.
+fn expect_equal<T: PartialEq>(rt: &impl Abort, first: &T, second: &T) {
+    holds!(rt; *first == *second);
 }
