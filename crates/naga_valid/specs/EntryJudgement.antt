@@ -31,7 +31,8 @@ module _ (below : Meaning) (settings : Settings) (infos : List TypeInfo) (progra
       record outcome { info = with_blending program.types infos ep (with_own_uses ep outcome.info) }
 
   abbrev pub interface_step : FunctionOutcome → Result FunctionOutcome EntryFault
-  interface_step outcome = answer (first_fault (interface_points outcome.info)) (entry_outcome outcome)
+  interface_step outcome =
+      answer (first_fault (interface_points below settings infos program ep outcome.info)) (entry_outcome outcome)
 
 -- The judgement of an entry point of a module, with the infos of the functions before it, where these are the infos of the
 -- module's types, and ray traces left this: the steps up to its function, the function, the steps behind it. It is the first

@@ -1,11 +1,9 @@
-use Rattle.std.proofs.Common.{rules, ◌≡◌, None, subst}
-use Rattle.ir_facts.specs.Points.{first_fault, within}
-use Rattle.ir_facts.specs.declared.valid.info.FunctionInfo.{FunctionInfo}
-use Rattle.ir_facts.specs.Answers.{Answers, FirstOf, read_by}
+use Rattle.std.proofs.Common.{rules}
+use Rattle.ir_facts.specs.Points.{within}
 use Rattle.check_entry.specs.EntryFaults.{fault_of}
 use Rattle.check_entry.specs.InterfacePoints.{used_points}
 use Rattle.check_entry.specs.EntryUses.{payload_points, with_own_uses}
-use Rattle.check_entry.proofs.EntrySteps.{both_pass, judges_first, judges_second}
+use Rattle.check_entry.proofs.EntrySteps.{judges_first}
 use Rattle.naga_valid.proofs.validator.Validator.judge_interface.Goals as goal
 
 pub returns-in_err-check_payload-clause-fault : goal.returns-in_err-check_payload-clause-fault
