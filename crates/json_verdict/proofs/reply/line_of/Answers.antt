@@ -4,4 +4,4 @@ use Rattle.json_verdict.proofs.reply.line_of.Goals as goal
 
 pub returns-in-Ok : goal.returns-in-Ok
 unfolding IsLineOf
-returns-in-Ok c = (string_bytes c.in_some-line.line, c.in_some-line.ensures, c.in-Ok.ensures.bytes)
+returns-in-Ok c = (string_bytes c.in_ok-line.line, c.in_ok-line.ensures, c.in-Ok.ensures.bytes)
