@@ -5,6 +5,7 @@
 
 ghost use Rattle.std.specs.Prelude.{ℕ, ◌≡◌, OnOk, Some, slice_get};
 ghost use Rattle.ir_module.specs.declared.module.EntryPoint.{EntryPoint};
+ghost use Rattle.ir_statements.specs.declared.statements.Statement.{Statement};
 ghost use Rattle.naga_module.specs.{RunsAreSure, body_of, pre_emitted_of};
 
 use bitflags::Flags;
