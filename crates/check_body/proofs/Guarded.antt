@@ -36,13 +36,13 @@ use Rattle.check_scope.specs.ExpressionTypes.{is_integer, expression_at, type_at
 use Rattle.check_memory.proofs.Atomics.{atomic_fits}
 use Rattle.check_flow.proofs.Calls.{call_fits}
 use Rattle.check_flow.proofs.Emits.{or_false, within_more}
-use Rattle.check_images.proofs.ImageAtomics.{image_atomic_fits}
-use Rattle.check_images.proofs.Images.{image_store_fits}
+use Rattle.check_resources.proofs.ImageAtomics.{image_atomic_fits}
+use Rattle.check_resources.proofs.Images.{image_store_fits}
 use Rattle.check_body.proofs.Judged.{kept}
 use Rattle.check_memory.proofs.CooperativeStores.{cooperative_fits}
 use Rattle.check_memory.proofs.Loads.{load_fits}
-use Rattle.check_rays.proofs.RayQueries.{ray_query_fits}
-use Rattle.check_rays.proofs.RayTraces.{trace_ray_fits}
+use Rattle.check_resources.proofs.RayQueries.{ray_query_fits}
+use Rattle.check_resources.proofs.RayTraces.{trace_ray_fits}
 use Rattle.check_memory.proofs.Stores.{store_fits}
 use Rattle.check_subgroups.proofs.Subgroups.{ballot_fits, collective_fits, gather_fits}
 

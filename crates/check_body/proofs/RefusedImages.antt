@@ -11,9 +11,9 @@ use Rattle.ir_types.specs.declared.types.StorageFormat.{StorageFormat}
 use Rattle.ir_types.specs.declared.types.StorageFormat.TheVariants as formats
 use Rattle.ir_errors.specs.declared.function.FunctionError.TheVariants.{InvalidImageAtomicValue}
 use Rattle.naga_runs.specs.Visits.{Place}
-use Rattle.check_images.specs.Image.{stored_format}
-use Rattle.check_images.specs.ImageAtomic.{changed_shape, format_points, image_atomic_points}
-use Rattle.check_images.specs.ImageStore.{image_store_points}
+use Rattle.check_resources.specs.Image.{stored_format}
+use Rattle.check_resources.specs.ImageAtomic.{changed_shape, format_points, image_atomic_points}
+use Rattle.check_resources.specs.ImageStore.{image_store_points}
 use Rattle.check_scope.specs.Context.{Context}
 use Rattle.check_scope.specs.ExpressionTypes.{type_at}
 use Rattle.check_scope.specs.ScopePoints.{use_point}

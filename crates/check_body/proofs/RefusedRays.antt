@@ -6,8 +6,8 @@ use Rattle.ir_statements.specs.View.{query_acts}
 use Rattle.ir_statements.specs.declared.operations.RayQueryFunction.{RayQueryFunction}
 use Rattle.ir_statements.specs.declared.operations.RayQueryFunction.TheVariants as query
 use Rattle.naga_runs.specs.Visits.{Place}
-use Rattle.check_rays.specs.RayQuery.{ray_query_points}
-use Rattle.check_rays.specs.RayTrace.{trace_ray_points}
+use Rattle.check_resources.specs.RayQuery.{ray_query_points}
+use Rattle.check_resources.specs.RayTrace.{trace_ray_points}
 use Rattle.check_scope.specs.Context.{Context}
 use Rattle.check_body.proofs.Refused.{Answered, first_use, second_use, third_use}
 

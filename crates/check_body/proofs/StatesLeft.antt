@@ -7,7 +7,7 @@ use Rattle.check_statement.specs.Past.{past_of}
 use Rattle.check_scope.specs.Results.{result_of, filled_before}
 use Rattle.check_statement.specs.Rules.{stages_behind}
 use Rattle.check_statement.specs.walk.State.{State, seen, with_result, state_behind, begin_state, state_left}
-use Rattle.check_rays.specs.Traces.{payload_before, with_trace}
+use Rattle.check_resources.specs.Traces.{payload_before, with_trace}
 use Rattle.check_statement.proofs.Fillings.{filled_more, stages_more}
 use Rattle.check_body.proofs.Traces.{no_trace, trace_more}
 

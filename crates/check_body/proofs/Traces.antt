@@ -5,7 +5,7 @@ use Rattle.std.specs.Option.{option_or}
 use Rattle.ir_arena.specs.declared.span.Span.{Span}
 use Rattle.naga_runs.specs.Visits.{Visit}
 use Rattle.check_scope.specs.Context.{Context}
-use Rattle.check_rays.specs.Traces.{trace_payload, first_payload, lacks_vertex_return_at, last_without, is_trace, any_trace, vertex_return_by, trace_after, with_trace}
+use Rattle.check_resources.specs.Traces.{trace_payload, first_payload, lacks_vertex_return_at, last_without, is_trace, any_trace, vertex_return_by, trace_after, with_trace}
 use Rattle.check_scope.specs.declared.trace.TraceRayVertexReturnState.{TraceRayVertexReturnState}
 use Rattle.check_scope.specs.declared.trace.TraceRayVertexReturnState.TheVariants.{NoTraceRays, VertexReturn, NoVertexReturn}
 use Rattle.check_scope.specs.declared.trace.TraceState.{TraceState}

@@ -1,5 +1,5 @@
 -- The points of a group, item by item.
-use Rattle.std.proofs.Common.{◌≡◌, ℕ, suc, ◌+◌, ◌<◌, ◌≤◌, List, [], ◌∷◌, ◌++◌, Option, None, Some, Result, Ok, Err, length, take, drop, get_or, sym, ap, ◌∙◌, subst, arith, append-nil, append_assoc}
+use Rattle.std.proofs.Common.{◌≡◌, ℕ, suc, ◌+◌, ◌<◌, ◌≤◌, List, [], ◌∷◌, ◌++◌, Option, None, Some, Result, Ok, Err, length, take, drop, get_or, refl, sym, ap, ◌∙◌, subst, arith, append-nil, append_assoc}
 use Rattle.std.proofs.lemmas.List.{at_drop_more, at_drop_all, take_more}
 use Rattle.std.specs.Option.{option_or}
 use Rattle.std.specs.Prelude.{Bool, true, false, IsErr, if◌then◌else◌}
@@ -15,15 +15,16 @@ use Rattle.ir_arena.specs.declared.span.Refusal.TheVariants as refusal
 use Rattle.ir_facts.specs.declared.valid.settings.Settings.{Settings}
 use Rattle.ir_types.specs.TypeTests.{it_is}
 use Rattle.ir_types.specs.Types.{inner_at}
-use Rattle.check_varyings.proofs.Seeing.{points_are_by_position}
+use Rattle.ir_types.specs.declared.built_in.BuiltIn.TheVariants.{PointIndex, LineIndices, TriangleIndices}
+use Rattle.check_varyings.proofs.Seeing.{points_are_by_position, sees_locations_alone}
 use Rattle.check_varyings.specs.Seen.{Seen}
 use Rattle.check_varyings.specs.VaryingFaults.{VaryingFault}
-use Rattle.check_varyings.specs.Varyings.{Item, Placed, placed_parts, item_points, group_points, group_points_from, nothing_seen, points_from, seen_at, group_parts}
+use Rattle.check_varyings.specs.Varyings.{Item, Placed, placed_parts, item_points, group_points, group_points_from, nothing_seen, parts_of, points_from, seen_at, seen_with, group_parts}
 use Rattle.check_varyings.specs.declared.varying.MeshOutputType.{MeshOutputType}
-use Rattle.check_varyings.specs.declared.varying.MeshOutputType.TheVariants.{Neither}
+use Rattle.check_varyings.specs.declared.varying.MeshOutputType.TheVariants.{Neither, VertexOutput, PrimitiveOutput}
 use Rattle.check_varyings.specs.declared.varying.VaryingPlace.{VaryingPlace}
 use Rattle.check_entry.specs.EntryFaults.{EntryFault, OfResult, Other, fault_of}
-use Rattle.check_entry.specs.EntryVaryings.{declared_points, is_struct, output_points, place_of, result_item}
+use Rattle.check_entry.specs.EntryVaryings.{declared_points, has_one_of_indices, is_one_of_three, is_struct, output_item, output_points, place_of, result_item}
 use Rattle.check_faults.specs.declared.entry.EntryPointError.{EntryPointError}
 use Rattle.check_faults.specs.declared.entry.EntryPointError.TheVariants as fault
 use Rattle.ir_facts.specs.Answers.{Answers, FirstOf, read_by}
@@ -98,6 +99,22 @@ module _ (types : List IrType) (infos : List TypeInfo) where
   output_by_position settings ep which earlier seen ty e =
       ap (λ ps. (it_is is_struct (inner_at types ty), Other fault.InvalidMeshOutputType) ∷ within OfResult ps) (seen_by_position (place_of settings ep true which) earlier seen ty None e)
 
+  -- an output of a mesh whose type is a struct is answered as its own list is
+  pub struct_decides : {T : Type 0} (place found : VaryingPlace) (seen : Seen) (ty : ℕ) (r : Result T (Refusal EntryPointError)) → found ≡ place → it_is is_struct (inner_at types ty) ≡ true →
+      Answers (FirstOf (within OfResult (points_from found types infos seen ty None))) (read_by fault_of r) →
+      Answers (FirstOf ((it_is is_struct (inner_at types ty), Other fault.InvalidMeshOutputType) ∷ within OfResult (points_from place types infos seen ty None))) (read_by fault_of r)
+  struct_decides place found seen ty r is yes h =
+      subst (λ b. Answers (FirstOf ((b, Other fault.InvalidMeshOutputType) ∷ within OfResult (points_from place types infos seen ty None))) (read_by fault_of r)) (sym yes)
+      (subst (λ p. Answers (FirstOf (within OfResult (points_from p types infos seen ty None))) (read_by fault_of r)) is h)
+
+  -- what is left of indices behind an output of primitives is what its own parts have
+  pub indices_by_position : (settings : Settings) (ep : EntryPoint) (vertex ty : ℕ) (seen left : Seen) →
+      seen ≡ seen_at (place_of settings ep true PrimitiveOutput) (placed_parts types infos (output_item settings ep VertexOutput vertex)) → left ≡ seen_with seen (parts_of types infos ty None) →
+      is_one_of_three (left.built_ins PointIndex) (left.built_ins LineIndices) (left.built_ins TriangleIndices) ≡ has_one_of_indices (parts_of types infos ty None)
+  indices_by_position settings ep vertex ty seen left e h =
+      let alone = sees_locations_alone (place_of settings ep true PrimitiveOutput) (place_of settings ep true VertexOutput) (parts_of types infos vertex None) refl in
+      ap (λ (s : Seen). is_one_of_three (s.built_ins PointIndex) (s.built_ins LineIndices) (s.built_ins TriangleIndices)) (h ∙ ap (λ (s : Seen). seen_with s (parts_of types infos ty None)) (e ∙ alone))
+
   -- the result, where nothing was seen before
   pub result_decides : {T : Type 0} (settings : Settings) (ep : EntryPoint) (seen : Seen) (declared : FunctionResult) (r : Result T (Refusal EntryPointError)) → seen ≡ nothing_seen →
       Answers (FirstOf (within OfResult (points_from (place_of settings ep true Neither) types infos seen declared.ty declared.binding))) (read_by fault_of r) → Answers (FirstOf (declared_points settings types infos ep (Some declared))) (read_by fault_of r)
@@ -106,11 +123,11 @@ module _ (types : List IrType) (infos : List TypeInfo) where
 
 -- a point behind others that hold
 module _ (first : List (Point EntryFault)) (b : Bool) (f : EntryFault) (none : first_fault first ≡ None) where
-  behind : first_fault (first ++ (b, f) ∷ []) ≡ (if b then None else Some f)
-  behind = first_of_both first ((b, f) ∷ []) ∙ ap (λ o. option_or o (first_fault ((b, f) ∷ []))) none
+  last_decides : first_fault (first ++ (b, f) ∷ []) ≡ (if b then None else Some f)
+  last_decides = first_of_both first ((b, f) ∷ []) ∙ ap (λ o. option_or o (first_fault ((b, f) ∷ []))) none
 
   pub last_fails : b ≡ false → first_fault (first ++ (b, f) ∷ []) ≡ Some f
-  last_fails e = behind ∙ ap (λ c. if c then None else Some f) e
+  last_fails e = last_decides ∙ ap (λ c. if c then None else Some f) e
 
   pub last_holds : b ≡ true → first_fault (first ++ (b, f) ∷ []) ≡ None
-  last_holds e = behind ∙ ap (λ c. if c then None else Some f) e
+  last_holds e = last_decides ∙ ap (λ c. if c then None else Some f) e

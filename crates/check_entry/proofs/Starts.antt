@@ -1,6 +1,6 @@
 -- The points up to the function, where they hold at once.
-use Rattle.std.proofs.Common.{◌≡◌, Bool, true, Option, None, Some, refl, ap}
-use Rattle.std.specs.Prelude.{is_none, if◌then◌else◌}
+use Rattle.std.proofs.Common.{◌≡◌, true, Option, None, Some, refl}
+use Rattle.std.specs.Prelude.{is_none}
 use Rattle.ir_facts.specs.Points.{first_fault}
 use Rattle.ir_flags.specs.declared.capabilities.Capabilities.{Capabilities}
 use Rattle.ir_module.specs.declared.module.EarlyDepthTest.{EarlyDepthTest}

@@ -3,10 +3,10 @@
 #![tactic(auto)]
 
 pub mod answers;
-pub mod bindings;
-pub mod globals;
+mod bindings;
+mod globals;
 pub mod interface;
-pub mod mesh;
+mod mesh;
 pub mod start;
 pub mod uses;
 pub mod varyings;

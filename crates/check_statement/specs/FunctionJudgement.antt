@@ -20,7 +20,7 @@ use Rattle.ir_facts.specs.WhatIsChecked.{checks_blocks}
 use Rattle.check_scope.specs.ScopePoints.{Points}
 use Rattle.check_scope.specs.Results.{filled_before, filled_points}
 use Rattle.check_statement.specs.Rules.{body_rules, stages_left}
-use Rattle.check_rays.specs.Traces.{trace_after}
+use Rattle.check_resources.specs.Traces.{trace_after}
 use Rattle.check_scope.specs.declared.trace.TraceState.{TraceState}
 
 -- the judgement of a body: the fault of the first check point that fails, in visit order; else its visits

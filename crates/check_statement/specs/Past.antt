@@ -4,7 +4,7 @@ use Rattle.naga_runs.specs.Handles.{Handles}
 use Rattle.naga_runs.specs.Visits.{Visit}
 use Rattle.check_scope.specs.Context.{Context}
 use Rattle.check_scope.specs.Results.{filled_before}
-use Rattle.check_rays.specs.Traces.{payload_before}
+use Rattle.check_resources.specs.Traces.{payload_before}
 
 -- the results that they fill, and the payload type so far
 pub record Past : Type 0 where

@@ -20,12 +20,12 @@ use Rattle.check_scope.specs.Context.{Context}
 use Rattle.check_flow.specs.Control.{emit_points, condition_points, return_points, break_points, continue_points}
 use Rattle.check_flow.specs.Switch.{switch_points}
 use Rattle.check_memory.specs.Cooperative.{cooperative_points}
-use Rattle.check_images.specs.ImageAtomic.{image_atomic_points}
-use Rattle.check_images.specs.ImageStore.{image_store_points}
+use Rattle.check_resources.specs.ImageAtomic.{image_atomic_points}
+use Rattle.check_resources.specs.ImageStore.{image_store_points}
 use Rattle.check_memory.specs.Load.{load_points}
 use Rattle.check_scope.specs.ScopePoints.{Points}
-use Rattle.check_rays.specs.RayQuery.{ray_query_points}
-use Rattle.check_rays.specs.RayTrace.{trace_ray_points}
+use Rattle.check_resources.specs.RayQuery.{ray_query_points}
+use Rattle.check_resources.specs.RayTrace.{trace_ray_points}
 use Rattle.check_statement.specs.Stages.{meet}
 use Rattle.check_memory.specs.Store.{store_points}
 use Rattle.check_subgroups.specs.Subgroup.{ballot_points}

@@ -12,7 +12,7 @@ ghost use Rattle.check_scope.specs.walk.Table.{KnowsResults, filled_in, marked};
 
 use crate::stages::stages_of;
 use bitflags::Flags;
-use check_rays::ray_trace::advance_trace;
+use check_resources::ray_trace::advance_trace;
 use check_scope::context::BlockContext;
 use check_scope::table::FilledColumn;
 use check_scope::trace::TraceState;

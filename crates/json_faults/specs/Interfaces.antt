@@ -5,6 +5,7 @@ use Rattle.ir_errors.specs.declared.interface.GlobalVariableError.{GlobalVariabl
 use Rattle.ir_errors.specs.declared.interface.GlobalVariableError.TheVariants as globals
 use Rattle.ir_errors.specs.declared.interface.VaryingError.{VaryingError}
 use Rattle.ir_errors.specs.declared.interface.VaryingError.TheVariants as varyings
+use Rattle.check_faults.specs.Names.{entry_error_name}
 use Rattle.check_faults.specs.declared.entry.EntryPointError.{EntryPointError}
 use Rattle.check_faults.specs.declared.entry.EntryPointError.TheVariants as entries
 use Rattle.json_faults.specs.BuiltIns.{built_in_form}
@@ -127,39 +128,7 @@ varying_error_held varyings.InvalidPerVertexSampling = None
 unfoldable pub varying_error_form : VaryingError → Json
 varying_error_form error = variant (varying_error_name error) (varying_error_held error)
 
--- a fault of an entry point
-unfoldable pub entry_error_name : EntryPointError → List ℕ
-entry_error_name entries.Conflict = codes "Conflict"
-entry_error_name entries.MissingVertexOutputPosition = codes "MissingVertexOutputPosition"
-entry_error_name entries.UnexpectedEarlyDepthTest = codes "UnexpectedEarlyDepthTest"
-entry_error_name entries.UnexpectedWorkgroupSize = codes "UnexpectedWorkgroupSize"
-entry_error_name entries.OutOfRangeWorkgroupSize = codes "OutOfRangeWorkgroupSize"
-entry_error_name entries.ForbiddenStageOperations = codes "ForbiddenStageOperations"
-entry_error_name (entries.InvalidGlobalUsage _ _) = codes "InvalidGlobalUsage"
-entry_error_name entries.MoreThanOneImmediateUsed = codes "MoreThanOneImmediateUsed"
-entry_error_name (entries.BindingCollision _) = codes "BindingCollision"
-entry_error_name (entries.Argument _ _) = codes "Argument"
-entry_error_name (entries.Result _) = codes "Result"
-entry_error_name (entries.Function _) = codes "Function"
-entry_error_name (entries.UnsupportedCapability _) = codes "UnsupportedCapability"
-entry_error_name entries.ExpectedMeshShaderAttributes = codes "ExpectedMeshShaderAttributes"
-entry_error_name entries.UnexpectedMeshShaderAttributes = codes "UnexpectedMeshShaderAttributes"
-entry_error_name entries.UnexpectedTaskPayload = codes "UnexpectedTaskPayload"
-entry_error_name entries.TaskPayloadWrongAddressSpace = codes "TaskPayloadWrongAddressSpace"
-entry_error_name entries.WrongTaskPayloadUsed = codes "WrongTaskPayloadUsed"
-entry_error_name entries.WrongTaskShaderEntryResult = codes "WrongTaskShaderEntryResult"
-entry_error_name entries.ExpectedTaskPayload = codes "ExpectedTaskPayload"
-entry_error_name entries.BadMeshOutputVariableType = codes "BadMeshOutputVariableType"
-entry_error_name entries.BadMeshOutputVariableField = codes "BadMeshOutputVariableField"
-entry_error_name entries.UnexpectedMeshShaderEntryResult = codes "UnexpectedMeshShaderEntryResult"
-entry_error_name entries.InvalidMeshOutputType = codes "InvalidMeshOutputType"
-entry_error_name entries.InvalidMeshPrimitiveOutputType = codes "InvalidMeshPrimitiveOutputType"
-entry_error_name entries.WrongMeshOutputAddressSpace = codes "WrongMeshOutputAddressSpace"
-entry_error_name (entries.TaskPayloadTooSmall _) = codes "TaskPayloadTooSmall"
-entry_error_name (entries.RayPayloadInInvalidStage _) = codes "RayPayloadInInvalidStage"
-entry_error_name (entries.IncomingRayPayloadInInvalidStage _) = codes "IncomingRayPayloadInInvalidStage"
-
--- what it holds
+-- what a fault of an entry point holds
 unfoldable pub entry_error_held : EntryPointError → Option Json
 entry_error_held entries.Conflict = None
 entry_error_held entries.MissingVertexOutputPosition = None

@@ -1,7 +1,7 @@
 //! Faults of globals, of inputs and outputs, and of entry points.
 
 ghost use Rattle.std.specs.Prelude.{◌≡◌};
-ghost use Rattle.json_faults.specs.Interfaces.{global_error_name, global_error_form, varying_error_name, varying_error_form, entry_error_name, entry_error_form};
+ghost use Rattle.json_faults.specs.Interfaces.{global_error_name, global_error_form, varying_error_name, varying_error_form, entry_error_form};
 
 use crate::parts::{holding, holding_field, holding_pair, holding_triple, holding_two};
 use crate::to_json::ToJson;
@@ -203,50 +203,12 @@ impl ToJson for VaryingError {
     }
 }
 
-/// The name of a fault of an entry point.
-#[tactic(auto, unfolding(crate::specs::Interfaces::entry_error_name))]
-fn entry_error_name(error: &EntryPointError) -> &'static str
-    ensures { result.now ≡ entry_error_name error.now }
-{
-    match error {
-        EntryPointError::Conflict => "Conflict",
-        EntryPointError::MissingVertexOutputPosition => "MissingVertexOutputPosition",
-        EntryPointError::UnexpectedEarlyDepthTest => "UnexpectedEarlyDepthTest",
-        EntryPointError::UnexpectedWorkgroupSize => "UnexpectedWorkgroupSize",
-        EntryPointError::OutOfRangeWorkgroupSize => "OutOfRangeWorkgroupSize",
-        EntryPointError::ForbiddenStageOperations => "ForbiddenStageOperations",
-        EntryPointError::InvalidGlobalUsage(..) => "InvalidGlobalUsage",
-        EntryPointError::MoreThanOneImmediateUsed => "MoreThanOneImmediateUsed",
-        EntryPointError::BindingCollision(..) => "BindingCollision",
-        EntryPointError::Argument(..) => "Argument",
-        EntryPointError::Result(..) => "Result",
-        EntryPointError::Function(..) => "Function",
-        EntryPointError::UnsupportedCapability(..) => "UnsupportedCapability",
-        EntryPointError::ExpectedMeshShaderAttributes => "ExpectedMeshShaderAttributes",
-        EntryPointError::UnexpectedMeshShaderAttributes => "UnexpectedMeshShaderAttributes",
-        EntryPointError::UnexpectedTaskPayload => "UnexpectedTaskPayload",
-        EntryPointError::TaskPayloadWrongAddressSpace => "TaskPayloadWrongAddressSpace",
-        EntryPointError::WrongTaskPayloadUsed => "WrongTaskPayloadUsed",
-        EntryPointError::WrongTaskShaderEntryResult => "WrongTaskShaderEntryResult",
-        EntryPointError::ExpectedTaskPayload => "ExpectedTaskPayload",
-        EntryPointError::BadMeshOutputVariableType => "BadMeshOutputVariableType",
-        EntryPointError::BadMeshOutputVariableField => "BadMeshOutputVariableField",
-        EntryPointError::UnexpectedMeshShaderEntryResult => "UnexpectedMeshShaderEntryResult",
-        EntryPointError::InvalidMeshOutputType => "InvalidMeshOutputType",
-        EntryPointError::InvalidMeshPrimitiveOutputType => "InvalidMeshPrimitiveOutputType",
-        EntryPointError::WrongMeshOutputAddressSpace => "WrongMeshOutputAddressSpace",
-        EntryPointError::TaskPayloadTooSmall(..) => "TaskPayloadTooSmall",
-        EntryPointError::RayPayloadInInvalidStage(..) => "RayPayloadInInvalidStage",
-        EntryPointError::IncomingRayPayloadInInvalidStage(..) => "IncomingRayPayloadInInvalidStage",
-    }
-}
-
 impl ToJson for EntryPointError {
     ghost form = { entry_error_form };
 
     #[tactic(auto, unfolding(crate::specs::Interfaces::entry_error_form, crate::specs::Interfaces::entry_error_held, crate::specs::Form::variant))]
     fn write_json(&self, out: &mut JsonWriter) -> Result<(), AllocError> {
-        let variant = entry_error_name(self);
+        let variant = self.name();
         match self {
             EntryPointError::Conflict
             | EntryPointError::MissingVertexOutputPosition

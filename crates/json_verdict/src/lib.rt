@@ -2,10 +2,8 @@
 //! The verdict of a document is what `check_module` answers for its module, over its facts, with its settings.
 #![tactic(auto)]
 
-pub mod answered;
 mod basis;
 pub mod examine;
-pub mod files;
 mod find;
 pub mod judge;
 mod reply;

@@ -5,9 +5,12 @@
 //! several documents the largest.
 #![tactic(auto)]
 
+mod answered;
+mod files;
+
+use crate::files::{MEMORY, Output, failure, run_files, run_reader};
 use clap::Error;
 use clap::error::ErrorKind;
-use json_verdict::files::{MEMORY, Output, failure, run_files, run_reader};
 use json_verdict::run::{Form, run_document};
 use judge_arguments::{Request, request_of};
 use std::alloc::Global;

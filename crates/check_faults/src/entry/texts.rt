@@ -1,25 +1,31 @@
-//! What the errors of entry points print.
+//! The names of the errors of entry points, and what they print.
+
+ghost use Rattle.std.specs.Prelude.{◌≡◌};
+ghost use Rattle.check_faults.specs.Names.{entry_error_name};
 
 use crate::entry::EntryPointError;
 use std::fmt;
 
-/// Writes the variant's name, but for `RayPayloadInInvalidStage`, of which it writes the stages that are meant.
-impl fmt::Display for EntryPointError {
-    fn fmt<W: fmt::Write>(&self, f: &mut fmt::Formatter<W>) -> fmt::Result {
-        f.write_str(match self {
+impl EntryPointError {
+    /// The variant's name, as naga has it.
+    #[tactic(auto, unfolding(crate::specs::Names::entry_error_name))]
+    pub fn name(&self) -> &'static str
+        ensures { result.now ≡ entry_error_name self.now }
+    {
+        match self {
             EntryPointError::Conflict => "Conflict",
             EntryPointError::MissingVertexOutputPosition => "MissingVertexOutputPosition",
             EntryPointError::UnexpectedEarlyDepthTest => "UnexpectedEarlyDepthTest",
             EntryPointError::UnexpectedWorkgroupSize => "UnexpectedWorkgroupSize",
             EntryPointError::OutOfRangeWorkgroupSize => "OutOfRangeWorkgroupSize",
             EntryPointError::ForbiddenStageOperations => "ForbiddenStageOperations",
-            EntryPointError::InvalidGlobalUsage(_, _) => "InvalidGlobalUsage",
+            EntryPointError::InvalidGlobalUsage(..) => "InvalidGlobalUsage",
             EntryPointError::MoreThanOneImmediateUsed => "MoreThanOneImmediateUsed",
-            EntryPointError::BindingCollision(_) => "BindingCollision",
-            EntryPointError::Argument(_, _) => "Argument",
-            EntryPointError::Result(_) => "Result",
-            EntryPointError::Function(_) => "Function",
-            EntryPointError::UnsupportedCapability(_) => "UnsupportedCapability",
+            EntryPointError::BindingCollision(..) => "BindingCollision",
+            EntryPointError::Argument(..) => "Argument",
+            EntryPointError::Result(..) => "Result",
+            EntryPointError::Function(..) => "Function",
+            EntryPointError::UnsupportedCapability(..) => "UnsupportedCapability",
             EntryPointError::ExpectedMeshShaderAttributes => "ExpectedMeshShaderAttributes",
             EntryPointError::UnexpectedMeshShaderAttributes => "UnexpectedMeshShaderAttributes",
             EntryPointError::UnexpectedTaskPayload => "UnexpectedTaskPayload",
@@ -33,11 +39,21 @@ impl fmt::Display for EntryPointError {
             EntryPointError::InvalidMeshOutputType => "InvalidMeshOutputType",
             EntryPointError::InvalidMeshPrimitiveOutputType => "InvalidMeshPrimitiveOutputType",
             EntryPointError::WrongMeshOutputAddressSpace => "WrongMeshOutputAddressSpace",
-            EntryPointError::TaskPayloadTooSmall(_) => "TaskPayloadTooSmall",
+            EntryPointError::TaskPayloadTooSmall(..) => "TaskPayloadTooSmall",
+            EntryPointError::RayPayloadInInvalidStage(..) => "RayPayloadInInvalidStage",
+            EntryPointError::IncomingRayPayloadInInvalidStage(..) =>
+                "IncomingRayPayloadInInvalidStage",
+        }
+    }
+}
+
+/// Writes the variant's name, but for `RayPayloadInInvalidStage`, of which it writes the stages that are meant.
+impl fmt::Display for EntryPointError {
+    fn fmt<W: fmt::Write>(&self, f: &mut fmt::Formatter<W>) -> fmt::Result {
+        f.write_str(match self {
             EntryPointError::RayPayloadInInvalidStage(_) =>
                 "Only the `ray_generation`, `closest_hit`, and `miss` shader stages can access a global variable in the `ray_payload` address space",
-            EntryPointError::IncomingRayPayloadInInvalidStage(_) =>
-                "IncomingRayPayloadInInvalidStage",
+            other => other.name(),
         })
     }
 }

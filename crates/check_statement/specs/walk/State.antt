@@ -14,7 +14,7 @@ use Rattle.check_scope.specs.Context.{Context}
 use Rattle.check_scope.specs.Results.{result_of, filled_before, filled_points}
 use Rattle.check_statement.specs.Rules.{points_at, stages_behind, stages_left}
 use Rattle.check_scope.specs.walk.Table.{filled_in}
-use Rattle.check_rays.specs.Traces.{trace_after, with_trace}
+use Rattle.check_resources.specs.Traces.{trace_after, with_trace}
 use Rattle.check_statement.specs.declared.state.BodyOutcome.{BodyOutcome}
 use Rattle.check_scope.specs.declared.table.FilledColumn.{FilledColumn}
 use Rattle.check_scope.specs.declared.trace.TraceState.{TraceState}

@@ -17,8 +17,7 @@ use Rattle.check_entry.proofs.EntrySteps.{passes_within}
 use Rattle.check_entry.specs.EntryVaryings.{argument_item, place_of}
 use Rattle.check_entry.proofs.Groups.{group_stops, group_goes_on, group_ends, parts_taken, seen_by_position}
 use Rattle.check_entry.proofs.interface.InterfaceContext.check_arguments.Goals as goal
-use Rattle.ir_facts.specs.Answers.{Answers, FirstOf, IsFirstFault, read_by, refusal_read_by}
-use Rattle.check_varyings.specs.VaryingFaults.{varying_fault_of}
+use Rattle.ir_facts.specs.Answers.{Answers, FirstOf, read_by}
 
 pub check_varying_item-requires-clause-types : goal.check_varying_item-requires-clause-types
 check_varying_item-requires-clause-types g c = types_name_each_other c.args.self.now.program.now c.requires.types

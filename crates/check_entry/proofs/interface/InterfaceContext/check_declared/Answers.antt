@@ -1,5 +1,5 @@
-use Rattle.std.proofs.Common.{◌≡◌, List, None, false, Result, Ok, Err, sym, ap, ◌∙◌, subst}
-use Rattle.ir_facts.specs.Points.{first_fault, within}
+use Rattle.std.proofs.Common.{List, false, Result, Ok, Err, sym, ap, ◌∙◌, subst}
+use Rattle.ir_facts.specs.Points.{within}
 use Rattle.ir_facts.specs.declared.valid.types.TypeInfo.{TypeInfo}
 use Rattle.ir_arena.specs.declared.span.Refusal.{Refusal}
 use Rattle.ir_types.specs.declared.built_in.BuiltIn.TheVariants.{Position}
@@ -12,8 +12,7 @@ use Rattle.check_faults.specs.declared.entry.EntryPointError.{EntryPointError}
 use Rattle.check_entry.proofs.EntrySteps.{passes_within}
 use Rattle.check_entry.proofs.Groups.{result_decides}
 use Rattle.check_entry.proofs.interface.InterfaceContext.check_declared.Goals as goal
-use Rattle.ir_facts.specs.Answers.{Answers, FirstOf, IsFirstFault, read_by, refusal_read_by}
-use Rattle.check_varyings.specs.VaryingFaults.{varying_fault_of}
+use Rattle.ir_facts.specs.Answers.{Answers, FirstOf, read_by}
 
 pub returns-in_default-clause-seen : goal.returns-in_default-clause-seen
 returns-in_default-clause-seen g c =

@@ -1,17 +1,14 @@
-use Rattle.std.proofs.Common.{rules, ◌≡◌, ◌∷◌, ◌++◌, true, false, None, [], refl, sym, ap, ◌∙◌, subst}
+use Rattle.std.proofs.Common.{rules, ◌≡◌, ◌∷◌, ◌++◌, true, false, None, [], sym, ◌∙◌, subst}
 use Rattle.ir_facts.specs.Points.{first_fault, within}
 use Rattle.ir_types.specs.TypeTests.{it_is}
 use Rattle.ir_types.specs.Types.{inner_at}
-use Rattle.ir_types.specs.declared.built_in.BuiltIn.TheVariants.{PointIndex, LineIndices, TriangleIndices}
-use Rattle.check_varyings.proofs.Seeing.{sees_locations_alone}
-use Rattle.check_varyings.specs.Seen.{Seen}
-use Rattle.check_varyings.specs.Varyings.{parts_of, placed_parts, points_from, seen_in, seen_with}
+use Rattle.check_varyings.specs.Varyings.{parts_of, placed_parts, points_from, seen_in}
 use Rattle.check_varyings.specs.declared.varying.MeshOutputType.TheVariants.{VertexOutput, PrimitiveOutput}
 use Rattle.check_entry.specs.EntryFaults.{OfResult, Other, fault_of}
-use Rattle.check_entry.specs.EntryVaryings.{has_one_of_indices, is_one_of_three, is_struct, output_item, output_points, place_of}
+use Rattle.check_entry.specs.EntryVaryings.{has_one_of_indices, is_struct, output_item, output_points, place_of}
 use Rattle.check_faults.specs.declared.entry.EntryPointError.TheVariants as fault
 use Rattle.check_entry.proofs.EntrySteps.{judges_first, refuses_as}
-use Rattle.check_entry.proofs.Groups.{last_fails, last_holds, output_by_position}
+use Rattle.check_entry.proofs.Groups.{indices_by_position, last_fails, last_holds, output_by_position}
 use Rattle.check_entry.proofs.interface.InterfaceContext.check_primitive_output.Goals as goal
 use Rattle.ir_facts.specs.Answers.{Answers, FirstOf, read_by}
 
@@ -42,9 +39,7 @@ returns-then-not-has_one_of_indices g c =
     let out = output_points settings types infos ep PrimitiveOutput earlier ty in
     let by = output_by_position types infos settings ep PrimitiveOutput earlier (seen_in c.args.state.now) ty c.requires.seen in
     let none = subst (λ points. first_fault points ≡ None) by c.in_ok-check_output.ensures.fault in
-    let alone = sees_locations_alone (place_of settings ep true PrimitiveOutput) (place_of settings ep true VertexOutput) (parts_of types infos vertex None) refl in
-    let seen = c.in_ok-check_output.ensures.seen ∙ ap (λ (s : Seen). seen_with s parts) (c.requires.seen ∙ alone) in
-    let same = sym (c.has_one_of_indices.ensures ∙ ap (λ (s : Seen). is_one_of_three (s.built_ins PointIndex) (s.built_ins LineIndices) (s.built_ins TriangleIndices)) seen) in
+    let same = sym (c.has_one_of_indices.ensures ∙ indices_by_position types infos settings ep vertex ty (seen_in c.args.state.now) (seen_in c.check_output.new.state) c.requires.seen c.in_ok-check_output.ensures.seen) in
     let no : c.has_one_of_indices.result ≡ false = search rules in
     refuses_as fault.InvalidMeshPrimitiveOutputType c.refusal.result (out ++ ((has_one_of_indices parts, Other fault.InvalidMeshPrimitiveOutputType) ∷ [])) c.refusal.ensures
     (last_fails out (has_one_of_indices parts) (Other fault.InvalidMeshPrimitiveOutputType) none (same ∙ no))
@@ -62,8 +57,6 @@ returns g c =
     let out = output_points settings types infos ep PrimitiveOutput earlier ty in
     let by = output_by_position types infos settings ep PrimitiveOutput earlier (seen_in c.args.state.now) ty c.requires.seen in
     let none = subst (λ points. first_fault points ≡ None) by c.in_ok-check_output.ensures.fault in
-    let alone = sees_locations_alone (place_of settings ep true PrimitiveOutput) (place_of settings ep true VertexOutput) (parts_of types infos vertex None) refl in
-    let seen = c.in_ok-check_output.ensures.seen ∙ ap (λ (s : Seen). seen_with s parts) (c.requires.seen ∙ alone) in
-    let same = sym (c.has_one_of_indices.ensures ∙ ap (λ (s : Seen). is_one_of_three (s.built_ins PointIndex) (s.built_ins LineIndices) (s.built_ins TriangleIndices)) seen) in
+    let same = sym (c.has_one_of_indices.ensures ∙ indices_by_position types infos settings ep vertex ty (seen_in c.args.state.now) (seen_in c.check_output.new.state) c.requires.seen c.in_ok-check_output.ensures.seen) in
     let yes : c.has_one_of_indices.result ≡ true = search rules in
     last_holds out (has_one_of_indices parts) (Other fault.InvalidMeshPrimitiveOutputType) none (same ∙ yes)

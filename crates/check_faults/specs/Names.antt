@@ -1,0 +1,35 @@
+-- The names of errors of entry points: naga's names of their variants.
+use Rattle.std.specs.Prelude.{ℕ, List, codes}
+use Rattle.check_faults.specs.declared.entry.EntryPointError.{EntryPointError}
+use Rattle.check_faults.specs.declared.entry.EntryPointError.TheVariants as faults
+
+unfoldable pub entry_error_name : EntryPointError → List ℕ
+entry_error_name faults.Conflict = codes "Conflict"
+entry_error_name faults.MissingVertexOutputPosition = codes "MissingVertexOutputPosition"
+entry_error_name faults.UnexpectedEarlyDepthTest = codes "UnexpectedEarlyDepthTest"
+entry_error_name faults.UnexpectedWorkgroupSize = codes "UnexpectedWorkgroupSize"
+entry_error_name faults.OutOfRangeWorkgroupSize = codes "OutOfRangeWorkgroupSize"
+entry_error_name faults.ForbiddenStageOperations = codes "ForbiddenStageOperations"
+entry_error_name (faults.InvalidGlobalUsage _ _) = codes "InvalidGlobalUsage"
+entry_error_name faults.MoreThanOneImmediateUsed = codes "MoreThanOneImmediateUsed"
+entry_error_name (faults.BindingCollision _) = codes "BindingCollision"
+entry_error_name (faults.Argument _ _) = codes "Argument"
+entry_error_name (faults.Result _) = codes "Result"
+entry_error_name (faults.Function _) = codes "Function"
+entry_error_name (faults.UnsupportedCapability _) = codes "UnsupportedCapability"
+entry_error_name faults.ExpectedMeshShaderAttributes = codes "ExpectedMeshShaderAttributes"
+entry_error_name faults.UnexpectedMeshShaderAttributes = codes "UnexpectedMeshShaderAttributes"
+entry_error_name faults.UnexpectedTaskPayload = codes "UnexpectedTaskPayload"
+entry_error_name faults.TaskPayloadWrongAddressSpace = codes "TaskPayloadWrongAddressSpace"
+entry_error_name faults.WrongTaskPayloadUsed = codes "WrongTaskPayloadUsed"
+entry_error_name faults.WrongTaskShaderEntryResult = codes "WrongTaskShaderEntryResult"
+entry_error_name faults.ExpectedTaskPayload = codes "ExpectedTaskPayload"
+entry_error_name faults.BadMeshOutputVariableType = codes "BadMeshOutputVariableType"
+entry_error_name faults.BadMeshOutputVariableField = codes "BadMeshOutputVariableField"
+entry_error_name faults.UnexpectedMeshShaderEntryResult = codes "UnexpectedMeshShaderEntryResult"
+entry_error_name faults.InvalidMeshOutputType = codes "InvalidMeshOutputType"
+entry_error_name faults.InvalidMeshPrimitiveOutputType = codes "InvalidMeshPrimitiveOutputType"
+entry_error_name faults.WrongMeshOutputAddressSpace = codes "WrongMeshOutputAddressSpace"
+entry_error_name (faults.TaskPayloadTooSmall _) = codes "TaskPayloadTooSmall"
+entry_error_name (faults.RayPayloadInInvalidStage _) = codes "RayPayloadInInvalidStage"
+entry_error_name (faults.IncomingRayPayloadInInvalidStage _) = codes "IncomingRayPayloadInInvalidStage"

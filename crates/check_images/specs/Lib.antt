@@ -1,4 +1,0 @@
-pub mod Image
-pub mod ImageStore
-pub mod ImageAtomic
-pub mod walk

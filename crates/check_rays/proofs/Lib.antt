@@ -1,2 +1,0 @@
-pub mod RayQueries
-pub mod RayTraces

@@ -1,3 +1,0 @@
-pub mod Traces
-pub mod RayQuery
-pub mod RayTrace

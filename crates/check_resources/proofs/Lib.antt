@@ -1,0 +1,4 @@
+pub mod Images
+pub mod ImageAtomics
+pub mod RayQueries
+pub mod RayTraces

@@ -1,0 +1,195 @@
+//! The check list of ImageStore.
+
+ghost use Rattle.std.specs.Prelude.{◌≡◌, ◌++◌, IfOk, IfSome, IsOk};
+ghost use Rattle.std.specs.Option.{option_copied};
+ghost use Rattle.ir_types.specs.Members.{HasNoMembers};
+ghost use Rattle.check_scope.specs.walk.Findings.{RefusesFaultsAlone};
+ghost use Rattle.ir_facts.specs.Answers.{Answers, Finds, FirstOf};
+ghost use Rattle.check_resources.specs.walk.ImageParts.{stored_points, texel_value_points};
+ghost use Rattle.check_resources.specs.ImageStore.{stored_type, image_store_points};
+ghost use Rattle.check_scope.specs.walk.Place.{place_at};
+ghost use Rattle.check_scope.specs.walk.SeenContext.{context_of};
+ghost use Rattle.check_scope.specs.ExpressionTypes.{type_at};
+ghost use Rattle.check_scope.specs.walk.Table.{known};
+
+use crate::image::{ImageShape, ImageStatement, Texel, check_texel, element_of, image_global};
+use check_scope::context::BlockContext;
+use check_scope::refuse::{answer, check_use};
+use check_scope::refused::Refused;
+use check_scope::roots::access_base;
+use check_scope::table::ScopeColumn;
+use check_scope::types::inner_at;
+use ir_arena::handle::Handle;
+use ir_arena::span::Span;
+use ir_arena::tag;
+use ir_errors::expression::ExpressionError;
+use ir_errors::function::FunctionError;
+use ir_types::types::{ImageClass, Scalar, StorageFormat, TypeInner, VectorSize};
+use std::alloc::{AllocError, Global};
+
+/// An image in storage: its shape, and the format of its texels.
+#[derive(Clone, Copy)]
+struct StorageImage {
+    shape: ImageShape,
+    format: StorageFormat,
+}
+
+/// The value that is stored, with its type, for the fault that names it.
+#[derive(Drop)]
+struct StoredValue {
+    handle: Handle<tag::Expression>,
+    ty: Option<TypeInner>,
+}
+
+/// ImageStore: its image, the texel, and the value.
+pub fn check_image_store(
+    scope: &ScopeColumn,
+    context: &BlockContext,
+    image: Handle<tag::Expression>,
+    texel: Texel,
+    value: Handle<tag::Expression>,
+    span: Span,
+) -> Result<(), Refused>
+    ensures fault { Answers (FirstOf (image_store_points (context_of context.now) (place_at (known scope.now)) image
+        texel.coordinate texel.array_index value)) result }
+    ensures refused { RefusesFaultsAlone
+        (image_store_points (context_of context.now) (place_at (known scope.now)) image texel.coordinate texel.array_index value)
+        result }
+{
+    let alloc = scope.allocator();
+    let given = type_of(alloc, context, value)?;
+    let stored = StoredValue {
+        handle: value,
+        ty: given,
+    };
+    let checked = check_image_store_points(scope, context, image, texel, stored);
+    answer(alloc, checked, span)
+}
+
+/// The type of a value, for the fault that names it. Only that of a struct takes memory.
+fn type_of(
+    alloc: Global,
+    context: &BlockContext,
+    value: Handle<tag::Expression>,
+) -> Result<Option<TypeInner>, AllocError>
+    ensures given { IfOk result (λ given. given ≡ type_at (context_of context.now) value) }
+    ensures without_memory { IfSome (type_at (context_of context.now) value) HasNoMembers → IsOk result }
+{
+    match context.type_inner(value) {
+        Some(inner) => Ok(Some(inner.clone(alloc)?)),
+        None => Ok(None),
+    }
+}
+
+/// All that is checked of an image store.
+fn check_image_store_points(
+    scope: &ScopeColumn,
+    context: &BlockContext,
+    image: Handle<tag::Expression>,
+    texel: Texel,
+    value: StoredValue,
+) -> Result<(), FunctionError>
+    requires { value.ty ≡ type_at (context_of context.now) value.handle }
+    ensures { Finds (FirstOf (image_store_points (context_of context.now) (place_at (known scope.now)) image
+        texel.coordinate texel.array_index value.handle)) result }
+{
+    let Some(ty) = image_global(context, image) else {
+        let error = ExpressionError::ExpectedGlobalVariable;
+        return Err(FunctionError::InvalidImageStore(error));
+    };
+    let is_element = access_base(context.expression(image)).is_some();
+    if is_element && element_of(inner_at(context, ty)).is_none() {
+        let error = ExpressionError::ExpectedBindingArrayType(ty);
+        return Err(FunctionError::InvalidImageStore(error));
+    }
+    let Some(
+        TypeInner::Image {
+            dim,
+            arrayed,
+            class,
+        },
+    ) = stored_type(context, is_element, ty)
+    else {
+        let error = ExpressionError::ExpectedImageType(ty);
+        return Err(FunctionError::InvalidImageStore(error));
+    };
+    let ImageClass::Storage { format, .. } = *class else {
+        let error = ExpressionError::InvalidImageClass(*class);
+        return Err(FunctionError::InvalidImageStore(error));
+    };
+    let image = StorageImage {
+        shape: ImageShape {
+            dim: *dim,
+            arrayed: *arrayed,
+        },
+        format,
+    };
+    check_stored(scope, context, image, texel, value)
+}
+
+/// The type of a global, or that of its elements.
+fn stored_type<'a>(
+    context: &BlockContext<'a>,
+    is_element: bool,
+    ty: Handle<tag::Type>,
+) -> Option<&'a TypeInner>
+    ensures { option_copied result ≡ stored_type (context_of context.now).program.types is_element ty }
+{
+    if is_element {
+        match element_of(inner_at(context, ty)) {
+            Some(element) => inner_at(context, element),
+            None => None,
+        }
+    } else {
+        inner_at(context, ty)
+    }
+}
+
+/// The texel and the value.
+#[tactic(auto, using(ir_facts::proofs::Points::first_of_both))]
+fn check_stored(
+    scope: &ScopeColumn,
+    context: &BlockContext,
+    image: StorageImage,
+    texel: Texel,
+    value: StoredValue,
+) -> Result<(), FunctionError>
+    requires { value.ty ≡ type_at (context_of context.now) value.handle }
+    ensures { Finds (FirstOf (stored_points (context_of context.now) (place_at (known scope.now)) image.shape.dim
+        image.shape.arrayed texel.coordinate texel.array_index image.format value.handle)) result }
+{
+    check_texel(ImageStatement::Store, scope, context, image.shape, texel)?;
+    check_texel_value(scope, context, image.format, value)
+}
+
+/// The value: put by every run, and what a texel holds.
+fn check_texel_value(
+    scope: &ScopeColumn,
+    context: &BlockContext,
+    format: StorageFormat,
+    value: StoredValue,
+) -> Result<(), FunctionError>
+    requires { value.ty ≡ type_at (context_of context.now) value.handle }
+    ensures { Finds (FirstOf (texel_value_points (context_of context.now) (place_at (known scope.now)) format
+        value.handle)) result }
+{
+    let StoredValue { handle, ty } = value;
+    check_use(scope, handle)?;
+    let expected_ty = TypeInner::Vector {
+        size: VectorSize::Quad,
+        scalar: Scalar::from(format),
+    };
+    match ty {
+        Some(actual_ty) => {
+            if actual_ty == expected_ty {
+                return Ok(());
+            }
+            Err(FunctionError::InvalidStoreValue {
+                actual: handle,
+                actual_ty,
+                expected_ty,
+            })
+        }
+        None => Ok(()),
+    }
+}
