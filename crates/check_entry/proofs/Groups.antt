@@ -103,8 +103,8 @@ module _ (types : List IrType) (infos : List TypeInfo) where
   pub struct_decides : {T : Type 0} (place found : VaryingPlace) (seen : Seen) (ty : ℕ) (r : Result T (Refusal EntryPointError)) → found ≡ place → it_is is_struct (inner_at types ty) ≡ true →
       Answers (FirstOf (within OfResult (points_from found types infos seen ty None))) (read_by fault_of r) →
       Answers (FirstOf ((it_is is_struct (inner_at types ty), Other fault.InvalidMeshOutputType) ∷ within OfResult (points_from place types infos seen ty None))) (read_by fault_of r)
-  struct_decides place found seen ty r is yes h =
-      subst (λ b. Answers (FirstOf ((b, Other fault.InvalidMeshOutputType) ∷ within OfResult (points_from place types infos seen ty None))) (read_by fault_of r)) (sym yes)
+  struct_decides place found seen ty r is structure h =
+      subst (λ b. Answers (FirstOf ((b, Other fault.InvalidMeshOutputType) ∷ within OfResult (points_from place types infos seen ty None))) (read_by fault_of r)) (sym structure)
       (subst (λ p. Answers (FirstOf (within OfResult (points_from p types infos seen ty None))) (read_by fault_of r)) is h)
 
   -- what is left of indices behind an output of primitives is what its own parts have

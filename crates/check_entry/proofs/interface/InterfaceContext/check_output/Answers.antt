@@ -1,4 +1,4 @@
-use Rattle.std.proofs.Common.{rules, None, Result, Ok, Err}
+use Rattle.std.proofs.Common.{rules, true, None, Result, Ok, Err}
 use Rattle.ir_arena.specs.declared.span.Refusal.{Refusal}
 use Rattle.check_varyings.specs.Varyings.{points_from, seen_in}
 use Rattle.check_entry.specs.EntryFaults.{OfResult}
