@@ -1,8 +1,9 @@
 //! Tests of the IR, of errors and of the parts of the validator by themselves.
 //!
-//! A test makes what owns memory by a helper, hands references to helpers that assert, and lets it go by `drop`: so the
-//! proofs stay small.
+//! A test makes what owns memory by a helper, hands references to helpers that assert, and lets it go by a call: so the proofs
+//! stay small.
 
+use ir_module::Module;
 use std::process::Abort;
 
 /// What `assert!` does, by a call: a function that asserts much is then quick to prove.
@@ -27,7 +28,5 @@ fn made<T, E>(rt: &impl Abort, answer: Result<T, E>) -> T {
     }
 }
 
-/// Two values are equal.
-fn expect_equal<T: PartialEq>(rt: &impl Abort, first: &T, second: &T) {
-    holds!(rt; *first == *second);
-}
+/// Lets a module go: by a call of its own, since a function that lets one go itself takes seconds to prove.
+fn let_go(_module: Module) {}

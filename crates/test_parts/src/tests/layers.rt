@@ -1,7 +1,7 @@
 //! The lower layers by themselves: the plain one, asked by code that knows the laws alone; and recorded facts, where no document
 //! asks for them.
 
-use crate::tests::made;
+use crate::tests::{let_go, made};
 use ir_arena::{Arena, Handle, Span};
 use ir_facts::{Below, ExpressionKindTracker};
 use ir_module::{Expression, Literal, Module};
@@ -164,5 +164,5 @@ fn expect_sizes(rt: &impl Abort, module: &Module) {
 fn sizes(rt: HostRuntime) {
     let module = module_of_sizes(&rt);
     expect_sizes(&rt, &module);
-    drop(module);
+    let_go(module);
 }

@@ -1,7 +1,7 @@
 //! What no document says of computed types: how types are aligned that nothing holds, and types that name themselves.
 //! All else that the `layer_` crates compute is shown by documents of the stored run (`typed`, `computed`).
 
-use crate::tests::made;
+use crate::tests::{let_go, made};
 use ir_arena::{Handle, Span};
 use ir_errors::Disalignment;
 use ir_facts::TypeInfo;
@@ -165,7 +165,7 @@ fn expect_infos(rt: &impl Abort, infos: &[TypeInfo]) {
 fn types_that_nothing_holds(rt: HostRuntime) {
     let module = module_of(rt.alloc(), types_of_rows(&rt));
     let infos = made(&rt, type_infos(rt.alloc(), &module));
-    drop(module);
+    let_go(module);
     expect_infos(&rt, infos.as_slice());
     drop(infos);
 }
@@ -205,7 +205,7 @@ fn expect_last(rt: &impl Abort, infos: &[TypeInfo]) {
 fn types_that_name_each_other_deep(rt: HostRuntime) {
     let module = module_of(rt.alloc(), tower(&rt, 100000));
     let infos = made(&rt, type_infos(rt.alloc(), &module));
-    drop(module);
+    let_go(module);
     expect_last(&rt, infos.as_slice());
     drop(infos);
 }

@@ -1,21 +1,14 @@
 //! Questions about types, by tables of cases.
 
-ghost use Rattle.std.specs.Prelude.{◌↔◌, IsTrue};
-ghost use Rattle.ir_types.specs.Types.{ResolutionFits};
-
 use crate::tests::ir::scalar_type;
 use crate::tests::made;
-use bitflags::Flags;
-use ir_arena::{Handle, Sequence, Span};
-use ir_facts::{ExpressionKind, ExpressionKindTracker};
+use ir_arena::{Handle, Span};
 use ir_flags::{StorageAccess, SubgroupOperationSet};
 use ir_misfits::fits::names_types_below;
-use ir_misfits::fits_types;
-use ir_module::{Expression, Module};
 use ir_statements::{GatherMode, SubgroupOperation};
 use ir_types::{
-    AddressSpace, ImageDimension, Name, Scalar, ScalarKind, StorageFormat, StructMember, Type,
-    TypeInner, TypeResolution, UniqueArena, VectorSize, compare_types,
+    AddressSpace, ImageDimension, Scalar, ScalarKind, StorageFormat, Type, TypeInner,
+    TypeResolution, UniqueArena, VectorSize,
 };
 use std::process::Abort;
 
@@ -91,68 +84,6 @@ fn a_pointer_to_a_scalar_is_a_value_pointer(rt: HostRuntime) {
     drop(types);
 }
 
-/// A module of the type u32 alone.
-fn module_of_u32(rt: &(impl Abort + AllocGlobal)) -> Module {
-    let mut module = Module::new(rt.alloc());
-    module.types = types_of_u32(rt);
-    module
-}
-
-/// Whether the type is there, or names types that are there.
-fn fits_resolution(resolution: &TypeResolution, count: usize) -> bool
-    ensures { IsTrue result ↔ ResolutionFits count resolution.now }
-{
-    match resolution {
-        TypeResolution::Handle(handle) => handle.index() < count,
-        TypeResolution::Value(inner) => names_types_below(inner, count),
-    }
-}
-
-/// The two are the same type.
-#[tactic(auto, using(ir_facts::proofs::Callers::types_name_each_other))]
-fn expect_same_type(
-    rt: &impl Abort,
-    module: &Module,
-    first: &TypeResolution,
-    second: &TypeResolution,
-) {
-    holds!(rt; fits_types(module));
-    holds!(rt; fits_resolution(first, module.types.len()));
-    holds!(rt; fits_resolution(second, module.types.len()));
-    holds!(rt; compare_types(first, second, &module.types));
-}
-
-/// The resolution resolves to u32.
-fn expect_u32(rt: &impl Abort, module: &Module, resolution: &TypeResolution) {
-    holds!(rt; fits_resolution(resolution, module.types.len()));
-    let inner = resolution.inner_with(&module.types);
-    holds!(rt; matches!(inner, TypeInner::Scalar(scalar) if *scalar == Scalar::U32));
-}
-
-/// The pointer and the value pointer are compared as types of expressions.
-fn compare_pointers(rt: &impl Abort, module: &Module) {
-    let pointers = [
-        TypeResolution::Value(pointer()),
-        TypeResolution::Value(value_pointer()),
-    ];
-    expect_same_type(rt, module, &pointers[0], &pointers[1]);
-    drop(pointers);
-}
-
-/// Type 0 is resolved.
-fn resolve_first(rt: &impl Abort, module: &Module) {
-    let first = TypeResolution::Handle(Handle::new(0));
-    expect_u32(rt, module, &first);
-}
-
-#[test]
-fn resolutions_are_compared(rt: HostRuntime) {
-    let module = module_of_u32(&rt);
-    compare_pointers(&rt, &module);
-    resolve_first(&rt, &module);
-    drop(module);
-}
-
 /// The vector of u32 of a size.
 fn vector(size: VectorSize) -> TypeInner {
     TypeInner::Vector {
@@ -216,74 +147,4 @@ fn spaces_and_statements_require(rt: HostRuntime) {
     }
     holds!(&rt; SubgroupOperation::Xor.required_operations() == SubgroupOperationSet::ARITHMETIC);
     holds!(&rt; GatherMode::QuadSwap(0).required_operations() == SubgroupOperationSet::QUAD);
-}
-
-fn member(rt: &(impl Abort + AllocGlobal), name: &str, ty: u32) -> StructMember {
-    StructMember {
-        name: Some(Name::from(made(rt, String::from_str(rt.alloc(), name)))),
-        ty: Handle::new(ty),
-        binding: None,
-        offset: 0,
-    }
-}
-
-/// The types i32 and bool.
-fn types_of_exchange(rt: &(impl Abort + AllocGlobal)) -> UniqueArena<Type> {
-    let mut types = UniqueArena::new(rt.alloc());
-    made(rt, types.insert(scalar_type(Scalar::I32), Span::UNDEFINED));
-    made(rt, types.insert(scalar_type(Scalar::BOOL), Span::UNDEFINED));
-    types
-}
-
-/// What a compare exchange of the first gives.
-fn exchanged(rt: &(impl Abort + AllocGlobal)) -> TypeInner {
-    let mut members = Sequence::new(rt.alloc());
-    made(rt, members.push(member(rt, "old_value", 0)));
-    made(rt, members.push(member(rt, "exchanged", 1)));
-    TypeInner::Struct { members, span: 8 }
-}
-
-/// The outcome is that of a compare exchange of i32, and not of u32.
-fn expect_exchange(rt: &impl Abort, outcome: &TypeInner, types: &UniqueArena<Type>) {
-    holds!(rt; types.len() == 2);
-    holds!(rt; names_types_below(outcome, types.len()));
-    holds!(rt; outcome.is_compare_exchange_struct(Scalar::I32, types));
-    holds!(rt; !outcome.is_compare_exchange_struct(Scalar::U32, types));
-}
-
-#[test]
-fn a_compare_exchange_gives_a_struct(rt: HostRuntime) {
-    let types = types_of_exchange(&rt);
-    let outcome = exchanged(&rt);
-    expect_exchange(&rt, &outcome, &types);
-    drop(outcome);
-    drop(types);
-}
-
-/// Tracks an override, which is no constant.
-fn track_override(rt: &impl Abort, kinds: &mut ExpressionKindTracker) {
-    holds!(rt; kinds.is_empty());
-    made(rt, kinds.push(ExpressionKind::Override));
-    holds!(rt; kinds.len() == 1);
-    holds!(rt; !kinds.is_const(Handle::new(0)));
-    holds!(rt; kinds.is_const_or_override(Handle::new(0)));
-}
-
-/// Whether an expression is there before the statements.
-fn expect_pre_emit(rt: &impl Abort, expression: &Expression, needs: bool) {
-    holds!(rt; expression.needs_pre_emit() == needs);
-}
-
-#[test]
-fn kinds_are_tracked(rt: HostRuntime) {
-    let mut kinds = ExpressionKindTracker::new(rt.alloc());
-    track_override(&rt, &mut kinds);
-    let rows = [
-        (Expression::FunctionArgument(0), true),
-        (Expression::SubgroupBallotResult, false),
-    ];
-    for (expression, needs) in &rows {
-        expect_pre_emit(&rt, expression, *needs);
-    }
-    drop(rows);
 }

@@ -5,7 +5,7 @@ ghost use Rattle.std.specs.Prelude.{◌≡◌, ◌<◌, length};
 use crate::tests::layers::{
     HERE, LITERAL, add, composed, expect_kinds, expressions_of_kinds, put, unary,
 };
-use crate::tests::made;
+use crate::tests::{let_go, made};
 use bitflags::Flags;
 use ir_arena::{Arena, Handle, Refusal, tag};
 use ir_errors::{ExpressionError, FunctionError};
@@ -233,17 +233,26 @@ fn ask(rt: &(impl Abort + AllocGlobal), fun: &Function, program: &Module) {
     drop(infos);
 }
 
+/// Whether an answer is a refusal. None is out of memory.
+fn is_refused(answer: &Result<FunctionInfo, Refusal<FunctionError>>) -> Option<bool> {
+    match answer {
+        Ok(_) => Some(false),
+        Err(Refusal::Fault(_)) => Some(true),
+        Err(Refusal::Memory) => None,
+    }
+}
+
 /// Whether a function is refused. None is out of memory.
 fn refusal_of(alloc: Global, fun: &Function, module: &Module) -> Option<bool> {
     let infos = ModuleInfo::new(alloc);
     let flags = ValidationFlags::empty();
     let none = Capabilities::empty();
     let plain = Plain::without_mesh_shaders();
-    match plain.process_function(alloc, fun, module, &infos, flags, none) {
-        Ok(_) => Some(false),
-        Err(Refusal::Fault(_)) => Some(true),
-        Err(Refusal::Memory) => None,
-    }
+    let answer = plain.process_function(alloc, fun, module, &infos, flags, none);
+    drop(infos);
+    let refused = is_refused(&answer);
+    drop(answer);
+    refused
 }
 
 /// A function of one expression.
@@ -272,7 +281,7 @@ fn a_lawful_layer_answers(rt: HostRuntime) {
     expect_refused(&rt, &module, Expression::ZeroValue(Handle::new(3)));
     expect_refused(&rt, &module, Expression::FunctionArgument(0));
     drop(fun);
-    drop(module);
+    let_go(module);
 }
 
 /// The kinds of these expressions.

@@ -3,7 +3,7 @@
 
 use crate::tests::layers::plain::settings;
 use crate::tests::layers::{LITERAL, add, expect_kinds, expressions_of_kinds, put};
-use crate::tests::made;
+use crate::tests::{let_go, made};
 use bitflags::Flags;
 use ir_arena::{Handle, Refusal, Sequence};
 use ir_errors::{ExpressionError, MeshFault};
@@ -166,7 +166,7 @@ fn facts(rt: HostRuntime) {
     expect_meshes(&rt, &recorded, &module);
     ask(&rt, &recorded, &module);
     drop(recorded);
-    drop(module);
+    let_go(module);
 }
 
 #[test]

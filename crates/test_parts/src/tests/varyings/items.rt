@@ -1,7 +1,7 @@
 //! Items behind others: what each takes, and what is kept of one that is refused.
 
-use crate::tests::made;
 use crate::tests::varyings::places::at;
+use crate::tests::{let_go, made};
 use bitflags::Flags;
 use check_varyings::{VaryingPlace, VaryingState, check_varying_item};
 use ir_arena::{Handle, Refusal, Sequence, Span};
@@ -103,7 +103,7 @@ fn add_types(rt: &(impl Abort + AllocGlobal), types: &mut UniqueArena<Type>) {
     add(rt, types, structure(rt, &unbound, 8));
 }
 
-/// A module of the types. A test lets it go by `drop`, since a function that lets a module go itself is slow to prove.
+/// A module of the types.
 fn module_of_types(rt: &(impl Abort + AllocGlobal)) -> Module {
     let mut module = Module::new(rt.alloc());
     add_types(rt, &mut module.types);
@@ -265,5 +265,5 @@ fn items_behind_others(rt: HostRuntime) {
     blends_twice(&rt, &module);
     view_twice(&rt, &module);
     expect_members(&rt, &module);
-    drop(module);
+    let_go(module);
 }
