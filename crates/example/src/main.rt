@@ -116,36 +116,39 @@ fn body(alloc: Global, emits: bool) -> Result<Block, AllocError> {
     Ok(body)
 }
 
-/// The entry point of the module, for the compute stage.
-fn entry_points(alloc: Global, emits: bool) -> Result<Sequence<EntryPoint>, AllocError> {
-    let local_variables = locals(alloc)?;
-    let expressions = expressions(alloc)?;
-    let body = body(alloc, emits)?;
+/// Gives a function its local, its expressions and its body.
+fn fill_function(alloc: Global, function: &mut Function, emits: bool) -> Result<(), AllocError> {
+    function.local_variables = locals(alloc)?;
+    function.expressions = expressions(alloc)?;
+    function.body = body(alloc, emits)?;
+    Ok(())
+}
+
+/// The function of the entry point.
+fn function(alloc: Global, emits: bool) -> Result<Function, AllocError> {
     let mut function = Function::new(alloc);
-    function.local_variables = local_variables;
-    function.expressions = expressions;
-    function.body = body;
-    let mut entry_points = Sequence::new(alloc);
-    entry_points.push(EntryPoint {
+    fill_function(alloc, &mut function, emits)?;
+    Ok(function)
+}
+
+/// Gives a module the types, the global, and an entry point for the compute stage.
+fn fill_module(alloc: Global, module: &mut Module, emits: bool) -> Result<(), AllocError> {
+    module.types = types(alloc)?;
+    module.global_variables = globals(alloc)?;
+    module.entry_points.push(EntryPoint {
         stage: ShaderStage::Compute,
         early_depth_test: None,
         workgroup_size: [64, 1, 1],
-        function,
+        function: function(alloc, emits)?,
         mesh_info: None,
         task_payload: None,
-    })?;
-    Ok(entry_points)
+    })
 }
 
-/// A module of these types, this global and this entry point.
+/// The module.
 fn module(alloc: Global, emits: bool) -> Result<Module, AllocError> {
-    let types = types(alloc)?;
-    let global_variables = globals(alloc)?;
-    let entry_points = entry_points(alloc, emits)?;
     let mut module = Module::new(alloc);
-    module.types = types;
-    module.global_variables = global_variables;
-    module.entry_points = entry_points;
+    fill_module(alloc, &mut module, emits)?;
     Ok(module)
 }
 

@@ -145,7 +145,8 @@ fn read_bytes<R: Read>(alloc: Global, reader: &mut R) -> io::Result<Option<Vec<u
     Ok(Some(bytes))
 }
 
-/// Writes what is asked for of a text, with the end of its last line, and answers the exit status. An Err is out of memory.
+/// Writes what is asked for of a text, with the end of its last line, and answers the exit status. None is a text that there was
+/// no memory for. An Err is out of memory.
 fn write_answer(
     alloc: Global,
     text: &mut String,
@@ -153,10 +154,20 @@ fn write_answer(
     name: Option<&str>,
     bytes: &Option<Vec<u8>>,
 ) -> Result<u8, fmt::Error> {
-    match output {
-        Output::Verdict => write_for_person(alloc, text, false, name, bytes),
-        Output::Listing => write_for_person(alloc, text, true, name, bytes),
-        Output::Json | Output::JsonLines => write_as_json(alloc, text, name, bytes),
+    let examined = match bytes {
+        Some(bytes) => examine(alloc, bytes.as_slice()),
+        None => alone(None, Verdict::Refused(ModuleFault::Memory)),
+    };
+    let status = examined.verdict.status();
+    let written = match output {
+        Output::Verdict => write_for_person(alloc, text, false, name, &examined),
+        Output::Listing => write_for_person(alloc, text, true, name, &examined),
+        Output::Json | Output::JsonLines => write_as_json(alloc, text, name, &examined),
+    };
+    drop(examined);
+    match written {
+        Ok(()) => Ok(status),
+        Err(error) => Err(error),
     }
 }
 
@@ -166,44 +177,15 @@ fn write_for_person(
     text: &mut String,
     is_listed: bool,
     name: Option<&str>,
-    bytes: &Option<Vec<u8>>,
-) -> Result<u8, fmt::Error> {
+    examined: &Examined,
+) -> fmt::Result {
     if let Some(name) = name {
-        write_name(text, name)?;
+        text.push_str(name)?;
+        text.push_str(": ")?;
     }
-    let status = match bytes {
-        Some(bytes) => write_examination(alloc, text, is_listed, bytes.as_slice())?,
-        None => {
-            text.push_str("memory")?;
-            MEMORY
-        }
-    };
+    write_answered(alloc, text, examined, is_listed)?;
     text.push_str("\n")?;
-    Ok(status)
-}
-
-/// Writes the name of a file, before its verdict.
-fn write_name(text: &mut String, name: &str) -> fmt::Result {
-    text.push_str(name)?;
-    text.push_str(": ")?;
     Ok(())
-}
-
-/// Judges a text, writes its verdict for a person, and answers the exit status.
-fn write_examination(
-    alloc: Global,
-    text: &mut String,
-    is_listed: bool,
-    bytes: &[u8],
-) -> Result<u8, fmt::Error> {
-    let examined = examine(alloc, bytes);
-    let written = write_answered(alloc, text, &examined, is_listed);
-    let status = examined.verdict.status();
-    drop(examined);
-    match written {
-        Ok(()) => Ok(status),
-        Err(_) => Err(fmt::Error),
-    }
 }
 
 /// Writes a verdict as JSON, in an object after the name of its file.
@@ -211,37 +193,12 @@ fn write_as_json(
     alloc: Global,
     text: &mut String,
     name: Option<&str>,
-    bytes: &Option<Vec<u8>>,
-) -> Result<u8, fmt::Error> {
-    let (status, line) = answered(alloc, name, bytes);
-    match line {
-        Ok(line) => write_line(text, line.as_str())?,
-        Err(_) => return Err(fmt::Error),
-    }
-    Ok(status)
-}
-
-/// Writes a line, with its end.
-fn write_line(text: &mut String, line: &str) -> fmt::Result {
-    text.push_str(line)?;
+    examined: &Examined,
+) -> fmt::Result {
+    let line = line_of(alloc, name, examined)?;
+    text.push_str(line.as_str())?;
     text.push_str("\n")?;
     Ok(())
-}
-
-/// The exit status and the line of a verdict.
-fn answered(
-    alloc: Global,
-    name: Option<&str>,
-    bytes: &Option<Vec<u8>>,
-) -> (u8, Result<String, AllocError>) {
-    let examined = match bytes {
-        Some(bytes) => examine(alloc, bytes.as_slice()),
-        None => alone(None, Verdict::Refused(ModuleFault::Memory)),
-    };
-    let status = examined.verdict.status();
-    let line = line_of(alloc, name, &examined);
-    drop(examined);
-    (status, line)
 }
 
 /// The line of a verdict: as JSON, or in an object after the name of its file.

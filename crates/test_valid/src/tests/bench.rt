@@ -191,6 +191,11 @@ pub struct Bench {
     pub infos: ModuleInfo,
 }
 
+impl Bench {
+    /// Lets it go, as [`let_go`](crate::tests::parts::let_go) does.
+    pub fn let_go(self) {}
+}
+
 pub fn make_bench(rt: &(impl Abort + AllocGlobal)) -> Bench {
     Bench {
         module: module(rt, Sequence::new(rt.alloc())),

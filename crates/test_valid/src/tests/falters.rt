@@ -3,6 +3,7 @@
 use crate::tests::bench::{Bench, make_bench};
 use crate::tests::faltering::Faltering;
 use crate::tests::judged::{expect_own, layer, module_falters, module_of, validator_over};
+use crate::tests::parts::let_go;
 use crate::tests::rows::{CALLING_KILL, FORBIDDEN, ROWS, Row, left_by};
 use naga_below::Module;
 use std::cell::Cell;
@@ -46,7 +47,7 @@ fn rows_over_a_layer_that_falters(rt: HostRuntime) {
     for row in &ROWS {
         expect_refusals(&rt, &bench, row);
     }
-    drop(bench);
+    bench.let_go();
 }
 
 /// The same of a module with the entry point of a row: the same call, made again, has the row's own answer.
@@ -81,8 +82,8 @@ fn expect_module_refusals(rt: &(impl Abort + AllocGlobal), module: &Module, row:
 fn modules_over_a_layer_that_falters(rt: HostRuntime) {
     let accepted = module_of(&rt, &CALLING_KILL);
     expect_module_refusals(&rt, &accepted, &CALLING_KILL);
-    drop(accepted);
+    let_go(accepted);
     let refused = module_of(&rt, &FORBIDDEN);
     expect_module_refusals(&rt, &refused, &FORBIDDEN);
-    drop(refused);
+    let_go(refused);
 }

@@ -4,7 +4,7 @@ use crate::tests::bench::{Bench, infos_of_types, module, triangles};
 use crate::tests::parts::{SETTINGS, expect_text, known, made};
 use crate::tests::rows::{Row, entry_point, function};
 use naga_below::{
-    EntryPoint, Function, FunctionInfo, Handle, Module, Refusal, Sequence, fits_entry,
+    EntryPoint, Function, FunctionInfo, Handle, Module, ModuleInfo, Refusal, Sequence, fits_entry,
     fits_function, fits_types,
 };
 use naga_layers::plain::Plain;
@@ -151,6 +151,19 @@ pub fn expect_own<B: Below>(
     is_refused
 }
 
+/// What is told of what `check_module` answers.
+fn told_of(rt: &(impl Abort + AllocGlobal), answer: &Result<ModuleInfo, ModuleFault>) -> Answer {
+    match answer {
+        Ok(_) => Answer::Accepted,
+        Err(ModuleFault::Memory) => Answer::Memory,
+        Err(fault) => {
+            let mut told = String::new(rt.alloc());
+            made(rt, write_module_fault(&mut told, fault));
+            Answer::Told(told)
+        }
+    }
+}
+
 /// What `check_module` answers of a module of these types.
 pub fn ask_module<B: Below + Drop>(
     rt: &(impl Abort + AllocGlobal),
@@ -161,15 +174,10 @@ pub fn ask_module<B: Below + Drop>(
         types: infos_of_types(rt, known()),
         global_types: Vec::new(rt.alloc()),
     };
-    match check_module(rt.alloc(), below, SETTINGS, given, module) {
-        Ok(_) => Answer::Accepted,
-        Err(ModuleFault::Memory) => Answer::Memory,
-        Err(fault) => {
-            let mut told = String::new(rt.alloc());
-            made(rt, write_module_fault(&mut told, &fault));
-            Answer::Told(told)
-        }
-    }
+    let answer = check_module(rt.alloc(), below, SETTINGS, given, module);
+    let told = told_of(rt, &answer);
+    drop(answer);
+    told
 }
 
 /// The module of `bench` with the entry point of a row.

@@ -125,7 +125,7 @@ fn refusals_pass_into_anyhow(rt: HostRuntime) {
     let fun = function(&rt, &MISLED);
     expect_passed(&rt, &fun, &bench, "InvalidRayDescriptor");
     drop(fun);
-    drop(bench);
+    bench.let_go();
 }
 
 /// Passes a fault with its places on.
