@@ -4,6 +4,7 @@ ghost use Rattle.std.specs.Prelude.{◌≡◌};
 ghost use Rattle.ir_errors.specs.declared.function.FunctionError.TheVariants.{InvalidAtomic, InvalidSubgroup};
 
 mod clones;
+mod parts;
 mod texts;
 
 use crate::analyzer::{UniformityDisruptor, UniformityRequirements};
@@ -15,110 +16,84 @@ use ir_flags::valid::SubgroupOperationSet;
 use ir_statements::operations::{AtomicFunction, SwitchValue};
 use ir_types::name::Name;
 use ir_types::types::{AddressSpace, TypeInner};
-use thiserror::Error;
 
 /// What is wrong with a call of a function.
-#[derive(Clone, Copy, PartialEq, Debug, Error)]
+#[derive(Clone, Copy, PartialEq, Debug)]
 pub enum CallError {
     /// An argument, counted from 0, has this fault: it isn't in scope.
-    #[error("Argument")]
     Argument {
         index: usize,
         source: ExpressionError,
     },
     /// The result is in scope before the call.
-    #[error("ResultAlreadyInScope")]
     ResultAlreadyInScope(Handle<tag::Expression>),
     /// An earlier call or atomic operation has this result, or the flag EXPRESSIONS is off.
-    #[error("ResultAlreadyPopulated")]
     ResultAlreadyPopulated(Handle<tag::Expression>),
     /// The call passes another number of arguments than the function declares.
-    #[error("ArgumentCount")]
     ArgumentCount {
         required: usize,
         seen: usize,
     },
     /// An argument, counted from 0, is of another type than the function declares.
-    #[error("ArgumentType")]
     ArgumentType {
         index: usize,
         required: Handle<tag::Type>,
         seen_expression: Handle<tag::Expression>,
     },
     /// The call must have a result, a `CallResult` of its function, exactly if the function returns a value.
-    #[error("ExpressionMismatch")]
     ExpressionMismatch(Option<Handle<tag::Expression>>),
 }
 
 /// What is wrong with an atomic operation.
-#[derive(Clone, Copy, PartialEq, Debug, Error)]
+#[derive(Clone, Copy, PartialEq, Debug)]
 pub enum AtomicError {
     /// The pointer doesn't point to an atomic.
-    #[error("InvalidPointer")]
     InvalidPointer(Handle<tag::Expression>),
     /// The operation isn't supported on this scalar type in this address space.
-    #[error("InvalidAddressSpace")]
     InvalidAddressSpace(AddressSpace),
     /// The value, or the value to compare with, is not of the atomic's scalar type.
-    #[error("InvalidOperand")]
     InvalidOperand(Handle<tag::Expression>),
     /// The operation isn't supported on the atomic's scalar type.
-    #[error("InvalidOperator")]
     InvalidOperator(AtomicFunction),
     /// The result is not an `AtomicResult`.
-    #[error("InvalidResultExpression")]
     InvalidResultExpression(Handle<tag::Expression>),
     /// The result is marked as that of a compare exchange, and the operation compares nothing.
-    #[error("ResultExpressionExchange")]
     ResultExpressionExchange(Handle<tag::Expression>),
     /// The operation is a compare exchange, and the result isn't marked as that of one.
-    #[error("ResultExpressionNotExchange")]
     ResultExpressionNotExchange(Handle<tag::Expression>),
     /// The result is of another type than the operation returns.
-    #[error("ResultTypeMismatch")]
     ResultTypeMismatch(Handle<tag::Expression>),
     /// An exchange that compares nothing must have a result.
-    #[error("MissingReturnValue")]
     MissingReturnValue,
     /// The target lacks a capability that the operation needs.
-    #[error("MissingCapability")]
     MissingCapability(Capabilities),
     /// An earlier call or atomic operation has this result, or the flag EXPRESSIONS is off.
-    #[error("ResultAlreadyPopulated")]
     ResultAlreadyPopulated(Handle<tag::Expression>),
 }
 
 /// What is wrong with an operation among the invocations of a subgroup.
-#[derive(Clone, Copy, PartialEq, Debug, Error)]
+#[derive(Clone, Copy, PartialEq, Debug)]
 pub enum SubgroupError {
     /// The operation isn't supported on the operand's type.
-    #[error("InvalidOperand")]
     InvalidOperand(Handle<tag::Expression>),
     /// The result is of another kind or type than the operation returns.
-    #[error("ResultTypeMismatch")]
     ResultTypeMismatch(Handle<tag::Expression>),
     /// The target doesn't support these subgroup operations.
-    #[error("UnsupportedOperation")]
     UnsupportedOperation(SubgroupOperationSet),
     /// A scan supports only Add and Mul.
-    #[error("UnknownOperation")]
     UnknownOperation,
     /// The index of a broadcast must be a constant.
-    #[error("InvalidInvocationIdExprType")]
     InvalidInvocationIdExprType(Handle<tag::Expression>),
 }
 
 /// What is wrong with a local variable.
-#[derive(Clone, Copy, PartialEq, Debug, Error)]
+#[derive(Clone, Copy, PartialEq, Debug)]
 pub enum LocalVariableError {
     /// The type of a local variable must be constructible.
-    #[error("InvalidType")]
     InvalidType(Handle<tag::Type>),
     /// The initializer is of another type than the variable.
-    #[error("InitializerType")]
     InitializerType,
     /// The initializer must be a constant or an override expression.
-    #[error("NonConstOrOverrideInitializer")]
     NonConstOrOverrideInitializer,
 }
 

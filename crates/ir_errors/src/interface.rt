@@ -12,61 +12,44 @@ use ir_flags::valid::TypeFlags;
 use ir_types::built_in::BuiltIn;
 use ir_types::stage::ShaderStage;
 use ir_types::types::{AddressSpace, Interpolation, Sampling, TypeInner};
-use thiserror::Error;
 
 /// What is wrong with a global variable.
-#[derive(Clone, Copy, PartialEq, Debug, Error)]
+#[derive(Clone, Copy, PartialEq, Debug)]
 pub enum GlobalVariableError {
     /// A global of this type can't be in this address space.
-    #[error("InvalidUsage")]
     InvalidUsage(AddressSpace),
     /// Only images, samplers, acceleration structures and ray queries can be in this address space.
-    #[error("InvalidType")]
     InvalidType(AddressSpace),
     /// The type can't be in a binding array. It is never made here.
-    #[error("InvalidBindingArray")]
     InvalidBindingArray(Handle<tag::Type>),
     /// The type lacks flags that the address space needs.
-    #[error("MissingTypeFlags")]
     MissingTypeFlags {
         required: TypeFlags,
         seen: TypeFlags,
     },
     /// The target lacks a capability that the global needs.
-    #[error("UnsupportedCapability")]
     UnsupportedCapability(Capabilities),
     /// A global must have a binding exactly if it is in `Storage`, `Uniform` or `Handle`.
-    #[error("InvalidBinding")]
     InvalidBinding,
     /// The layout of the type isn't valid in this address space, because of this inner type.
-    #[error("Alignment")]
     Alignment(AddressSpace, Handle<tag::Type>, Disalignment),
     /// The initializer must be a constant or an override expression.
-    #[error("InitializerExprType")]
     InitializerExprType,
     /// The initializer is of another type than the variable.
-    #[error("InitializerType")]
     InitializerType,
     /// A global in this address space can't have an initializer.
-    #[error("InitializerNotAllowed")]
     InitializerNotAllowed(AddressSpace),
     /// A global in `Storage` can't be write-only.
-    #[error("StorageAddressSpaceWriteOnlyNotSupported")]
     StorageAddressSpaceWriteOnlyNotSupported,
     /// The type can't be that of an immediate.
-    #[error("InvalidImmediateType")]
     InvalidImmediateType(ImmediateError),
     /// A task payload has a size of 0 bytes.
-    #[error("ZeroSizedTaskPayload")]
     ZeroSizedTaskPayload,
     /// Only a global in `Storage` can have memory decorations.
-    #[error("InvalidMemoryDecorationsAddressSpace")]
     InvalidMemoryDecorationsAddressSpace,
     /// The target doesn't support coherent memory.
-    #[error("CoherentNotSupported")]
     CoherentNotSupported,
     /// The target doesn't support volatile memory.
-    #[error("VolatileNotSupported")]
     VolatileNotSupported,
 }
 

@@ -1,5 +1,6 @@
 //! What is missing in recorded facts, or breaks a law.
 
+use crate::texts::write_length;
 use std::fmt;
 
 /// What is missing in the facts about a function, or breaks a law. Lists of an info go by their names in `InfoFact`.
@@ -41,16 +42,11 @@ pub enum Shortage {
 impl fmt::Display for Shortage {
     fn fmt<W: fmt::Write>(&self, f: &mut fmt::Formatter<W>) -> fmt::Result {
         match self {
-            Shortage::NoFact { found, wanted } => write!(
-                f,
-                "there is no fact: the list has {found} items, and {wanted} are wanted"
-            ),
-            Shortage::Types { found, wanted } => {
-                write!(f, "types has {found} items, and {wanted} are wanted")
+            Shortage::NoFact { found, wanted } => {
+                write_length(f, "there is no fact: the list ", *found, *wanted)
             }
-            Shortage::Uses { found, wanted } => {
-                write!(f, "uses has {found} items, and {wanted} are wanted")
-            }
+            Shortage::Types { found, wanted } => write_length(f, "types ", *found, *wanted),
+            Shortage::Uses { found, wanted } => write_length(f, "uses ", *found, *wanted),
             Shortage::UnknownType {
                 expression,
                 ty,
@@ -64,7 +60,7 @@ impl fmt::Display for Shortage {
                 "types gives expression {expression} a struct as a value, and not by its handle"
             ),
             Shortage::Expressions { found, wanted } => {
-                write!(f, "expressions has {found} items, and {wanted} are wanted")
+                write_length(f, "expressions ", *found, *wanted)
             }
         }
     }

@@ -97,41 +97,116 @@ fn write_type_field<W: fmt::Write>(
     }
 }
 
+/// Writes what something is, and its number: `the type of constant 3`.
+fn write_numbered<W: fmt::Write>(
+    f: &mut fmt::Formatter<W>,
+    what: &str,
+    number: usize,
+) -> fmt::Result {
+    write!(f, "{what} {number}")
+}
+
+/// Writes a part of something: `operand 0 of expression 7`.
+fn write_part<W: fmt::Write>(
+    f: &mut fmt::Formatter<W>,
+    part: &str,
+    index: usize,
+    whole: &str,
+    number: usize,
+) -> fmt::Result {
+    write!(f, "{part} {index} of {whole} {number}")
+}
+
+/// Writes a field of something: `the space of global 2`.
+fn write_field<F: fmt::Display, W: fmt::Write>(
+    f: &mut fmt::Formatter<W>,
+    field: &F,
+    whole: &str,
+    number: usize,
+) -> fmt::Result {
+    write!(f, "the {field} of {whole} {number}")
+}
+
+/// Writes whose it is: ` of function 2`.
+fn write_owner<W: fmt::Write>(f: &mut fmt::Formatter<W>, owner: &Owner) -> fmt::Result {
+    write!(f, " of {owner}")
+}
+
+/// Writes the place of an operand.
+fn write_operand<W: fmt::Write>(
+    f: &mut fmt::Formatter<W>,
+    owner: &Owner,
+    expression: usize,
+    index: usize,
+) -> fmt::Result {
+    if let Owner::Module = owner {
+        return write_part(f, "operand", index, "global expression", expression);
+    }
+    write_part(f, "operand", index, "expression", expression)?;
+    write_owner(f, owner)
+}
+
+/// Writes the place of a field of a statement.
+fn write_in_statement<W: fmt::Write>(
+    f: &mut fmt::Formatter<W>,
+    owner: &Owner,
+    number: usize,
+    field: &StatementField,
+) -> fmt::Result {
+    match field {
+        StatementField::CallArgument(index) => {
+            write_part(f, "argument", *index, "statement", number)?;
+        }
+        field => write_field(f, field, "statement", number)?,
+    }
+    write_owner(f, owner)
+}
+
+/// Writes what belongs to an owner: `the type of argument 1 of function 2`.
+fn write_owned<W: fmt::Write>(
+    f: &mut fmt::Formatter<W>,
+    what: &str,
+    number: usize,
+    owner: &Owner,
+) -> fmt::Result {
+    write_numbered(f, what, number)?;
+    write_owner(f, owner)
+}
+
 /// Writes the place as a noun: `the value of statement 3 of function 2`.
 impl fmt::Display for Place {
     fn fmt<W: fmt::Write>(&self, f: &mut fmt::Formatter<W>) -> fmt::Result {
         match self {
             Place::TypeInfos => f.write_str("the list of type infos"),
-            Place::StorageLayout(info) => write!(f, "the storage layout of type info {info}"),
-            Place::UniformLayout(info) => write!(f, "the uniform layout of type info {info}"),
+            Place::StorageLayout(info) => {
+                write_numbered(f, "the storage layout of type info", *info)
+            }
+            Place::UniformLayout(info) => {
+                write_numbered(f, "the uniform layout of type info", *info)
+            }
             Place::InType(owner, field) => write_type_field(f, owner, field),
             Place::RayDesc => f.write_str("the type of ray descriptors"),
-            Place::ConstantType(constant) => write!(f, "the type of constant {constant}"),
-            Place::OverrideType(item) => write!(f, "the type of override {item}"),
-            Place::InGlobal(global, field) => write!(f, "the {field} of global {global}"),
+            Place::ConstantType(constant) => write_numbered(f, "the type of constant", *constant),
+            Place::OverrideType(item) => write_numbered(f, "the type of override", *item),
+            Place::InGlobal(global, field) => write_field(f, field, "global", *global),
             Place::GlobalTypes => f.write_str("the list of types of global expressions"),
             Place::Arguments(owner) => write!(f, "the list of arguments of {owner}"),
             Place::ArgumentType(owner, index) => {
-                write!(f, "the type of argument {index} of {owner}")
+                write_owned(f, "the type of argument", *index, owner)
             }
             Place::ResultType(owner) => write!(f, "the type of the result of {owner}"),
             Place::InLocal(owner, local, field) => {
-                write!(f, "the {field} of local {local} of {owner}")
-            }
-            Place::Operand(Owner::Module, expression, index) => {
-                write!(f, "operand {index} of global expression {expression}")
+                write_field(f, field, "local", *local)?;
+                write_owner(f, owner)
             }
             Place::Operand(owner, expression, index) => {
-                write!(f, "operand {index} of expression {expression} of {owner}")
+                write_operand(f, owner, *expression, *index)
             }
-            Place::Reference(owner, expression) => write!(f, "expression {expression} of {owner}"),
-            Place::InStatement(owner, number, StatementField::CallArgument(index)) => {
-                write!(f, "argument {index} of statement {number} of {owner}")
-            }
+            Place::Reference(owner, expression) => write_owned(f, "expression", *expression, owner),
             Place::InStatement(owner, number, field) => {
-                write!(f, "the {field} of statement {number} of {owner}")
+                write_in_statement(f, owner, *number, field)
             }
-            Place::InEntryPoint(index, field) => write!(f, "the {field} of entry point {index}"),
+            Place::InEntryPoint(index, field) => write_field(f, field, "entry point", *index),
         }
     }
 }
@@ -152,22 +227,36 @@ impl fmt::Display for HandleOf {
     }
 }
 
+/// Writes how long a list is, and how long it has to be. The list is named before, with a space.
+pub(crate) fn write_length<W: fmt::Write>(
+    f: &mut fmt::Formatter<W>,
+    list: &str,
+    found: usize,
+    wanted: usize,
+) -> fmt::Result {
+    write!(f, "{list}has {found} items, and {wanted} are wanted")
+}
+
+/// Writes that a handle is out of range.
+fn write_handle<W: fmt::Write>(
+    f: &mut fmt::Formatter<W>,
+    of: &HandleOf,
+    index: usize,
+    below: usize,
+) -> fmt::Result {
+    write!(f, "names {of} {index}, and ")?;
+    if below == 0 {
+        return f.write_str("none may stand there");
+    }
+    write!(f, "only those below {below} may stand there")
+}
+
 /// Writes what is said of a place: `names expression 9, and only those below 7 may stand there`.
 impl fmt::Display for Problem {
     fn fmt<W: fmt::Write>(&self, f: &mut fmt::Formatter<W>) -> fmt::Result {
         match self {
-            Problem::Handle {
-                of,
-                index,
-                below: 0,
-            } => write!(f, "names {of} {index}, and none may stand there"),
-            Problem::Handle { of, index, below } => write!(
-                f,
-                "names {of} {index}, and only those below {below} may stand there"
-            ),
-            Problem::Length { found, wanted } => {
-                write!(f, "has {found} items, and {wanted} are wanted")
-            }
+            Problem::Handle { of, index, below } => write_handle(f, of, *index, *below),
+            Problem::Length { found, wanted } => write_length(f, "", *found, *wanted),
             Problem::TooMany { found } => write!(f, "has {found} items, more than 32 bits count"),
             Problem::Backwards { start, end } => write!(f, "starts at {start} and ends at {end}"),
             Problem::PastEnd { end, count } => {

@@ -13,8 +13,8 @@ use Rattle.ir_errors.specs.declared.function.LocalVariableError.{LocalVariableEr
 use Rattle.ir_errors.specs.declared.function.LocalVariableError.TheVariants as locals
 use Rattle.ir_errors.specs.declared.function.FunctionError.{FunctionError}
 use Rattle.ir_errors.specs.declared.function.FunctionError.TheVariants as functions
-use Rattle.ir_errors.specs.Names.{expression_error_name, function_error_name}
-use Rattle.json_faults.specs.Form.{holding, number_form, one_field, optional, three_fields, three_items, two_fields, two_items, variant}
+use Rattle.ir_errors.specs.Names.{atomic_error_name, call_error_name, expression_error_name, function_error_name, local_error_name, subgroup_error_name}
+use Rattle.json_faults.specs.Form.{number_form, one_field, optional, three_fields, three_items, two_fields, two_items, variant}
 use Rattle.json_faults.specs.Names.{image_dimension_form, storage_format_form}
 use Rattle.json_faults.specs.Sets.{capabilities_form, storage_access_form, subgroup_operations_form}
 use Rattle.json_faults.specs.Types.{atomic_function_form, image_class_form, space_form, switch_value_form, type_form}
@@ -40,48 +40,65 @@ unfoldable pub expression_error_form : ExpressionError → Json
 expression_error_form error = variant (expression_error_name error) (expression_error_held error)
 
 -- a fault of a call
-unfoldable pub call_error_form : CallError → Json
-call_error_form (calls.Argument index source) =
-    holding (codes "Argument") (two_fields (codes "index") (number_form index) (codes "source") (expression_error_form source))
-call_error_form (calls.ResultAlreadyInScope handle) = holding (codes "ResultAlreadyInScope") (number_form handle)
-call_error_form (calls.ResultAlreadyPopulated handle) = holding (codes "ResultAlreadyPopulated") (number_form handle)
-call_error_form (calls.ArgumentCount required seen) =
-    holding (codes "ArgumentCount") (two_fields (codes "required") (number_form required) (codes "seen") (number_form seen))
-call_error_form (calls.ArgumentType index required seen_expression) =
-    holding (codes "ArgumentType") (three_fields (codes "index") (number_form index) (codes "required") (number_form required)
+
+-- what it holds
+unfoldable pub call_error_held : CallError → Option Json
+call_error_held (calls.Argument index source) =
+    Some (two_fields (codes "index") (number_form index) (codes "source") (expression_error_form source))
+call_error_held (calls.ResultAlreadyInScope handle) = Some (number_form handle)
+call_error_held (calls.ResultAlreadyPopulated handle) = Some (number_form handle)
+call_error_held (calls.ArgumentCount required seen) =
+    Some (two_fields (codes "required") (number_form required) (codes "seen") (number_form seen))
+call_error_held (calls.ArgumentType index required seen_expression) =
+    Some (three_fields (codes "index") (number_form index) (codes "required") (number_form required)
     (codes "seen_expression") (number_form seen_expression))
-call_error_form (calls.ExpressionMismatch result) = holding (codes "ExpressionMismatch") (optional number_form result)
+call_error_held (calls.ExpressionMismatch result) = Some (optional number_form result)
+
+unfoldable pub call_error_form : CallError → Json
+call_error_form error = variant (call_error_name error) (call_error_held error)
 
 -- a fault of an atomic operation
+
+-- what it holds
+unfoldable pub atomic_error_held : AtomicError → Option Json
+atomic_error_held (atomics.InvalidPointer handle) = Some (number_form handle)
+atomic_error_held (atomics.InvalidAddressSpace space) = Some (space_form space)
+atomic_error_held (atomics.InvalidOperand handle) = Some (number_form handle)
+atomic_error_held (atomics.InvalidOperator f) = Some (atomic_function_form f)
+atomic_error_held (atomics.InvalidResultExpression handle) = Some (number_form handle)
+atomic_error_held (atomics.ResultExpressionExchange handle) = Some (number_form handle)
+atomic_error_held (atomics.ResultExpressionNotExchange handle) = Some (number_form handle)
+atomic_error_held (atomics.ResultTypeMismatch handle) = Some (number_form handle)
+atomic_error_held atomics.MissingReturnValue = None
+atomic_error_held (atomics.MissingCapability capabilities) = Some (capabilities_form capabilities)
+atomic_error_held (atomics.ResultAlreadyPopulated handle) = Some (number_form handle)
+
 unfoldable pub atomic_error_form : AtomicError → Json
-atomic_error_form (atomics.InvalidPointer handle) = holding (codes "InvalidPointer") (number_form handle)
-atomic_error_form (atomics.InvalidAddressSpace space) = holding (codes "InvalidAddressSpace") (space_form space)
-atomic_error_form (atomics.InvalidOperand handle) = holding (codes "InvalidOperand") (number_form handle)
-atomic_error_form (atomics.InvalidOperator f) = holding (codes "InvalidOperator") (atomic_function_form f)
-atomic_error_form (atomics.InvalidResultExpression handle) = holding (codes "InvalidResultExpression") (number_form handle)
-atomic_error_form (atomics.ResultExpressionExchange handle) = holding (codes "ResultExpressionExchange") (number_form handle)
-atomic_error_form (atomics.ResultExpressionNotExchange handle) =
-    holding (codes "ResultExpressionNotExchange") (number_form handle)
-atomic_error_form (atomics.ResultTypeMismatch handle) = holding (codes "ResultTypeMismatch") (number_form handle)
-atomic_error_form atomics.MissingReturnValue = string (codes "MissingReturnValue")
-atomic_error_form (atomics.MissingCapability capabilities) = holding (codes "MissingCapability") (capabilities_form capabilities)
-atomic_error_form (atomics.ResultAlreadyPopulated handle) = holding (codes "ResultAlreadyPopulated") (number_form handle)
+atomic_error_form error = variant (atomic_error_name error) (atomic_error_held error)
 
 -- a fault of a subgroup operation
+
+-- what it holds
+unfoldable pub subgroup_error_held : SubgroupError → Option Json
+subgroup_error_held (subgroups.InvalidOperand handle) = Some (number_form handle)
+subgroup_error_held (subgroups.ResultTypeMismatch handle) = Some (number_form handle)
+subgroup_error_held (subgroups.UnsupportedOperation operations) = Some (subgroup_operations_form operations)
+subgroup_error_held subgroups.UnknownOperation = None
+subgroup_error_held (subgroups.InvalidInvocationIdExprType handle) = Some (number_form handle)
+
 unfoldable pub subgroup_error_form : SubgroupError → Json
-subgroup_error_form (subgroups.InvalidOperand handle) = holding (codes "InvalidOperand") (number_form handle)
-subgroup_error_form (subgroups.ResultTypeMismatch handle) = holding (codes "ResultTypeMismatch") (number_form handle)
-subgroup_error_form (subgroups.UnsupportedOperation operations) =
-    holding (codes "UnsupportedOperation") (subgroup_operations_form operations)
-subgroup_error_form subgroups.UnknownOperation = string (codes "UnknownOperation")
-subgroup_error_form (subgroups.InvalidInvocationIdExprType handle) =
-    holding (codes "InvalidInvocationIdExprType") (number_form handle)
+subgroup_error_form error = variant (subgroup_error_name error) (subgroup_error_held error)
 
 -- a fault of a local variable
+
+-- what it holds
+unfoldable pub local_error_held : LocalVariableError → Option Json
+local_error_held (locals.InvalidType ty) = Some (number_form ty)
+local_error_held locals.InitializerType = None
+local_error_held locals.NonConstOrOverrideInitializer = None
+
 unfoldable pub local_error_form : LocalVariableError → Json
-local_error_form (locals.InvalidType ty) = holding (codes "InvalidType") (number_form ty)
-local_error_form locals.InitializerType = string (codes "InitializerType")
-local_error_form locals.NonConstOrOverrideInitializer = string (codes "NonConstOrOverrideInitializer")
+local_error_form error = variant (local_error_name error) (local_error_held error)
 
 -- a fault of a function
 

@@ -5,6 +5,7 @@ use Rattle.ir_errors.specs.declared.interface.GlobalVariableError.{GlobalVariabl
 use Rattle.ir_errors.specs.declared.interface.GlobalVariableError.TheVariants as globals
 use Rattle.ir_errors.specs.declared.interface.VaryingError.{VaryingError}
 use Rattle.ir_errors.specs.declared.interface.VaryingError.TheVariants as varyings
+use Rattle.ir_errors.specs.Names.{global_error_name, varying_error_name}
 use Rattle.check_faults.specs.Names.{entry_error_name}
 use Rattle.check_faults.specs.declared.entry.EntryPointError.{EntryPointError}
 use Rattle.check_faults.specs.declared.entry.EntryPointError.TheVariants as entries
@@ -16,24 +17,6 @@ use Rattle.json_faults.specs.Sets.{capabilities_form, global_use_form, type_flag
 use Rattle.json_faults.specs.Types.{space_form, type_form}
 
 -- a fault of a global variable
-unfoldable pub global_error_name : GlobalVariableError → List ℕ
-global_error_name (globals.InvalidUsage _) = codes "InvalidUsage"
-global_error_name (globals.InvalidType _) = codes "InvalidType"
-global_error_name (globals.InvalidBindingArray _) = codes "InvalidBindingArray"
-global_error_name (globals.MissingTypeFlags _ _) = codes "MissingTypeFlags"
-global_error_name (globals.UnsupportedCapability _) = codes "UnsupportedCapability"
-global_error_name globals.InvalidBinding = codes "InvalidBinding"
-global_error_name (globals.Alignment _ _ _) = codes "Alignment"
-global_error_name globals.InitializerExprType = codes "InitializerExprType"
-global_error_name globals.InitializerType = codes "InitializerType"
-global_error_name (globals.InitializerNotAllowed _) = codes "InitializerNotAllowed"
-global_error_name globals.StorageAddressSpaceWriteOnlyNotSupported = codes "StorageAddressSpaceWriteOnlyNotSupported"
-global_error_name (globals.InvalidImmediateType _) = codes "InvalidImmediateType"
-global_error_name globals.ZeroSizedTaskPayload = codes "ZeroSizedTaskPayload"
-global_error_name globals.InvalidMemoryDecorationsAddressSpace = codes "InvalidMemoryDecorationsAddressSpace"
-global_error_name globals.CoherentNotSupported = codes "CoherentNotSupported"
-global_error_name globals.VolatileNotSupported = codes "VolatileNotSupported"
-
 -- what it holds
 unfoldable pub global_error_held : GlobalVariableError → Option Json
 global_error_held (globals.InvalidUsage space) = Some (space_form space)
@@ -59,34 +42,6 @@ unfoldable pub global_error_form : GlobalVariableError → Json
 global_error_form error = variant (global_error_name error) (global_error_held error)
 
 -- a fault of an input or output
-unfoldable pub varying_error_name : VaryingError → List ℕ
-varying_error_name (varyings.InvalidType _) = codes "InvalidType"
-varying_error_name (varyings.NotIOShareableType _) = codes "NotIOShareableType"
-varying_error_name (varyings.InvalidInterpolationInStage _ _) = codes "InvalidInterpolationInStage"
-varying_error_name (varyings.InvalidInterpolationSamplingCombination _ _) = codes "InvalidInterpolationSamplingCombination"
-varying_error_name varyings.InvalidInterpolationForInteger = codes "InvalidInterpolationForInteger"
-varying_error_name varyings.MissingInterpolation = codes "MissingInterpolation"
-varying_error_name (varyings.InvalidBuiltInStage _) = codes "InvalidBuiltInStage"
-varying_error_name (varyings.InvalidBuiltInType _ _) = codes "InvalidBuiltInType"
-varying_error_name varyings.MissingBinding = codes "MissingBinding"
-varying_error_name (varyings.MemberMissingBinding _) = codes "MemberMissingBinding"
-varying_error_name (varyings.BindingCollision _) = codes "BindingCollision"
-varying_error_name (varyings.BindingCollisionBlendSrc _) = codes "BindingCollisionBlendSrc"
-varying_error_name (varyings.DuplicateBuiltIn _) = codes "DuplicateBuiltIn"
-varying_error_name (varyings.UnsupportedCapability _) = codes "UnsupportedCapability"
-varying_error_name (varyings.InvalidInputAttributeInStage _ _) = codes "InvalidInputAttributeInStage"
-varying_error_name (varyings.InvalidAttributeInStage _ _) = codes "InvalidAttributeInStage"
-varying_error_name (varyings.InvalidBlendSrcIndex _ _) = codes "InvalidBlendSrcIndex"
-varying_error_name (varyings.IncompleteBlendSrcUsage _) = codes "IncompleteBlendSrcUsage"
-varying_error_name (varyings.InvalidBlendSrcWithOtherBindings _) = codes "InvalidBlendSrcWithOtherBindings"
-varying_error_name (varyings.BlendSrcOutputTypeMismatch _ _) = codes "BlendSrcOutputTypeMismatch"
-varying_error_name varyings.BlendSrcNotOnStructMember = codes "BlendSrcNotOnStructMember"
-varying_error_name varyings.InvalidMultiDimensionalSubgroupBuiltIn = codes "InvalidMultiDimensionalSubgroupBuiltIn"
-varying_error_name varyings.InvalidPerPrimitive = codes "InvalidPerPrimitive"
-varying_error_name varyings.MissingPerPrimitive = codes "MissingPerPrimitive"
-varying_error_name varyings.PerVertexNotArrayOfThree = codes "PerVertexNotArrayOfThree"
-varying_error_name varyings.InvalidPerVertexSampling = codes "InvalidPerVertexSampling"
-
 -- what it holds
 unfoldable pub varying_error_held : VaryingError → Option Json
 varying_error_held (varyings.InvalidType ty) = Some (number_form ty)

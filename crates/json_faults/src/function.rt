@@ -18,39 +18,31 @@ use std::alloc::AllocError;
 impl ToJson for CallError {
     ghost form = { call_error_form };
 
-    #[tactic(auto, unfolding(crate::specs::Faults::call_error_form))]
+    #[tactic(auto, unfolding(crate::specs::Faults::call_error_form, crate::specs::Faults::call_error_held, crate::specs::Form::variant))]
     fn write_json(&self, out: &mut JsonWriter) -> Result<(), AllocError> {
+        let variant = self.name();
         match self {
-            CallError::Argument { index, source } => holding_two(
-                out,
-                &("Argument", "index", "source"),
-                index,
-                source,
-            ),
-            CallError::ResultAlreadyInScope(handle) => holding(out, "ResultAlreadyInScope", handle),
-            CallError::ResultAlreadyPopulated(handle) => holding(
-                out,
-                "ResultAlreadyPopulated",
-                handle,
-            ),
-            CallError::ArgumentCount { required, seen } => holding_two(
-                out,
-                &("ArgumentCount", "required", "seen"),
-                required,
-                seen,
-            ),
+            CallError::Argument { index, source } => {
+                holding_two(out, &(variant, "index", "source"), index, source)
+            }
+            CallError::ResultAlreadyInScope(handle) | CallError::ResultAlreadyPopulated(handle) => {
+                holding(out, variant, handle)
+            }
+            CallError::ArgumentCount { required, seen } => {
+                holding_two(out, &(variant, "required", "seen"), required, seen)
+            }
             CallError::ArgumentType {
                 index,
                 required,
                 seen_expression,
             } => holding_three(
                 out,
-                &("ArgumentType", "index", "required", "seen_expression"),
+                &(variant, "index", "required", "seen_expression"),
                 index,
                 required,
                 seen_expression,
             ),
-            CallError::ExpressionMismatch(result) => holding(out, "ExpressionMismatch", result),
+            CallError::ExpressionMismatch(result) => holding(out, variant, result),
         }
     }
 }
@@ -58,40 +50,21 @@ impl ToJson for CallError {
 impl ToJson for AtomicError {
     ghost form = { atomic_error_form };
 
-    #[tactic(auto, unfolding(crate::specs::Faults::atomic_error_form))]
+    #[tactic(auto, unfolding(crate::specs::Faults::atomic_error_form, crate::specs::Faults::atomic_error_held, crate::specs::Form::variant))]
     fn write_json(&self, out: &mut JsonWriter) -> Result<(), AllocError> {
+        let variant = self.name();
         match self {
-            AtomicError::InvalidPointer(handle) => holding(out, "InvalidPointer", handle),
-            AtomicError::InvalidAddressSpace(space) => holding(out, "InvalidAddressSpace", space),
-            AtomicError::InvalidOperand(handle) => holding(out, "InvalidOperand", handle),
-            AtomicError::InvalidOperator(function) => holding(out, "InvalidOperator", function),
-            AtomicError::InvalidResultExpression(handle) => holding(
-                out,
-                "InvalidResultExpression",
-                handle,
-            ),
-            AtomicError::ResultExpressionExchange(handle) => holding(
-                out,
-                "ResultExpressionExchange",
-                handle,
-            ),
-            AtomicError::ResultExpressionNotExchange(handle) => holding(
-                out,
-                "ResultExpressionNotExchange",
-                handle,
-            ),
-            AtomicError::ResultTypeMismatch(handle) => holding(out, "ResultTypeMismatch", handle),
-            AtomicError::MissingReturnValue => out.string("MissingReturnValue"),
-            AtomicError::MissingCapability(capabilities) => holding(
-                out,
-                "MissingCapability",
-                capabilities,
-            ),
-            AtomicError::ResultAlreadyPopulated(handle) => holding(
-                out,
-                "ResultAlreadyPopulated",
-                handle,
-            ),
+            AtomicError::InvalidPointer(handle)
+            | AtomicError::InvalidOperand(handle)
+            | AtomicError::InvalidResultExpression(handle)
+            | AtomicError::ResultExpressionExchange(handle)
+            | AtomicError::ResultExpressionNotExchange(handle)
+            | AtomicError::ResultTypeMismatch(handle)
+            | AtomicError::ResultAlreadyPopulated(handle) => holding(out, variant, handle),
+            AtomicError::InvalidAddressSpace(space) => holding(out, variant, space),
+            AtomicError::InvalidOperator(function) => holding(out, variant, function),
+            AtomicError::MissingReturnValue => out.string(variant),
+            AtomicError::MissingCapability(capabilities) => holding(out, variant, capabilities),
         }
     }
 }
@@ -99,22 +72,15 @@ impl ToJson for AtomicError {
 impl ToJson for SubgroupError {
     ghost form = { subgroup_error_form };
 
-    #[tactic(auto, unfolding(crate::specs::Faults::subgroup_error_form))]
+    #[tactic(auto, unfolding(crate::specs::Faults::subgroup_error_form, crate::specs::Faults::subgroup_error_held, crate::specs::Form::variant))]
     fn write_json(&self, out: &mut JsonWriter) -> Result<(), AllocError> {
+        let variant = self.name();
         match self {
-            SubgroupError::InvalidOperand(handle) => holding(out, "InvalidOperand", handle),
-            SubgroupError::ResultTypeMismatch(handle) => holding(out, "ResultTypeMismatch", handle),
-            SubgroupError::UnsupportedOperation(operations) => holding(
-                out,
-                "UnsupportedOperation",
-                operations,
-            ),
-            SubgroupError::UnknownOperation => out.string("UnknownOperation"),
-            SubgroupError::InvalidInvocationIdExprType(handle) => holding(
-                out,
-                "InvalidInvocationIdExprType",
-                handle,
-            ),
+            SubgroupError::InvalidOperand(handle)
+            | SubgroupError::ResultTypeMismatch(handle)
+            | SubgroupError::InvalidInvocationIdExprType(handle) => holding(out, variant, handle),
+            SubgroupError::UnsupportedOperation(operations) => holding(out, variant, operations),
+            SubgroupError::UnknownOperation => out.string(variant),
         }
     }
 }
@@ -122,14 +88,13 @@ impl ToJson for SubgroupError {
 impl ToJson for LocalVariableError {
     ghost form = { local_error_form };
 
-    #[tactic(auto, unfolding(crate::specs::Faults::local_error_form))]
+    #[tactic(auto, unfolding(crate::specs::Faults::local_error_form, crate::specs::Faults::local_error_held, crate::specs::Form::variant))]
     fn write_json(&self, out: &mut JsonWriter) -> Result<(), AllocError> {
+        let variant = self.name();
         match self {
-            LocalVariableError::InvalidType(ty) => holding(out, "InvalidType", ty),
-            LocalVariableError::InitializerType => out.string("InitializerType"),
-            LocalVariableError::NonConstOrOverrideInitializer => out.string(
-                "NonConstOrOverrideInitializer",
-            ),
+            LocalVariableError::InvalidType(ty) => holding(out, variant, ty),
+            LocalVariableError::InitializerType
+            | LocalVariableError::NonConstOrOverrideInitializer => out.string(variant),
         }
     }
 }

@@ -1,7 +1,7 @@
 //! Faults of globals, of inputs and outputs, and of entry points.
 
 ghost use Rattle.std.specs.Prelude.{◌≡◌};
-ghost use Rattle.json_faults.specs.Interfaces.{global_error_name, global_error_form, varying_error_name, varying_error_form, entry_error_form};
+ghost use Rattle.json_faults.specs.Interfaces.{global_error_form, varying_error_form, entry_error_form};
 
 use crate::parts::{holding, holding_field, holding_pair, holding_triple, holding_two};
 use crate::to_json::ToJson;
@@ -10,39 +10,12 @@ use check_faults::entry::EntryPointError;
 use ir_errors::{GlobalVariableError, VaryingError};
 use std::alloc::AllocError;
 
-/// The name of a fault of a global variable.
-#[tactic(auto, unfolding(crate::specs::Interfaces::global_error_name))]
-fn global_error_name(error: &GlobalVariableError) -> &'static str
-    ensures { result.now ≡ global_error_name error.now }
-{
-    match error {
-        GlobalVariableError::InvalidUsage(..) => "InvalidUsage",
-        GlobalVariableError::InvalidType(..) => "InvalidType",
-        GlobalVariableError::InvalidBindingArray(..) => "InvalidBindingArray",
-        GlobalVariableError::MissingTypeFlags { .. } => "MissingTypeFlags",
-        GlobalVariableError::UnsupportedCapability(..) => "UnsupportedCapability",
-        GlobalVariableError::InvalidBinding => "InvalidBinding",
-        GlobalVariableError::Alignment(..) => "Alignment",
-        GlobalVariableError::InitializerExprType => "InitializerExprType",
-        GlobalVariableError::InitializerType => "InitializerType",
-        GlobalVariableError::InitializerNotAllowed(..) => "InitializerNotAllowed",
-        GlobalVariableError::StorageAddressSpaceWriteOnlyNotSupported =>
-            "StorageAddressSpaceWriteOnlyNotSupported",
-        GlobalVariableError::InvalidImmediateType(..) => "InvalidImmediateType",
-        GlobalVariableError::ZeroSizedTaskPayload => "ZeroSizedTaskPayload",
-        GlobalVariableError::InvalidMemoryDecorationsAddressSpace =>
-            "InvalidMemoryDecorationsAddressSpace",
-        GlobalVariableError::CoherentNotSupported => "CoherentNotSupported",
-        GlobalVariableError::VolatileNotSupported => "VolatileNotSupported",
-    }
-}
-
 impl ToJson for GlobalVariableError {
     ghost form = { global_error_form };
 
     #[tactic(auto, unfolding(crate::specs::Interfaces::global_error_form, crate::specs::Interfaces::global_error_held, crate::specs::Form::variant))]
     fn write_json(&self, out: &mut JsonWriter) -> Result<(), AllocError> {
-        let variant = global_error_name(self);
+        let variant = self.name();
         match self {
             GlobalVariableError::InvalidUsage(space)
             | GlobalVariableError::InvalidType(space)
@@ -79,49 +52,12 @@ impl ToJson for GlobalVariableError {
     }
 }
 
-/// The name of a fault of an input or output.
-#[tactic(auto, unfolding(crate::specs::Interfaces::varying_error_name))]
-fn varying_error_name(error: &VaryingError) -> &'static str
-    ensures { result.now ≡ varying_error_name error.now }
-{
-    match error {
-        VaryingError::InvalidType(..) => "InvalidType",
-        VaryingError::NotIOShareableType(..) => "NotIOShareableType",
-        VaryingError::InvalidInterpolationInStage(..) => "InvalidInterpolationInStage",
-        VaryingError::InvalidInterpolationSamplingCombination { .. } =>
-            "InvalidInterpolationSamplingCombination",
-        VaryingError::InvalidInterpolationForInteger => "InvalidInterpolationForInteger",
-        VaryingError::MissingInterpolation => "MissingInterpolation",
-        VaryingError::InvalidBuiltInStage(..) => "InvalidBuiltInStage",
-        VaryingError::InvalidBuiltInType(..) => "InvalidBuiltInType",
-        VaryingError::MissingBinding => "MissingBinding",
-        VaryingError::MemberMissingBinding(..) => "MemberMissingBinding",
-        VaryingError::BindingCollision { .. } => "BindingCollision",
-        VaryingError::BindingCollisionBlendSrc { .. } => "BindingCollisionBlendSrc",
-        VaryingError::DuplicateBuiltIn(..) => "DuplicateBuiltIn",
-        VaryingError::UnsupportedCapability(..) => "UnsupportedCapability",
-        VaryingError::InvalidInputAttributeInStage(..) => "InvalidInputAttributeInStage",
-        VaryingError::InvalidAttributeInStage(..) => "InvalidAttributeInStage",
-        VaryingError::InvalidBlendSrcIndex { .. } => "InvalidBlendSrcIndex",
-        VaryingError::IncompleteBlendSrcUsage { .. } => "IncompleteBlendSrcUsage",
-        VaryingError::InvalidBlendSrcWithOtherBindings { .. } => "InvalidBlendSrcWithOtherBindings",
-        VaryingError::BlendSrcOutputTypeMismatch { .. } => "BlendSrcOutputTypeMismatch",
-        VaryingError::BlendSrcNotOnStructMember => "BlendSrcNotOnStructMember",
-        VaryingError::InvalidMultiDimensionalSubgroupBuiltIn =>
-            "InvalidMultiDimensionalSubgroupBuiltIn",
-        VaryingError::InvalidPerPrimitive => "InvalidPerPrimitive",
-        VaryingError::MissingPerPrimitive => "MissingPerPrimitive",
-        VaryingError::PerVertexNotArrayOfThree => "PerVertexNotArrayOfThree",
-        VaryingError::InvalidPerVertexSampling => "InvalidPerVertexSampling",
-    }
-}
-
 impl ToJson for VaryingError {
     ghost form = { varying_error_form };
 
     #[tactic(auto, unfolding(crate::specs::Interfaces::varying_error_form, crate::specs::Interfaces::varying_error_held, crate::specs::Form::variant))]
     fn write_json(&self, out: &mut JsonWriter) -> Result<(), AllocError> {
-        let variant = varying_error_name(self);
+        let variant = self.name();
         match self {
             VaryingError::InvalidType(ty) | VaryingError::NotIOShareableType(ty) => holding(
                 out, variant, ty,

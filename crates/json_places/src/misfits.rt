@@ -2,7 +2,7 @@
 
 use crate::found::Found;
 use crate::nodes::{Position, nodes_of};
-use crate::place::{Place, add, add_position};
+use crate::place::{Place, add_field, add_index, add_item, add_members, add_name, add_position};
 use crate::spot::Spot;
 use ir_misfits::{
     EntryField, Misfit, Owner, Place as MisfitPlace, StatementField, TypeField, TypeOwner,
@@ -41,13 +41,13 @@ fn add_misfit(
     place: &MisfitPlace,
 ) -> Result<(), AllocError> {
     match place {
-        MisfitPlace::TypeInfos => add(steps, &[Step::Name("facts"), Step::Name("type_infos")]),
+        MisfitPlace::TypeInfos => add_field(steps, "facts", "type_infos"),
         MisfitPlace::StorageLayout(info) => add_layout(steps, *info, "storage_layout"),
         MisfitPlace::UniformLayout(info) => add_layout(steps, *info, "uniform_layout"),
         MisfitPlace::GlobalTypes => add_global_types(steps, has_facts),
         MisfitPlace::InType(owner, field) => add_type(steps, has_facts, *owner, *field),
         _ => {
-            steps.push(Step::Name("module"))?;
+            add_name(steps, "module")?;
             add_in_module(alloc, steps, module, place)
         }
     }
@@ -55,25 +55,18 @@ fn add_misfit(
 
 /// Adds the way from the document to a layout of an info.
 fn add_layout(steps: &mut Vec<Step>, info: usize, layout: &'static str) -> Result<(), AllocError> {
-    add(
-        steps,
-        &[
-            Step::Name("facts"),
-            Step::Name("type_infos"),
-            Step::Index(info),
-            Step::Name(layout),
-        ],
-    )
+    add_name(steps, "facts")?;
+    add_item(steps, "type_infos", info)?;
+    add_name(steps, layout)
 }
 
 /// Adds the way from the document to the types of global expressions, or, where these are computed, to the expressions.
 fn add_global_types(steps: &mut Vec<Step>, has_facts: bool) -> Result<(), AllocError> {
-    let (whole, list) = if has_facts {
-        ("facts", "global_types")
+    if has_facts {
+        add_field(steps, "facts", "global_types")
     } else {
-        ("module", "global_expressions")
-    };
-    add(steps, &[Step::Name(whole), Step::Name(list)])
+        add_field(steps, "module", "global_expressions")
+    }
 }
 
 /// Adds the way from the document to a type, or to the members of a struct. The type of a global expression that is computed
@@ -86,32 +79,25 @@ fn add_type(
 ) -> Result<(), AllocError> {
     let inner = match owner {
         TypeOwner::OfModule(ty) => {
-            add(
-                steps,
-                &[Step::Name("module"), Step::Name("types"), Step::Index(ty)],
-            )?;
+            add_name(steps, "module")?;
+            add_item(steps, "types", ty)?;
             "inner"
         }
         TypeOwner::OfGlobalExpression(expression) => {
             add_global_types(steps, has_facts)?;
-            steps.push(Step::Index(expression))?;
+            add_index(steps, expression)?;
             if !has_facts {
                 return Ok(());
             }
             "Value"
         }
     };
-    let members = [
-        Step::Name(inner),
-        Step::Name("Struct"),
-        Step::Name("members"),
-    ];
     match field {
         TypeField::Whole | TypeField::Base => Ok(()),
-        TypeField::Members => add(steps, &members),
+        TypeField::Members => add_members(steps, inner),
         TypeField::Member(index) => {
-            add(steps, &members)?;
-            add(steps, &[Step::Index(index)])
+            add_members(steps, inner)?;
+            add_index(steps, index)
         }
     }
 }
@@ -124,10 +110,7 @@ fn add_in_module(
     place: &MisfitPlace,
 ) -> Result<(), AllocError> {
     match place {
-        MisfitPlace::RayDesc => add(
-            steps,
-            &[Step::Name("special_types"), Step::Name("ray_desc")],
-        ),
+        MisfitPlace::RayDesc => add_field(steps, "special_types", "ray_desc"),
         MisfitPlace::ConstantType(index) => add_item(steps, "constants", *index),
         MisfitPlace::OverrideType(index) => add_item(steps, "overrides", *index),
         MisfitPlace::InGlobal(index, _) => add_item(steps, "global_variables", *index),
@@ -143,22 +126,17 @@ fn add_in_module(
     }
 }
 
-/// Adds the way to an item of a list.
-fn add_item(steps: &mut Vec<Step>, list: &'static str, index: usize) -> Result<(), AllocError> {
-    add(steps, &[Step::Name(list), Step::Index(index)])
-}
-
 /// Adds the way from an entry point to a field of it, or of its mesh.
 fn add_entry_field(steps: &mut Vec<Step>, field: EntryField) -> Result<(), AllocError> {
     let name = match field {
-        EntryField::TaskPayload => return add(steps, &[Step::Name("task_payload")]),
+        EntryField::TaskPayload => return add_name(steps, "task_payload"),
         EntryField::MaxVerticesOverride => "max_vertices_override",
         EntryField::MaxPrimitivesOverride => "max_primitives_override",
         EntryField::VertexOutputType => "vertex_output_type",
         EntryField::PrimitiveOutputType => "primitive_output_type",
         EntryField::OutputVariable => "output_variable",
     };
-    add(steps, &[Step::Name("mesh_info"), Step::Name(name)])
+    add_field(steps, "mesh_info", name)
 }
 
 /// Adds the way from the module to what a function has.
@@ -171,7 +149,7 @@ fn add_in_function(
     match place {
         MisfitPlace::Arguments(owner) => {
             add_owner(steps, *owner)?;
-            add(steps, &[Step::Name("arguments")])
+            add_name(steps, "arguments")
         }
         MisfitPlace::ArgumentType(owner, index) => {
             add_owner(steps, *owner)?;
@@ -179,7 +157,7 @@ fn add_in_function(
         }
         MisfitPlace::ResultType(owner) => {
             add_owner(steps, *owner)?;
-            add(steps, &[Step::Name("result")])
+            add_name(steps, "result")
         }
         MisfitPlace::InLocal(owner, index, _) => {
             add_owner(steps, *owner)?;
@@ -207,7 +185,7 @@ fn add_owner(steps: &mut Vec<Step>, owner: Owner) -> Result<(), AllocError> {
         Owner::Function(index) => add_item(steps, "functions", index),
         Owner::EntryPoint(index) => {
             add_item(steps, "entry_points", index)?;
-            add(steps, &[Step::Name("function")])
+            add_name(steps, "function")
         }
     }
 }

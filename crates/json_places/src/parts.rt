@@ -32,40 +32,46 @@ pub fn bounds_of(
     group: Group,
 ) -> Result<Vec<Bound>, AllocError> {
     let mut bounds = Vec::new(alloc);
+    add_group(&mut bounds, module, ep, group)?;
+    Ok(bounds)
+}
+
+/// Adds what has a binding in a group.
+fn add_group(
+    bounds: &mut Vec<Bound>,
+    module: &Module,
+    ep: &EntryPoint,
+    group: Group,
+) -> Result<(), AllocError> {
     match group {
-        Group::Argument(index) => add_arguments(&mut bounds, module, ep, index, index)?,
-        Group::Arguments(index) => add_arguments(&mut bounds, module, ep, 0, index)?,
-        Group::Returned => {
-            if let Some(returned) = &ep.function.result {
+        Group::Argument(index) => add_arguments(bounds, module, ep, index, index),
+        Group::Arguments(index) => add_arguments(bounds, module, ep, 0, index),
+        Group::Returned => match &ep.function.result {
+            Some(returned) => {
                 add(
-                    &mut bounds,
+                    bounds,
                     module,
                     Spot::Returned,
                     returned.ty,
                     &returned.binding,
-                )?;
+                )
             }
-        }
-        Group::Mesh => {
-            if let Some(mesh) = &ep.mesh_info {
+            None => Ok(()),
+        },
+        Group::Mesh => match &ep.mesh_info {
+            Some(mesh) => {
+                add(bounds, module, Spot::Whole, mesh.vertex_output_type, &None)?;
                 add(
-                    &mut bounds,
-                    module,
-                    Spot::Whole,
-                    mesh.vertex_output_type,
-                    &None,
-                )?;
-                add(
-                    &mut bounds,
+                    bounds,
                     module,
                     Spot::Whole,
                     mesh.primitive_output_type,
                     &None,
-                )?;
+                )
             }
-        }
+            None => Ok(()),
+        },
     }
-    Ok(bounds)
 }
 
 /// Adds what has a binding in the arguments from the first of these to the last.

@@ -31,12 +31,36 @@ impl fmt::Display for Place {
     }
 }
 
-/// Adds steps.
-pub(crate) fn add(steps: &mut Vec<Step>, added: &[Step]) -> Result<(), AllocError> {
-    for step in added {
-        steps.push(*step)?;
-    }
+/// Adds a name.
+pub(crate) fn add_name(steps: &mut Vec<Step>, name: &'static str) -> Result<(), AllocError> {
+    steps.push(Step::Name(name))?;
     Ok(())
+}
+
+/// Adds an index.
+pub(crate) fn add_index(steps: &mut Vec<Step>, index: usize) -> Result<(), AllocError> {
+    steps.push(Step::Index(index))?;
+    Ok(())
+}
+
+/// Adds the way to an item of a list.
+pub(crate) fn add_item(
+    steps: &mut Vec<Step>,
+    list: &'static str,
+    index: usize,
+) -> Result<(), AllocError> {
+    add_name(steps, list)?;
+    add_index(steps, index)
+}
+
+/// Adds the way to a field of a field.
+pub(crate) fn add_field(
+    steps: &mut Vec<Step>,
+    whole: &'static str,
+    field: &'static str,
+) -> Result<(), AllocError> {
+    add_name(steps, whole)?;
+    add_name(steps, field)
 }
 
 /// The place of what has a fault. `nodes` are the statements of the function's body. An Err is out of memory.
@@ -47,58 +71,69 @@ pub fn place_of(
     nodes: &[Node<'_>],
 ) -> Result<Place, AllocError> {
     let mut steps = Vec::new(alloc);
-    if let Spot::Facts(shortage) = spot {
-        steps.push(Step::Name("facts"))?;
-        add_shortage(&mut steps, &subject, shortage)?;
-        return Ok(Place { steps });
-    }
-    steps.push(Step::Name("module"))?;
-    match spot {
-        Spot::Global(global) => add(
-            &mut steps,
-            &[Step::Name("global_variables"), Step::Index(global.index())],
-        )?,
-        Spot::Member { ty, index } => add(
-            &mut steps,
-            &[
-                Step::Name("types"),
-                Step::Index(ty.index()),
-                Step::Name("inner"),
-                Step::Name("Struct"),
-                Step::Name("members"),
-                Step::Index(index),
-            ],
-        )?,
-        _ => {
-            add_subject(&mut steps, &subject)?;
-            add_inner(alloc, &mut steps, subject, spot, nodes)?;
-        }
-    }
+    add_spot(alloc, &mut steps, subject, spot, nodes)?;
     Ok(Place { steps })
 }
 
-/// Adds the way from the facts to what is short or breaks a law in those of a function.
+/// Adds the way from the document to what has a fault.
+fn add_spot(
+    alloc: Global,
+    steps: &mut Vec<Step>,
+    subject: Subject,
+    spot: Spot,
+    nodes: &[Node<'_>],
+) -> Result<(), AllocError> {
+    match spot {
+        Spot::Facts(shortage) => add_shortage(steps, &subject, shortage),
+        Spot::Global(global) => {
+            add_name(steps, "module")?;
+            add_item(steps, "global_variables", global.index())
+        }
+        Spot::Member { ty, index } => {
+            add_name(steps, "module")?;
+            add_item(steps, "types", ty.index())?;
+            add_members(steps, "inner")?;
+            add_index(steps, index)
+        }
+        _ => {
+            add_name(steps, "module")?;
+            add_subject(steps, &subject)?;
+            add_inner(alloc, steps, subject, spot, nodes)
+        }
+    }
+}
+
+/// Adds the way from a type to its members.
+pub(crate) fn add_members(steps: &mut Vec<Step>, inner: &'static str) -> Result<(), AllocError> {
+    add_field(steps, inner, "Struct")?;
+    add_name(steps, "members")
+}
+
+/// Adds the way from the document to what is short or breaks a law in the facts of a function.
 fn add_shortage(
     steps: &mut Vec<Step>,
     subject: &Subject,
     shortage: Shortage,
 ) -> Result<(), AllocError> {
+    add_name(steps, "facts")?;
     if let Shortage::NoFact { .. } = shortage {
-        let list = match subject {
-            Subject::EntryPoint(_) => "entry_points",
-            Subject::Function(_) | Subject::GlobalVariable(_) => "functions",
-        };
-        return add(steps, &[Step::Name(list)]);
+        return add_name(
+            steps,
+            match subject {
+                Subject::EntryPoint(_) => "entry_points",
+                Subject::Function(_) | Subject::GlobalVariable(_) => "functions",
+            },
+        );
     }
     add_subject(steps, subject)?;
-    steps.push(Step::Name("info"))?;
+    add_name(steps, "info")?;
     match shortage {
-        Shortage::Types { .. } => add(steps, &[Step::Name("types")]),
+        Shortage::Types { .. } => add_name(steps, "types"),
         Shortage::UnknownType { expression, .. } | Shortage::StructValue { expression } => {
-            add(steps, &[Step::Name("types"), Step::Index(expression)])
+            add_item(steps, "types", expression)
         }
-        Shortage::Uses { .. } => add(steps, &[Step::Name("uses")]),
-        Shortage::Expressions { .. } => add(steps, &[Step::Name("expressions")]),
+        Shortage::Uses { .. } => add_name(steps, "uses"),
+        Shortage::Expressions { .. } => add_name(steps, "expressions"),
         Shortage::NoFact { .. } => Ok(()),
     }
 }
@@ -106,19 +141,9 @@ fn add_shortage(
 /// Adds the way to what was judged.
 fn add_subject(steps: &mut Vec<Step>, subject: &Subject) -> Result<(), AllocError> {
     match subject {
-        Subject::Function(function) => {
-            add(
-                steps,
-                &[Step::Name("functions"), Step::Index(function.index())],
-            )
-        }
-        Subject::GlobalVariable(global) => add(
-            steps,
-            &[Step::Name("global_variables"), Step::Index(global.index())],
-        ),
-        Subject::EntryPoint(index) => {
-            add(steps, &[Step::Name("entry_points"), Step::Index(*index)])
-        }
+        Subject::Function(function) => add_item(steps, "functions", function.index()),
+        Subject::GlobalVariable(global) => add_item(steps, "global_variables", global.index()),
+        Subject::EntryPoint(index) => add_item(steps, "entry_points", *index),
     }
 }
 
@@ -131,30 +156,33 @@ fn add_inner(
     nodes: &[Node<'_>],
 ) -> Result<(), AllocError> {
     match spot {
-        Spot::Field(field) => return add(steps, &[Step::Name(field.name())]),
-        Spot::MeshField(field) => return add(
-            steps,
-            &[Step::Name("mesh_info"), Step::Name(field.name())],
+        Spot::Field(field) => add_name(steps, field.name()),
+        Spot::MeshField(field) => add_field(steps, "mesh_info", field.name()),
+        Spot::Whole | Spot::Global(_) | Spot::Member { .. } | Spot::Facts(_) | Spot::Misfit => Ok(
+            (),
         ),
-        Spot::Whole | Spot::Global(_) | Spot::Member { .. } | Spot::Facts(_) | Spot::Misfit =>
-            return Ok(()),
-        _ => {}
+        _ => {
+            if let Subject::EntryPoint(_) = subject {
+                add_name(steps, "function")?;
+            }
+            add_in_function(alloc, steps, spot, nodes)
+        }
     }
-    if let Subject::EntryPoint(_) = subject {
-        steps.push(Step::Name("function"))?;
-    }
+}
+
+/// Adds the way from a function to what has the fault.
+fn add_in_function(
+    alloc: Global,
+    steps: &mut Vec<Step>,
+    spot: Spot,
+    nodes: &[Node<'_>],
+) -> Result<(), AllocError> {
     match spot {
         Spot::At(position) => add_position(alloc, steps, position, nodes),
-        Spot::Expression(handle) => add(
-            steps,
-            &[Step::Name("expressions"), Step::Index(handle.index())],
-        ),
-        Spot::Local(local) => add(
-            steps,
-            &[Step::Name("local_variables"), Step::Index(local.index())],
-        ),
-        Spot::Argument(index) => add(steps, &[Step::Name("arguments"), Step::Index(index)]),
-        _ => add(steps, &[Step::Name("result")]),
+        Spot::Expression(handle) => add_item(steps, "expressions", handle.index()),
+        Spot::Local(local) => add_item(steps, "local_variables", local.index()),
+        Spot::Argument(index) => add_item(steps, "arguments", index),
+        _ => add_name(steps, "result"),
     }
 }
 
@@ -165,44 +193,50 @@ pub(crate) fn add_position(
     position: Position,
     nodes: &[Node<'_>],
 ) -> Result<(), AllocError> {
-    steps.push(Step::Name("body"))?;
+    add_name(steps, "body")?;
     let way = way_to(alloc, nodes, position)?;
-    for inside in way.as_slice() {
-        add_part(steps, *inside, nodes)?;
+    add_way(steps, way.as_slice(), nodes)?;
+    if let Position::Statement(number) = position {
+        if let Some(node) = nodes.get(number) {
+            return add_index(steps, node.index);
+        }
     }
-    match position {
-        Position::Statement(number) => match nodes.get(number) {
-            Some(node) => add(steps, &[Step::Index(node.index)]),
-            None => Ok(()),
-        },
-        Position::BreakIf(_) => Ok(()),
-    }
+    Ok(())
 }
 
-/// Adds the way from a list to a part of one of its statements.
-fn add_part(steps: &mut Vec<Step>, inside: Inside, nodes: &[Node<'_>]) -> Result<(), AllocError> {
-    let Some(node) = nodes.get(inside.number) else {
-        return Ok(());
-    };
-    steps.push(Step::Index(node.index))?;
-    if node.located.span != Span::UNDEFINED {
-        steps.push(Step::Name("statement"))?;
+/// Adds the way from a body to a part inside it.
+fn add_way(steps: &mut Vec<Step>, way: &[Inside], nodes: &[Node<'_>]) -> Result<(), AllocError> {
+    for inside in way {
+        if let Some(node) = nodes.get(inside.number) {
+            add_statement(steps, node)?;
+            add_part(steps, inside.part)?;
+        }
     }
-    match inside.part {
-        Part::Block => add(steps, &[Step::Name("Block")]),
-        Part::Accept => add(steps, &[Step::Name("If"), Step::Name("accept")]),
-        Part::Reject => add(steps, &[Step::Name("If"), Step::Name("reject")]),
-        Part::Case(index) => add(
-            steps,
-            &[
-                Step::Name("Switch"),
-                Step::Name("cases"),
-                Step::Index(index),
-                Step::Name("body"),
-            ],
-        ),
-        Part::Body => add(steps, &[Step::Name("Loop"), Step::Name("body")]),
-        Part::Continuing => add(steps, &[Step::Name("Loop"), Step::Name("continuing")]),
-        Part::BreakIf => add(steps, &[Step::Name("Loop"), Step::Name("break_if")]),
+    Ok(())
+}
+
+/// Adds the way from a list to one of its statements.
+fn add_statement(steps: &mut Vec<Step>, node: &Node<'_>) -> Result<(), AllocError> {
+    add_index(steps, node.index)?;
+    if node.located.span != Span::UNDEFINED {
+        return add_name(steps, "statement");
+    }
+    Ok(())
+}
+
+/// Adds the way from a statement to a part of it.
+fn add_part(steps: &mut Vec<Step>, part: Part) -> Result<(), AllocError> {
+    match part {
+        Part::Block => add_name(steps, "Block"),
+        Part::Accept => add_field(steps, "If", "accept"),
+        Part::Reject => add_field(steps, "If", "reject"),
+        Part::Case(index) => {
+            add_name(steps, "Switch")?;
+            add_item(steps, "cases", index)?;
+            add_name(steps, "body")
+        }
+        Part::Body => add_field(steps, "Loop", "body"),
+        Part::Continuing => add_field(steps, "Loop", "continuing"),
+        Part::BreakIf => add_field(steps, "Loop", "break_if"),
     }
 }

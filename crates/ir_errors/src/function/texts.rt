@@ -1,4 +1,4 @@
-//! What the errors of functions print.
+//! The names of the errors of functions, which they print.
 
 ghost use Rattle.std.specs.Prelude.{◌≡◌};
 ghost use Rattle.ir_errors.specs.Names.{function_error_name};

@@ -1,4 +1,5 @@
-//! Errors, of which no clause says what is tested: printed names, and calls with ample memory.
+//! Errors: what they print, the sentences that no verdict has, and places that a clone keeps.
 
 mod clones;
 mod names;
+mod sentences;

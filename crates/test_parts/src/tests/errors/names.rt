@@ -1,34 +1,39 @@
-//! What each error prints: the name of its variant, with which what is printed for a programmer begins. Their sentences stand in
-//! tools/documents/sentences.py, but for those that no verdict has.
-
-mod function;
-mod inner;
-mod interface;
+//! What each error prints: its name. Which name each of its variants has is a clause of its `name`.
 
 use crate::tests::made;
-use std::fmt::{Debug, Display};
+use ir_arena::Handle;
+use ir_errors::{
+    AtomicError, CallError, ExpressionError, FunctionError, GlobalVariableError,
+    LocalVariableError, MeshFault, SubgroupError, VaryingError,
+};
+use std::error::Error;
 use std::process::Abort;
 
-/// Whether a text is a name, and whether another is that name with what it holds, if it holds anything.
-fn is_name_of(name: &str, told: &str) -> bool {
-    match told.strip_prefix(name) {
-        Some(held) => !name.is_empty()
-            && (held.is_empty() || held.starts_with("(") || held.starts_with(" {")),
-        None => false,
-    }
+/// The error, which is taken as any error, prints this.
+fn expect_said(rt: &(impl Abort + AllocGlobal), error: &impl Error, name: &str) {
+    let said = made(rt, error.to_string(rt.alloc()));
+    holds!(rt; said.as_str() == name);
 }
 
-/// A text is a name, and another is that name with what it holds.
-fn expect_name_of(rt: &impl Abort, name: &str, told: &str) {
-    assert!(rt; is_name_of(name, told), "{name}: {told}");
+#[test]
+fn errors_of_functions_print_their_names(rt: HostRuntime) {
+    let handle = Handle::new(1);
+    expect_said(&rt, &FunctionError::EmitResult(handle), "EmitResult");
+    expect_said(
+        &rt,
+        &CallError::ExpressionMismatch(None),
+        "ExpressionMismatch",
+    );
+    expect_said(&rt, &AtomicError::InvalidOperand(handle), "InvalidOperand");
+    expect_said(&rt, &SubgroupError::UnknownOperation, "UnknownOperation");
+    expect_said(&rt, &LocalVariableError::InitializerType, "InitializerType");
 }
 
-/// The error prints its name.
-fn expect_named<E: Display + Debug + Drop>(rt: &(impl Abort + AllocGlobal), error: E) {
-    let name = made(rt, error.to_string(rt.alloc()));
-    let told = made(rt, format!(in rt.alloc(); "{error:?}"));
-    drop(error);
-    expect_name_of(rt, name.as_str(), told.as_str());
-    drop(told);
-    drop(name);
+#[test]
+fn other_errors_print_their_names(rt: HostRuntime) {
+    expect_said(&rt, &ExpressionError::Lower(7), "Lower");
+    expect_said(&rt, &GlobalVariableError::InvalidBinding, "InvalidBinding");
+    expect_said(&rt, &VaryingError::MissingBinding, "MissingBinding");
+    expect_said(&rt, &MeshFault::OutputType, "OutputType");
+    expect_said(&rt, &MeshFault::OutputField, "OutputField");
 }
