@@ -5,6 +5,7 @@ pub mod Walk
 pub mod Uses
 pub mod Kinds
 pub mod Lengths
+pub mod NamedTypes
 pub mod Plain
 pub mod Recorded
 pub mod Typed

@@ -1,32 +1,27 @@
 -- The laws that the layer which computes keeps as a lower layer.
-use Rattle.std.specs.Prelude.{ℕ, ◌≡◌, ◌+◌, ◌++◌, ◌∷◌, [], Bool, true, false, List, All, Option, Some, None, Result, Ok, Err, ◌<◌, length, nat_lt, slice_get, if◌then◌else◌, option_and_then}
+use Rattle.std.specs.Prelude.{ℕ, ◌≡◌, ◌+◌, ◌++◌, ◌∷◌, [], Bool, true, false, List, All, Option, Some, None, Result, Ok, Err, ◌<◌, length, slice_get, if◌then◌else◌}
 use Rattle.std.specs.Option.{option_map}
 use Rattle.std.proofs.Common.{refl, ◌∙◌, arith}
-use Rattle.std.proofs.lemmas.Bool.{ltb-true}
 use Rattle.std.proofs.lemmas.List.{length-append}
 use Rattle.std.proofs.lemmas.List.Elements.{All-push, All-nil}
 use Rattle.std.proofs.lemmas.Option.{slice_get_within}
 use Rattle.std.proofs.lemmas.Result.{IfOk-at_ok}
 use Rattle.ir_types.specs.Types.{ResolutionFits, inner_at}
 use Rattle.ir_types.specs.declared.types.AddressSpace.{AddressSpace}
-use Rattle.ir_types.specs.declared.types.AddressSpace.TheVariants as space
 use Rattle.ir_types.specs.declared.types.Scalar.{Scalar}
 use Rattle.ir_types.specs.declared.types.StructMember.{StructMember}
 use Rattle.ir_types.specs.declared.types.Type.{«Type» as IrType}
 use Rattle.ir_types.specs.declared.types.TypeInner.{TypeInner}
 use Rattle.ir_types.specs.declared.types.TypeInner.TheVariants as inner
 use Rattle.ir_types.specs.declared.typifier.TypeResolution.{TypeResolution}
-use Rattle.ir_types.specs.declared.typifier.TypeResolution.TheVariants.{Handle, Value}
+use Rattle.ir_types.specs.declared.typifier.TypeResolution.TheVariants.{Handle}
 use Rattle.ir_module.specs.declared.expressions.Expression.{Expression}
 use Rattle.ir_module.specs.declared.expressions.Expression.TheVariants as e
 use Rattle.ir_module.specs.declared.functions.Function.{Function}
 use Rattle.ir_module.specs.declared.functions.FunctionArgument.{FunctionArgument}
 use Rattle.ir_module.specs.declared.functions.FunctionResult.{FunctionResult}
 use Rattle.ir_module.specs.declared.functions.LocalVariable.{LocalVariable}
-use Rattle.ir_module.specs.declared.module.Constant.{Constant}
-use Rattle.ir_module.specs.declared.module.GlobalVariable.{GlobalVariable}
 use Rattle.ir_module.specs.declared.module.Module.{Module}
-use Rattle.ir_module.specs.declared.module.Override.{Override}
 use Rattle.ir_module.specs.Operands.{listed_operands}
 use Rattle.ir_facts.specs.declared.valid.info.FunctionInfo.{FunctionInfo}
 use Rattle.ir_facts.specs.declared.valid.info.ModuleInfo.{ModuleInfo}
@@ -38,7 +33,7 @@ use Rattle.layer_expressions.specs.declared.shapes.Shape.TheVariants as shape
 use Rattle.layer_expressions.specs.declared.types.Untyped.{Untyped}
 use Rattle.layer_expressions.specs.Access.{value_item, pointer_item, item_of, is_index, access_type, count_behind, is_below, pointer_member, member_of, access_index_type, is_loadable, loaded_at, loaded}
 use Rattle.layer_expressions.specs.Loading.{load_type, query_type}
-use Rattle.layer_expressions.specs.Named.{type_at, pointer_to, global_type, result_type, callee_type, named_type}
+use Rattle.layer_expressions.specs.Named.{type_at, pointer_to, result_type, callee_type, named_type}
 use Rattle.layer_expressions.specs.Operands.{arguments_of, type_of_operand}
 use Rattle.layer_expressions.specs.declared.operands.Arguments.{Arguments}
 use Rattle.layer_expressions.specs.Others.{cooperative_load, cooperative_of, length_type, has_length, matrix_of, multiply_add, scalar_behind}
@@ -47,29 +42,13 @@ use Rattle.layer_expressions.specs.Sampling.{sample_type}
 use Rattle.layer_expressions.specs.Shapes.{value_of}
 use Rattle.layer_expressions.specs.Types.{computed, rule_of, some_shape, shape_value, computed_type, load_value, named, is_computed, plain_type, type_of, or_untyped, types_from, types_of}
 use Rattle.naga_layers.specs.Lengths.{uses_of-length}
+use Rattle.naga_layers.specs.NamedTypes.{IsLawful, OfSome, where_some, of_and_then, type_at-lawful, pointer_to-lawful, named_type-lawful}
 use Rattle.naga_layers.specs.Typed.Meaning.{computed_info, info_of_types, with_types}
-
--- a type that the module has, and that is no struct as a value
-abbrev pub IsLawful : List IrType → TypeResolution → Type 0
-IsLawful types t = ResolutionFits (length types) t × IsNoStruct t
 
 -- what an answer gives, where it gives something, has a property
 abbrev OfOk : {A E : Type 0} → (A → Type 0) → Result A E → Type 0
 OfOk P (Ok x) = P x
 OfOk P (Err error) = Unit {0}
-
-abbrev OfSome : {A : Type 0} → (A → Type 0) → Option A → Type 0
-OfSome P (Some x) = P x
-OfSome P None = Unit {0}
-
-where_some : {A : Type 0} (P : A → Type 0) (b : Bool) (x : A) → (b ≡ true → P x) → OfSome P (if b then Some x else None)
-where_some P true x p = p refl
-where_some P false x p = tt
-
-of_and_then : {A B : Type 0} (P : B → Type 0) (f : A → Option B) (o : Option A) → ((x : A) → o ≡ Some x → OfSome P (f x))
-    → OfSome P (option_and_then f o)
-of_and_then P f None p = tt
-of_and_then P f (Some x) p = p x refl
 
 of_or_broken : (P : TypeResolution → Type 0) (r : Rule) (o : Option TypeResolution) → OfSome P o → OfOk P (or_broken r o)
 of_or_broken P r None h = tt
@@ -80,18 +59,6 @@ of_if P true x y h k = h
 of_if P false x y h k = k
 
 module _ (types : List IrType) where
-  type_at-lawful : (t : ℕ) → OfSome (IsLawful types) (type_at (length types) t)
-  type_at-lawful t =
-      where_some (IsLawful types) (nat_lt t (length types)) (Handle t) (λ h. (ltb-true t (length types) h, tt))
-
-  pointer_to-lawful : (t : ℕ) (p : AddressSpace) → OfSome (IsLawful types) (pointer_to (length types) t p)
-  pointer_to-lawful t p =
-      where_some (IsLawful types) (nat_lt t (length types)) (Value (inner.Pointer t p)) (λ h. (ltb-true t (length types) h, tt))
-
-  global_type-lawful : (t : ℕ) (p : AddressSpace) → OfSome (IsLawful types) (global_type (length types) t p)
-  global_type-lawful t space.Handle = type_at-lawful t
-  global_type-lawful t p = pointer_to-lawful t p
-
   value_of-lawful : (x : Shape) → IsLawful types (value_of x)
   value_of-lawful (shape.Scalar s) = (tt, tt)
   value_of-lawful (shape.Vector n s) = (tt, tt)
@@ -99,15 +66,15 @@ module _ (types : List IrType) where
 
   -- accesses
   value_item-lawful : (i : TypeInner) → OfSome (IsLawful types) (value_item (length types) i)
-  value_item-lawful (inner.Array base n stride) = type_at-lawful base
-  value_item-lawful (inner.BindingArray base n) = type_at-lawful base
+  value_item-lawful (inner.Array base n stride) = type_at-lawful types base
+  value_item-lawful (inner.BindingArray base n) = type_at-lawful types base
   value_item-lawful (inner.Matrix c r s) = (tt, tt)
   value_item-lawful (inner.Vector n s) = (tt, tt)
   value_item-lawful _ = tt
 
   pointer_item-lawful : (p : AddressSpace) (i : TypeInner) → OfSome (IsLawful types) (pointer_item (length types) p i)
-  pointer_item-lawful p (inner.Array base n stride) = pointer_to-lawful base p
-  pointer_item-lawful p (inner.BindingArray base n) = pointer_to-lawful base p
+  pointer_item-lawful p (inner.Array base n stride) = pointer_to-lawful types base p
+  pointer_item-lawful p (inner.BindingArray base n) = pointer_to-lawful types base p
   pointer_item-lawful p (inner.Matrix c r s) = (tt, tt)
   pointer_item-lawful p (inner.Vector n s) = (tt, tt)
   pointer_item-lawful p _ = tt
@@ -130,13 +97,13 @@ module _ (types : List IrType) where
       → OfSome (IsLawful types) (pointer_member (length types) p k i)
   pointer_member-lawful p k (inner.Struct members span) =
       of_and_then (IsLawful types) (λ (m : StructMember). pointer_to (length types) m.ty p) (slice_get members k)
-      (λ m is. pointer_to-lawful m.ty p)
+      (λ m is. pointer_to-lawful types m.ty p)
   pointer_member-lawful p k i = pointer_item-lawful p i
 
   member_of-lawful : (i : TypeInner) (k : ℕ) → OfSome (IsLawful types) (member_of types i k)
   member_of-lawful (inner.Struct members span) k =
       of_and_then (IsLawful types) (λ (m : StructMember). type_at (length types) m.ty) (slice_get members k)
-      (λ m is. type_at-lawful m.ty)
+      (λ m is. type_at-lawful types m.ty)
   member_of-lawful (inner.Pointer b p) k =
       of_and_then (IsLawful types) (pointer_member (length types) p k) (inner_at types b) (λ i is. pointer_member-lawful p k i)
   member_of-lawful i k = item_of-lawful i
@@ -222,46 +189,20 @@ module _ (types : List IrType) where
   -- results of calls
   result_type-lawful : (r : Option FunctionResult) → OfOk (IsLawful types) (result_type (length types) r)
   result_type-lawful None = tt
-  result_type-lawful (Some r) = of_or_broken (IsLawful types) rule.Named (type_at (length types) r.ty) (type_at-lawful r.ty)
+  result_type-lawful (Some r) = of_or_broken (IsLawful types) rule.Named (type_at (length types) r.ty) (type_at-lawful types r.ty)
 
   callee_type-lawful : (f : Option Function) → OfOk (IsLawful types) (callee_type (length types) f)
   callee_type-lawful None = tt
   callee_type-lawful (Some f) = result_type-lawful f.result
 
 module _ (m : Module) (arguments : List FunctionArgument) (locals : List LocalVariable) where
-  named_type-lawful : (x : Expression) → OfSome (IsLawful m.types) (named_type m arguments locals x)
-  named_type-lawful (e.Literal l) = (tt, tt)
-  named_type-lawful (e.Constant h) =
-      of_and_then (IsLawful m.types) (λ (c : Constant). type_at (length m.types) c.ty) (slice_get m.constants h)
-      (λ c is. type_at-lawful m.types c.ty)
-  named_type-lawful (e.Override h) =
-      of_and_then (IsLawful m.types) (λ (o : Override). type_at (length m.types) o.ty) (slice_get m.overrides h)
-      (λ o is. type_at-lawful m.types o.ty)
-  named_type-lawful (e.ZeroValue t) = type_at-lawful m.types t
-  named_type-lawful (e.Compose t hs) = type_at-lawful m.types t
-  named_type-lawful (e.FunctionArgument n) =
-      of_and_then (IsLawful m.types) (λ (a : FunctionArgument). type_at (length m.types) a.ty) (slice_get arguments n)
-      (λ a is. type_at-lawful m.types a.ty)
-  named_type-lawful (e.GlobalVariable h) =
-      of_and_then (IsLawful m.types) (λ (g : GlobalVariable). global_type (length m.types) g.ty g.space)
-      (slice_get m.global_variables h) (λ g is. global_type-lawful m.types g.ty g.space)
-  named_type-lawful (e.LocalVariable h) =
-      of_and_then (IsLawful m.types) (λ (v : LocalVariable). pointer_to (length m.types) v.ty space.Function)
-      (slice_get locals h) (λ v is. pointer_to-lawful m.types v.ty space.Function)
-  named_type-lawful (e.AtomicResult t c) = type_at-lawful m.types t
-  named_type-lawful (e.WorkGroupUniformLoadResult t) = type_at-lawful m.types t
-  named_type-lawful e.RayQueryProceedResult = (tt, tt)
-  named_type-lawful e.SubgroupBallotResult = (tt, tt)
-  named_type-lawful (e.SubgroupOperationResult t) = type_at-lawful m.types t
-  named_type-lawful _ = tt
-
   plain_type-lawful : (earlier : List TypeResolution) (x : Expression)
       → OfOk (IsLawful m.types) (plain_type m arguments locals earlier x)
   plain_type-lawful earlier x =
       let given = arguments_of m.types earlier (listed_operands x) in
       of_if (IsLawful m.types) (is_computed x) (computed_type x given) (named m arguments locals x)
       (computed_type-lawful m.types x given)
-      (of_or_broken (IsLawful m.types) rule.Named (named_type m arguments locals x) (named_type-lawful x))
+      (of_or_broken (IsLawful m.types) rule.Named (named_type m arguments locals x) (named_type-lawful m arguments locals x))
 
   type_of-lawful : (xs : List Expression) (earlier : List TypeResolution) (x : Expression)
       → OfOk (IsLawful m.types) (type_of m arguments locals xs earlier x)

@@ -5,7 +5,7 @@ ghost use Rattle.ir_arena.specs.declared.span.Refusal.TheVariants.{Fault};
 ghost use Rattle.ir_errors.specs.declared.expression.ExpressionError.TheVariants.{Lower};
 ghost use Rattle.ir_facts.specs.Answers.{Answers, Exactly};
 ghost use Rattle.ir_errors.specs.declared.function.FunctionError.TheVariants.{Expression as InExpression};
-ghost use Rattle.naga_layers.specs.Plain.Types.{type_at, pointer_to, global_type, loaded_type, first_of, own_type, type_of, types_from};
+ghost use Rattle.naga_layers.specs.Plain.Types.{loaded_type, first_of, own_type, type_of, types_from};
 
 use ir_arena::handle::Handle;
 use ir_arena::sequence::Sequence;
@@ -15,9 +15,9 @@ use ir_errors::expression::ExpressionError;
 use ir_errors::function::FunctionError;
 use ir_module::expressions::Expression;
 use ir_module::functions::Function;
-use ir_module::module::{GlobalVariable, Module};
-use ir_types::types::{AddressSpace, Scalar, TypeInner, VectorSize};
+use ir_module::module::Module;
 use ir_types::typifier::TypeResolution;
+use layer_expressions::named::{named_type, type_at};
 use std::alloc::{AllocError, Global};
 
 /// The type of each expression of a function, or the first expression that has none here.
@@ -75,89 +75,18 @@ fn type_of(
     }
 }
 
-/// The type of an expression that has one by itself.
+/// The type of an expression that has one by itself: of what it names, or of the result of a function.
 fn own_type(module: &Module, fun: &Function, expression: &Expression) -> Option<TypeResolution>
     ensures { result ≡ own_type «module».now fun.now expression.now }
 {
-    match expression {
-        Expression::Literal(literal) => Some(TypeResolution::Value(TypeInner::Scalar(
-            literal.scalar,
-        ))),
-        Expression::Constant(handle) => {
-            let constant = module.constants.as_slice().get(handle.index())?;
-            type_at(module, constant.ty)
-        }
-        Expression::Override(handle) => {
-            let constant = module.overrides.as_slice().get(handle.index())?;
-            type_at(module, constant.ty)
-        }
-        Expression::ZeroValue(ty)
-        | Expression::Compose { ty, .. }
-        | Expression::AtomicResult { ty, .. }
-        | Expression::WorkGroupUniformLoadResult { ty }
-        | Expression::SubgroupOperationResult { ty } => type_at(module, *ty),
-        Expression::FunctionArgument(index) => {
-            let argument = fun.arguments.as_slice().get(*index as usize)?;
-            type_at(module, argument.ty)
-        }
-        Expression::GlobalVariable(handle) => {
-            let global = module.global_variables.as_slice().get(handle.index())?;
-            global_type(module, *global)
-        }
-        Expression::LocalVariable(handle) => {
-            let local = fun.local_variables.as_slice().get(handle.index())?;
-            pointer_to(module, local.ty, AddressSpace::Function)
-        }
-        Expression::CallResult(handle) => {
-            let callee = module.functions.as_slice().get(handle.index())?;
-            let declared = callee.result?;
-            type_at(module, declared.ty)
-        }
-        Expression::RayQueryProceedResult => Some(TypeResolution::Value(TypeInner::Scalar(
-            Scalar::BOOL,
-        ))),
-        Expression::SubgroupBallotResult => Some(TypeResolution::Value(TypeInner::Vector {
-            size: VectorSize::Quad,
-            scalar: Scalar::U32,
-        })),
-        _ => None,
-    }
-}
-
-/// The type with a handle, where the module has it.
-fn type_at(module: &Module, ty: Handle<tag::Type>) -> Option<TypeResolution>
-    ensures { result ≡ type_at «module».now ty }
-{
-    if ty.index() < module.types.len() {
-        Some(TypeResolution::Handle(ty))
-    } else {
-        None
-    }
-}
-
-/// A pointer to the type with a handle, where the module has it.
-fn pointer_to(
-    module: &Module,
-    base: Handle<tag::Type>,
-    space: AddressSpace,
-) -> Option<TypeResolution>
-    ensures { result ≡ pointer_to «module».now base space }
-{
-    if base.index() < module.types.len() {
-        Some(TypeResolution::Value(TypeInner::Pointer { base, space }))
-    } else {
-        None
-    }
-}
-
-/// What a global stands for: itself in Handle, elsewhere a pointer to it.
-fn global_type(module: &Module, global: GlobalVariable) -> Option<TypeResolution>
-    ensures { result ≡ global_type «module».now global.ty global.space }
-{
-    match global.space {
-        AddressSpace::Handle => type_at(module, global.ty),
-        space => pointer_to(module, global.ty, space),
-    }
+    let Expression::CallResult(handle) = expression else {
+        let arguments = fun.arguments.as_slice();
+        let locals = fun.local_variables.as_slice();
+        return named_type(module, arguments, locals, expression);
+    };
+    let callee = module.functions.as_slice().get(handle.index())?;
+    let declared = callee.result?;
+    type_at(module.types.len(), declared.ty)
 }
 
 /// The type that the pointer with a handle points to.
@@ -173,7 +102,7 @@ fn loaded_type_at(
         TypeResolution::Value(inner) => inner,
     };
     match inner.pointer_base_type()? {
-        TypeResolution::Handle(ty) => type_at(module, ty),
+        TypeResolution::Handle(ty) => type_at(module.types.len(), ty),
         base => Some(base),
     }
 }
