@@ -10,7 +10,7 @@ use ir_types::types::{ImageClass, ImageDimension, StorageFormat};
 use std::fmt;
 
 /// What is wrong with an expression, or with an operand of a statement.
-#[derive(Clone, Copy, PartialEq, Eq, Hash, Debug)]
+#[derive(Clone, Copy, PartialEq, Eq, Debug)]
 pub enum ExpressionError {
     /// It is not in scope where it is used, or not every run has emitted it.
     NotInScope,

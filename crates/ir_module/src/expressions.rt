@@ -11,7 +11,7 @@ use ir_types::types::Scalar;
 use std::alloc::{AllocError, Global};
 
 /// A number or a bool, as the bits of its value, floats included. A scalar of fewer than 64 bits has the low ones.
-#[derive(Clone, Copy, PartialEq, Eq, Hash, Debug)]
+#[derive(Clone, Copy, PartialEq, Eq, Debug)]
 pub struct Literal {
     pub scalar: Scalar,
     pub bits: u64,

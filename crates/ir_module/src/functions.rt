@@ -38,7 +38,7 @@ pub struct FunctionArgument {
 }
 
 /// The result of a function.
-#[derive(Clone, Copy, PartialEq, Eq, Hash, Debug)]
+#[derive(Clone, Copy, PartialEq, Eq, Debug)]
 pub struct FunctionResult {
     pub ty: Handle<tag::Type>,
     /// In an accepted module only the result of an entry point has one.

@@ -27,7 +27,7 @@ pub struct ResourceBinding {
 ///
 /// In a module that was accepted with the flag BINDINGS, it has a `binding` exactly if it is in Storage, Uniform or
 /// Handle.
-#[derive(Clone, Copy, PartialEq, Eq, Hash, Debug)]
+#[derive(Clone, Copy, PartialEq, Eq, Debug)]
 pub struct GlobalVariable {
     pub space: AddressSpace,
     pub binding: Option<ResourceBinding>,
@@ -42,7 +42,7 @@ impl Tagged for GlobalVariable {
 }
 
 /// A constant of a module: its type alone. Its value is not kept.
-#[derive(Clone, Copy, PartialEq, Eq, Hash, Debug)]
+#[derive(Clone, Copy, PartialEq, Eq, Debug)]
 pub struct Constant {
     pub ty: Handle<tag::Type>,
 }
@@ -52,7 +52,7 @@ impl Tagged for Constant {
 }
 
 /// A constant that the pipeline may override: its type alone.
-#[derive(Clone, Copy, PartialEq, Eq, Hash, Debug)]
+#[derive(Clone, Copy, PartialEq, Eq, Debug)]
 pub struct Override {
     pub ty: Handle<tag::Type>,
 }
@@ -62,18 +62,18 @@ impl Tagged for Override {
 }
 
 /// Types of the module with a special use.
-#[derive(Clone, Copy, PartialEq, Eq, Hash, Debug)]
+#[derive(Clone, Copy, PartialEq, Eq, Debug)]
 pub struct SpecialTypes {
     /// The type of the descriptor of a ray.
     pub ray_desc: Option<Handle<tag::Type>>,
 }
 
 /// A request to test depth before the fragment stage runs. The number stands for its kind, which isn't read.
-#[derive(Clone, Copy, PartialEq, Eq, PartialOrd, Ord, Hash, Debug)]
+#[derive(Clone, Copy, PartialEq, Eq, Hash, Debug)]
 pub struct EarlyDepthTest(pub u32);
 
 /// The primitives of a mesh.
-#[derive(Clone, Copy, PartialEq, Eq, PartialOrd, Ord, Hash, Debug)]
+#[derive(Clone, Copy, PartialEq, Eq, Hash, Debug)]
 pub enum MeshOutputTopology {
     Points,
     Lines,

@@ -8,7 +8,7 @@ use ir_arena::handle::Handle;
 use ir_arena::tag;
 
 /// An atomic operation. `Exchange` with `compare` stores only if the old value equals it.
-#[derive(Clone, Copy, PartialEq, Eq, Hash, Debug)]
+#[derive(Clone, Copy, PartialEq, Eq, Debug)]
 pub enum AtomicFunction {
     Add,
     Subtract,
@@ -32,7 +32,7 @@ impl AtomicFunction {
 }
 
 /// The value of a case. A signed value never equals an unsigned one.
-#[derive(Clone, Copy, PartialEq, Eq, PartialOrd, Ord, Hash, Debug)]
+#[derive(Clone, Copy, PartialEq, Eq, Hash, Debug)]
 pub enum SwitchValue {
     I32(i32),
     U32(u32),
@@ -64,7 +64,7 @@ pub enum CollectiveOperation {
 /// The invocation that a value comes from. An expression is its index, or the distance to it.
 ///
 /// The number of `QuadSwap` stands for its direction, which isn't read.
-#[derive(Clone, Copy, PartialEq, Eq, Hash, Debug)]
+#[derive(Clone, Copy, PartialEq, Eq, Debug)]
 pub enum GatherMode {
     BroadcastFirst,
     QuadSwap(u32),
@@ -77,7 +77,7 @@ pub enum GatherMode {
 }
 
 /// An operation of a ray query.
-#[derive(Clone, Copy, PartialEq, Eq, Hash, Debug)]
+#[derive(Clone, Copy, PartialEq, Eq, Debug)]
 pub enum RayQueryFunction {
     Initialize {
         acceleration_structure: Handle<tag::Expression>,
@@ -94,7 +94,7 @@ pub enum RayQueryFunction {
 }
 
 /// An operation of a ray pipeline.
-#[derive(Clone, Copy, PartialEq, Eq, Hash, Debug)]
+#[derive(Clone, Copy, PartialEq, Eq, Debug)]
 pub enum RayPipelineFunction {
     TraceRay {
         acceleration_structure: Handle<tag::Expression>,
@@ -104,7 +104,7 @@ pub enum RayPipelineFunction {
 }
 
 /// The memory of a cooperative matrix. `detail` stands for stride and order, which aren't read.
-#[derive(Clone, Copy, PartialEq, Eq, Hash, Debug)]
+#[derive(Clone, Copy, PartialEq, Eq, Debug)]
 pub struct CooperativeData {
     pub pointer: Handle<tag::Expression>,
     pub detail: u32,

@@ -8,7 +8,7 @@ use crate::spot::{Spot, spot_in_entry, spot_in_function};
 use check_faults::{EntryPointError, ModuleFault, Subject};
 use ir_facts::Facts;
 use ir_misfits::{Owner, Shortage, find_short_fact};
-use naga_below::{EntryPoint, ExpressionError, Handle, Module, tag};
+use naga_below::{ExpressionError, Function, Handle, Module, tag};
 use naga_rules::FunctionError;
 use std::alloc::{AllocError, Global};
 
@@ -22,40 +22,72 @@ pub fn found_in(
     number: Option<usize>,
 ) -> Result<Option<Found>, AllocError> {
     match fault {
-        ModuleFault::Global(global, _) => Ok(Some(Found {
-            spot: Spot::Global(*global),
-            place: place_of(
-                alloc,
-                Subject::GlobalVariable(*global),
-                Spot::Global(*global),
-                &[],
-            )?,
-            reason: None,
-        })),
+        ModuleFault::Global(global, _) => Ok(Some(found_in_global(alloc, *global)?)),
         ModuleFault::Function(handle, error) => {
             let Some(function) = module.functions.as_slice().get(handle.index()) else {
                 return Ok(None);
             };
-            let error = error.as_inner();
-            let nodes = nodes_of(alloc, &function.body)?;
-            let nodes = nodes.as_slice();
-            let subject = Subject::Function(*handle);
-            let owner = Owner::Function(handle.index());
-            let spot = match shortage_in(facts, module, owner, error) {
-                Some(shortage) => Spot::Facts(shortage),
-                None => spot_in_function(function, nodes, error, number),
+            let judged = Judged {
+                subject: Subject::Function(*handle),
+                owner: Owner::Function(handle.index()),
+                function,
             };
-            let used = unseen(error, nodes, &spot);
-            Ok(Some(found_at(alloc, subject, spot, nodes, used)?))
+            Ok(Some(found_in_body(alloc, facts, module, judged, error.as_inner(), number)?))
         }
         ModuleFault::EntryPoint(index, error) => {
             let Some(ep) = module.entry_points.as_slice().get(*index) else {
                 return Ok(None);
             };
-            Ok(Some(found_in_entry(alloc, facts, module, *index, ep, error.as_inner(), number)?))
+            let subject = Subject::EntryPoint(*index);
+            let EntryPointError::Function(error) = error.as_inner() else {
+                let spot = spot_in_entry(alloc, module, ep, error.as_inner())?;
+                return Ok(Some(found_at(alloc, subject, spot, &[], None)?));
+            };
+            let judged = Judged {
+                subject,
+                owner: Owner::EntryPoint(*index),
+                function: &ep.function,
+            };
+            Ok(Some(found_in_body(alloc, facts, module, judged, error, number)?))
         }
         ModuleFault::NotFit | ModuleFault::Memory => Ok(None),
     }
+}
+
+/// A function that was judged, or that of an entry point.
+#[derive(Clone, Copy)]
+struct Judged<'a> {
+    subject: Subject,
+    owner: Owner,
+    function: &'a Function,
+}
+
+/// A global has the fault.
+fn found_in_global(
+    alloc: Global,
+    global: Handle<tag::GlobalVariable>,
+) -> Result<Found, AllocError> {
+    let spot = Spot::Global(global);
+    found_at(alloc, Subject::GlobalVariable(global), spot, &[], None)
+}
+
+/// What of a function has the fault.
+fn found_in_body(
+    alloc: Global,
+    facts: Option<&Facts>,
+    module: &Module,
+    judged: Judged<'_>,
+    fault: &FunctionError,
+    number: Option<usize>,
+) -> Result<Found, AllocError> {
+    let nodes = nodes_of(alloc, &judged.function.body)?;
+    let nodes = nodes.as_slice();
+    let spot = match shortage_in(facts, module, judged.owner, fault) {
+        Some(shortage) => Spot::Facts(shortage),
+        None => spot_in_function(judged.function, nodes, fault, number),
+    };
+    let used = unseen(fault, nodes, &spot);
+    found_at(alloc, judged.subject, spot, nodes, used)
 }
 
 /// What is short in the facts about a function, or breaks a law, if there are facts and its fault is that.
@@ -77,31 +109,6 @@ fn shortage_in(
         Some(Shortage::Expressions { found, .. }) if handle.index() < found => None,
         shortage => shortage,
     }
-}
-
-/// What of an entry point has a fault.
-fn found_in_entry(
-    alloc: Global,
-    facts: Option<&Facts>,
-    module: &Module,
-    index: usize,
-    ep: &EntryPoint,
-    fault: &EntryPointError,
-    number: Option<usize>,
-) -> Result<Found, AllocError> {
-    let nodes = nodes_of(alloc, &ep.function.body)?;
-    let nodes = nodes.as_slice();
-    let EntryPointError::Function(error) = fault else {
-        let spot = spot_in_entry(alloc, module, ep, fault)?;
-        return found_at(alloc, Subject::EntryPoint(index), spot, nodes, None);
-    };
-    let subject = Subject::EntryPoint(index);
-    let spot = match shortage_in(facts, module, Owner::EntryPoint(index), error) {
-        Some(shortage) => Spot::Facts(shortage),
-        None => spot_in_function(&ep.function, nodes, error, number),
-    };
-    let used = unseen(error, nodes, &spot);
-    found_at(alloc, subject, spot, nodes, used)
 }
 
 /// Where a spot stands, and why the expression that can't be used there can't, if that is the fault.

@@ -8,7 +8,7 @@ use ir_flags::valid::TypeFlags;
 /// The info of a type: what it can be used for. Infos are indexed by the handles of a module's types.
 ///
 /// A layout is the alignment in bytes. An Err in its place has the inner type that makes the layout bad, and why.
-#[derive(Clone, Copy, PartialEq, Eq, Hash, Debug)]
+#[derive(Clone, Copy, PartialEq, Eq, Debug)]
 pub struct TypeInfo {
     pub flags: TypeFlags,
     pub storage_layout: Result<u32, (Handle<tag::Type>, Disalignment)>,
