@@ -32,7 +32,7 @@ impl AtomicFunction {
 }
 
 /// The value of a case. A signed value never equals an unsigned one.
-#[derive(Clone, Copy, PartialEq, Eq, Hash, Debug)]
+#[derive(Clone, Copy, PartialEq, Eq, PartialOrd, Ord, Hash, Debug)]
 pub enum SwitchValue {
     I32(i32),
     U32(u32),
