@@ -1,7 +1,6 @@
 -- The verdict of a text.
 use Rattle.std.specs.Prelude.{◌≡◌, ◌⊎◌, ℕ, List, [], Option, None, Some, Result, Ok, Err}
 use Rattle.ir_facts.specs.declared.valid.info.ModuleInfo.{ModuleInfo}
-use Rattle.ir_facts.specs.declared.valid.settings.Settings.{Settings}
 use Rattle.ir_facts.specs.declared.valid.types.TypeInfo.{TypeInfo}
 use Rattle.ir_module.specs.declared.module.Module.{Module}
 use Rattle.ir_types.specs.declared.typifier.TypeResolution.{TypeResolution}
