@@ -236,33 +236,22 @@ fn run(rt: &HostRuntime, case: Case) -> io::Result<()> {
     print(rt, case, times)
 }
 
-/// Whether a case is asked for by this word.
-fn is_chosen(case: Case, word: &str) -> bool {
-    word == "all" || case.name.starts_with(word)
+/// Runs a case where the word asks for it. Without a word its name is printed.
+fn visit(rt: &HostRuntime, case: Case, word: Option<&str>) -> io::Result<()> {
+    match word {
+        Some(word) if word == "all" || case.name.starts_with(word) => run(rt, case),
+        Some(_) => Ok(()),
+        None => println!(rt; "{}", case.name),
+    }
 }
 
-/// Times the cases that a word asks for.
-fn time(rt: &HostRuntime, word: &str) -> io::Result<()> {
+/// Runs the cases that a word asks for. Without a word the names of all are printed.
+fn visit_all(rt: &HostRuntime, word: Option<&str>) -> io::Result<()> {
     for case in &BODIES {
-        if is_chosen(*case, word) {
-            run(rt, *case)?;
-        }
+        visit(rt, *case, word)?;
     }
     for case in &WHOLES {
-        if is_chosen(*case, word) {
-            run(rt, *case)?;
-        }
-    }
-    Ok(())
-}
-
-/// Prints the names of all cases.
-fn name_all(rt: &HostRuntime) -> io::Result<()> {
-    for case in &BODIES {
-        println!(rt; "{}", case.name)?;
-    }
-    for case in &WHOLES {
-        println!(rt; "{}", case.name)?;
+        visit(rt, *case, word)?;
     }
     Ok(())
 }
@@ -287,7 +276,7 @@ fn main(rt: HostRuntime) -> io::Result<()> {
         [what, holder, depth] if what.as_str() == "dropping" => {
             nest(&rt, holder.as_str(), depth.as_str(), false)
         }
-        [word, ..] => time(&rt, word.as_str()),
-        [] => name_all(&rt),
+        [word, ..] => visit_all(&rt, Some(word.as_str())),
+        [] => visit_all(&rt, None),
     }
 }

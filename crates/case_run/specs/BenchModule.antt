@@ -8,8 +8,8 @@ use Rattle.ir_module.specs.declared.functions.Function.{Function}
 use Rattle.ir_module.specs.declared.functions.LocalVariable.{LocalVariable}
 use Rattle.ir_module.specs.declared.module.Module.{Module}
 use Rattle.ir_statements.specs.declared.statements.Block.{Block}
-use Rattle.ir_types.specs.declared.types.Scalar.{Scalar}
-use Rattle.ir_types.specs.declared.types.ScalarKind.TheVariants.{Sint, Uint}
+use Rattle.ir_leaves.specs.declared.scalars.Scalar.{Scalar}
+use Rattle.ir_leaves.specs.declared.scalars.ScalarKind.TheVariants.{Sint, Uint}
 use Rattle.ir_types.specs.declared.types.Type.{«Type» as IrType}
 use Rattle.ir_types.specs.declared.types.TypeInner.TheVariants.{Scalar as ScalarType}
 use Rattle.case_notation.specs.declared.bench.Bench.{Bench}

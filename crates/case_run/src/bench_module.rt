@@ -9,11 +9,12 @@ use ir_arena::arena::Arena;
 use ir_arena::handle::Handle;
 use ir_arena::sequence::Sequence;
 use ir_arena::span::Span;
+use ir_leaves::scalars::Scalar;
 use ir_module::expressions::{Expression, Literal};
 use ir_module::functions::{Function, FunctionResult, LocalVariable};
 use ir_module::module::Module;
 use ir_statements::statements::{Block, Statement};
-use ir_types::types::{Scalar, Type, TypeInner};
+use ir_types::types::{Type, TypeInner};
 use ir_types::unique_arena::UniqueArena;
 use std::alloc::{AllocError, Global};
 

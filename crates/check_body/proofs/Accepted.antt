@@ -14,8 +14,8 @@ use Rattle.ir_flags.specs.declared.valid.ShaderStages.{ShaderStages}
 use Rattle.ir_errors.specs.declared.function.FunctionError.{FunctionError}
 use Rattle.ir_errors.specs.declared.function.FunctionError.TheVariants.{UnvisitedExpression}
 use Rattle.naga_runs.proofs.Judgements.{judgement_is_visits, earlier_is_all}
-use Rattle.ir_facts.proofs.Points.{first_holds, not_holds}
-use Rattle.ir_facts.specs.Points.{and_then, first_fault, answer}
+use Rattle.ir_arena.proofs.Points.{first_holds, not_holds}
+use Rattle.ir_arena.specs.Points.{and_then, first_fault, answer}
 use Rattle.naga_runs.specs.ByTree.{judge_visits}
 use Rattle.naga_runs.specs.Handles.{Handles}
 use Rattle.naga_runs.specs.Judgement.{viewed}

@@ -2,8 +2,8 @@
 use Rattle.std.proofs.Common.{◌≡◌, ℕ, ◌<◌, ◌≤◌, ◌+◌, ◌++◌, List, Option, None, Ok, Err, Result, length, drop, get_or, sym, ap, ◌∙◌}
 use Rattle.std.specs.Option.{option_or}
 use Rattle.std.specs.Prelude.{IsErr}
-use Rattle.ir_facts.proofs.Points.{first_turn, first_end, first_of_both}
-use Rattle.ir_facts.specs.Points.{first_fault, points_from}
+use Rattle.ir_arena.proofs.Points.{first_turn, first_end, first_of_both}
+use Rattle.ir_arena.specs.Points.{first_fault, points_from}
 use Rattle.ir_arena.specs.declared.span.Refusal.{Refusal}
 use Rattle.ir_arena.specs.declared.span.Refusal.TheVariants as refusal
 use Rattle.ir_errors.specs.declared.function.FunctionError.{FunctionError}

@@ -3,7 +3,7 @@ use Rattle.std.proofs.Common.{◌≡◌, ℕ, zero, suc, Bool, true, false, List
 use Rattle.std.proofs.lemmas.List.Elements.{All-contains, All-from_recursion}
 use Rattle.std.specs.Prelude.{length, not, if◌then◌else◌, Contains}
 use Rattle.ir_module.specs.declared.functions.Function.{Function}
-use Rattle.ir_facts.specs.Points.{first_fault, answer, and_then}
+use Rattle.ir_arena.specs.Points.{first_fault, answer, and_then}
 use Rattle.ir_errors.specs.declared.expression.ExpressionError.TheVariants.{NotInScope}
 use Rattle.ir_facts.specs.WhatIsChecked.{checks_blocks, checks_expressions}
 use Rattle.ir_errors.specs.declared.function.CallError.TheVariants.{Argument}

@@ -11,10 +11,10 @@ use Rattle.ir_errors.specs.declared.expression.ExpressionError.TheVariants.{NotI
 use Rattle.ir_errors.specs.declared.function.FunctionError.{FunctionError}
 use Rattle.ir_errors.specs.declared.function.FunctionError.TheVariants.{EmitResult, Expression, ExpressionAlreadyInScope, InvalidIfType, InvalidSwitchType, BreakOutsideOfLoopOrSwitch, ContinueOutsideOfLoop, InvalidReturnSpot, InvalidReturnType}
 use Rattle.naga_runs.proofs.Judgements.{accepted_block_is_sure}
-use Rattle.ir_facts.proofs.Points.{first_holds, both_hold, not_holds}
+use Rattle.ir_arena.proofs.Points.{first_holds, both_hold, not_holds}
 use Rattle.naga_runs.specs.Guards.{SurelyReadGuards, IsRead}
 use Rattle.naga_runs.specs.Handles.{Handles, with_handle}
-use Rattle.ir_facts.specs.Points.{Point, first_fault}
+use Rattle.ir_arena.specs.Points.{Point, first_fault}
 use Rattle.naga_runs.specs.Judgement.{viewed}
 use Rattle.naga_runs.specs.Abilities.{node_jump}
 use Rattle.naga_runs.specs.Positions.{Node, NoNode, StatementNode, BreakIfNode}

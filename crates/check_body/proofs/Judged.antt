@@ -7,7 +7,7 @@ use Rattle.ir_arena.specs.declared.span.Refusal.TheVariants as refusal
 use Rattle.ir_facts.specs.Answers.{Answers, FirstOf, Exactly}
 use Rattle.ir_errors.specs.declared.function.FunctionError.{FunctionError}
 use Rattle.naga_runs.proofs.Judgements.{by_tree, earlier_agrees}
-use Rattle.ir_facts.specs.Points.{first_fault, answer}
+use Rattle.ir_arena.specs.Points.{first_fault, answer}
 use Rattle.naga_runs.specs.Judgement.{Follows, judgement, viewed}
 use Rattle.naga_runs.specs.Visits.{Visit}
 use Rattle.check_scope.specs.BodyTrees.{body_of}

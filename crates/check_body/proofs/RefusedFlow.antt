@@ -7,8 +7,8 @@ use Rattle.ir_statements.specs.View.{emitted, put_if}
 use Rattle.ir_module.specs.declared.functions.FunctionArgument.{FunctionArgument}
 use Rattle.ir_statements.specs.declared.operations.SwitchValue.{SwitchValue}
 use Rattle.ir_statements.specs.declared.operations.SwitchValue.TheVariants as case
-use Rattle.ir_types.specs.declared.types.ScalarKind.{ScalarKind}
-use Rattle.ir_facts.specs.Points.{within}
+use Rattle.ir_leaves.specs.declared.scalars.ScalarKind.{ScalarKind}
+use Rattle.ir_arena.specs.Points.{within}
 use Rattle.ir_errors.specs.declared.function.FunctionError.TheVariants.{InvalidCall}
 use Rattle.naga_runs.specs.Handles.{Handles, with_handle}
 use Rattle.naga_runs.specs.Visits.{Place}

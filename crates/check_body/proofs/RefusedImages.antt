@@ -5,10 +5,10 @@ use Rattle.ir_statements.specs.Tree.{Act, Use}
 use Rattle.ir_statements.specs.View.{used_if}
 use Rattle.ir_statements.specs.declared.operations.AtomicFunction.{AtomicFunction}
 use Rattle.ir_flags.specs.declared.capabilities.Capabilities.{Capabilities}
-use Rattle.ir_types.specs.Formats.{format_scalar}
+use Rattle.ir_leaves.specs.Formats.{format_scalar}
 use Rattle.ir_types.specs.TypeTests.{is_scalar}
-use Rattle.ir_types.specs.declared.types.StorageFormat.{StorageFormat}
-use Rattle.ir_types.specs.declared.types.StorageFormat.TheVariants as formats
+use Rattle.ir_leaves.specs.declared.images.StorageFormat.{StorageFormat}
+use Rattle.ir_leaves.specs.declared.images.StorageFormat.TheVariants as formats
 use Rattle.ir_errors.specs.declared.function.FunctionError.TheVariants.{InvalidImageAtomicValue}
 use Rattle.naga_runs.specs.Visits.{Place}
 use Rattle.check_resources.specs.Image.{stored_format}

@@ -7,7 +7,7 @@ use Rattle.ir_statements.specs.declared.operations.AtomicFunction.{AtomicFunctio
 use Rattle.ir_statements.specs.declared.operations.AtomicFunction.TheVariants as atomic
 use Rattle.ir_flags.specs.declared.capabilities.Capabilities.{Capabilities}
 use Rattle.ir_types.specs.declared.types.AddressSpace.{AddressSpace}
-use Rattle.ir_types.specs.declared.types.Scalar.{Scalar}
+use Rattle.ir_leaves.specs.declared.scalars.Scalar.{Scalar}
 use Rattle.naga_runs.specs.Handles.{Handles}
 use Rattle.naga_runs.specs.Visits.{Place}
 use Rattle.check_memory.specs.Atomic.{atomic_scalar, atomic_space, is_int64, is_float32, scalar_points, atomic_result_points, atomic_points}

@@ -7,14 +7,14 @@ use Rattle.std.proofs.lemmas.List.Folds.{list_any-append}
 use Rattle.std.proofs.lemmas.List.Recursion.{is_count_by}
 use Rattle.std.specs.List.{AllByRecursion, list_any}
 use Rattle.std.specs.Prelude.{map, is_none}
-use Rattle.ir_facts.proofs.Points.{first_holds, both_hold, not_holds}
-use Rattle.ir_facts.specs.Points.{first_fault, answer, and_then}
+use Rattle.ir_arena.proofs.Points.{first_holds, both_hold, not_holds}
+use Rattle.ir_arena.specs.Points.{first_fault, answer, and_then}
 use Rattle.ir_statements.specs.Tree.{Stmt, Body, Cases, Switch, Return}
 use Rattle.ir_types.specs.Unique.{AreDistinct}
 use Rattle.ir_statements.specs.declared.operations.SwitchValue.{SwitchValue}
 use Rattle.ir_statements.specs.declared.operations.SwitchValue.TheVariants.{I32, U32, Default}
-use Rattle.ir_types.specs.declared.types.ScalarKind.{ScalarKind}
-use Rattle.ir_types.specs.declared.types.ScalarKind.TheVariants as kind
+use Rattle.ir_leaves.specs.declared.scalars.ScalarKind.{ScalarKind}
+use Rattle.ir_leaves.specs.declared.scalars.ScalarKind.TheVariants as kind
 use Rattle.ir_errors.specs.declared.function.FunctionError.{FunctionError}
 use Rattle.ir_errors.specs.declared.function.FunctionError.TheVariants.{Expression, InvalidReturnSpot, InvalidReturnType, InvalidSwitchType, ConflictingCaseType, MissingDefaultCase, LastCaseFallTrough}
 use Rattle.ir_errors.specs.declared.expression.ExpressionError.TheVariants.{NotInScope}

@@ -17,7 +17,7 @@ use Rattle.naga_runs.specs.declared.Abilities.{Abilities}
 use Rattle.naga_runs.specs.Handles.{Handles, with_handle}
 use Rattle.naga_runs.specs.Must.{with_sure, holds_continue, body_holds_continue, cases_hold_continue}
 use Rattle.naga_runs.specs.PutsAndUses.{with_acts, with_body, acts_of, puts_of}
-use Rattle.ir_facts.specs.Points.{first_fault, answer, and_then}
+use Rattle.ir_arena.specs.Points.{first_fault, answer, and_then}
 use Rattle.naga_runs.specs.ByTree.{past, in_continuing, at_break_if, judge_visits, judge_body, judge_stmt, judge_parts, judge_cases, judge_break_if, case_abilities, loop_abilities, continuing_abilities}
 use Rattle.naga_runs.proofs.Judgements.{judge_done, judge_more, judge_own, judge_block, judge_branch, judge_switch, judge_loop, judge_no_case, judge_one_case}
 use Rattle.ir_facts.specs.Answers.{IsFirstFault, Answers, Exactly, leaving}

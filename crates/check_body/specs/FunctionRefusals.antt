@@ -2,12 +2,12 @@
 use Rattle.std.specs.Prelude.{◌≡◌, ℕ, Bool, true, List, Result, Ok, Err, Contains}
 use Rattle.ir_module.specs.declared.functions.Function.{Function}
 use Rattle.ir_module.specs.declared.module.Module.{Module}
-use Rattle.ir_facts.specs.Points.{and_then}
+use Rattle.ir_arena.specs.Points.{and_then}
 use Rattle.ir_errors.specs.declared.expression.ExpressionError.TheVariants.{NotInScope}
 use Rattle.ir_facts.specs.declared.valid.info.FunctionInfo.{FunctionInfo}
 use Rattle.ir_facts.specs.declared.valid.info.ModuleInfo.{ModuleInfo}
 use Rattle.ir_facts.specs.declared.valid.settings.Settings.{Settings}
-use Rattle.ir_facts.specs.declared.valid.types.TypeInfo.{TypeInfo}
+use Rattle.ir_types.specs.declared.type_info.TypeInfo.{TypeInfo}
 use Rattle.ir_facts.specs.Meaning.{Meaning}
 use Rattle.ir_facts.specs.WhatIsChecked.{checks_blocks}
 use Rattle.ir_errors.specs.declared.function.CallError.TheVariants.{Argument}

@@ -2,7 +2,7 @@
 
 ghost use Rattle.std.specs.Prelude.{◌≡◌, ◌<◌, IfOk, IfSome, Some, List, ℕ, length};
 ghost use Rattle.std.specs.Result.{result_err};
-ghost use Rattle.ir_facts.specs.Points.{first_fault};
+ghost use Rattle.ir_arena.specs.Points.{first_fault};
 ghost use Rattle.ir_facts.specs.Answers.{Answers, FirstOf};
 ghost use Rattle.check_scope.specs.Context.{ContextFits};
 ghost use Rattle.check_statement.specs.Declarations.{name_or_empty, variable_points, variables_points, takes_arguments, pointer_points, argument_points, arguments_points, result_points, declaration_points};
@@ -14,10 +14,10 @@ use ir_arena::handle::Handle;
 use ir_arena::span::{Refusal, WithSpan};
 use ir_arena::tag;
 use ir_errors::function::FunctionError;
-use ir_facts::valid::types::TypeInfo;
 use ir_flags::valid::TypeFlags;
+use ir_leaves::name::Name;
 use ir_module::functions::{FunctionArgument, FunctionResult, LocalVariable};
-use ir_types::name::Name;
+use ir_types::type_info::TypeInfo;
 use ir_types::types::AddressSpace;
 use std::alloc::{AllocError, Global};
 

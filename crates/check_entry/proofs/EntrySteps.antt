@@ -2,8 +2,8 @@
 use Rattle.std.proofs.Common.{◌≡◌, ℕ, ◌+◌, ◌<◌, ◌≤◌, List, None, Some, Ok, Err, Result, ◌++◌, length, drop, get_or, sym, ap, ◌∙◌}
 use Rattle.std.specs.Prelude.{IsErr}
 use Rattle.std.specs.Option.{option_map, option_or}
-use Rattle.ir_facts.proofs.Points.{first_of_both, first_within, first_turn, first_end}
-use Rattle.ir_facts.specs.Points.{Point, first_fault, points_from, within}
+use Rattle.ir_arena.proofs.Points.{first_of_both, first_within, first_turn, first_end}
+use Rattle.ir_arena.specs.Points.{Point, first_fault, points_from, within}
 use Rattle.ir_arena.specs.declared.span.Refusal.{Refusal}
 use Rattle.ir_arena.specs.declared.span.Refusal.TheVariants as refusal
 use Rattle.check_varyings.specs.VaryingFaults.{VaryingFault, varying_fault_of}

@@ -1,13 +1,13 @@
 -- The steps after the function: a refusal at one of them, behind those that pass, is one of the whole.
 use Rattle.std.proofs.Common.{◌≡◌, List, None, Result, ◌++◌}
 use Rattle.std.specs.Prelude.{IsErr}
-use Rattle.ir_facts.specs.Points.{Point, first_fault, within}
+use Rattle.ir_arena.specs.Points.{Point, first_fault, within}
 use Rattle.ir_module.specs.declared.module.EntryPoint.{EntryPoint}
 use Rattle.ir_module.specs.declared.module.Module.{Module}
 use Rattle.ir_arena.specs.declared.span.Refusal.{Refusal}
 use Rattle.ir_facts.specs.declared.valid.info.FunctionInfo.{FunctionInfo}
 use Rattle.ir_facts.specs.declared.valid.settings.Settings.{Settings}
-use Rattle.ir_facts.specs.declared.valid.types.TypeInfo.{TypeInfo}
+use Rattle.ir_types.specs.declared.type_info.TypeInfo.{TypeInfo}
 use Rattle.ir_facts.specs.Answers.{Answers, FirstOf, read_by}
 use Rattle.ir_facts.specs.Meaning.{Meaning}
 use Rattle.check_entry.specs.EntryFaults.{EntryFault, fault_of}

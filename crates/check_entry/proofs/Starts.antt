@@ -1,13 +1,13 @@
 -- The points up to the function, where they hold at once.
 use Rattle.std.proofs.Common.{◌≡◌, true, Option, None, Some, refl}
 use Rattle.std.specs.Prelude.{is_none}
-use Rattle.ir_facts.specs.Points.{first_fault}
+use Rattle.ir_arena.specs.Points.{first_fault}
 use Rattle.ir_flags.specs.declared.capabilities.Capabilities.{Capabilities}
 use Rattle.ir_module.specs.declared.module.EarlyDepthTest.{EarlyDepthTest}
 use Rattle.ir_module.specs.declared.module.EntryPoint.{EntryPoint}
 use Rattle.ir_module.specs.declared.module.MeshStageInfo.{MeshStageInfo}
-use Rattle.ir_types.specs.declared.stage.ShaderStage.{ShaderStage}
-use Rattle.ir_types.specs.declared.stage.ShaderStage.TheVariants as stage
+use Rattle.ir_leaves.specs.declared.stage.ShaderStage.{ShaderStage}
+use Rattle.ir_leaves.specs.declared.stage.ShaderStage.TheVariants as stage
 use Rattle.check_entry.specs.Start.{depth_points, mesh_info_points, needed_by, needed_points, no_mesh_info_points, size_points, start_points}
 use Rattle.check_entry.proofs.EntrySteps.{both_pass}
 

@@ -1,7 +1,7 @@
 -- The globals that are used, where no point of them fails.
 use Rattle.std.proofs.Common.{◌≡◌, ◌≤◌, ℕ, ◌==◌, Bool, true, false, List, [], None, Some, length, slice_get, sym, ap, ◌∙◌, arith}
 use Rattle.std.specs.Prelude.{nat_le, if◌then◌else◌}
-use Rattle.ir_facts.specs.Points.{first_fault, points_of_each}
+use Rattle.ir_arena.specs.Points.{first_fault, points_of_each}
 use Rattle.ir_module.specs.declared.module.EntryPoint.{EntryPoint}
 use Rattle.ir_module.specs.declared.module.GlobalVariable.{GlobalVariable}
 use Rattle.ir_module.specs.declared.module.Module.{Module}

@@ -3,25 +3,25 @@
 use Rattle.std.specs.Prelude.{ℕ, Bool, true, false, ◌&&◌, List, [], ◌∷◌, ◌++◌, Option, None, Some, is_some, is_none, map, if◌then◌else◌}
 use Rattle.std.specs.List.{list_any}
 use Rattle.ir_flags.specs.Bits.{IO_SHAREABLE}
-use Rattle.ir_facts.specs.Points.{Point, within}
+use Rattle.ir_arena.specs.Points.{Point, within}
 use Rattle.ir_types.specs.TypeTests.{is_same_inner, it_is}
 use Rattle.ir_types.specs.Types.{inner_at}
-use Rattle.ir_types.specs.declared.built_in.BuiltIn.{BuiltIn}
-use Rattle.ir_types.specs.declared.built_in.BuiltIn.TheVariants.{Position, PointIndex, LineIndices, TriangleIndices}
+use Rattle.ir_leaves.specs.declared.built_in.BuiltIn.{BuiltIn}
+use Rattle.ir_leaves.specs.declared.built_in.BuiltIn.TheVariants.{Position, PointIndex, LineIndices, TriangleIndices}
 use Rattle.ir_module.specs.declared.functions.FunctionArgument.{FunctionArgument}
 use Rattle.ir_module.specs.declared.functions.FunctionResult.{FunctionResult}
 use Rattle.ir_module.specs.declared.module.EntryPoint.{EntryPoint}
-use Rattle.ir_types.specs.declared.stage.ShaderStage.{ShaderStage}
-use Rattle.ir_types.specs.declared.stage.ShaderStage.TheVariants as stage
-use Rattle.ir_types.specs.declared.types.ScalarKind.TheVariants as kind
+use Rattle.ir_leaves.specs.declared.stage.ShaderStage.{ShaderStage}
+use Rattle.ir_leaves.specs.declared.stage.ShaderStage.TheVariants as stage
+use Rattle.ir_leaves.specs.declared.scalars.ScalarKind.TheVariants as kind
 use Rattle.ir_types.specs.declared.types.Type.{«Type» as IrType}
 use Rattle.ir_types.specs.declared.types.TypeInner.{TypeInner}
 use Rattle.ir_types.specs.declared.types.TypeInner.TheVariants as inner
-use Rattle.ir_types.specs.declared.types.VectorSize.TheVariants.{Tri}
+use Rattle.ir_leaves.specs.declared.scalars.VectorSize.TheVariants.{Tri}
 use Rattle.ir_facts.specs.declared.valid.info.FunctionInfo.{FunctionInfo}
 use Rattle.ir_facts.specs.declared.valid.settings.Settings.{Settings}
-use Rattle.ir_facts.specs.declared.valid.types.TypeInfo.{TypeInfo}
-use Rattle.ir_facts.specs.TypeInfos.{type_has}
+use Rattle.ir_types.specs.declared.type_info.TypeInfo.{TypeInfo}
+use Rattle.ir_types.specs.TypeInfos.{type_has}
 use Rattle.check_varyings.specs.Varyings.{Item, Part, Placed, is_built_in, item_points, group_points, placed_parts, parts_of}
 use Rattle.check_varyings.specs.declared.varying.MeshOutputType.{MeshOutputType}
 use Rattle.check_varyings.specs.declared.varying.MeshOutputType.TheVariants.{Neither, VertexOutput, PrimitiveOutput}

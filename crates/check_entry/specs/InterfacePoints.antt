@@ -1,12 +1,12 @@
 -- What an entry point puts in and out: its points behind the function.
 use Rattle.std.specs.Prelude.{◌≡◌, List, ◌++◌, All, IsSome}
-use Rattle.ir_facts.specs.Points.{Point, within}
+use Rattle.ir_arena.specs.Points.{Point, within}
 use Rattle.ir_module.specs.declared.module.EntryPoint.{EntryPoint}
 use Rattle.ir_module.specs.declared.module.Module.{Module}
 use Rattle.ir_types.specs.declared.types.AddressSpace.TheVariants.{TaskPayload}
 use Rattle.ir_facts.specs.declared.valid.info.FunctionInfo.{FunctionInfo}
 use Rattle.ir_facts.specs.declared.valid.settings.Settings.{Settings}
-use Rattle.ir_facts.specs.declared.valid.types.TypeInfo.{TypeInfo}
+use Rattle.ir_types.specs.declared.type_info.TypeInfo.{TypeInfo}
 use Rattle.ir_facts.specs.Meaning.{Meaning}
 use Rattle.check_entry.specs.EntryFaults.{EntryFault, fault_of}
 use Rattle.check_entry.specs.UsedGlobals.{globals_points}

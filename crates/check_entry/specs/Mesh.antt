@@ -1,7 +1,7 @@
 -- The step of the mesh: its output variable, what the type of that implies, and the outputs of its vertices and primitives.
 use Rattle.std.specs.Prelude.{ℕ, Bool, true, false, not, ◌||◌, List, [], ◌∷◌, ◌++◌, Option, None, Some, get_or, slice_get}
 use Rattle.ir_flags.specs.Capabilities.{MESH_SHADER_POINT_TOPOLOGY, has_capability}
-use Rattle.ir_facts.specs.Points.{Point, within}
+use Rattle.ir_arena.specs.Points.{Point, within}
 use Rattle.ir_types.specs.TypeTests.{is_handle}
 use Rattle.ir_module.specs.contracts.module.MeshStageInfoPartialEq.TheImpl as mesh_info
 use Rattle.ir_module.specs.declared.expressions.Expression.{Expression}
@@ -13,7 +13,7 @@ use Rattle.ir_module.specs.declared.module.MeshStageInfo.{MeshStageInfo}
 use Rattle.ir_module.specs.declared.module.Module.{Module}
 use Rattle.ir_flags.specs.declared.capabilities.Capabilities.{Capabilities}
 use Rattle.ir_facts.specs.declared.valid.settings.Settings.{Settings}
-use Rattle.ir_facts.specs.declared.valid.types.TypeInfo.{TypeInfo}
+use Rattle.ir_types.specs.declared.type_info.TypeInfo.{TypeInfo}
 use Rattle.ir_facts.specs.Meaning.{Meaning}
 use Rattle.ir_facts.specs.declared.proc.mesh.MeshAnalysis.{MeshAnalysis}
 use Rattle.ir_errors.specs.declared.mesh.MeshFault.{MeshFault}

@@ -6,8 +6,8 @@ use Rattle.ir_flags.specs.Capabilities.{MESH_SHADER, RAY_TRACING_PIPELINE, EARLY
 use Rattle.ir_module.specs.declared.module.EarlyDepthTest.{EarlyDepthTest}
 use Rattle.ir_module.specs.declared.module.EntryPoint.{EntryPoint}
 use Rattle.ir_module.specs.declared.module.MeshStageInfo.{MeshStageInfo}
-use Rattle.ir_types.specs.declared.stage.ShaderStage.{ShaderStage}
-use Rattle.ir_types.specs.declared.stage.ShaderStage.TheVariants as stage
+use Rattle.ir_leaves.specs.declared.stage.ShaderStage.{ShaderStage}
+use Rattle.ir_leaves.specs.declared.stage.ShaderStage.TheVariants as stage
 use Rattle.ir_flags.specs.declared.capabilities.Capabilities.{Capabilities}
 use Rattle.ir_errors.specs.declared.interface.VaryingError.TheVariants as varying
 use Rattle.check_entry.specs.EntryAnswers.{EntryPoints}

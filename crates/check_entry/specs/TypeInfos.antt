@@ -1,7 +1,7 @@
 -- The infos of a module's types, as entry points need them.
 use Rattle.std.specs.Prelude.{ℕ, ◌≡◌, ◌<◌, List, All, IfErr, length}
 use Rattle.ir_module.specs.declared.module.Module.{Module}
-use Rattle.ir_facts.specs.declared.valid.types.TypeInfo.{TypeInfo}
+use Rattle.ir_types.specs.declared.type_info.TypeInfo.{TypeInfo}
 
 -- the types that an info names as the cause of a bad layout are there
 abbrev pub NamesTypes : ℕ → TypeInfo → Type 0

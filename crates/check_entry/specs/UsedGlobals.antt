@@ -1,7 +1,7 @@
 -- The steps of the globals that an entry point uses, where these are its uses of each global, its own joined in.
 use Rattle.std.specs.Prelude.{ℕ, zero, suc, ◌+◌, Bool, false, not, ◌&&◌, ◌||◌, ◌==◌, nat_le, List, [], ◌∷◌, ◌++◌, Option, None, Some, slice_get, length, option_and_then, unwrap_or, if◌then◌else◌}
 use Rattle.ir_flags.specs.Bits.{contains, NO_USE}
-use Rattle.ir_facts.specs.Points.{points_of_each}
+use Rattle.ir_arena.specs.Points.{points_of_each}
 use Rattle.ir_types.specs.TypeTests.{is_handle}
 use Rattle.ir_types.specs.Types.{inner_at}
 use Rattle.ir_flags.specs.declared.ir.StorageAccess.{StorageAccess}
@@ -9,7 +9,7 @@ use Rattle.ir_module.specs.declared.module.EntryPoint.{EntryPoint}
 use Rattle.ir_module.specs.declared.module.GlobalVariable.{GlobalVariable}
 use Rattle.ir_module.specs.declared.module.Module.{Module}
 use Rattle.ir_module.specs.declared.module.ResourceBinding.{ResourceBinding}
-use Rattle.ir_types.specs.declared.stage.ShaderStage.{ShaderStage}
+use Rattle.ir_leaves.specs.declared.stage.ShaderStage.{ShaderStage}
 use Rattle.ir_types.specs.declared.types.AddressSpace.{AddressSpace}
 use Rattle.ir_types.specs.declared.types.AddressSpace.TheVariants as space
 use Rattle.ir_types.specs.declared.types.ImageClass.TheVariants as class

@@ -1,7 +1,7 @@
 //! Answers about an entry point.
 
 ghost use Rattle.std.specs.Prelude.{◌≡◌};
-ghost use Rattle.ir_facts.specs.Points.{within};
+ghost use Rattle.ir_arena.specs.Points.{within};
 ghost use Rattle.ir_facts.specs.Answers.{Answers, Finds, FirstOf, read_by};
 ghost use Rattle.check_entry.specs.EntryFaults.{fault_of};
 ghost use Rattle.check_entry.specs.EntryAnswers.{EntryPoints};

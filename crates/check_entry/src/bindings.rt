@@ -1,7 +1,7 @@
 //! The bindings of the globals that an entry point uses.
 
 ghost use Rattle.std.specs.Prelude.{◌≡◌, ◌+◌, IsTrue, List, None, OnOk, ℕ};
-ghost use Rattle.ir_facts.specs.Points.{first_fault};
+ghost use Rattle.ir_arena.specs.Points.{first_fault};
 ghost use Rattle.ir_flags.specs.declared.valid.GlobalUse.{GlobalUse as Use};
 ghost use Rattle.ir_module.specs.declared.module.GlobalVariable.{GlobalVariable as Variable};
 ghost use Rattle.check_entry.specs.TakenBindings.{AreTaken};

@@ -1,7 +1,7 @@
 //! The checks of the globals that an entry point uses.
 
 ghost use Rattle.std.specs.Prelude.{◌≡◌, ◌++◌, IsTrue, None, Option, ℕ, length, slice_get};
-ghost use Rattle.ir_facts.specs.Points.{first_fault};
+ghost use Rattle.ir_arena.specs.Points.{first_fault};
 ghost use Rattle.std.specs.Option.{option_copied};
 ghost use Rattle.ir_types.specs.Types.{inner_at};
 ghost use Rattle.check_entry.specs.UsedGlobals.{is_used, is_used_immediate, used_immediates, immediate_points, image_access, access_in, ray_points, is_within, allowed_points, used_payload_points};
@@ -16,8 +16,8 @@ use ir_arena::tag;
 use ir_facts::valid::info::FunctionInfo;
 use ir_flags::ir::StorageAccess;
 use ir_flags::valid::GlobalUse;
+use ir_leaves::stage::ShaderStage;
 use ir_module::module::{GlobalVariable, Module};
-use ir_types::stage::ShaderStage;
 use ir_types::types::{AddressSpace, ImageClass, TypeInner};
 
 /// How a global is used.

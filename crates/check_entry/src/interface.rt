@@ -16,13 +16,13 @@ use check_faults::refused::RefusedEntry;
 use ir_facts::below::Below;
 use ir_facts::valid::info::FunctionInfo;
 use ir_facts::valid::settings::Settings;
-use ir_facts::valid::types::TypeInfo;
 use ir_module::module::{EntryPoint, Module};
+use ir_types::type_info::TypeInfo;
 use std::alloc::Global;
 
 /// An entry point after its function: by what it is checked, its module with the infos of the types, and what is known of the
 /// function, with what the entry point itself does with globals.
-#[derive_where(Clone, Copy)]
+#[derive(Drop)]
 pub struct InterfaceContext<'a, B> {
     pub alloc: Global,
     pub below: &'a B,

@@ -1,7 +1,7 @@
 //! The checks of an entry point up to its function: naga's `validate_entry_point` before it calls `validate_function`.
 
 ghost use Rattle.std.specs.Prelude.{◌≡◌, IsTrue, None};
-ghost use Rattle.ir_facts.specs.Points.{first_fault};
+ghost use Rattle.ir_arena.specs.Points.{first_fault};
 ghost use Rattle.ir_flags.specs.declared.capabilities.Capabilities.{Capabilities as Target};
 ghost use Rattle.std.specs.List.{list_all};
 ghost use Rattle.check_entry.specs.Start.{needed_by, needed_points, is_fragment, depth_points, has_work_groups, is_group_size, is_zero, size_points, mesh_info_points, start_points};
@@ -10,8 +10,8 @@ ghost use Rattle.ir_facts.specs.Answers.{Finds, FirstOf};
 use check_faults::entry::EntryPointError;
 use ir_errors::interface::VaryingError;
 use ir_flags::capabilities::Capabilities;
+use ir_leaves::stage::ShaderStage;
 use ir_module::module::{EarlyDepthTest, EntryPoint, MeshStageInfo};
-use ir_types::stage::ShaderStage;
 
 /// The most invocations that a work group has along a dimension.
 const MAX_WORKGROUP_SIZE: u32 = 16384;

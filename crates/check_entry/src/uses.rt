@@ -1,7 +1,7 @@
 //! The task payload of an entry point, what the entry point itself does with globals, and its stage.
 
 ghost use Rattle.std.specs.Prelude.{◌≡◌, ◌<◌, IfSome, IsTrue, List, None, length};
-ghost use Rattle.ir_facts.specs.Points.{first_fault, within};
+ghost use Rattle.ir_arena.specs.Points.{first_fault, within};
 ghost use Rattle.ir_module.specs.declared.module.GlobalVariable.{GlobalVariable as Variable};
 ghost use Rattle.check_entry.specs.EntryFaults.{fault_of};
 ghost use Rattle.check_variables.specs.Spaces.{is_task_payload};
@@ -16,8 +16,8 @@ use ir_arena::handle::Handle;
 use ir_arena::tag;
 use ir_facts::valid::info::FunctionInfo;
 use ir_flags::valid::{GlobalUse, ShaderStages};
+use ir_leaves::stage::ShaderStage;
 use ir_module::module::{EntryPoint, MeshStageInfo, Module};
-use ir_types::stage::ShaderStage;
 use ir_types::types::AddressSpace;
 use std::alloc::Global;
 

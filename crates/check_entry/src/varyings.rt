@@ -3,12 +3,12 @@
 ghost use Rattle.std.specs.Prelude.{◌≡◌, IsTrue, List, None, Option};
 ghost use Rattle.std.specs.Option.{option_copied};
 ghost use Rattle.ir_flags.specs.Bits.{IO_SHAREABLE};
-ghost use Rattle.ir_facts.specs.Points.{Point, first_fault, within};
+ghost use Rattle.ir_arena.specs.Points.{Point, first_fault, within};
 ghost use Rattle.ir_module.specs.declared.functions.FunctionResult.{FunctionResult as Declared};
 ghost use Rattle.ir_types.specs.declared.types.Type.{«Type» as IrType};
 ghost use Rattle.ir_types.specs.TypeTests.{it_is};
-ghost use Rattle.ir_types.specs.declared.built_in.BuiltIn.TheVariants.{PointIndex, LineIndices, TriangleIndices};
-ghost use Rattle.ir_facts.specs.TypeInfos.{type_has};
+ghost use Rattle.ir_leaves.specs.declared.built_in.BuiltIn.TheVariants.{PointIndex, LineIndices, TriangleIndices};
+ghost use Rattle.ir_types.specs.TypeInfos.{type_has};
 ghost use Rattle.check_varyings.specs.VaryingFaults.{VaryingFault as Given, varying_fault_of};
 ghost use Rattle.check_varyings.specs.Varyings.{seen_in};
 ghost use Rattle.check_entry.specs.EntryFaults.{OfArgument, OfResult, fault_of};
@@ -25,13 +25,14 @@ use ir_arena::span::Refusal;
 use ir_arena::tag;
 use ir_errors::interface::VaryingError;
 use ir_facts::valid::info::FunctionInfo;
-use ir_facts::valid::types::TypeInfo;
 use ir_flags::valid::TypeFlags;
+use ir_leaves::built_in::BuiltIn;
+use ir_leaves::scalars::{Scalar, VectorSize};
+use ir_leaves::stage::ShaderStage;
 use ir_module::functions::FunctionResult;
 use ir_module::module::{EntryPoint, Module};
-use ir_types::built_in::BuiltIn;
-use ir_types::stage::ShaderStage;
-use ir_types::types::{Scalar, TypeInner, VectorSize};
+use ir_types::type_info::TypeInfo;
+use ir_types::types::TypeInner;
 use std::alloc::{AllocError, Global};
 
 /// Whether a type is a struct.

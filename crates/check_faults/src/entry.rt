@@ -12,7 +12,7 @@ use ir_errors::function::FunctionError;
 use ir_errors::interface::VaryingError;
 use ir_flags::capabilities::Capabilities;
 use ir_flags::valid::GlobalUse;
-use ir_types::stage::ShaderStage;
+use ir_leaves::stage::ShaderStage;
 
 /// What is wrong with an entry point: the first fault in the order of its checks.
 #[derive(PartialEq, Debug, Drop)]

@@ -11,10 +11,10 @@ use Rattle.ir_errors.specs.declared.expression.ExpressionError.TheVariants.{NotI
 use Rattle.ir_errors.specs.declared.function.CallError.{CallError}
 use Rattle.ir_errors.specs.declared.function.CallError.TheVariants.{Argument, ArgumentCount, ArgumentType, ExpressionMismatch, ResultAlreadyInScope, ResultAlreadyPopulated}
 use Rattle.ir_errors.specs.declared.function.FunctionError.TheVariants.{InvalidCall}
-use Rattle.ir_facts.proofs.Points.{first_holds, both_hold, first_of_both, first_within, not_holds}
+use Rattle.ir_arena.proofs.Points.{first_holds, both_hold, first_of_both, first_within, not_holds}
 use Rattle.naga_runs.specs.Handles.{Handles}
 use Rattle.naga_runs.specs.Visits.{Place}
-use Rattle.ir_facts.specs.Points.{Point, first_fault, within}
+use Rattle.ir_arena.specs.Points.{Point, first_fault, within}
 use Rattle.ir_arena.specs.declared.span.Refusal.{Refusal}
 use Rattle.ir_errors.specs.declared.function.FunctionError.{FunctionError}
 use Rattle.naga_runs.specs.Soundness.{Fit}

@@ -6,11 +6,11 @@ use Rattle.std.proofs.lemmas.List.{append_assoc, map-append}
 use Rattle.std.proofs.lemmas.List.Sums.{sum_by-append}
 use Rattle.std.specs.Int.{cast_unsigned, w32}
 use Rattle.std.specs.List.{list_any, AllByRecursion}
-use Rattle.ir_types.specs.declared.types.ScalarKind.{ScalarKind}
+use Rattle.ir_leaves.specs.declared.scalars.ScalarKind.{ScalarKind}
 use Rattle.ir_statements.specs.declared.statements.SwitchCase.{SwitchCase, out-SwitchCase}
 use Rattle.ir_statements.specs.declared.operations.SwitchValue.{SwitchValue}
 use Rattle.ir_statements.specs.declared.operations.SwitchValue.TheVariants.{I32, U32, Default}
-use Rattle.ir_facts.specs.Points.{first_fault}
+use Rattle.ir_arena.specs.Points.{first_fault}
 use Rattle.check_scope.specs.BodyTrees.{case_list}
 use Rattle.ir_errors.specs.declared.function.FunctionError.TheVariants.{ConflictingCaseType}
 use Rattle.check_flow.specs.Switch.{has_signedness_of, repeated_fault, same_value, value_points, values_of}

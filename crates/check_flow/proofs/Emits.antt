@@ -3,8 +3,8 @@ use Rattle.std.proofs.Common.{◌≡◌, ℕ, zero, suc, ◌+◌, ◌-◌, ◌<�
 use Rattle.std.proofs.lemmas.Bool.Decides.{nat_tests}
 use Rattle.std.specs.Option.{option_or}
 use Rattle.std.specs.Prelude.{◌↔◌, ◌≢◌, IsTrue, map, if◌then◌else◌}
-use Rattle.ir_facts.proofs.Points.{first_holds, both_hold, first_of_both, not_holds}
-use Rattle.ir_facts.specs.Points.{first_fault}
+use Rattle.ir_arena.proofs.Points.{first_holds, both_hold, first_of_both, not_holds}
+use Rattle.ir_arena.specs.Points.{first_fault}
 use Rattle.ir_statements.specs.View.{emitted}
 use Rattle.ir_arena.specs.declared.span.Refusal.{Refusal}
 use Rattle.ir_errors.specs.declared.expression.ExpressionError.TheVariants.{NotInScope}

@@ -6,7 +6,7 @@ use Rattle.std.specs.List.{list_any, AllByRecursion}
 use Rattle.std.specs.Prelude.{Contains, take, if◌then◌else◌}
 use Rattle.ir_statements.specs.declared.statements.SwitchCase.{SwitchCase, out-SwitchCase}
 use Rattle.ir_statements.specs.declared.operations.SwitchValue.{SwitchValue}
-use Rattle.ir_facts.specs.Points.{Point, within}
+use Rattle.ir_arena.specs.Points.{Point, within}
 use Rattle.naga_runs.specs.Handles.{Handles, with_handle}
 use Rattle.ir_statements.specs.View.{list_cases}
 use Rattle.naga_runs.specs.Visits.{Place}

@@ -11,9 +11,9 @@ use Rattle.ir_statements.specs.contracts.operations.SwitchValueOrd.TheImpl as va
 use Rattle.ir_statements.specs.declared.statements.SwitchCase.{SwitchCase, out-SwitchCase}
 use Rattle.ir_statements.specs.declared.operations.SwitchValue.{SwitchValue}
 use Rattle.ir_statements.specs.declared.operations.SwitchValue.TheVariants.{I32, U32, Default}
-use Rattle.ir_facts.specs.Points.{first_fault}
+use Rattle.ir_arena.specs.Points.{first_fault}
 use Rattle.check_scope.specs.BodyTrees.{case_list}
-use Rattle.ir_types.specs.declared.types.ScalarKind.{ScalarKind}
+use Rattle.ir_leaves.specs.declared.scalars.ScalarKind.{ScalarKind}
 use Rattle.ir_errors.specs.declared.function.FunctionError.{FunctionError}
 use Rattle.ir_errors.specs.declared.function.FunctionError.TheVariants.{ConflictingCaseType}
 use Rattle.check_flow.specs.Switch.{same_value, value_points, values_of, has_signedness_of, repeated_fault}

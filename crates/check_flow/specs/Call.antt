@@ -12,7 +12,7 @@ use Rattle.ir_errors.specs.declared.function.CallError.TheVariants.{Argument, Ar
 use Rattle.ir_errors.specs.declared.function.FunctionError.TheVariants.{InvalidCall}
 use Rattle.naga_runs.specs.Handles.{Handles}
 use Rattle.naga_runs.specs.Visits.{Place}
-use Rattle.ir_facts.specs.Points.{Point, within}
+use Rattle.ir_arena.specs.Points.{Point, within}
 use Rattle.check_scope.specs.Context.{Context}
 use Rattle.check_scope.specs.ScopePoints.{Points, may_use, is_in_scope}
 use Rattle.check_scope.specs.Results.{is_fresh}

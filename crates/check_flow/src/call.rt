@@ -3,7 +3,7 @@
 ghost use Rattle.std.specs.Prelude.{◌≡◌, ◌<◌, ◌↔◌, IsTrue, OnOk, IfSome, All, length};
 ghost use Rattle.std.specs.Option.{option_copied};
 ghost use Rattle.ir_facts.specs.FitsBody.{CalleeFits};
-ghost use Rattle.ir_facts.specs.Points.{within};
+ghost use Rattle.ir_arena.specs.Points.{within};
 ghost use Rattle.ir_statements.specs.View.{put_if};
 ghost use Rattle.ir_errors.specs.declared.expression.ExpressionError.TheVariants.{NotInScope};
 ghost use Rattle.ir_errors.specs.declared.function.CallError.TheVariants.{Argument, ArgumentCount, ArgumentType, ExpressionMismatch, ResultAlreadyInScope, ResultAlreadyPopulated};

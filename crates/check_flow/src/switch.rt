@@ -2,7 +2,7 @@
 
 ghost use Rattle.std.specs.Prelude.{◌≡◌, [], None, IsTrue, IfOk};
 ghost use Rattle.std.specs.List.{list_any};
-ghost use Rattle.ir_facts.specs.Points.{first_fault};
+ghost use Rattle.ir_arena.specs.Points.{first_fault};
 ghost use Rattle.ir_statements.specs.declared.statements.SwitchCase.{out-SwitchCase};
 ghost use Rattle.check_scope.specs.BodyTrees.{case_list};
 ghost use Rattle.check_flow.specs.Switch.{has_signedness_of, is_default, repeated_fault, value_points, values_of, last_falls_through, switch_points};
@@ -22,9 +22,9 @@ use ir_arena::handle::Handle;
 use ir_arena::span::Span;
 use ir_arena::tag;
 use ir_errors::function::FunctionError;
+use ir_leaves::scalars::ScalarKind;
 use ir_statements::operations::SwitchValue;
 use ir_statements::statements::SwitchCase;
-use ir_types::types::ScalarKind;
 use std::alloc::{AllocError, Global};
 use std::collections::BTreeSet;
 

@@ -1,13 +1,13 @@
 -- The check list of Atomic: what it says of uses and puts.
 use Rattle.std.proofs.Common.{◌≡◌, ℕ, true, false, ◌∷◌, Option, None, Some, refl}
 use Rattle.std.specs.Prelude.{IfSome, is_some}
-use Rattle.ir_facts.proofs.Points.{both_hold, not_holds}
-use Rattle.ir_facts.specs.Points.{first_fault}
+use Rattle.ir_arena.proofs.Points.{both_hold, not_holds}
+use Rattle.ir_arena.specs.Points.{first_fault}
 use Rattle.ir_statements.specs.Tree.{Use}
 use Rattle.ir_statements.specs.View.{atomic_acts, put_if}
 use Rattle.ir_statements.specs.declared.operations.AtomicFunction.{AtomicFunction}
 use Rattle.ir_statements.specs.declared.operations.AtomicFunction.TheVariants.{Exchange}
-use Rattle.ir_types.specs.declared.types.Scalar.{Scalar}
+use Rattle.ir_leaves.specs.declared.scalars.Scalar.{Scalar}
 use Rattle.naga_runs.specs.Handles.{Handles}
 use Rattle.naga_runs.specs.Soundness.{Fit}
 use Rattle.naga_runs.specs.Visits.{Place}

@@ -1,6 +1,6 @@
 -- The check list of CooperativeStore: what it says of uses.
 use Rattle.std.proofs.Common.{◌≡◌, ℕ, [], ◌∷◌, None}
-use Rattle.ir_facts.specs.Points.{first_fault}
+use Rattle.ir_arena.specs.Points.{first_fault}
 use Rattle.ir_statements.specs.Tree.{Use}
 use Rattle.naga_runs.specs.Soundness.{Fit}
 use Rattle.naga_runs.specs.Visits.{Place}

@@ -1,8 +1,8 @@
 -- The check list of CooperativeStore.
 use Rattle.std.specs.Prelude.{ℕ, Bool, false, [], ◌∷◌, Option, None, Some, option_and_then, is_some}
 use Rattle.ir_types.specs.Types.{resolved, scalar_of}
-use Rattle.ir_types.specs.contracts.types.ScalarPartialEq.TheImpl as scalar
-use Rattle.ir_types.specs.declared.types.Scalar.{Scalar}
+use Rattle.ir_leaves.specs.contracts.scalars.ScalarPartialEq.TheImpl as scalar
+use Rattle.ir_leaves.specs.declared.scalars.Scalar.{Scalar}
 use Rattle.ir_types.specs.declared.types.TypeInner.{TypeInner}
 use Rattle.ir_types.specs.declared.types.TypeInner.TheVariants as inner
 use Rattle.ir_errors.specs.declared.function.FunctionError.TheVariants.{InvalidCooperativeStoreTarget, InvalidCooperativeDataPointer, InvalidStorePointer}

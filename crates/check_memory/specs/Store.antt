@@ -13,7 +13,7 @@ use Rattle.check_scope.specs.Context.{Context}
 use Rattle.check_scope.specs.Pointers.{base_type_at, is_writable}
 use Rattle.check_scope.specs.Roots.{root_at}
 use Rattle.check_scope.specs.ScopePoints.{Points, use_point}
-use Rattle.ir_facts.specs.Points.{Point}
+use Rattle.ir_arena.specs.Points.{Point}
 use Rattle.ir_types.specs.TypeTests.{is_scalar}
 use Rattle.check_scope.specs.ExpressionTypes.{expression_at, is_of_type, type_at, named_type}
 

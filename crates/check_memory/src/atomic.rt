@@ -25,9 +25,10 @@ use ir_arena::span::Span;
 use ir_arena::tag;
 use ir_errors::function::{AtomicError, FunctionError};
 use ir_flags::capabilities::Capabilities;
+use ir_leaves::scalars::{Scalar, ScalarKind};
 use ir_module::expressions::Expression;
 use ir_statements::operations::AtomicFunction;
-use ir_types::types::{AddressSpace, Scalar, ScalarKind, TypeInner};
+use ir_types::types::{AddressSpace, TypeInner};
 
 /// An atomic operation: where the atomic is, what is done to it, with which value, and the result that is named, if one is.
 #[derive(Clone, Copy)]
@@ -120,7 +121,7 @@ pub(crate) fn atomic_scalar(
 }
 
 /// What the atomic's scalar asks for, and the result.
-#[tactic(auto, using(ir_facts::proofs::Points::first_of_both))]
+#[tactic(auto, using(ir_arena::proofs::Points::first_of_both))]
 fn check_operation(
     scope: &ScopeColumn,
     filled: &FilledColumn,
@@ -214,7 +215,7 @@ fn is_done_on_floats(fun: &AtomicFunction) -> bool
 
 /// The result. One that is named is an atomic result, fresh, of the right type, and not in scope yet. An exchange that
 /// compares nothing names one.
-#[tactic(auto, using(ir_facts::proofs::Points::first_of_both))]
+#[tactic(auto, using(ir_arena::proofs::Points::first_of_both))]
 fn check_atomic_result(
     scope: &ScopeColumn,
     filled: &FilledColumn,

@@ -18,7 +18,8 @@ use ir_arena::handle::Handle;
 use ir_arena::span::Span;
 use ir_arena::tag;
 use ir_errors::function::FunctionError;
-use ir_types::types::{Scalar, TypeInner};
+use ir_leaves::scalars::Scalar;
+use ir_types::types::TypeInner;
 
 /// CooperativeStore: its target and its pointer.
 pub fn check_cooperative_store(

@@ -1,7 +1,7 @@
 -- The check list of ImageAtomic: what it says of uses.
 use Rattle.std.proofs.Common.{◌≡◌, ℕ, [], ◌∷◌, ◌++◌, Option, None}
-use Rattle.ir_facts.proofs.Points.{both_hold}
-use Rattle.ir_facts.specs.Points.{first_fault}
+use Rattle.ir_arena.proofs.Points.{both_hold}
+use Rattle.ir_arena.specs.Points.{first_fault}
 use Rattle.ir_statements.specs.Tree.{Use}
 use Rattle.ir_statements.specs.View.{used_if}
 use Rattle.ir_statements.specs.declared.operations.AtomicFunction.{AtomicFunction}

@@ -3,10 +3,10 @@ use Rattle.std.proofs.Common.{◌≡◌, ℕ, Bool, true, List, [], ◌∷◌, �
 use Rattle.std.specs.Prelude.{IfSome}
 use Rattle.ir_types.specs.EqualTypes.{inner_iff}
 use Rattle.ir_types.specs.Members.{HasNoMembers}
-use Rattle.ir_types.specs.declared.types.StorageFormat.{StorageFormat}
+use Rattle.ir_leaves.specs.declared.images.StorageFormat.{StorageFormat}
 use Rattle.ir_types.specs.declared.types.TypeInner.{TypeInner}
-use Rattle.ir_facts.proofs.Points.{both_hold}
-use Rattle.ir_facts.specs.Points.{first_fault}
+use Rattle.ir_arena.proofs.Points.{both_hold}
+use Rattle.ir_arena.specs.Points.{first_fault}
 use Rattle.ir_statements.specs.Tree.{Act, Use}
 use Rattle.ir_statements.specs.View.{used_if}
 use Rattle.ir_errors.specs.declared.expression.ExpressionError.{ExpressionError}

@@ -1,7 +1,7 @@
 -- The check list of RayQuery: what it says of uses and puts.
 use Rattle.std.proofs.Common.{◌≡◌, ℕ, Bool, false, None}
-use Rattle.ir_facts.proofs.Points.{not_holds}
-use Rattle.ir_facts.specs.Points.{first_fault}
+use Rattle.ir_arena.proofs.Points.{not_holds}
+use Rattle.ir_arena.specs.Points.{first_fault}
 use Rattle.ir_statements.specs.View.{query_acts}
 use Rattle.ir_statements.specs.declared.operations.RayQueryFunction.{RayQueryFunction}
 use Rattle.ir_statements.specs.declared.operations.RayQueryFunction.TheVariants as query

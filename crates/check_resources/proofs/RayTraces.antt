@@ -1,6 +1,6 @@
 -- The check list of TraceRay: what it says of uses.
 use Rattle.std.proofs.Common.{◌≡◌, ℕ, Option, None}
-use Rattle.ir_facts.specs.Points.{first_fault}
+use Rattle.ir_arena.specs.Points.{first_fault}
 use Rattle.ir_statements.specs.View.{pipeline_acts}
 use Rattle.ir_statements.specs.declared.operations.RayPipelineFunction.TheVariants.{TraceRay}
 use Rattle.naga_runs.specs.Soundness.{Fit}

@@ -3,16 +3,16 @@ use Rattle.std.specs.Prelude.{ℕ, Bool, true, false, not, [], ◌∷◌, Option
 use Rattle.std.specs.Option.{option_map}
 use Rattle.ir_flags.specs.Bits.{NO_ACCESS}
 use Rattle.ir_types.specs.Types.{image_coordinates_of}
-use Rattle.ir_types.specs.contracts.types.ImageDimensionPartialEq.TheImpl as dimension
+use Rattle.ir_leaves.specs.contracts.images.ImageDimensionPartialEq.TheImpl as dimension
 use Rattle.ir_module.specs.declared.expressions.Expression.{Expression}
 use Rattle.ir_module.specs.declared.expressions.Expression.TheVariants as e
 use Rattle.ir_flags.specs.declared.ir.StorageAccess.{StorageAccess}
 use Rattle.ir_types.specs.declared.types.ImageClass.{ImageClass}
 use Rattle.ir_types.specs.declared.types.ImageClass.TheVariants as class
-use Rattle.ir_types.specs.declared.types.ImageDimension.{ImageDimension}
-use Rattle.ir_types.specs.declared.types.ImageDimension.TheVariants.{D1}
-use Rattle.ir_types.specs.declared.types.StorageFormat.{StorageFormat}
-use Rattle.ir_types.specs.declared.types.StorageFormat.TheVariants.{R8Unorm}
+use Rattle.ir_leaves.specs.declared.images.ImageDimension.{ImageDimension}
+use Rattle.ir_leaves.specs.declared.images.ImageDimension.TheVariants.{D1}
+use Rattle.ir_leaves.specs.declared.images.StorageFormat.{StorageFormat}
+use Rattle.ir_leaves.specs.declared.images.StorageFormat.TheVariants.{R8Unorm}
 use Rattle.ir_types.specs.declared.types.TypeInner.{TypeInner}
 use Rattle.ir_types.specs.declared.types.TypeInner.TheVariants as inner
 use Rattle.ir_errors.specs.declared.expression.ExpressionError.{ExpressionError}

@@ -4,16 +4,16 @@ use Rattle.ir_flags.specs.Bits as bit
 use Rattle.ir_flags.specs.Bits.{contains}
 use Rattle.ir_flags.specs.Capabilities as capability
 use Rattle.ir_flags.specs.Capabilities.{has_capability}
-use Rattle.ir_types.specs.Formats.{format_scalar}
-use Rattle.ir_facts.specs.Points.{Point}
+use Rattle.ir_leaves.specs.Formats.{format_scalar}
+use Rattle.ir_arena.specs.Points.{Point}
 use Rattle.ir_types.specs.TypeTests.{is_scalar}
 use Rattle.ir_types.specs.Types.{inner_at}
 use Rattle.ir_flags.specs.declared.ir.StorageAccess.{StorageAccess}
 use Rattle.ir_statements.specs.Operations.{is_min_or_max}
 use Rattle.ir_statements.specs.declared.operations.AtomicFunction.{AtomicFunction}
 use Rattle.ir_statements.specs.declared.operations.AtomicFunction.TheVariants.{Add, And, ExclusiveOr, InclusiveOr}
-use Rattle.ir_types.specs.declared.types.StorageFormat.{StorageFormat}
-use Rattle.ir_types.specs.declared.types.StorageFormat.TheVariants as formats
+use Rattle.ir_leaves.specs.declared.images.StorageFormat.{StorageFormat}
+use Rattle.ir_leaves.specs.declared.images.StorageFormat.TheVariants as formats
 use Rattle.ir_types.specs.declared.types.Type.{«Type» as IrType}
 use Rattle.ir_types.specs.declared.types.TypeInner.{TypeInner}
 use Rattle.ir_types.specs.declared.types.TypeInner.TheVariants as inner

@@ -1,14 +1,14 @@
 -- The check list of ImageStore.
 use Rattle.std.specs.Prelude.{ℕ, Bool, true, false, not, ◌||◌, List, [], ◌∷◌, ◌++◌, Option, None, Some, is_some, option_and_then}
-use Rattle.ir_types.specs.Formats.{format_scalar}
-use Rattle.ir_facts.specs.Points.{Point}
+use Rattle.ir_leaves.specs.Formats.{format_scalar}
+use Rattle.ir_arena.specs.Points.{Point}
 use Rattle.ir_types.specs.TypeTests.{is_same_inner}
 use Rattle.ir_types.specs.Types.{inner_at}
-use Rattle.ir_types.specs.declared.types.StorageFormat.{StorageFormat}
+use Rattle.ir_leaves.specs.declared.images.StorageFormat.{StorageFormat}
 use Rattle.ir_types.specs.declared.types.Type.{«Type» as IrType}
 use Rattle.ir_types.specs.declared.types.TypeInner.{TypeInner}
 use Rattle.ir_types.specs.declared.types.TypeInner.TheVariants as inner
-use Rattle.ir_types.specs.declared.types.VectorSize.TheVariants.{Quad}
+use Rattle.ir_leaves.specs.declared.scalars.VectorSize.TheVariants.{Quad}
 use Rattle.ir_errors.specs.declared.expression.ExpressionError.{ExpressionError}
 use Rattle.ir_errors.specs.declared.expression.ExpressionError.TheVariants as wrong
 use Rattle.check_variables.specs.Globals.{element_of}

@@ -19,8 +19,9 @@ use ir_arena::handle::Handle;
 use ir_arena::tag;
 use ir_errors::expression::ExpressionError;
 use ir_errors::function::FunctionError;
+use ir_leaves::images::ImageDimension;
 use ir_module::expressions::Expression;
-use ir_types::types::{ImageDimension, TypeInner};
+use ir_types::types::TypeInner;
 
 /// The statement that uses an image.
 #[derive(Clone, Copy)]
@@ -95,7 +96,7 @@ pub fn element_of(inner: Option<&TypeInner>) -> Option<Handle<tag::Type>>
 }
 
 /// Which texel: its coordinate and its array index.
-#[tactic(auto, using(ir_facts::proofs::Points::first_of_both))]
+#[tactic(auto, using(ir_arena::proofs::Points::first_of_both))]
 pub(crate) fn check_texel(
     statement: ImageStatement,
     scope: &ScopeColumn,

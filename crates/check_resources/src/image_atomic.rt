@@ -24,8 +24,10 @@ use ir_errors::expression::ExpressionError;
 use ir_errors::function::FunctionError;
 use ir_flags::capabilities::Capabilities;
 use ir_flags::ir::StorageAccess;
+use ir_leaves::images::StorageFormat;
+use ir_leaves::scalars::Scalar;
 use ir_statements::operations::AtomicFunction;
-use ir_types::types::{ImageClass, Scalar, StorageFormat, TypeInner};
+use ir_types::types::{ImageClass, TypeInner};
 
 /// An operation on a texel: which texel, what is done, and with what value.
 #[derive(Clone, Copy)]
@@ -55,7 +57,7 @@ pub fn check_image_atomic(
 }
 
 /// All that is checked of an operation on a texel.
-#[tactic(auto, using(ir_facts::proofs::Points::first_of_both))]
+#[tactic(auto, using(ir_arena::proofs::Points::first_of_both))]
 fn check_image_atomic_points(
     scope: &ScopeColumn,
     context: &BlockContext,
@@ -99,7 +101,7 @@ fn changed_type<'a>(context: &BlockContext<'a>, ty: Handle<tag::Type>) -> Option
 }
 
 /// The texel, which comes before what is asked of the image.
-#[tactic(auto, using(ir_facts::proofs::Points::first_of_both))]
+#[tactic(auto, using(ir_arena::proofs::Points::first_of_both))]
 fn check_changed_image(
     scope: &ScopeColumn,
     context: &BlockContext,
@@ -144,7 +146,7 @@ fn check_class(
 }
 
 /// The format and the value.
-#[tactic(auto, using(ir_facts::proofs::Points::first_of_both))]
+#[tactic(auto, using(ir_arena::proofs::Points::first_of_both))]
 fn check_changed(
     scope: &ScopeColumn,
     context: &BlockContext,

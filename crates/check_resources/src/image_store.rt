@@ -24,7 +24,9 @@ use ir_arena::span::Span;
 use ir_arena::tag;
 use ir_errors::expression::ExpressionError;
 use ir_errors::function::FunctionError;
-use ir_types::types::{ImageClass, Scalar, StorageFormat, TypeInner, VectorSize};
+use ir_leaves::images::StorageFormat;
+use ir_leaves::scalars::{Scalar, VectorSize};
+use ir_types::types::{ImageClass, TypeInner};
 use std::alloc::{AllocError, Global};
 
 /// An image in storage: its shape, and the format of its texels.
@@ -146,7 +148,7 @@ fn stored_type<'a>(
 }
 
 /// The texel and the value.
-#[tactic(auto, using(ir_facts::proofs::Points::first_of_both))]
+#[tactic(auto, using(ir_arena::proofs::Points::first_of_both))]
 fn check_stored(
     scope: &ScopeColumn,
     context: &BlockContext,

@@ -23,9 +23,10 @@ use ir_arena::handle::Handle;
 use ir_arena::span::Span;
 use ir_arena::tag;
 use ir_errors::function::FunctionError;
+use ir_leaves::scalars::ScalarKind;
 use ir_module::expressions::Expression;
 use ir_statements::operations::RayQueryFunction;
-use ir_types::types::{ScalarKind, TypeInner};
+use ir_types::types::TypeInner;
 
 /// RayQuery: its query, a local, and what is done with it. The result of a Proceed is in scope afterwards.
 pub fn validate_ray_query(

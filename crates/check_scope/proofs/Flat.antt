@@ -1,7 +1,7 @@
 -- What it says that no point of a list fails: of one of them by its index, of those behind some, and of a use and a put.
 use Rattle.std.proofs.Common.{◌≡◌, ℕ, zero, suc, Bool, true, List, [], ◌∷◌, None, refl}
-use Rattle.ir_facts.proofs.Points.{first_holds}
-use Rattle.ir_facts.specs.Points.{Point, first_fault}
+use Rattle.ir_arena.proofs.Points.{first_holds}
+use Rattle.ir_arena.specs.Points.{Point, first_fault}
 
 -- the condition of a point, and the points behind some
 abbrev pub condition_at : {Fault : Type 0} → ℕ → List (Point Fault) → Bool

@@ -2,8 +2,8 @@
 use Rattle.std.proofs.Common.{◌≡◌, ℕ, zero, suc, ◌+◌, ◌<◌, ◌≤◌, ◌==◌, nat_lt, Bool, true, false, Option, Some, None, List, [], ◌∷◌, length, get_or, is_some, refl, subst, sym, ap, ◌∙◌, arith}
 use Rattle.std.proofs.lemmas.Bool.Decides.{nat_tests}
 use Rattle.std.specs.Prelude.{◌≢◌, IfSome, map, if◌then◌else◌}
-use Rattle.ir_facts.proofs.Points.{first_holds}
-use Rattle.ir_facts.specs.Points.{first_fault}
+use Rattle.ir_arena.proofs.Points.{first_holds}
+use Rattle.ir_arena.specs.Points.{first_fault}
 use Rattle.ir_errors.specs.declared.expression.ExpressionError.TheVariants.{NotInScope}
 use Rattle.ir_errors.specs.declared.function.FunctionError.TheVariants.{Expression}
 use Rattle.naga_runs.specs.Handles.{Handles, with_handle}

@@ -7,10 +7,10 @@ use Rattle.ir_arena.specs.declared.span.Refusal.{Refusal}
 use Rattle.ir_arena.specs.declared.span.Refusal.TheVariants as refusal
 use Rattle.ir_facts.specs.Answers.{IsFirstFault, Answers, FirstOf, Exactly, leaving}
 use Rattle.ir_errors.specs.declared.function.FunctionError.{FunctionError}
-use Rattle.ir_facts.specs.Points.{and_then, Point, first_fault}
+use Rattle.ir_arena.specs.Points.{and_then, Point, first_fault}
 use Rattle.check_scope.specs.walk.Findings.{IsRefusalFor}
 use Rattle.check_scope.specs.ScopePoints.{Points}
-use Rattle.ir_facts.proofs.Points.{first_of_both}
+use Rattle.ir_arena.proofs.Points.{first_of_both}
 
 -- the refusal for the first fault
 pub refuses_fault : (fault : FunctionError) (given : Refusal FunctionError) (points : Points) → IsRefusalFor fault given → Some fault ≡ first_fault points → IsFirstFault points given

@@ -5,7 +5,7 @@ use Rattle.ir_errors.specs.declared.function.FunctionError.{FunctionError}
 use Rattle.ir_errors.specs.declared.function.FunctionError.TheVariants.{Expression, ExpressionAlreadyInScope}
 use Rattle.naga_runs.specs.Handles.{Handles}
 use Rattle.naga_runs.specs.Visits.{Place}
-use Rattle.ir_facts.specs.Points.{Point}
+use Rattle.ir_arena.specs.Points.{Point}
 
 abbrev pub Points : Type 0
 Points = List (Point FunctionError)

@@ -10,10 +10,11 @@ use ir_arena::tag;
 use ir_facts::proc::expression_kinds::ExpressionKindTracker;
 use ir_facts::valid::info::{FunctionInfo, ModuleInfo};
 use ir_facts::valid::settings::Settings;
+use ir_leaves::scalars::ScalarKind;
 use ir_module::expressions::Expression;
 use ir_module::functions::Function;
 use ir_module::module::Module;
-use ir_types::types::{ScalarKind, TypeInner};
+use ir_types::types::TypeInner;
 use ir_types::typifier::TypeResolution;
 
 /// What the checks of a body read: naga's `BlockContext` without the abilities. Look-ups are by handle, and `None`

@@ -11,9 +11,10 @@ ghost use Rattle.ir_types.specs.TypeTests.{both_are, is_same_inner, is_scalar, i
 use crate::context::BlockContext;
 use ir_arena::handle::Handle;
 use ir_arena::tag;
+use ir_leaves::scalars::{Scalar, ScalarKind};
 use ir_module::module::Module;
 use ir_types::type_methods::compare_types;
-use ir_types::types::{Scalar, ScalarKind, TypeInner};
+use ir_types::types::TypeInner;
 use ir_types::typifier::TypeResolution;
 
 /// Whether a type is this scalar.

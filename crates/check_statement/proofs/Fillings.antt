@@ -5,9 +5,9 @@ use Rattle.std.proofs.lemmas.List.Folds.{list_any-append}
 use Rattle.ir_flags.specs.declared.valid.ShaderStages.{ShaderStages}
 use Rattle.ir_errors.specs.declared.function.FunctionError.{FunctionError}
 use Rattle.ir_errors.specs.declared.function.FunctionError.TheVariants.{UnvisitedExpression}
-use Rattle.ir_facts.proofs.Points.{not_holds}
+use Rattle.ir_arena.proofs.Points.{not_holds}
 use Rattle.naga_runs.specs.Handles.{Handles}
-use Rattle.ir_facts.specs.Points.{first_fault}
+use Rattle.ir_arena.specs.Points.{first_fault}
 use Rattle.naga_runs.specs.Visits.{Visit}
 use Rattle.check_scope.specs.Context.{Context}
 use Rattle.ir_facts.specs.WhatIsChecked.{checks_expressions}

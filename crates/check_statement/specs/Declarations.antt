@@ -1,16 +1,16 @@
 -- The check lists of what a function declares: its local variables, its arguments and its result.
 use Rattle.std.specs.Prelude.{ℕ, Bool, true, false, ◌||◌, List, [], ◌∷◌, ◌++◌, Option, None, Some, is_none, unwrap_or, option_and_then}
 use Rattle.ir_flags.specs.Bits.{ARGUMENT, CONSTRUCTIBLE}
-use Rattle.ir_facts.specs.Points.{within, points_of_each}
+use Rattle.ir_arena.specs.Points.{within, points_of_each}
 use Rattle.ir_types.specs.Types.{inner_at, pointer_space_of}
 use Rattle.ir_module.specs.declared.functions.FunctionArgument.{FunctionArgument}
 use Rattle.ir_module.specs.declared.functions.FunctionResult.{FunctionResult}
 use Rattle.ir_module.specs.declared.functions.LocalVariable.{LocalVariable as Variable}
 use Rattle.ir_types.specs.declared.types.AddressSpace.{AddressSpace}
 use Rattle.ir_types.specs.declared.types.AddressSpace.TheVariants as space
-use Rattle.ir_facts.specs.declared.valid.types.TypeInfo.{TypeInfo}
+use Rattle.ir_types.specs.declared.type_info.TypeInfo.{TypeInfo}
 use Rattle.check_variables.specs.Locals.{local_points}
-use Rattle.ir_facts.specs.TypeInfos.{type_has}
+use Rattle.ir_types.specs.TypeInfos.{type_has}
 use Rattle.ir_errors.specs.declared.function.FunctionError.TheVariants.{LocalVariable, InvalidArgumentPointerSpace, InvalidArgumentType, PipelineInputRegularFunction, NonConstructibleReturnType, PipelineOutputRegularFunction}
 use Rattle.check_scope.specs.Context.{Context}
 use Rattle.check_scope.specs.ScopePoints.{Points}

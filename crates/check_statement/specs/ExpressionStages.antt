@@ -1,6 +1,6 @@
 -- The step of a function's expressions: each is asked of the lower layer by itself, in order, and its stages are met in.
 use Rattle.std.specs.Prelude.{ℕ, zero, suc, List, [], ◌∷◌, Result, Ok, Err, length, if◌then◌else◌}
-use Rattle.ir_facts.specs.Points.{and_then}
+use Rattle.ir_arena.specs.Points.{and_then}
 use Rattle.ir_errors.specs.declared.expression.ExpressionError.{ExpressionError}
 use Rattle.ir_flags.specs.declared.valid.ShaderStages.{ShaderStages}
 use Rattle.ir_facts.specs.declared.valid.info.FunctionInfo.{FunctionInfo}

@@ -1,13 +1,13 @@
 -- The judgement of a function's body, and of a function: a chain of steps, each an answer of the lower layer or the fault
 -- of the first of its points that fails.
 use Rattle.std.specs.Prelude.{Bool, List, [], Result, Ok, Err, if◌then◌else◌}
-use Rattle.ir_facts.specs.Points.{first_fault, answer, and_then}
+use Rattle.ir_arena.specs.Points.{first_fault, answer, and_then}
 use Rattle.ir_module.specs.declared.functions.Function.{Function}
 use Rattle.ir_module.specs.declared.module.Module.{Module}
 use Rattle.ir_facts.specs.declared.valid.info.FunctionInfo.{FunctionInfo}
 use Rattle.ir_facts.specs.declared.valid.info.ModuleInfo.{ModuleInfo}
 use Rattle.ir_facts.specs.declared.valid.settings.Settings.{Settings}
-use Rattle.ir_facts.specs.declared.valid.types.TypeInfo.{TypeInfo}
+use Rattle.ir_types.specs.declared.type_info.TypeInfo.{TypeInfo}
 use Rattle.ir_facts.specs.Meaning.{Meaning}
 use Rattle.ir_errors.specs.declared.function.FunctionError.{FunctionError}
 use Rattle.naga_runs.specs.Judgement.{judgement}

@@ -4,7 +4,7 @@ use Rattle.ir_flags.specs.Bits.{NO_OPERATION, NO_STAGE}
 use Rattle.ir_flags.specs.declared.capabilities.Capabilities.{Capabilities}
 use Rattle.ir_flags.specs.declared.valid.ValidationFlags.{ValidationFlags}
 use Rattle.ir_facts.specs.declared.valid.settings.Settings.{Settings}
-use Rattle.ir_facts.specs.declared.valid.types.TypeInfo.{TypeInfo}
+use Rattle.ir_types.specs.declared.type_info.TypeInfo.{TypeInfo}
 use Rattle.check_scope.specs.declared.trace.TraceState.{TraceState}
 use Rattle.check_scope.specs.declared.trace.TraceRayVertexReturnState.TheVariants.{NoTraceRays}
 

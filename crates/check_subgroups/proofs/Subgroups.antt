@@ -1,7 +1,7 @@
 -- The check lists of subgroup statements: what they say of uses and puts.
 use Rattle.std.proofs.Common.{◌≡◌, ℕ, Bool, true, false, [], ◌∷◌, ◌++◌, Option, None, Some}
-use Rattle.ir_facts.proofs.Points.{both_hold, not_holds}
-use Rattle.ir_facts.specs.Points.{first_fault}
+use Rattle.ir_arena.proofs.Points.{both_hold, not_holds}
+use Rattle.ir_arena.specs.Points.{first_fault}
 use Rattle.ir_statements.specs.Tree.{Use, Put}
 use Rattle.ir_statements.specs.View.{used_if, mode_acts}
 use Rattle.ir_statements.specs.declared.operations.CollectiveOperation.{CollectiveOperation}

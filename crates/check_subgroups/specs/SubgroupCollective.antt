@@ -5,7 +5,7 @@ use Rattle.ir_statements.specs.declared.operations.CollectiveOperation.{Collecti
 use Rattle.ir_statements.specs.declared.operations.CollectiveOperation.TheVariants as over
 use Rattle.ir_statements.specs.declared.operations.SubgroupOperation.{SubgroupOperation}
 use Rattle.ir_statements.specs.declared.operations.SubgroupOperation.TheVariants as op
-use Rattle.ir_types.specs.declared.types.Scalar.{Scalar}
+use Rattle.ir_leaves.specs.declared.scalars.Scalar.{Scalar}
 use Rattle.ir_types.specs.declared.types.TypeInner.{TypeInner}
 use Rattle.ir_types.specs.declared.types.TypeInner.TheVariants as inner
 use Rattle.ir_errors.specs.declared.function.SubgroupError.TheVariants as wrong

@@ -22,8 +22,9 @@ use ir_errors::function::{FunctionError, SubgroupError};
 use ir_facts::valid::settings::Settings;
 use ir_flags::capabilities::Capabilities;
 use ir_flags::valid::SubgroupOperationSet;
+use ir_leaves::scalars::{Scalar, ScalarKind};
 use ir_module::expressions::Expression;
-use ir_types::types::{Scalar, ScalarKind, TypeInner};
+use ir_types::types::TypeInner;
 
 /// Groups of operations, which the target has.
 pub(crate) fn check_operations(
@@ -73,7 +74,7 @@ pub fn validate_ballot(
 }
 
 /// All that is checked of a ballot. Its result stays out of scope.
-#[tactic(auto, using(ir_facts::proofs::Points::first_of_both))]
+#[tactic(auto, using(ir_arena::proofs::Points::first_of_both))]
 fn check_ballot(
     scope: &ScopeColumn,
     context: &BlockContext,

@@ -19,8 +19,9 @@ use ir_arena::handle::Handle;
 use ir_arena::span::Span;
 use ir_arena::tag;
 use ir_errors::function::{FunctionError, SubgroupError};
+use ir_leaves::scalars::{Scalar, ScalarKind};
 use ir_statements::operations::{CollectiveOperation, SubgroupOperation};
-use ir_types::types::{Scalar, ScalarKind, TypeInner};
+use ir_types::types::TypeInner;
 
 /// A collective operation: over which invocations it is done, on which argument, and its result.
 #[derive(Clone, Copy)]

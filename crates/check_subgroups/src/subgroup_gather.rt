@@ -20,8 +20,9 @@ use ir_arena::handle::Handle;
 use ir_arena::span::Span;
 use ir_arena::tag;
 use ir_errors::function::{FunctionError, SubgroupError};
+use ir_leaves::scalars::Scalar;
 use ir_statements::operations::GatherMode;
-use ir_types::types::{Scalar, TypeInner};
+use ir_types::types::TypeInner;
 
 /// SubgroupGather: its index, its argument, and its result, which is in scope afterwards.
 pub fn validate_gather(
@@ -49,7 +50,7 @@ pub fn validate_gather(
 }
 
 /// All that is checked of a gather. Its result stays out of scope.
-#[tactic(auto, using(ir_facts::proofs::Points::first_of_both))]
+#[tactic(auto, using(ir_arena::proofs::Points::first_of_both))]
 fn check_gather(
     scope: &ScopeColumn,
     context: &BlockContext,
@@ -66,7 +67,7 @@ fn check_gather(
 }
 
 /// The index, the argument and the result.
-#[tactic(auto, using(ir_facts::proofs::Points::first_of_both))]
+#[tactic(auto, using(ir_arena::proofs::Points::first_of_both))]
 fn check_indexed(
     scope: &ScopeColumn,
     context: &BlockContext,

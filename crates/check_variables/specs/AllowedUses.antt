@@ -2,8 +2,8 @@
 use Rattle.std.specs.Prelude.{Bool, true, false, bit_or, Option, None, Some, if◌then◌else◌}
 use Rattle.ir_flags.specs.Bits.{LOAD, STORE, ATOMIC, READ, WRITE, QUERY, ATOMIC_USE, contains}
 use Rattle.ir_flags.specs.declared.ir.StorageAccess.{StorageAccess}
-use Rattle.ir_types.specs.declared.stage.ShaderStage.{ShaderStage}
-use Rattle.ir_types.specs.declared.stage.ShaderStage.TheVariants as stage
+use Rattle.ir_leaves.specs.declared.stage.ShaderStage.{ShaderStage}
+use Rattle.ir_leaves.specs.declared.stage.ShaderStage.TheVariants as stage
 use Rattle.ir_types.specs.declared.types.AddressSpace.{AddressSpace}
 use Rattle.ir_types.specs.declared.types.AddressSpace.TheVariants as space
 use Rattle.ir_flags.specs.declared.valid.GlobalUse.{GlobalUse}

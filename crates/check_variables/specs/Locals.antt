@@ -1,7 +1,7 @@
 -- The check list of a local variable.
 use Rattle.std.specs.Prelude.{ℕ, Bool, true, false, List, [], ◌∷◌, Option, None, Some, slice_get}
 use Rattle.ir_flags.specs.Bits.{CONSTRUCTIBLE}
-use Rattle.ir_facts.specs.Points.{Point}
+use Rattle.ir_arena.specs.Points.{Point}
 use Rattle.ir_types.specs.TypeTests.{is_same_type}
 use Rattle.ir_module.specs.declared.functions.LocalVariable.{LocalVariable}
 use Rattle.ir_types.specs.declared.types.Type.{«Type» as IrType}
@@ -9,8 +9,8 @@ use Rattle.ir_facts.specs.declared.proc.expression_kinds.ExpressionKind.{Express
 use Rattle.ir_facts.specs.declared.proc.expression_kinds.ExpressionKind.TheVariants.{Const, Override, Runtime}
 use Rattle.ir_types.specs.declared.typifier.TypeResolution.{TypeResolution}
 use Rattle.ir_types.specs.declared.typifier.TypeResolution.TheVariants.{Handle}
-use Rattle.ir_facts.specs.declared.valid.types.TypeInfo.{TypeInfo}
-use Rattle.ir_facts.specs.TypeInfos.{type_has}
+use Rattle.ir_types.specs.declared.type_info.TypeInfo.{TypeInfo}
+use Rattle.ir_types.specs.TypeInfos.{type_has}
 use Rattle.ir_errors.specs.declared.function.LocalVariableError.{LocalVariableError}
 use Rattle.ir_errors.specs.declared.function.LocalVariableError.TheVariants.{InvalidType, InitializerType, NonConstOrOverrideInitializer}
 

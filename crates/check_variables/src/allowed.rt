@@ -6,7 +6,7 @@ ghost use Rattle.check_variables.specs.AllowedUses.{join, allowed_by, storage_us
 use bitflags::Flags;
 use ir_flags::ir::StorageAccess;
 use ir_flags::valid::GlobalUse;
-use ir_types::stage::ShaderStage;
+use ir_leaves::stage::ShaderStage;
 use ir_types::types::AddressSpace;
 
 /// How an entry point at this stage may use a global in this address space.

@@ -2,7 +2,7 @@
 
 ghost use Rattle.std.specs.Prelude.{◌≡◌, ◌<◌, IfOk, IfSome, Some, All, length, slice_get};
 ghost use Rattle.std.specs.Result.{result_err};
-ghost use Rattle.ir_facts.specs.Points.{first_fault};
+ghost use Rattle.ir_arena.specs.Points.{first_fault};
 ghost use Rattle.ir_types.specs.Types.{NameEachOther, ResolutionFits, inner_at};
 ghost use Rattle.check_variables.specs.Globals.{global_points, array_points, element_of, asked_type, capability_points, good_layout_points, immediate_points, resource_points, place_points, space_points, type_points, decoration_points, variable_points, global_initializer_points};
 ghost use Rattle.check_variables.specs.Spaces.{row_of, resource_array_needs, is_16bit_norm};
@@ -11,15 +11,15 @@ use bitflags::Flags;
 use ir_arena::handle::Handle;
 use ir_arena::tag;
 use ir_errors::interface::GlobalVariableError;
-use ir_errors::types::{Disalignment, ImmediateError};
 use ir_facts::proc::expression_kinds::ExpressionKindTracker;
-use ir_facts::valid::types::TypeInfo;
 use ir_flags::capabilities::Capabilities;
 use ir_flags::ir::{MemoryDecorations, StorageAccess};
 use ir_flags::valid::{TypeFlags, ValidationFlags};
+use ir_leaves::images::StorageFormat;
 use ir_module::module::GlobalVariable;
+use ir_types::type_info::{Disalignment, ImmediateError, TypeInfo};
 use ir_types::type_methods::compare_types;
-use ir_types::types::{AddressSpace, ImageClass, StorageFormat, Type, TypeInner};
+use ir_types::types::{AddressSpace, ImageClass, Type, TypeInner};
 use ir_types::typifier::TypeResolution;
 use ir_types::unique_arena::UniqueArena;
 
@@ -49,7 +49,7 @@ struct TypeContext<'a> {
 ///
 /// `infos` is indexed by the types of the module, `kinds` and `global_types` by its global expressions. `size` is that
 /// of the variable's type in bytes, if it is known.
-#[tactic(auto, using(ir_facts::proofs::Points::first_of_both))]
+#[tactic(auto, using(ir_arena::proofs::Points::first_of_both))]
 pub fn check_global(
     var: &GlobalVariable,
     types: &UniqueArena<Type>,
@@ -85,7 +85,7 @@ pub fn check_global(
 
 /// The type of a variable in its space: a binding array lies where one may, and the type that the space is asked about
 /// is one for it.
-#[tactic(auto, using(ir_facts::proofs::Points::first_of_both))]
+#[tactic(auto, using(ir_arena::proofs::Points::first_of_both))]
 fn check_type(
     context: &TypeContext,
     space: AddressSpace,
@@ -196,7 +196,7 @@ fn check_asked(
 }
 
 /// A type in a space, with what is known of it: what the space asks for, and then what the type can be used for.
-#[tactic(auto, using(ir_facts::proofs::Points::first_of_both))]
+#[tactic(auto, using(ir_arena::proofs::Points::first_of_both))]
 fn check_in_space(
     space: AddressSpace,
     inner: &TypeInner,

@@ -2,7 +2,7 @@
 
 ghost use Rattle.std.specs.Prelude.{◌≡◌, ◌<◌, IfSome, Some, All, length};
 ghost use Rattle.std.specs.Result.{result_err};
-ghost use Rattle.ir_facts.specs.Points.{first_fault};
+ghost use Rattle.ir_arena.specs.Points.{first_fault};
 ghost use Rattle.ir_types.specs.Types.{NameEachOther, ResolutionFits};
 ghost use Rattle.check_variables.specs.Locals.{local_points, initializer_points};
 
@@ -11,9 +11,9 @@ use ir_arena::tag;
 use ir_errors::function::LocalVariableError;
 use ir_facts::proc::expression_kinds::ExpressionKindTracker;
 use ir_facts::valid::info::FunctionInfo;
-use ir_facts::valid::types::TypeInfo;
 use ir_flags::valid::TypeFlags;
 use ir_module::functions::LocalVariable;
+use ir_types::type_info::TypeInfo;
 use ir_types::type_methods::compare_types;
 use ir_types::types::Type;
 use ir_types::typifier::TypeResolution;

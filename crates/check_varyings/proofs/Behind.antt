@@ -3,8 +3,8 @@ use Rattle.std.proofs.Common.{◌≡◌, Bool, true, List, ◌∷◌, ◌++◌, 
 use Rattle.std.specs.Prelude.{IsErr, if◌then◌else◌}
 use Rattle.std.specs.Option.{option_or}
 use Rattle.std.specs.Result.{result_err}
-use Rattle.ir_facts.specs.Points.{Point, first_fault}
-use Rattle.ir_facts.proofs.Points.{first_of_both}
+use Rattle.ir_arena.specs.Points.{Point, first_fault}
+use Rattle.ir_arena.proofs.Points.{first_of_both}
 
 -- a fault of the first points, one behind them, and one behind a point that holds
 pub fault_first : {T Fault : Type 0} (r : Result T Fault) (ps qs : List (Point Fault)) → IsErr r → result_err r ≡ first_fault ps → result_err r ≡ first_fault (ps ++ qs)

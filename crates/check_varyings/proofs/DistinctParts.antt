@@ -3,21 +3,21 @@ use Rattle.std.proofs.Common.{◌≡◌, ℕ, suc, Bool, true, false, not, ◌||
 use Rattle.std.specs.Prelude.{codes, is_none, unwrap_or}
 use Rattle.ir_flags.specs.Bits.{IO_SHAREABLE}
 use Rattle.ir_flags.specs.Capabilities.{MESH_SHADER, NO_CAPABILITY, has_capability}
-use Rattle.ir_types.specs.declared.stage.ShaderStage.TheVariants.{Fragment}
-use Rattle.ir_facts.specs.TypeInfos.{type_has}
+use Rattle.ir_leaves.specs.declared.stage.ShaderStage.TheVariants.{Fragment}
+use Rattle.ir_types.specs.TypeInfos.{type_has}
 use Rattle.ir_errors.specs.declared.interface.VaryingError.TheVariants.{BindingCollision, BlendSrcNotOnStructMember, DuplicateBuiltIn, InvalidBuiltInStage, InvalidBuiltInType, InvalidMultiDimensionalSubgroupBuiltIn, InvalidPerPrimitive, MissingPerPrimitive, NotIOShareableType, UnsupportedCapability}
 use Rattle.std.specs.Option.{option_map, option_or}
 use Rattle.std.proofs.lemmas.Bool.Decides.{nat_tests}
 use Rattle.std.proofs.lemmas.List.{append_assoc, append-nil}
-use Rattle.ir_facts.proofs.Points.{both_hold, first_holds, first_of_both, first_within, not_holds}
-use Rattle.ir_types.specs.EqualBuiltIns.{built_in_same}
-use Rattle.ir_facts.specs.Points.{Point, first_fault, within}
+use Rattle.ir_arena.proofs.Points.{both_hold, first_holds, first_of_both, first_within, not_holds}
+use Rattle.ir_leaves.specs.EqualBuiltIns.{built_in_same}
+use Rattle.ir_arena.specs.Points.{Point, first_fault, within}
 use Rattle.ir_types.specs.Types.{inner_at}
-use Rattle.ir_types.specs.declared.built_in.BuiltIn.{BuiltIn}
-use Rattle.ir_types.specs.declared.types.Binding.TheVariants as binding
+use Rattle.ir_leaves.specs.declared.built_in.BuiltIn.{BuiltIn}
+use Rattle.ir_leaves.specs.declared.bindings.Binding.TheVariants as binding
 use Rattle.ir_types.specs.declared.types.Type.{«Type» as IrType}
 use Rattle.ir_types.specs.declared.types.TypeInner.{TypeInner}
-use Rattle.ir_facts.specs.declared.valid.types.TypeInfo.{TypeInfo}
+use Rattle.ir_types.specs.declared.type_info.TypeInfo.{TypeInfo}
 use Rattle.check_varyings.specs.BuiltIns.{built_in_rule, canonical, is_primitive_output, is_stage}
 use Rattle.check_varyings.specs.DistinctVaryings.{AcceptedBuiltInsAreDistinct, AcceptedLocationsAreDistinct}
 use Rattle.check_varyings.specs.Locations.{carried_type, interpolation_points, is_fragment_input, may_take, per_vertex_points, sharing_points}

@@ -2,17 +2,17 @@
 use Rattle.std.proofs.Common.{◌≡◌, ℕ, Bool, true, false, not, ◌&&◌, ◌||◌, List, [], ◌∷◌, ◌++◌, Option, None, Some, refl, sym, ap, ◌∙◌}
 use Rattle.std.specs.Prelude.{is_none, option_and_then, if◌then◌else◌}
 use Rattle.std.specs.Option.{option_or}
-use Rattle.ir_facts.proofs.Points.{first_of_both}
-use Rattle.ir_facts.specs.Points.{Point, first_fault}
+use Rattle.ir_arena.proofs.Points.{first_of_both}
+use Rattle.ir_arena.specs.Points.{Point, first_fault}
 use Rattle.ir_flags.specs.Bits.{IO_SHAREABLE}
 use Rattle.ir_flags.specs.Capabilities.{MULTISAMPLED_SHADING, has_capability}
 use Rattle.ir_types.specs.Types.{inner_at, scalar_kind_of}
-use Rattle.ir_types.specs.declared.types.Interpolation.{Interpolation}
-use Rattle.ir_types.specs.declared.types.Interpolation.TheVariants.{Perspective, Linear, Flat, PerVertex}
-use Rattle.ir_types.specs.declared.types.Sampling.{Sampling}
+use Rattle.ir_leaves.specs.declared.bindings.Interpolation.{Interpolation}
+use Rattle.ir_leaves.specs.declared.bindings.Interpolation.TheVariants.{Perspective, Linear, Flat, PerVertex}
+use Rattle.ir_leaves.specs.declared.bindings.Sampling.{Sampling}
 use Rattle.ir_types.specs.declared.types.Type.{«Type» as IrType}
-use Rattle.ir_facts.specs.declared.valid.types.TypeInfo.{TypeInfo}
-use Rattle.ir_facts.specs.TypeInfos.{type_has}
+use Rattle.ir_types.specs.declared.type_info.TypeInfo.{TypeInfo}
+use Rattle.ir_types.specs.TypeInfos.{type_has}
 use Rattle.ir_errors.specs.declared.interface.VaryingError.{VaryingError}
 use Rattle.ir_errors.specs.declared.interface.VaryingError.TheVariants.{BindingCollision, BlendSrcNotOnStructMember, InvalidPerPrimitive, MissingPerPrimitive, NotIOShareableType, UnsupportedCapability}
 use Rattle.check_varyings.specs.BuiltIns.{is_primitive_output}

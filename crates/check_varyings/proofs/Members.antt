@@ -3,13 +3,13 @@ use Rattle.std.proofs.Common.{◌≡◌, ℕ, suc, ◌+◌, ◌<◌, ◌≤◌, 
 use Rattle.std.specs.Prelude.{IsErr}
 use Rattle.std.specs.Option.{option_or}
 use Rattle.std.proofs.lemmas.List.{append-nil, at_drop_all, at_drop_more, length-take-le, take_more}
-use Rattle.ir_facts.proofs.Points.{first_of_both}
-use Rattle.ir_facts.specs.Points.{Point, first_fault}
+use Rattle.ir_arena.proofs.Points.{first_of_both}
+use Rattle.ir_arena.specs.Points.{Point, first_fault}
 use Rattle.ir_types.specs.declared.types.StructMember.{StructMember}
 use Rattle.ir_types.specs.declared.types.Type.{«Type» as IrType}
 use Rattle.ir_arena.specs.declared.span.Refusal.{Refusal}
 use Rattle.ir_arena.specs.declared.span.Refusal.TheVariants.{Fault, Memory}
-use Rattle.ir_facts.specs.declared.valid.types.TypeInfo.{TypeInfo}
+use Rattle.ir_types.specs.declared.type_info.TypeInfo.{TypeInfo}
 use Rattle.check_varyings.specs.Seen.{Seen}
 use Rattle.check_varyings.specs.VaryingFaults.{VaryingFault, varying_fault_of}
 use Rattle.check_varyings.specs.Varyings.{Part, member_part, member_parts, part_points, points_behind, seen_with}

@@ -2,22 +2,22 @@
 use Rattle.std.proofs.Common.{◌≡◌, ℕ, Bool, true, false, List, [], ◌∷◌, ◌++◌, Option, None, Some, Result, Ok, Err, refl, sym, ap, ◌∙◌, subst}
 use Rattle.std.specs.Prelude.{option_and_then, if◌then◌else◌}
 use Rattle.std.specs.Option.{option_map}
-use Rattle.ir_facts.proofs.Points.{first_within}
-use Rattle.ir_facts.specs.Points.{Point, first_fault, within}
+use Rattle.ir_arena.proofs.Points.{first_within}
+use Rattle.ir_arena.specs.Points.{Point, first_fault, within}
 use Rattle.ir_types.specs.Types.{inner_at, scalar_kind_of}
-use Rattle.ir_types.specs.declared.built_in.BuiltIn.{BuiltIn}
-use Rattle.ir_types.specs.declared.types.Binding.{Binding}
-use Rattle.ir_types.specs.declared.types.Binding.TheVariants as binding
-use Rattle.ir_types.specs.declared.types.Interpolation.{Interpolation}
-use Rattle.ir_types.specs.declared.types.Interpolation.TheVariants.{Perspective, Linear, Flat, PerVertex}
-use Rattle.ir_types.specs.declared.types.Sampling.{Sampling}
-use Rattle.ir_types.specs.declared.types.ScalarKind.{ScalarKind}
-use Rattle.ir_types.specs.declared.types.ScalarKind.TheVariants.{Sint, Uint, Float}
+use Rattle.ir_leaves.specs.declared.built_in.BuiltIn.{BuiltIn}
+use Rattle.ir_leaves.specs.declared.bindings.Binding.{Binding}
+use Rattle.ir_leaves.specs.declared.bindings.Binding.TheVariants as binding
+use Rattle.ir_leaves.specs.declared.bindings.Interpolation.{Interpolation}
+use Rattle.ir_leaves.specs.declared.bindings.Interpolation.TheVariants.{Perspective, Linear, Flat, PerVertex}
+use Rattle.ir_leaves.specs.declared.bindings.Sampling.{Sampling}
+use Rattle.ir_leaves.specs.declared.scalars.ScalarKind.{ScalarKind}
+use Rattle.ir_leaves.specs.declared.scalars.ScalarKind.TheVariants.{Sint, Uint, Float}
 use Rattle.ir_types.specs.declared.types.Type.{«Type» as IrType}
 use Rattle.ir_types.specs.declared.types.TypeInner.{TypeInner}
 use Rattle.ir_arena.specs.declared.span.Refusal.{Refusal}
 use Rattle.ir_arena.specs.declared.span.Refusal.TheVariants.{Fault, Memory}
-use Rattle.ir_facts.specs.declared.valid.types.TypeInfo.{TypeInfo}
+use Rattle.ir_types.specs.declared.type_info.TypeInfo.{TypeInfo}
 use Rattle.ir_facts.specs.Answers.{Answers, FirstOf, read_by}
 use Rattle.check_varyings.specs.Locations.{carried_type, combination_points, interpolation_points, is_interpolated, is_per_vertex, kind_points, per_vertex_points, sharing_points}
 use Rattle.check_varyings.specs.Seen.{Seen}

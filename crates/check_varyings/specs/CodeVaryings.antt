@@ -1,8 +1,8 @@
 -- What a state has seen, as the code changes it: work of lemmas, which private functions alone cite.
 use Rattle.std.specs.Prelude.{ℕ, Bool, not, ◌==◌, ◌&&◌, ◌||◌, nat_lt, List, Option, None, Some, if◌then◌else◌}
 use Rattle.std.specs.List.{list_any}
-use Rattle.ir_types.specs.declared.types.Binding.{Binding}
-use Rattle.ir_types.specs.declared.types.Binding.TheVariants as binding
+use Rattle.ir_leaves.specs.declared.bindings.Binding.{Binding}
+use Rattle.ir_leaves.specs.declared.bindings.Binding.TheVariants as binding
 use Rattle.check_varyings.specs.BuiltIns.{canonical}
 use Rattle.check_varyings.specs.Seen.{Seen}
 use Rattle.check_varyings.specs.Varyings.{is_bound_at, is_bound_to}

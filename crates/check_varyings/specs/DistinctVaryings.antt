@@ -1,10 +1,10 @@
 -- What is known of a group where no point of it fails: no location is taken twice, and no built-in is there twice.
 use Rattle.std.specs.Prelude.{◌≡◌, ℕ, true, false, ◌&&◌, List, ◌∷◌, ◌++◌, None, []}
 use Rattle.std.specs.List.{list_any}
-use Rattle.ir_facts.specs.Points.{first_fault}
-use Rattle.ir_types.specs.declared.built_in.BuiltIn.{BuiltIn}
+use Rattle.ir_arena.specs.Points.{first_fault}
+use Rattle.ir_leaves.specs.declared.built_in.BuiltIn.{BuiltIn}
 use Rattle.ir_types.specs.declared.types.Type.{«Type» as IrType}
-use Rattle.ir_facts.specs.declared.valid.types.TypeInfo.{TypeInfo}
+use Rattle.ir_types.specs.declared.type_info.TypeInfo.{TypeInfo}
 use Rattle.ir_facts.specs.WhatIsChecked.{checks_bindings}
 use Rattle.check_varyings.specs.Varyings.{Placed, go_same_way, is_at, is_built_in, placed_points}
 

@@ -2,24 +2,24 @@
 use Rattle.std.specs.Prelude.{ℕ, Bool, true, false, not, ◌&&◌, ◌||◌, ◌==◌, List, [], ◌∷◌, ◌++◌, Option, None, Some, is_none, is_some, option_and_then, if◌then◌else◌}
 use Rattle.ir_flags.specs.Bits.{IO_SHAREABLE}
 use Rattle.ir_flags.specs.Capabilities.{MESH_SHADER, MULTISAMPLED_SHADING, PER_VERTEX, has_capability}
-use Rattle.ir_facts.specs.Points.{Point}
+use Rattle.ir_arena.specs.Points.{Point}
 use Rattle.ir_types.specs.Types.{inner_at, scalar_kind_of}
-use Rattle.ir_types.specs.declared.stage.ShaderStage.{ShaderStage}
-use Rattle.ir_types.specs.declared.stage.ShaderStage.TheVariants.{Vertex, Fragment, Mesh}
+use Rattle.ir_leaves.specs.declared.stage.ShaderStage.{ShaderStage}
+use Rattle.ir_leaves.specs.declared.stage.ShaderStage.TheVariants.{Vertex, Fragment, Mesh}
 use Rattle.ir_types.specs.declared.types.ArraySize.TheVariants.{Constant}
-use Rattle.ir_types.specs.declared.types.Interpolation.{Interpolation}
-use Rattle.ir_types.specs.declared.types.Interpolation.TheVariants.{Perspective, Linear, Flat, PerVertex}
-use Rattle.ir_types.specs.declared.types.Sampling.{Sampling}
-use Rattle.ir_types.specs.declared.types.Sampling.TheVariants.{Center, Centroid, Sample, First, Either}
-use Rattle.ir_types.specs.declared.types.ScalarKind.{ScalarKind}
-use Rattle.ir_types.specs.declared.types.ScalarKind.TheVariants.{Sint, Uint, Float}
+use Rattle.ir_leaves.specs.declared.bindings.Interpolation.{Interpolation}
+use Rattle.ir_leaves.specs.declared.bindings.Interpolation.TheVariants.{Perspective, Linear, Flat, PerVertex}
+use Rattle.ir_leaves.specs.declared.bindings.Sampling.{Sampling}
+use Rattle.ir_leaves.specs.declared.bindings.Sampling.TheVariants.{Center, Centroid, Sample, First, Either}
+use Rattle.ir_leaves.specs.declared.scalars.ScalarKind.{ScalarKind}
+use Rattle.ir_leaves.specs.declared.scalars.ScalarKind.TheVariants.{Sint, Uint, Float}
 use Rattle.ir_types.specs.declared.types.Type.{«Type» as IrType}
 use Rattle.ir_types.specs.declared.types.TypeInner.{TypeInner}
 use Rattle.ir_types.specs.declared.types.TypeInner.TheVariants as inner
-use Rattle.ir_facts.specs.declared.valid.types.TypeInfo.{TypeInfo}
+use Rattle.ir_types.specs.declared.type_info.TypeInfo.{TypeInfo}
 use Rattle.check_varyings.specs.BuiltIns.{is_primitive_output, is_stage}
 use Rattle.check_varyings.specs.Seen.{Seen}
-use Rattle.ir_facts.specs.TypeInfos.{type_has}
+use Rattle.ir_types.specs.TypeInfos.{type_has}
 use Rattle.ir_facts.specs.WhatIsChecked.{checks_bindings}
 use Rattle.ir_errors.specs.declared.interface.VaryingError.{VaryingError}
 use Rattle.ir_errors.specs.declared.interface.VaryingError.TheVariants.{InvalidType, NotIOShareableType, InvalidInterpolationInStage, InvalidInterpolationSamplingCombination, InvalidInterpolationForInteger, MissingInterpolation, BindingCollision, UnsupportedCapability, BlendSrcNotOnStructMember, InvalidPerPrimitive, MissingPerPrimitive, PerVertexNotArrayOfThree, InvalidPerVertexSampling}

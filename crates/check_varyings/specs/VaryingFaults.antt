@@ -1,7 +1,7 @@
 -- Faults of inputs and outputs as contracts see them: two of the errors name an attribute by a reference to a text, and
 -- contracts compare the text, not where it lies.
 use Rattle.std.specs.Prelude.{ℕ, List}
-use Rattle.ir_types.specs.declared.stage.ShaderStage.{ShaderStage}
+use Rattle.ir_leaves.specs.declared.stage.ShaderStage.{ShaderStage}
 use Rattle.ir_errors.specs.declared.interface.VaryingError.{VaryingError}
 use Rattle.ir_errors.specs.declared.interface.VaryingError.TheVariants.{InvalidInputAttributeInStage, InvalidAttributeInStage}
 

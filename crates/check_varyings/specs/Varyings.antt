@@ -22,28 +22,28 @@ use Rattle.std.specs.List.{list_any}
 use Rattle.std.specs.Ordering.{nat_cmp}
 use Rattle.ir_flags.specs.Bits.{IO_SHAREABLE}
 use Rattle.ir_flags.specs.Capabilities.{MESH_SHADER, NO_CAPABILITY, has_capability}
-use Rattle.ir_facts.specs.Points.{Point, within}
+use Rattle.ir_arena.specs.Points.{Point, within}
 use Rattle.ir_types.specs.TypeTests.{is_same_inner, is_scalar}
 use Rattle.ir_types.specs.Types.{inner_at}
-use Rattle.ir_types.specs.declared.built_in.BuiltIn.{BuiltIn}
-use Rattle.ir_types.specs.declared.built_in.BuiltIn.TheVariants.{SubgroupId, SubgroupInvocationId}
-use Rattle.ir_types.specs.declared.stage.ShaderStage.TheVariants.{Fragment}
+use Rattle.ir_leaves.specs.declared.built_in.BuiltIn.{BuiltIn}
+use Rattle.ir_leaves.specs.declared.built_in.BuiltIn.TheVariants.{SubgroupId, SubgroupInvocationId}
+use Rattle.ir_leaves.specs.declared.stage.ShaderStage.TheVariants.{Fragment}
 use Rattle.ir_types.specs.declared.types.ArraySize.TheVariants.{Constant}
-use Rattle.ir_types.specs.declared.types.Binding.{Binding}
-use Rattle.ir_types.specs.declared.types.Binding.TheVariants as binding
+use Rattle.ir_leaves.specs.declared.bindings.Binding.{Binding}
+use Rattle.ir_leaves.specs.declared.bindings.Binding.TheVariants as binding
 use Rattle.ir_types.specs.declared.types.StructMember.{StructMember}
 use Rattle.ir_types.specs.declared.types.Type.{«Type» as IrType}
 use Rattle.ir_types.specs.declared.types.TypeInner.{TypeInner}
 use Rattle.ir_types.specs.declared.types.TypeInner.TheVariants as inner
 use Rattle.ir_flags.specs.declared.capabilities.Capabilities.{Capabilities}
-use Rattle.ir_facts.specs.declared.valid.types.TypeInfo.{TypeInfo}
+use Rattle.ir_types.specs.declared.type_info.TypeInfo.{TypeInfo}
 use Rattle.check_varyings.specs.BuiltInNumbers.{number_of}
 use Rattle.check_varyings.specs.BuiltIns.{built_in_rule, canonical, f32, is_same_built_in, is_stage}
 use Rattle.check_varyings.specs.Locations.{location_points, may_take}
 use Rattle.ir_facts.specs.WhatIsChecked.{checks_bindings}
 use Rattle.check_varyings.specs.Seen.{Seen}
 use Rattle.check_varyings.specs.SmallSets.{has_number}
-use Rattle.ir_facts.specs.TypeInfos.{type_has}
+use Rattle.ir_types.specs.TypeInfos.{type_has}
 use Rattle.check_varyings.specs.VaryingFaults.{VaryingFault, InvalidInputAttribute, InvalidAttribute, Itself}
 use Rattle.ir_errors.specs.declared.interface.VaryingError.{VaryingError}
 use Rattle.ir_errors.specs.declared.interface.VaryingError.TheVariants.{DuplicateBuiltIn, UnsupportedCapability, InvalidMultiDimensionalSubgroupBuiltIn, InvalidBuiltInStage, InvalidBuiltInType, MissingBinding, MemberMissingBinding, BindingCollision}

@@ -14,8 +14,9 @@ use ir_arena::span::Refusal;
 use ir_arena::tag;
 use ir_errors::interface::VaryingError;
 use ir_flags::capabilities::Capabilities;
-use ir_types::built_in::BuiltIn;
-use ir_types::types::{ArraySize, Scalar, Type, TypeInner};
+use ir_leaves::built_in::BuiltIn;
+use ir_leaves::scalars::Scalar;
+use ir_types::types::{ArraySize, Type, TypeInner};
 use ir_types::unique_arena::UniqueArena;
 
 /// What is bound to a built-in: it isn't there, the target has what it needs, it is visible at the place, and of its type.

@@ -3,7 +3,7 @@
 ghost use Rattle.std.specs.Prelude.{◌≡◌, ◌<◌};
 ghost use Rattle.check_varyings.specs.BuiltInNumbers.{number_of};
 
-use ir_types::built_in::BuiltIn as Bi;
+use ir_leaves::built_in::BuiltIn as Bi;
 
 /// The number of a built-in, below 64, which no other has.
 pub(crate) fn number_of(built_in: Bi) -> u32

@@ -3,7 +3,7 @@
 ghost use Rattle.std.specs.Prelude.{◌≡◌, ◌<◌, length};
 ghost use Rattle.std.specs.Prelude.{Some};
 ghost use Rattle.ir_flags.specs.Bits.{IO_SHAREABLE};
-ghost use Rattle.ir_facts.specs.TypeInfos.{type_has};
+ghost use Rattle.ir_types.specs.TypeInfos.{type_has};
 ghost use Rattle.ir_types.specs.Types.{NamesTypesBelow, NameEachOther, inner_at};
 
 use crate::varying::VaryingPlace;
@@ -11,8 +11,8 @@ use ir_arena::handle::Handle;
 use ir_arena::span::{Refusal, WithSpan};
 use ir_arena::tag;
 use ir_errors::interface::VaryingError;
-use ir_facts::valid::types::TypeInfo;
 use ir_flags::valid::TypeFlags;
+use ir_types::type_info::TypeInfo;
 use ir_types::types::{Type, TypeInner};
 use ir_types::unique_arena::UniqueArena;
 use std::alloc::Global;

@@ -1,7 +1,7 @@
 //! Tests that what is bound holds, which make no fault. They let through most of what is bound.
 
 ghost use Rattle.std.specs.Prelude.{◌≡◌, ◌<◌, ℕ, IsTrue, None, false, length};
-ghost use Rattle.ir_facts.specs.Points.{first_fault};
+ghost use Rattle.ir_arena.specs.Points.{first_fault};
 ghost use Rattle.ir_types.specs.Types.{NameEachOther, inner_at};
 ghost use Rattle.check_varyings.specs.Locations.{combination_points, interpolation_points, is_flat, is_per_vertex, is_sample, kind_points, location_points};
 ghost use Rattle.check_varyings.specs.Varyings.{bound_points, built_in_points, seen_in};
@@ -14,8 +14,9 @@ use crate::varying::{VaryingState, canonical};
 use ir_arena::handle::Handle;
 use ir_arena::tag;
 use ir_flags::capabilities::Capabilities;
-use ir_types::built_in::BuiltIn;
-use ir_types::types::{Binding, Interpolation, Sampling, ScalarKind};
+use ir_leaves::bindings::{Binding, Interpolation, Sampling};
+use ir_leaves::built_in::BuiltIn;
+use ir_leaves::scalars::ScalarKind;
 
 /// Whether no point of what is bound fails, as far as these tests show. Where they don't, `first_fault_of_bound` decides.
 pub(crate) fn bound_holds(

@@ -20,10 +20,11 @@ use ir_arena::handle::Handle;
 use ir_arena::span::Refusal;
 use ir_arena::tag;
 use ir_errors::interface::VaryingError;
-use ir_facts::valid::types::TypeInfo;
 use ir_flags::valid::ValidationFlags;
-use ir_types::stage::ShaderStage;
-use ir_types::types::{Binding, StructMember, Type, TypeInner};
+use ir_leaves::bindings::Binding;
+use ir_leaves::stage::ShaderStage;
+use ir_types::type_info::TypeInfo;
+use ir_types::types::{StructMember, Type, TypeInner};
 use ir_types::unique_arena::UniqueArena;
 use std::alloc::{AllocError, Global};
 

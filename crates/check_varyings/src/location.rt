@@ -2,7 +2,7 @@
 
 ghost use Rattle.std.specs.Prelude.{◌≡◌, ◌<◌, ◌||◌, ◌++◌, not, Some, length};
 ghost use Rattle.std.specs.Result.{result_err};
-ghost use Rattle.ir_facts.specs.Points.{first_fault};
+ghost use Rattle.ir_arena.specs.Points.{first_fault};
 ghost use Rattle.ir_types.specs.Types.{NameEachOther, inner_at};
 ghost use Rattle.check_varyings.specs.Locations.{carried_type, combination_points, go_together, interpolation_points, is_array_of_three, is_fragment_input, is_interpolated, kind_points, location_points, may_take, per_vertex_points, sharing_points};
 ghost use Rattle.ir_facts.specs.WhatIsChecked.{checks_bindings};
@@ -16,8 +16,10 @@ use ir_arena::tag;
 use ir_errors::interface::VaryingError;
 use ir_flags::capabilities::Capabilities;
 use ir_flags::valid::ValidationFlags;
-use ir_types::stage::ShaderStage;
-use ir_types::types::{ArraySize, Interpolation, Sampling, ScalarKind, TypeInner};
+use ir_leaves::bindings::{Interpolation, Sampling};
+use ir_leaves::scalars::ScalarKind;
+use ir_leaves::stage::ShaderStage;
+use ir_types::types::{ArraySize, TypeInner};
 
 /// What a binding says of a location.
 #[derive(Clone, Copy)]

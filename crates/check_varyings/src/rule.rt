@@ -6,9 +6,10 @@ ghost use Rattle.check_varyings.specs.CodeBuiltIns.{required_of, is_of_mesh_shad
 
 use crate::varying::{MeshOutputType, VaryingPlace};
 use ir_flags::capabilities::Capabilities;
-use ir_types::built_in::BuiltIn as Bi;
-use ir_types::stage::ShaderStage as St;
-use ir_types::types::{Scalar, TypeInner, VectorSize};
+use ir_leaves::built_in::BuiltIn as Bi;
+use ir_leaves::scalars::{Scalar, VectorSize};
+use ir_leaves::stage::ShaderStage as St;
+use ir_types::types::TypeInner;
 
 /// What type a built-in has.
 #[derive(PartialEq, Debug, Drop)]

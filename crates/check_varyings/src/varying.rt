@@ -10,9 +10,9 @@ use crate::built_in_number::number_of;
 use crate::small_set::SmallSet;
 use ir_flags::capabilities::Capabilities;
 use ir_flags::valid::ValidationFlags;
-use ir_types::built_in::BuiltIn;
-use ir_types::stage::ShaderStage;
-use ir_types::types::Binding;
+use ir_leaves::bindings::Binding;
+use ir_leaves::built_in::BuiltIn;
+use ir_leaves::stage::ShaderStage;
 use std::alloc::{AllocError, Global};
 use std::collections::BTreeSet;
 

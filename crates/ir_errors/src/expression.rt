@@ -6,7 +6,8 @@ ghost use Rattle.ir_errors.specs.Names.{expression_error_name};
 use ir_arena::handle::Handle;
 use ir_arena::tag;
 use ir_flags::ir::StorageAccess;
-use ir_types::types::{ImageClass, ImageDimension, StorageFormat};
+use ir_leaves::images::{ImageDimension, StorageFormat};
+use ir_types::types::ImageClass;
 use std::fmt;
 
 /// What is wrong with an expression, or with an operand of a statement.

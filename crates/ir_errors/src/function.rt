@@ -13,8 +13,8 @@ use ir_arena::handle::Handle;
 use ir_arena::tag;
 use ir_flags::capabilities::Capabilities;
 use ir_flags::valid::SubgroupOperationSet;
+use ir_leaves::name::Name;
 use ir_statements::operations::{AtomicFunction, SwitchValue};
-use ir_types::name::Name;
 use ir_types::types::{AddressSpace, TypeInner};
 
 /// What is wrong with a call of a function.

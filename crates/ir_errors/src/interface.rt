@@ -4,14 +4,15 @@
 mod clones;
 mod texts;
 
-use crate::types::{Disalignment, ImmediateError};
 use ir_arena::handle::Handle;
 use ir_arena::tag;
 use ir_flags::capabilities::Capabilities;
 use ir_flags::valid::TypeFlags;
-use ir_types::built_in::BuiltIn;
-use ir_types::stage::ShaderStage;
-use ir_types::types::{AddressSpace, Interpolation, Sampling, TypeInner};
+use ir_leaves::bindings::{Interpolation, Sampling};
+use ir_leaves::built_in::BuiltIn;
+use ir_leaves::stage::ShaderStage;
+use ir_types::type_info::{Disalignment, ImmediateError};
+use ir_types::types::{AddressSpace, TypeInner};
 
 /// What is wrong with a global variable.
 #[derive(Clone, Copy, PartialEq, Debug)]

@@ -7,7 +7,6 @@ pub mod expression;
 pub mod function;
 pub mod interface;
 pub mod mesh;
-pub mod types;
 
 pub use crate::analyzer::{UniformityDisruptor, UniformityRequirements};
 pub use crate::expression::ExpressionError;
@@ -16,4 +15,3 @@ pub use crate::function::{
 };
 pub use crate::interface::{GlobalVariableError, VaryingError};
 pub use crate::mesh::MeshFault;
-pub use crate::types::{Disalignment, ImmediateError};

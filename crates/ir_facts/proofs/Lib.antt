@@ -1,4 +1,3 @@
 pub mod Callers
 pub mod Each
 pub mod OtherOperands
-pub mod Points

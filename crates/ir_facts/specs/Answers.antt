@@ -2,7 +2,7 @@
 -- calls that may find none.
 use Rattle.std.specs.Prelude.{◌≡◌, List, None, Some, Result, Ok, Err, ⊤}
 use Rattle.std.specs.Result.{result_err}
-use Rattle.ir_facts.specs.Points.{Point, first_fault}
+use Rattle.ir_arena.specs.Points.{Point, first_fault}
 use Rattle.ir_arena.specs.declared.span.Refusal.{Refusal}
 use Rattle.ir_arena.specs.declared.span.Refusal.TheVariants.{Fault, Memory}
 

@@ -16,4 +16,3 @@ pub use crate::proc::expression_kinds::{ExpressionKind, ExpressionKindTracker};
 pub use crate::proc::mesh::MeshAnalysis;
 pub use crate::valid::info::{FunctionInfo, ModuleInfo};
 pub use crate::valid::settings::Settings;
-pub use crate::valid::types::TypeInfo;

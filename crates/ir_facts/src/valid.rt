@@ -2,4 +2,3 @@
 
 pub mod info;
 pub mod settings;
-pub mod types;

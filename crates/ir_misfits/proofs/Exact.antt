@@ -3,9 +3,9 @@ use Rattle.std.proofs.Common.{◌≡◌, ◌<◌, ◌≤◌, ◌+◌, ℕ, zero,
 use Rattle.std.proofs.lemmas.Bool.{ltb-true, lt-ltb, leb-true, le-leb}
 use Rattle.std.specs.Prelude.{⊤, IfSome, nat_lt, nat_le}
 use Rattle.ir_facts.proofs.Each.{EachFrom, each_from}
-use Rattle.ir_facts.proofs.Points.{first_holds, both_hold}
+use Rattle.ir_arena.proofs.Points.{first_holds, both_hold}
 use Rattle.ir_facts.specs.Each.{EachAt}
-use Rattle.ir_facts.specs.Points.{first_fault, points_from, points_of_each}
+use Rattle.ir_arena.specs.Points.{first_fault, points_from, points_of_each}
 use Rattle.ir_misfits.specs.declared.misfit.HandleOf.{HandleOf}
 use Rattle.ir_misfits.specs.declared.misfit.Misfit.{Misfit}
 use Rattle.ir_misfits.specs.declared.misfit.Place.{Place}

@@ -19,7 +19,7 @@ use Rattle.ir_statements.specs.Tree.{Stmt, Leaf, Block, Branch, Switch, Loop, Br
 use Rattle.ir_statements.specs.View.{body_of, no_operands}
 use Rattle.ir_facts.specs.Fits.{FitsFunction, LocalFits, NameEarlierExpressions, ReferencesFit}
 use Rattle.ir_facts.specs.FitsBody.{SignatureFits, CalleeFits, AtomicFits, GatherFits, QueryFits, PipelineFits, LeafFits, StatementFits, BodyFits, CasesFit}
-use Rattle.ir_facts.specs.Points.{points_of_each}
+use Rattle.ir_arena.specs.Points.{points_of_each}
 use Rattle.ir_misfits.specs.declared.misfit.HandleOf.TheVariants as handle
 use Rattle.ir_misfits.specs.declared.misfit.Misfit.{Misfit}
 use Rattle.ir_misfits.specs.declared.misfit.Owner.{Owner}

@@ -25,7 +25,7 @@ use Rattle.ir_facts.specs.Each.{EachAt}
 use Rattle.ir_facts.specs.Fits.{FitsTypes, MemberCountFits, FitsGlobals, GlobalFits, IsUnbindable, IsUnbindableArray, NameEarlierExpressions, ReferencesFit, LocalFits, FitsEntry, MeshFits}
 use Rattle.ir_facts.specs.FitsBody.{SignatureFits, CalleeFits}
 use Rattle.ir_facts.specs.declared.valid.info.ModuleInfo.{ModuleInfo}
-use Rattle.ir_facts.specs.Points.{points_of_each}
+use Rattle.ir_arena.specs.Points.{points_of_each}
 use Rattle.ir_misfits.specs.declared.misfit.EntryField.TheVariants as entry_field
 use Rattle.ir_misfits.specs.declared.misfit.HandleOf.TheVariants as handle
 use Rattle.ir_misfits.specs.declared.misfit.Misfit.{Misfit}

@@ -4,8 +4,8 @@ use Rattle.std.proofs.lemmas.Option.{slice_get_read}
 use Rattle.std.specs.Option.{option_or}
 use Rattle.std.specs.Prelude.{Option, None, Some, slice_get}
 use Rattle.ir_facts.proofs.Each.{from_here}
-use Rattle.ir_facts.proofs.Points.{first_of_both}
-use Rattle.ir_facts.specs.Points.{Point, first_fault, points_from, points_of_each}
+use Rattle.ir_arena.proofs.Points.{first_of_both}
+use Rattle.ir_arena.specs.Points.{Point, first_fault, points_from, points_of_each}
 use Rattle.ir_misfits.specs.Points.{points_if}
 
 -- where a list has no item, its end is before

@@ -8,8 +8,8 @@ use Rattle.ir_statements.specs.declared.statements.SwitchCase.{SwitchCase, out-S
 use Rattle.ir_statements.specs.Tree.{Stmt, Body}
 use Rattle.ir_statements.specs.View.{no_operands, tree_of, body_of, list_body, list_cases}
 use Rattle.ir_facts.proofs.Each.{from_here}
-use Rattle.ir_facts.proofs.Points.{first_of_both}
-use Rattle.ir_facts.specs.Points.{first_fault}
+use Rattle.ir_arena.proofs.Points.{first_of_both}
+use Rattle.ir_arena.specs.Points.{first_fault}
 use Rattle.ir_misfits.specs.declared.misfit.Misfit.{Misfit}
 use Rattle.ir_misfits.specs.declared.misfit.Owner.{Owner}
 use Rattle.ir_misfits.specs.Points.{Points}

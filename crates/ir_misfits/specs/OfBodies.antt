@@ -13,7 +13,7 @@ use Rattle.ir_statements.specs.declared.statements.Statement.{Statement, Switch'
 use Rattle.ir_statements.specs.declared.statements.Statement.TheVariants as s
 use Rattle.ir_module.specs.declared.module.Module.{Module}
 use Rattle.ir_statements.specs.Tree.{Stmt, Leaf, Block, Branch, Switch, Loop, Break, Continue, Return, Kill, Body, Done, Then, Cases, NoCase, OneCase}
-use Rattle.ir_facts.specs.Points.{points_of_each}
+use Rattle.ir_arena.specs.Points.{points_of_each}
 use Rattle.ir_misfits.specs.declared.misfit.Owner.{Owner}
 use Rattle.ir_misfits.specs.declared.misfit.StatementField.{StatementField}
 use Rattle.ir_misfits.specs.declared.misfit.StatementField.TheVariants as field

@@ -6,7 +6,7 @@ use Rattle.ir_module.specs.declared.module.GlobalVariable.{GlobalVariable}
 use Rattle.ir_module.specs.declared.module.MeshStageInfo.{MeshStageInfo}
 use Rattle.ir_module.specs.declared.module.EntryPoint.{EntryPoint}
 use Rattle.ir_module.specs.declared.module.Module.{Module}
-use Rattle.ir_facts.specs.Points.{points_of_each}
+use Rattle.ir_arena.specs.Points.{points_of_each}
 use Rattle.ir_misfits.specs.declared.misfit.EntryField.TheVariants as field
 use Rattle.ir_misfits.specs.declared.misfit.VariableField.TheVariants.{Space}
 use Rattle.ir_misfits.specs.declared.misfit.Place.TheVariants as place

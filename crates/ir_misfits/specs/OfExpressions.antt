@@ -5,7 +5,7 @@ use Rattle.ir_module.specs.declared.expressions.Expression.TheVariants as e
 use Rattle.ir_module.specs.declared.functions.Function.{Function}
 use Rattle.ir_module.specs.declared.module.Module.{Module}
 use Rattle.ir_module.specs.Operands.{operands_of}
-use Rattle.ir_facts.specs.Points.{points_of_each}
+use Rattle.ir_arena.specs.Points.{points_of_each}
 use Rattle.ir_misfits.specs.declared.misfit.Owner.{Owner}
 use Rattle.ir_misfits.specs.declared.misfit.Owner.TheVariants as owner
 use Rattle.ir_misfits.specs.declared.misfit.Place.TheVariants as place

@@ -4,7 +4,7 @@ use Rattle.ir_module.specs.declared.functions.Function.{Function}
 use Rattle.ir_module.specs.declared.functions.LocalVariable.{LocalVariable}
 use Rattle.ir_module.specs.declared.module.Module.{Module}
 use Rattle.ir_statements.specs.View.{body_of, no_operands}
-use Rattle.ir_facts.specs.Points.{points_of_each}
+use Rattle.ir_arena.specs.Points.{points_of_each}
 use Rattle.ir_misfits.specs.declared.misfit.Owner.{Owner}
 use Rattle.ir_misfits.specs.declared.misfit.VariableField.TheVariants as field
 use Rattle.ir_misfits.specs.declared.misfit.Place.TheVariants as place

@@ -11,7 +11,7 @@ use Rattle.ir_types.specs.declared.typifier.TypeResolution.TheVariants.{Handle, 
 use Rattle.ir_types.specs.Types.{inner_at}
 use Rattle.ir_module.specs.declared.module.GlobalVariable.{GlobalVariable}
 use Rattle.ir_module.specs.declared.module.Module.{Module}
-use Rattle.ir_facts.specs.Points.{Point, points_of_each}
+use Rattle.ir_arena.specs.Points.{Point, points_of_each}
 use Rattle.ir_misfits.specs.declared.misfit.Owner.TheVariants as owner
 use Rattle.ir_misfits.specs.declared.misfit.TypeOwner.TheVariants.{OfGlobalExpression}
 use Rattle.ir_misfits.specs.declared.misfit.TypeField.TheVariants as type_field

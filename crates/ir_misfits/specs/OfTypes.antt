@@ -7,7 +7,7 @@ use Rattle.ir_types.specs.declared.types.Type.{«Type» as IrType}
 use Rattle.ir_module.specs.declared.module.Constant.{Constant}
 use Rattle.ir_module.specs.declared.module.Override.{Override}
 use Rattle.ir_module.specs.declared.module.Module.{Module}
-use Rattle.ir_facts.specs.Points.{points_of_each}
+use Rattle.ir_arena.specs.Points.{points_of_each}
 use Rattle.ir_misfits.specs.declared.misfit.TypeOwner.{TypeOwner}
 use Rattle.ir_misfits.specs.declared.misfit.TypeOwner.TheVariants.{OfModule}
 use Rattle.ir_misfits.specs.declared.misfit.TypeField.TheVariants as field

@@ -1,6 +1,6 @@
 -- Misfits as points: a condition, and the misfit where it is false.
 use Rattle.std.specs.Prelude.{ℕ, nat_lt, nat_le, List, [], ◌∷◌, Option, None, Some}
-use Rattle.ir_facts.specs.Points.{Point}
+use Rattle.ir_arena.specs.Points.{Point}
 use Rattle.ir_misfits.specs.declared.misfit.Place.{Place}
 use Rattle.ir_misfits.specs.declared.misfit.HandleOf.{HandleOf}
 use Rattle.ir_misfits.specs.declared.misfit.Problem.TheVariants as problem

@@ -6,7 +6,7 @@ use Rattle.ir_types.specs.declared.typifier.TypeResolution.TheVariants.{Handle, 
 use Rattle.ir_module.specs.declared.functions.Function.{Function}
 use Rattle.ir_module.specs.declared.module.EntryPoint.{EntryPoint}
 use Rattle.ir_module.specs.declared.module.Module.{Module}
-use Rattle.ir_facts.specs.Points.{Point, points_of_each}
+use Rattle.ir_arena.specs.Points.{Point, points_of_each}
 use Rattle.ir_misfits.specs.declared.misfit.Owner.{Owner}
 use Rattle.ir_misfits.specs.declared.misfit.Owner.TheVariants as owner
 use Rattle.ir_facts.specs.declared.facts.Facts.{Facts}

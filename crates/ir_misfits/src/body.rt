@@ -2,7 +2,7 @@
 
 ghost use Rattle.std.specs.Prelude.{◌≡◌, IfOk};
 ghost use Rattle.std.specs.Result.{result_err};
-ghost use Rattle.ir_facts.specs.Points.{first_fault};
+ghost use Rattle.ir_arena.specs.Points.{first_fault};
 ghost use Rattle.ir_statements.specs.View.{no_operands, tree_of, body_of, list_body, list_cases};
 ghost use Rattle.ir_misfits.specs.OfBodies.{next, after_statement, after_body, after_cases, call_points, leaf_points, statement_points, body_points, cases_points};
 
@@ -35,7 +35,7 @@ fn next(number: usize) -> usize
 }
 
 /// A Call names an earlier function, whose signature fits, and expressions that are there.
-#[tactic(auto, using(ir_facts::proofs::Points::first_of_both))]
+#[tactic(auto, using(ir_arena::proofs::Points::first_of_both))]
 fn check_call(
     asked: &Asked,
     number: usize,
@@ -59,7 +59,7 @@ fn check_call(
 }
 
 /// A statement that is neither a jump nor holds others; nothing of any other.
-#[tactic(auto, using(ir_facts::proofs::Points::first_of_both))]
+#[tactic(auto, using(ir_arena::proofs::Points::first_of_both))]
 fn check_leaf(asked: &Asked, number: usize, statement: &Statement) -> Result<(), Misfit>
     ensures { result_err result ≡ first_fault (leaf_points asked.now.module.now asked.now.expressions
         asked.now.earlier asked.now.owner number statement.now) }
@@ -143,7 +143,7 @@ pub(crate) fn check_block(asked: &Asked, number: usize, block: &Block) -> Result
 }
 
 #[cycle(check)]
-#[tactic(auto, using(ir_facts::proofs::Points::first_of_both))]
+#[tactic(auto, using(ir_arena::proofs::Points::first_of_both))]
 fn check_list(asked: &Asked, number: usize, list: &[Located]) -> Result<usize, Misfit>
     ensures first { result_err result ≡ first_fault (body_points asked.now.module.now asked.now.expressions
         asked.now.earlier asked.now.owner number (list_body no_operands list.now)) }
@@ -157,7 +157,7 @@ fn check_list(asked: &Asked, number: usize, list: &[Located]) -> Result<usize, M
 }
 
 #[cycle(check)]
-#[tactic(auto, using(ir_facts::proofs::Points::first_of_both))]
+#[tactic(auto, using(ir_arena::proofs::Points::first_of_both))]
 fn check_cases(asked: &Asked, number: usize, cases: &[SwitchCase]) -> Result<usize, Misfit>
     ensures first { result_err result ≡ first_fault (cases_points asked.now.module.now asked.now.expressions
         asked.now.earlier asked.now.owner number (list_cases no_operands cases.now)) }
@@ -172,7 +172,7 @@ fn check_cases(asked: &Asked, number: usize, cases: &[SwitchCase]) -> Result<usi
 
 /// The statement with this number, and those that it holds.
 #[cycle(check)]
-#[tactic(auto, using(ir_facts::proofs::Points::first_of_both))]
+#[tactic(auto, using(ir_arena::proofs::Points::first_of_both))]
 fn check_statement(asked: &Asked, number: usize, located: &Located) -> Result<usize, Misfit>
     ensures first { result_err result ≡ first_fault (statement_points asked.now.module.now asked.now.expressions
         asked.now.earlier asked.now.owner number

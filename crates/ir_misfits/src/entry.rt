@@ -2,7 +2,7 @@
 
 ghost use Rattle.std.specs.Prelude.{◌≡◌, ◌++◌};
 ghost use Rattle.std.specs.Result.{result_err};
-ghost use Rattle.ir_facts.specs.Points.{first_fault, points_of_each};
+ghost use Rattle.ir_arena.specs.Points.{first_fault, points_of_each};
 ghost use Rattle.ir_misfits.specs.OfEntries.{mesh_points, mesh_points_if, is_of_module, space_points, entry_points};
 
 use crate::misfit::{EntryField, HandleOf, Misfit, Place, Problem, VariableField};
@@ -12,7 +12,7 @@ use ir_types::types::AddressSpace;
 /// The first misfit of the entry point with this index: Ok exactly where `fits_entry` is true.
 ///
 /// In this order: the payload; of its mesh the overrides, the types and the variable; a global in `AddressSpace::Function`.
-#[tactic(auto, using(ir_facts::proofs::Points::first_of_both))]
+#[tactic(auto, using(ir_arena::proofs::Points::first_of_both))]
 pub fn check_entry_fits(index: usize, ep: &EntryPoint, module: &Module) -> Result<(), Misfit>
     ensures { result_err result ≡ first_fault (entry_points index ep.now «module».now) }
 {
@@ -38,7 +38,7 @@ fn check_mesh_if_any(
     }
 }
 
-#[tactic(auto, using(ir_facts::proofs::Points::first_of_both))]
+#[tactic(auto, using(ir_arena::proofs::Points::first_of_both))]
 fn check_mesh(index: usize, info: &MeshStageInfo, module: &Module) -> Result<(), Misfit>
     ensures { result_err result ≡ first_fault (mesh_points «module».now index info.now) }
 {

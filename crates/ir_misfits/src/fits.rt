@@ -2,18 +2,16 @@
 //! Users import these from `naga_below`.
 
 ghost use Rattle.std.specs.Prelude.{◌↔◌, IsTrue};
-ghost use Rattle.ir_types.specs.Types.{NamesTypesBelow};
 ghost use Rattle.ir_facts.specs.Fits.{FitsTypes, FitsGlobals, FitsFunction, FitsEntry};
 
 use crate::entry::check_entry_fits;
 use crate::function::check_function_fits;
 use crate::globals::check_globals_fit;
-use crate::misfit::{Owner, TypeOwner};
-use crate::types::{check_inner, check_types_fit};
+use crate::misfit::Owner;
+use crate::types::check_types_fit;
 use ir_facts::valid::info::ModuleInfo;
 use ir_module::functions::Function;
 use ir_module::module::{EntryPoint, Module};
-use ir_types::types::TypeInner;
 
 /// Whether the types fit the module.
 ///
@@ -53,12 +51,4 @@ pub fn fits_entry(ep: &EntryPoint, module: &Module) -> bool
 {
     // (nor on the entry point's index)
     check_entry_fits(0, ep, module).is_ok()
-}
-
-/// Whether every type that this one names has a handle below `below`.
-pub fn names_types_below(inner: &TypeInner, below: usize) -> bool
-    ensures { IsTrue result ↔ NamesTypesBelow below inner.now }
-{
-    // (nor on which type it is)
-    check_inner(TypeOwner::OfModule(0), inner, below).is_ok()
 }

@@ -2,7 +2,7 @@
 
 ghost use Rattle.std.specs.Prelude.{◌≡◌, length};
 ghost use Rattle.std.specs.Result.{result_err};
-ghost use Rattle.ir_facts.specs.Points.{first_fault, points_of_each};
+ghost use Rattle.ir_arena.specs.Points.{first_fault, points_of_each};
 ghost use Rattle.ir_statements.specs.View.{no_operands, body_of};
 ghost use Rattle.ir_misfits.specs.OfBodies.{body_points};
 ghost use Rattle.ir_misfits.specs.OfFunctions.{local_points, function_points};
@@ -19,7 +19,7 @@ use ir_module::module::Module;
 /// In this order: the number of arguments, their types and that of the result; of each local the type and the initializer;
 /// the operands of the expressions, which are earlier ones; what else each expression names; the statements, in visit order.
 /// Where a function is named whose signature doesn't fit, the misfit is that signature's.
-#[tactic(auto, using(ir_facts::proofs::Points::first_of_both))]
+#[tactic(auto, using(ir_arena::proofs::Points::first_of_both))]
 pub fn check_function_fits(
     owner: Owner,
     fun: &Function,

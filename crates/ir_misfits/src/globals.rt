@@ -3,7 +3,7 @@
 ghost use Rattle.std.specs.Prelude.{◌≡◌, ◌∷◌, []};
 ghost use Rattle.std.specs.Option.{option_copied};
 ghost use Rattle.std.specs.Result.{result_err};
-ghost use Rattle.ir_facts.specs.Points.{first_fault, points_of_each};
+ghost use Rattle.ir_arena.specs.Points.{first_fault, points_of_each};
 ghost use Rattle.ir_types.specs.Types.{inner_at};
 ghost use Rattle.ir_misfits.specs.OfGlobals.{is_unbindable, is_unbindable_array, is_bindable, global_points, resolution_points, one_type_each, globals_points};
 
@@ -23,7 +23,7 @@ use ir_types::unique_arena::UniqueArena;
 /// In this order: of each global the type and the initializer, which are there, and that it is no binding array of external
 /// images or ray queries in Handle; one type for each global expression; what these types name; the operands of global
 /// expressions, which are earlier ones.
-#[tactic(auto, using(ir_facts::proofs::Points::first_of_both))]
+#[tactic(auto, using(ir_arena::proofs::Points::first_of_both))]
 pub fn check_globals_fit(module: &Module, types: &[TypeResolution]) -> Result<(), Misfit>
     ensures { result_err result ≡ first_fault (globals_points «module».now types.now) }
 {
@@ -79,7 +79,7 @@ fn is_bindable(types: &UniqueArena<Type>, space: AddressSpace, ty: Handle<tag::T
 }
 
 /// A global: its type and its initializer are there, and it may be of this type in its space.
-#[tactic(auto, using(ir_facts::proofs::Points::first_of_both))]
+#[tactic(auto, using(ir_arena::proofs::Points::first_of_both))]
 fn check_global_fits(place: usize, global: &GlobalVariable, module: &Module) -> Result<(), Misfit>
     ensures { result_err result ≡ first_fault (global_points «module».now place global.now) }
 {

@@ -2,7 +2,7 @@
 
 ghost use Rattle.std.specs.Prelude.{◌≡◌, nat_lt, nat_le, true, false, IfErr, OnOk, [], ◌∷◌};
 ghost use Rattle.std.specs.Result.{result_err};
-ghost use Rattle.ir_facts.specs.Points.{first_fault};
+ghost use Rattle.ir_arena.specs.Points.{first_fault};
 ghost use Rattle.ir_misfits.specs.Points.{named, named_if, counted};
 
 use crate::misfit::{HandleOf, Misfit, Place, Problem};

@@ -2,7 +2,7 @@
 
 ghost use Rattle.std.specs.Prelude.{◌≡◌};
 ghost use Rattle.std.specs.Result.{result_err};
-ghost use Rattle.ir_facts.specs.Points.{first_fault, points_of_each};
+ghost use Rattle.ir_arena.specs.Points.{first_fault, points_of_each};
 ghost use Rattle.ir_misfits.specs.OfBodies.{names, names_if, atomic_points, gather_points, query_points, pipeline_points, range_points, store_points, image_store_points, operation_points, image_operation_points, texel_operation_points, uniform_load_points, ray_query_points, ballot_points, collective_points, gathering_points, cooperative_store_points, call_argument_points};
 
 use crate::misfit::{HandleOf, Misfit, Owner, Place, Problem, StatementField};
@@ -220,7 +220,7 @@ impl Numbered {
     }
 
     /// What is done to a texel, and with which value.
-    #[tactic(auto, using(ir_facts::proofs::Points::first_of_both))]
+    #[tactic(auto, using(ir_arena::proofs::Points::first_of_both))]
     pub(crate) fn check_texel_operation(
         self,
         fun: AtomicFunction,
@@ -281,7 +281,7 @@ impl Numbered {
     }
 
     /// The fields of a SubgroupGather.
-    #[tactic(auto, using(ir_facts::proofs::Points::first_of_both))]
+    #[tactic(auto, using(ir_arena::proofs::Points::first_of_both))]
     pub(crate) fn check_gathering(
         self,
         mode: GatherMode,

@@ -3,7 +3,7 @@
 ghost use Rattle.std.specs.Prelude.{◌≡◌, ◌∷◌, ◌==◌, [], nat_lt, nat_le, slice_get};
 ghost use Rattle.std.specs.Option.{option_copied};
 ghost use Rattle.std.specs.Result.{result_err};
-ghost use Rattle.ir_facts.specs.Points.{first_fault, points_of_each};
+ghost use Rattle.ir_arena.specs.Points.{first_fault, points_of_each};
 ghost use Rattle.ir_misfits.specs.declared.shortage.Shortage.TheVariants.{Types, Uses, UnknownType, Expressions};
 ghost use Rattle.ir_misfits.specs.ShortFacts.{type_points, info_points, fact_points, function_shortages, entry_shortages, shortages};
 
@@ -81,7 +81,7 @@ fn check_fact(
 }
 
 /// An info has as many types, uses and facts of expressions as it needs, and its types keep the laws.
-#[tactic(auto, using(ir_facts::proofs::Points::first_of_both))]
+#[tactic(auto, using(ir_arena::proofs::Points::first_of_both))]
 fn check_info(info: &InfoFact, fun: &Function, module: &Module) -> Result<(), Shortage>
     ensures { result_err result ≡ first_fault (info_points «module».now fun.now info.now) }
 {

@@ -2,7 +2,7 @@
 
 ghost use Rattle.std.specs.Prelude.{◌≡◌, length};
 ghost use Rattle.std.specs.Result.{result_err};
-ghost use Rattle.ir_facts.specs.Points.{first_fault, points_of_each};
+ghost use Rattle.ir_arena.specs.Points.{first_fault, points_of_each};
 ghost use Rattle.ir_misfits.specs.OfSignatures.{argument_points, outcome_points, signature_points, callee_points};
 
 use crate::misfit::{HandleOf, Misfit, Owner, Place};
@@ -32,7 +32,7 @@ fn check_outcome(owner: Owner, outcome: Option<FunctionResult>, types: usize) ->
 }
 
 /// 32 bits count the arguments; their types are there, and that of the result.
-#[tactic(auto, using(ir_facts::proofs::Points::first_of_both))]
+#[tactic(auto, using(ir_arena::proofs::Points::first_of_both))]
 pub(crate) fn check_signature(owner: Owner, fun: &Function, module: &Module) -> Result<(), Misfit>
     ensures { result_err result ≡ first_fault (signature_points «module».now owner fun.now) }
 {

@@ -2,7 +2,7 @@
 
 ghost use Rattle.std.specs.Prelude.{◌≡◌};
 ghost use Rattle.std.specs.Result.{result_err};
-ghost use Rattle.ir_facts.specs.Points.{first_fault, points_of_each};
+ghost use Rattle.ir_arena.specs.Points.{first_fault, points_of_each};
 ghost use Rattle.ir_misfits.specs.OfTypes.{member_points, inner_points, earlier_points, member_count_points, count_points, constant_points, override_points, types_points};
 
 use crate::misfit::{HandleOf, Misfit, Place, TypeField, TypeOwner};
@@ -13,7 +13,7 @@ use ir_types::types::{StructMember, Type, TypeInner};
 ///
 /// In this order: a type that names itself or a later one; a struct of more members than 32 bits count; the type of ray
 /// descriptors, of a constant, of an override, which isn't there.
-#[tactic(auto, using(ir_facts::proofs::Points::first_of_both))]
+#[tactic(auto, using(ir_arena::proofs::Points::first_of_both))]
 pub fn check_types_fit(module: &Module) -> Result<(), Misfit>
     ensures { result_err result ≡ first_fault (types_points «module».now) }
 {

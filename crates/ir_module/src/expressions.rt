@@ -6,8 +6,8 @@ use ir_arena::duplicate::Duplicate;
 use ir_arena::handle::{Handle, Tagged};
 use ir_arena::sequence::Sequence;
 use ir_arena::tag;
+use ir_leaves::scalars::Scalar;
 use ir_statements::statements::Operands;
-use ir_types::types::Scalar;
 use std::alloc::{AllocError, Global};
 
 /// A number or a bool, as the bits of its value, floats included. A scalar of fewer than 64 bits has the low ones.

@@ -9,9 +9,9 @@ use ir_arena::duplicate::{Duplicate, duplicates};
 use ir_arena::handle::{Handle, Tagged};
 use ir_arena::sequence::Sequence;
 use ir_arena::tag;
+use ir_leaves::bindings::Binding;
+use ir_leaves::name::{Name, clone_name};
 use ir_statements::statements::Block;
-use ir_types::name::{Name, clone_name};
-use ir_types::types::Binding;
 use std::alloc::{AllocError, Global};
 
 /// A local variable of a function. `init` is an expression of the function.

@@ -2,9 +2,10 @@
 use Rattle.std.proofs.Common.{◌≡◌, ◌↔◌, ℕ, ◌==◌, IsTrue, Bool, true, false, ◌&&◌, List, [], ◌∷◌, Option, None, Some, refl, ap, ◌∙◌, subst, arith, codes}
 use Rattle.std.specs.Cmp.Lexicographic.{pointwise}
 use Rattle.std.proofs.lemmas.Bool.Decides.{nat_tests}
-use Rattle.ir_types.specs.EqualTypes.{inner_iff, list_same}
+use Rattle.ir_leaves.specs.EqualLeaves.{list_same}
+use Rattle.ir_types.specs.EqualTypes.{inner_iff}
 use Rattle.ir_types.specs.Types.{inner_at, bool_scalar, canonical_of, resolved, AreEquivalent, AreBothEquivalent, IsSameType, SameBy, IsScalarMember, AreCompareExchangeMembers, IsCompareExchangeStruct, struct_handle, handle_of}
-use Rattle.ir_types.specs.declared.types.Scalar.{Scalar}
+use Rattle.ir_leaves.specs.declared.scalars.Scalar.{Scalar}
 use Rattle.ir_types.specs.declared.types.StructMember.{StructMember}
 use Rattle.ir_types.specs.declared.types.TypeInner.TheVariants as inner
 use Rattle.ir_types.specs.declared.types.Type.{«Type» as IrType}

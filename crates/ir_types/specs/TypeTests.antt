@@ -3,9 +3,9 @@ use Rattle.std.specs.Prelude.{ℕ, ◌↔◌, IsTrue, Bool, true, false, ◌&&�
 use Rattle.std.specs.Cmp.Lexicographic.{pointwise}
 use Rattle.ir_types.specs.Types.{AreEquivalent, IsSameType, IsCompareExchangeStruct, IsScalarMember, inner_at, bool_scalar, resolved, canonical_of, struct_handle, handle_of}
 use Rattle.ir_types.specs.contracts.types.TypeInnerPartialEq.TheImpl as type_inner
-use Rattle.ir_types.specs.declared.types.Scalar.{Scalar}
-use Rattle.ir_types.specs.declared.types.ScalarKind.{ScalarKind}
-use Rattle.ir_types.specs.declared.types.ScalarKind.TheVariants as kind
+use Rattle.ir_leaves.specs.declared.scalars.Scalar.{Scalar}
+use Rattle.ir_leaves.specs.declared.scalars.ScalarKind.{ScalarKind}
+use Rattle.ir_leaves.specs.declared.scalars.ScalarKind.TheVariants as kind
 use Rattle.ir_types.specs.declared.types.StructMember.{StructMember}
 use Rattle.ir_types.specs.declared.types.Type.{«Type» as IrType}
 use Rattle.ir_types.specs.declared.types.TypeInner.{TypeInner}

@@ -3,16 +3,15 @@
 ghost use Rattle.std.specs.Prelude.{◌≡◌, ◌<◌, length, unwrap_or};
 ghost use Rattle.ir_types.specs.Types.{scalar_of, scalar_kind_of, pointer_space_of, pointer_base_of, image_coordinates_of, access_of, NamesTypesBelow, NameEachOther, ResolutionFits, value_pointer_of};
 ghost use Rattle.ir_types.specs.TypeTests.{is_equivalent, is_exchange_struct, is_scalar_member, is_same_type, SameIsDecided, EquivalentIsDecided, ExchangeStructIsDecided, ScalarIsDecided, ScalarMemberIsDecided};
-ghost use Rattle.ir_types.specs.Formats.{format_kind, format_scalar};
+ghost use Rattle.ir_leaves.specs.Formats.{format_kind, format_scalar};
 
-use crate::types::{
-    AddressSpace, ImageDimension, Scalar, ScalarKind, StorageFormat, StructMember, Type, TypeInner,
-    VectorSize,
-};
+use crate::types::{AddressSpace, StructMember, Type, TypeInner};
 use crate::typifier::TypeResolution;
 use crate::unique_arena::UniqueArena;
 use bitflags::Flags;
 use ir_flags::ir::StorageAccess;
+use ir_leaves::images::{ImageDimension, StorageFormat};
+use ir_leaves::scalars::{Scalar, ScalarKind, VectorSize};
 
 impl TypeInner {
     /// The scalar of a scalar, a vector or a matrix. None for other types.
@@ -252,53 +251,6 @@ impl AddressSpace {
                 StorageAccess::LOAD
             }
             AddressSpace::Storage { access } => access,
-        }
-    }
-}
-
-/// The scalar kind of the texels of a storage image.
-impl From<StorageFormat> for ScalarKind {
-    ghost from_gives = { λ format kind. kind ≡ format_kind format };
-
-    fn from(format: StorageFormat) -> ScalarKind {
-        use StorageFormat as F;
-        match format {
-            F::R8Uint
-            | F::Rg8Uint
-            | F::Rgba8Uint
-            | F::R16Uint
-            | F::Rg16Uint
-            | F::Rgba16Uint
-            | F::R32Uint
-            | F::Rg32Uint
-            | F::Rgba32Uint
-            | F::Rgb10a2Uint
-            | F::R64Uint => ScalarKind::Uint,
-            F::R8Sint
-            | F::Rg8Sint
-            | F::Rgba8Sint
-            | F::R16Sint
-            | F::Rg16Sint
-            | F::Rgba16Sint
-            | F::R32Sint
-            | F::Rg32Sint
-            | F::Rgba32Sint => ScalarKind::Sint,
-            _ => ScalarKind::Float,
-        }
-    }
-}
-
-/// The scalar of the texels of a storage image.
-impl From<StorageFormat> for Scalar {
-    ghost from_gives = { λ format scalar. scalar ≡ format_scalar format };
-
-    fn from(format: StorageFormat) -> Scalar {
-        Scalar {
-            kind: ScalarKind::from(format),
-            width: match format {
-                StorageFormat::R64Uint => 8,
-                _ => 4,
-            },
         }
     }
 }

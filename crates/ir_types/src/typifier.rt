@@ -5,6 +5,7 @@ ghost use Rattle.ir_types.specs.Types.{ResolutionFits, resolved};
 
 use crate::types::{Type, TypeInner};
 use crate::unique_arena::UniqueArena;
+use ir_arena::duplicate::Duplicate;
 use ir_arena::handle::Handle;
 use ir_arena::tag;
 use std::alloc::{AllocError, Global};
@@ -36,5 +37,11 @@ impl TypeResolution {
             TypeResolution::Handle(handle) => Ok(TypeResolution::Handle(*handle)),
             TypeResolution::Value(inner) => Ok(TypeResolution::Value(inner.clone(alloc)?)),
         }
+    }
+}
+
+impl Duplicate for TypeResolution {
+    fn duplicate(&self, alloc: Global) -> Result<Self, AllocError> {
+        self.clone(alloc)
     }
 }

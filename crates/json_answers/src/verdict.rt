@@ -5,6 +5,7 @@ ghost use Rattle.json_answers.specs.Status.{status_of};
 
 use check_faults::ModuleFault;
 use ir_misfits::Misfit;
+use ir_module::module;
 use json_document::{Id, Unreadable};
 use json_places::Found;
 use naga_below::{Module, ModuleInfo};
@@ -35,6 +36,20 @@ impl Verdict {
     }
 }
 
+impl Verdict {
+    /// Lets it go, as [`module::let_go`] does a module.
+    pub fn let_go(self) {
+        match self {
+            Verdict::Accepted { module, infos } => {
+                module::let_go(module);
+                drop(infos);
+            }
+            Verdict::Refused(fault) => check_faults::module::let_go(fault),
+            Verdict::Unreadable(unreadable) => drop(unreadable),
+        }
+    }
+}
+
 /// A text that was judged.
 #[derive(Drop)]
 pub struct Examined {
@@ -57,7 +72,35 @@ pub struct Refused {
     pub found: Option<Found>,
 }
 
+impl Refused {
+    /// Lets it go, as [`module::let_go`] does a module.
+    pub fn let_go(self) {
+        let Refused {
+            module,
+            is_computed: _,
+            found,
+        } = self;
+        module::let_go(module);
+        drop(found);
+    }
+}
+
 impl Examined {
+    /// Lets it go, as [`module::let_go`] does a module.
+    pub fn let_go(self) {
+        let Examined {
+            id,
+            verdict,
+            misfit: _,
+            refused,
+        } = self;
+        drop(id);
+        verdict.let_go();
+        if let Some(refused) = refused {
+            refused.let_go();
+        }
+    }
+
     /// What was found of the fault.
     pub fn found(&self) -> Option<&Found> {
         self.refused.as_ref()?.found.as_ref()

@@ -8,10 +8,10 @@ use crate::id::Id;
 use crate::read::error::ReadError;
 use crate::read::from_json::{FromJson, Held, has_field};
 use ir_arena::Sequence;
-use ir_facts::{Facts, Settings, TypeInfo};
+use ir_facts::{Facts, Settings};
 use ir_flags::{Capabilities, ShaderStages, SubgroupOperationSet, ValidationFlags};
 use ir_module::Module;
-use ir_types::TypeResolution;
+use ir_types::{TypeInfo, TypeResolution};
 use json_nodes::Node;
 use std::alloc::Global;
 

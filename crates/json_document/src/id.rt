@@ -6,7 +6,7 @@ ghost use Rattle.json_document.specs.Ids.{id_in, id_of};
 
 use crate::read::error::ReadError;
 use crate::read::from_json::FromJson;
-use ir_types::Name;
+use ir_leaves::Name;
 use json_nodes::Node;
 use std::alloc::{AllocError, Global};
 

@@ -1,8 +1,8 @@
 -- Built-in inputs and outputs: by name, and two with what they say.
 use Rattle.std.specs.Prelude.{ℕ, List, codes}
 use Rattle.json.specs.Json.{Json, boolean, string}
-use Rattle.ir_types.specs.declared.built_in.BuiltIn.{BuiltIn}
-use Rattle.ir_types.specs.declared.built_in.BuiltIn.TheVariants as built_ins
+use Rattle.ir_leaves.specs.declared.built_in.BuiltIn.{BuiltIn}
+use Rattle.ir_leaves.specs.declared.built_in.BuiltIn.TheVariants as built_ins
 use Rattle.json_faults.specs.Form.{holding, one_field}
 
 -- the name of each

@@ -1,20 +1,20 @@
 -- The values that are their names.
 use Rattle.std.specs.Prelude.{ℕ, List, codes}
 use Rattle.json.specs.Json.{Json, string}
-use Rattle.ir_types.specs.declared.types.ScalarKind.{ScalarKind}
-use Rattle.ir_types.specs.declared.types.ScalarKind.TheVariants as kinds
-use Rattle.ir_types.specs.declared.types.VectorSize.{VectorSize}
-use Rattle.ir_types.specs.declared.types.VectorSize.TheVariants as sizes
-use Rattle.ir_types.specs.declared.types.ImageDimension.{ImageDimension}
-use Rattle.ir_types.specs.declared.types.ImageDimension.TheVariants as dimensions
-use Rattle.ir_types.specs.declared.types.StorageFormat.{StorageFormat}
-use Rattle.ir_types.specs.declared.types.StorageFormat.TheVariants as formats
-use Rattle.ir_types.specs.declared.types.Interpolation.{Interpolation}
-use Rattle.ir_types.specs.declared.types.Interpolation.TheVariants as interpolations
-use Rattle.ir_types.specs.declared.types.Sampling.{Sampling}
-use Rattle.ir_types.specs.declared.types.Sampling.TheVariants as samplings
-use Rattle.ir_types.specs.declared.stage.ShaderStage.{ShaderStage}
-use Rattle.ir_types.specs.declared.stage.ShaderStage.TheVariants as shader_stages
+use Rattle.ir_leaves.specs.declared.scalars.ScalarKind.{ScalarKind}
+use Rattle.ir_leaves.specs.declared.scalars.ScalarKind.TheVariants as kinds
+use Rattle.ir_leaves.specs.declared.scalars.VectorSize.{VectorSize}
+use Rattle.ir_leaves.specs.declared.scalars.VectorSize.TheVariants as sizes
+use Rattle.ir_leaves.specs.declared.images.ImageDimension.{ImageDimension}
+use Rattle.ir_leaves.specs.declared.images.ImageDimension.TheVariants as dimensions
+use Rattle.ir_leaves.specs.declared.images.StorageFormat.{StorageFormat}
+use Rattle.ir_leaves.specs.declared.images.StorageFormat.TheVariants as formats
+use Rattle.ir_leaves.specs.declared.bindings.Interpolation.{Interpolation}
+use Rattle.ir_leaves.specs.declared.bindings.Interpolation.TheVariants as interpolations
+use Rattle.ir_leaves.specs.declared.bindings.Sampling.{Sampling}
+use Rattle.ir_leaves.specs.declared.bindings.Sampling.TheVariants as samplings
+use Rattle.ir_leaves.specs.declared.stage.ShaderStage.{ShaderStage}
+use Rattle.ir_leaves.specs.declared.stage.ShaderStage.TheVariants as shader_stages
 
 -- the kinds of scalars
 unfoldable pub scalar_kind_name : ScalarKind → List ℕ

@@ -6,7 +6,7 @@ ghost use Rattle.json_faults.specs.BuiltIns.{built_in_name, built_in_form};
 use crate::parts::holding_field;
 use crate::to_json::ToJson;
 use crate::writer::JsonWriter;
-use ir_types::BuiltIn;
+use ir_leaves::BuiltIn;
 use std::alloc::AllocError;
 
 /// The name of a built-in.

@@ -5,7 +5,7 @@ ghost use Rattle.json_faults.specs.Names.{scalar_kind_name, scalar_kind_form, ve
 
 use crate::to_json::ToJson;
 use crate::writer::JsonWriter;
-use ir_types::{
+use ir_leaves::{
     ImageDimension, Interpolation, Sampling, ScalarKind, ShaderStage, StorageFormat, VectorSize,
 };
 use std::alloc::AllocError;

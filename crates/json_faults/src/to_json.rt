@@ -5,8 +5,9 @@ ghost use Rattle.json_faults.specs.Form.{Writes, list_form, number_form, optiona
 
 use crate::writer::JsonWriter;
 use ir_arena::{Handle, Sequence, Span, tag};
-use ir_errors::{Disalignment, ImmediateError, UniformityDisruptor, UniformityRequirements};
-use ir_types::Name;
+use ir_errors::{UniformityDisruptor, UniformityRequirements};
+use ir_leaves::Name;
+use ir_types::{Disalignment, ImmediateError};
 use std::alloc::AllocError;
 
 /// What can be written as JSON.

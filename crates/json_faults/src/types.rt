@@ -8,8 +8,9 @@ use crate::parts::{
 };
 use crate::to_json::ToJson;
 use crate::writer::JsonWriter;
+use ir_leaves::{Binding, Scalar};
 use ir_statements::{AtomicFunction, SwitchValue};
-use ir_types::{AddressSpace, ArraySize, Binding, ImageClass, Scalar, StructMember, TypeInner};
+use ir_types::{AddressSpace, ArraySize, ImageClass, StructMember, TypeInner};
 use std::alloc::AllocError;
 
 impl ToJson for Scalar {

@@ -1,6 +1,6 @@
 //! The statements of a body, one a line.
 
-use crate::words::{write_part, write_spaces, write_statement};
+use crate::words::{write_number, write_part, write_spaces, write_statement};
 use json_nodes::Step;
 use json_places::nodes::way_to;
 use json_places::{Inside, Node, Part, Place, Position};
@@ -140,9 +140,9 @@ fn write_head<W: fmt::Write>(
     out.write_str("\nbody")?;
     match position {
         None => return out.write_str(":"),
-        Some(Position::Statement(number)) => write!(out, ", where #{number}")?,
+        Some(Position::Statement(number)) => write_number(out, ", where #", number, "")?,
         Some(Position::BreakIf(number)) => {
-            write!(out, ", where the break condition of #{number}")?
+            write_number(out, ", where the break condition of #", number, "")?
         }
     }
     out.write_str(" is the place body")?;
@@ -150,7 +150,7 @@ fn write_head<W: fmt::Write>(
     for step in place.steps.as_slice() {
         match step {
             Step::Name(name) if is_inside => write!(out, "/{name}")?,
-            Step::Index(index) if is_inside => write!(out, "/{index}")?,
+            Step::Index(index) if is_inside => write_number(out, "/", *index, "")?,
             Step::Name(name) => is_inside = *name == "body",
             Step::Index(_) => {}
         }
@@ -163,7 +163,7 @@ fn write_gap<W: fmt::Write>(out: &mut W, hidden: usize) -> fmt::Result {
     if hidden == 0 {
         return Ok(());
     }
-    write!(out, "\n  .. {hidden} more")
+    write_number(out, "\n  .. ", hidden, " more")
 }
 
 /// Writes the name of a list, a little less deep than the statements in it. The list of a Block needs none.
@@ -198,8 +198,7 @@ fn write_node<W: fmt::Write>(
         Some(position) => position.number() == number,
         None => false,
     };
-    let mark = if is_at { ">" } else { " " };
-    write!(out, "\n{mark} #{number}")?;
+    write_number(out, if is_at { "\n> #" } else { "\n  #" }, number, "")?;
     write_spaces(out, width.saturating_sub(digits(number)))?;
     write_spaces(out, node.depth.saturating_mul(4).saturating_add(1))?;
     write_statement(out, &node.located.statement)

@@ -1,7 +1,7 @@
 //! What a function, an entry point or a global declares, a line each.
 
 use crate::marks::Marks;
-use crate::words::{write_expression, write_type};
+use crate::words::{write_expression, write_name, write_number, write_two, write_type};
 use bitflags::Flags;
 use json_places::parts::members_of;
 use json_places::{EntryField, Spot};
@@ -14,14 +14,6 @@ use std::fmt;
 /// What is at the beginning of a line: a mark where the fault is.
 fn mark(is_marked: bool) -> &'static str {
     if is_marked { "\n> " } else { "\n  " }
-}
-
-/// Writes a name, if there is one.
-fn write_name<W: fmt::Write>(out: &mut W, name: &Option<Name>) -> fmt::Result {
-    match name {
-        Some(name) => write!(out, " {name:?}"),
-        None => Ok(()),
-    }
 }
 
 /// Writes a binding, if there is one.
@@ -134,17 +126,31 @@ fn is_local(spot: &Spot, index: usize) -> bool {
     }
 }
 
+/// Writes what stands before a number, the number, a name, if there is one, and a type.
+fn write_typed<W: fmt::Write>(
+    out: &mut W,
+    module: &Module,
+    before: &str,
+    number: usize,
+    after: &str,
+    name: &Option<Name>,
+    ty: Handle<tag::Type>,
+) -> fmt::Result {
+    write_number(out, before, number, after)?;
+    write_name(out, name)?;
+    out.write_str(": ")?;
+    write_type(out, module, ty)
+}
+
 fn write_argument<W: fmt::Write>(
     out: &mut W,
     module: &Module,
     index: usize,
     argument: &FunctionArgument,
 ) -> fmt::Result {
-    write!(out, "argument {index}")?;
-    write_name(out, &argument.name)?;
-    out.write_str(": ")?;
-    write_type(out, module, argument.ty)?;
-    write_binding(out, &argument.binding)
+    let FunctionArgument { name, ty, binding } = argument;
+    write_typed(out, module, "argument ", index, "", name, *ty)?;
+    write_binding(out, binding)
 }
 
 fn write_local<W: fmt::Write>(
@@ -153,12 +159,14 @@ fn write_local<W: fmt::Write>(
     index: usize,
     local: &LocalVariable,
 ) -> fmt::Result {
-    write!(out, "local [{index}]")?;
-    write_name(out, &local.name)?;
-    out.write_str(": ")?;
-    write_type(out, module, local.ty)?;
-    match local.init {
-        Some(init) => write!(out, ", init {init:?}"),
+    write_typed(out, module, "local [", index, "]", &local.name, local.ty)?;
+    write_init(out, local.init)
+}
+
+/// Writes an initializer, if there is one.
+fn write_init<W: fmt::Write>(out: &mut W, init: Option<Handle<tag::Expression>>) -> fmt::Result {
+    match init {
+        Some(init) => write_number(out, ", init [", init.index(), "]"),
         None => Ok(()),
     }
 }
@@ -195,11 +203,20 @@ fn write_member<W: fmt::Write>(
     index: usize,
     member: &StructMember,
 ) -> fmt::Result {
-    write!(out, "  member {index}")?;
-    write_name(out, &member.name)?;
-    out.write_str(": ")?;
-    write_type(out, module, member.ty)?;
+    write_typed(out, module, "  member ", index, "", &member.name, member.ty)?;
     write_binding(out, &member.binding)
+}
+
+/// Writes a field of an entry point, with its mark.
+fn write_field<W: fmt::Write, T: fmt::Debug>(
+    out: &mut W,
+    is_marked: bool,
+    name: &str,
+    value: &T,
+) -> fmt::Result {
+    out.write_str(mark(is_marked))?;
+    out.write_str(name)?;
+    write!(out, "{value:?}")
 }
 
 /// Writes the stage of an entry point and what else it declares beside its function.
@@ -209,22 +226,17 @@ pub fn write_entry<W: fmt::Write>(
     ep: &EntryPoint,
     spot: Spot,
 ) -> fmt::Result {
-    let (stage, size) = (ep.stage, ep.workgroup_size);
-    out.write_str(mark(is_field(&spot, EntryField::Stage)))?;
-    write!(out, "stage: {stage:?}")?;
-    out.write_str(mark(is_field(&spot, EntryField::WorkgroupSize)))?;
-    write!(out, "workgroup_size: {size:?}")?;
-    let is_early = is_field(&spot, EntryField::EarlyDepthTest);
-    if ep.early_depth_test.is_some() || is_early {
-        let early = ep.early_depth_test;
-        out.write_str(mark(is_early))?;
-        write!(out, "early_depth_test: {early:?}")?;
+    let is_at = is_field(&spot, EntryField::Stage);
+    write_field(out, is_at, "stage: ", &ep.stage)?;
+    let is_at = is_field(&spot, EntryField::WorkgroupSize);
+    write_field(out, is_at, "workgroup_size: ", &ep.workgroup_size)?;
+    let is_at = is_field(&spot, EntryField::EarlyDepthTest);
+    if ep.early_depth_test.is_some() || is_at {
+        write_field(out, is_at, "early_depth_test: ", &ep.early_depth_test)?;
     }
-    let is_payload = is_field(&spot, EntryField::TaskPayload);
-    if ep.task_payload.is_some() || is_payload {
-        let payload = ep.task_payload;
-        out.write_str(mark(is_payload))?;
-        write!(out, "task_payload: {payload:?}")?;
+    let is_at = is_field(&spot, EntryField::TaskPayload);
+    if ep.task_payload.is_some() || is_at {
+        write_field(out, is_at, "task_payload: ", &ep.task_payload)?;
     }
     write_mesh(out, module, ep, spot)
 }
@@ -243,8 +255,7 @@ fn write_mesh<W: fmt::Write>(
         }
         return Ok(());
     };
-    out.write_str(mark(is_marked))?;
-    write!(out, "mesh_info: {mesh:?}")?;
+    write_field(out, is_marked, "mesh_info: ", mesh)?;
     if !write_members(out, module, mesh.vertex_output_type, &spot)? {
         write_members(out, module, mesh.primitive_output_type, &spot)?;
     }
@@ -274,7 +285,14 @@ pub fn write_expressions<W: fmt::Write>(
     write_marked(out, function, marks, spot)?;
     match count.saturating_sub(marks.count()) {
         0 => Ok(()),
-        left => write!(out, "\n  .. {left} more, which other statements below name"),
+        left => {
+            write_number(
+                out,
+                "\n  .. ",
+                left,
+                " more, which other statements below name",
+            )
+        }
     }
 }
 
@@ -292,7 +310,7 @@ fn write_marked<W: fmt::Write>(
                 _ => false,
             };
             out.write_str(mark(is_marked))?;
-            write!(out, "[{index}] ")?;
+            write_number(out, "[", index, "] ")?;
             write_expression(out, expression)?;
             write_variable_name(out, function, expression)?;
         }
@@ -339,15 +357,14 @@ pub fn write_global<W: fmt::Write>(
         init,
         memory_decorations,
     } = *global;
-    write!(out, "\n> global {handle:?}: space {space:?}, ")?;
+    write_number(out, "\n> global [", handle.index(), "]: space ")?;
+    write!(out, "{space:?}, ")?;
     write_type(out, module, ty)?;
     if let Some(binding) = binding {
-        let (group, number) = (binding.group, binding.binding);
-        write!(out, ", group {group}, binding {number}")?;
+        let (group, number) = (binding.group as usize, binding.binding as usize);
+        write_two(out, ", group ", group, ", binding ", number, "")?;
     }
-    if let Some(init) = init {
-        write!(out, ", init {init:?}")?;
-    }
+    write_init(out, init)?;
     if memory_decorations.is_empty() {
         Ok(())
     } else {

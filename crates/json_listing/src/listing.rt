@@ -7,6 +7,7 @@ use crate::marks::{Marks, user_in};
 use crate::why::{
     Earlier, earlier_of, write_cases, write_cures, write_earlier, write_reason, write_twin,
 };
+use crate::words::{write_number, write_two};
 use check_faults::{EntryPointError, ModuleFault};
 use json_places::{Found, Node, Position, Reason, Spot, nodes_of, unseen};
 use naga_below::{Function, Handle, Module, Statement, tag};
@@ -51,7 +52,7 @@ fn write_own_function<W: fmt::Write>(
         return Ok(());
     };
     out.write_str(head_mark(found.spot))?;
-    write!(out, "function {index}:")?;
+    write_number(out, "function ", index, ":")?;
     write_function(alloc, out, module, function, Some(fault), found)
 }
 
@@ -68,7 +69,7 @@ fn write_entry_point<W: fmt::Write>(
         return Ok(());
     };
     out.write_str(head_mark(found.spot))?;
-    write!(out, "entry point {index}:")?;
+    write_number(out, "entry point ", index, ":")?;
     write_entry(out, module, ep, found.spot)?;
     let own = match fault {
         EntryPointError::Function(error) => Some(error),
@@ -103,20 +104,61 @@ fn write_function<W: fmt::Write>(
     fault: Option<&FunctionError>,
     found: &Found,
 ) -> fmt::Result {
-    let nodes = nodes_of(alloc, &function.body)?;
-    let nodes = nodes.as_slice();
-    let position = position_of(found.spot);
     write_declarations(out, module, function, found.spot)?;
-    let earlier = match (fault, position) {
-        (Some(fault), Some(position)) => earlier_of(alloc, function, nodes, fault, position)?,
-        _ => Earlier::None,
-    };
+    let nodes = nodes_of(alloc, &function.body)?;
+    let written = write_statements(alloc, out, function, nodes.as_slice(), fault, found);
+    drop(nodes);
+    written
+}
+
+/// Writes the expressions and the statements of a body, and why one of these is refused.
+fn write_statements<W: fmt::Write>(
+    alloc: Global,
+    out: &mut W,
+    function: &Function,
+    nodes: &[Node<'_>],
+    fault: Option<&FunctionError>,
+    found: &Found,
+) -> fmt::Result {
+    let earlier = earlier_at(alloc, function, nodes, fault, found.spot)?;
     let kept = kept_before(alloc, function, nodes, fault, found)?;
-    write_shown(alloc, out, function, nodes, fault, found, earlier, &kept)?;
-    match (fault, position) {
+    let shown = write_shown(alloc, out, function, nodes, fault, found, earlier, &kept);
+    let written = match shown {
+        Ok(()) => write_causes(out, function, nodes, fault, found, earlier, &kept),
+        Err(error) => Err(error),
+    };
+    drop(kept);
+    written
+}
+
+/// What an earlier statement has to do with the fault of a statement.
+fn earlier_at(
+    alloc: Global,
+    function: &Function,
+    nodes: &[Node<'_>],
+    fault: Option<&FunctionError>,
+    spot: Spot,
+) -> Result<Earlier, AllocError> {
+    match (fault, position_of(spot)) {
+        (Some(fault), Some(position)) => earlier_of(alloc, function, nodes, fault, position),
+        _ => Ok(Earlier::None),
+    }
+}
+
+/// Writes what an earlier statement has to do with the fault of a statement, and why this one is refused.
+fn write_causes<W: fmt::Write>(
+    out: &mut W,
+    function: &Function,
+    nodes: &[Node<'_>],
+    fault: Option<&FunctionError>,
+    found: &Found,
+    earlier: Earlier,
+    kept: &Option<Kept>,
+) -> fmt::Result {
+    match (fault, position_of(found.spot)) {
         (Some(fault), Some(position)) => {
             write_earlier(out, earlier)?;
-            write_why(out, function, nodes, fault, position, found, &kept)
+            write_why(out, function, nodes, fault, position, found, kept)
         }
         _ => Ok(()),
     }
@@ -331,10 +373,10 @@ fn write_user<W: fmt::Write>(
         return Ok(());
     }
     match user_in(function, range.start, range.end, handle) {
-        Some(user) => write!(
-            out,
-            "\nWhere: #{number} emits {user:?}, which is made from {handle:?}."
-        ),
+        Some(user) => {
+            write_two(out, "\nWhere: #", number, " emits [", user.index(), "], ")?;
+            write_number(out, "which is made from [", handle.index(), "].")
+        }
         None => Ok(()),
     }
 }

@@ -1,6 +1,7 @@
 //! Why a statement or a declaration is refused, where the body or the declarations show it.
 
 use crate::kept::{Kept, Stored};
+use crate::words::{write_name, write_number, write_two};
 use check_faults::EntryPointError;
 use json_places::nodes::result_of;
 use json_places::parts::{Bound, Group, bounds_of, first_of};
@@ -79,8 +80,8 @@ fn first_result(nodes: &[Node<'_>], at: usize, handle: Handle<tag::Expression>) 
 /// Writes a position.
 fn write_position<W: fmt::Write>(out: &mut W, position: Position) -> fmt::Result {
     match position {
-        Position::Statement(number) => write!(out, "#{number}"),
-        Position::BreakIf(number) => write!(out, "the break condition of #{number}"),
+        Position::Statement(number) => write_number(out, "#", number, ""),
+        Position::BreakIf(number) => write_number(out, "the break condition of #", number, ""),
     }
 }
 
@@ -91,18 +92,17 @@ pub fn write_reason<W: fmt::Write>(
     handle: Handle<tag::Expression>,
     reason: Reason,
 ) -> fmt::Result {
+    let index = handle.index();
     match reason {
         Reason::Never => {
-            write!(out, "\nWhy: no statement of the body emits {handle:?}.")?;
-            write_cure(out, "Cure", position, handle)
+            write_number(out, "\nWhy: no statement of the body emits [", index, "].")?;
+            write_cure(out, "\nCure", position, handle)
         }
         Reason::Ended { emitted, list, .. } => write_ended(out, position, handle, emitted, list),
         Reason::Later { emitted } if position == Position::Statement(emitted) => {
-            write!(
-                out,
-                "\nWhy: #{emitted} itself emits {handle:?}, after it has used it."
-            )?;
-            write_cure(out, "Cure", position, handle)
+            let after = "], after it has used it.";
+            write_two(out, "\nWhy: #", emitted, " itself emits [", index, after)?;
+            write_cure(out, "\nCure", position, handle)
         }
         Reason::Later { emitted } => write_later(out, position, handle, emitted),
         Reason::Skipped {
@@ -110,11 +110,16 @@ pub fn write_reason<W: fmt::Write>(
             holder,
             jump,
         } => {
-            write!(
+            let after = "] in the body of the Loop #";
+            write_two(out, "\nWhy: #", emitted, " emits [", index, after)?;
+            write_two(
                 out,
-                "\nWhy: #{emitted} emits {handle:?} in the body of the Loop #{holder}, "
+                "",
+                holder,
+                ", and the Continue #",
+                jump,
+                " may skip it.",
             )?;
-            write!(out, "and the Continue #{jump} may skip it.")?;
             write_cure_of_skipped(out, position, handle)
         }
     }
@@ -128,7 +133,14 @@ fn write_ended<W: fmt::Write>(
     emitted: usize,
     list: Inside,
 ) -> fmt::Result {
-    write!(out, "\nWhy: #{emitted} emits {handle:?}, in ")?;
+    write_two(
+        out,
+        "\nWhy: #",
+        emitted,
+        " emits [",
+        handle.index(),
+        "], in ",
+    )?;
     write_list_name(out, list)?;
     out.write_str(", which has ended before ")?;
     write_position(out, position)?;
@@ -142,10 +154,11 @@ fn write_later<W: fmt::Write>(
     handle: Handle<tag::Expression>,
     emitted: usize,
 ) -> fmt::Result {
-    write!(out, "\nWhy: #{emitted} emits {handle:?}, and comes after ")?;
+    let after = "], and comes after ";
+    write_two(out, "\nWhy: #", emitted, " emits [", handle.index(), after)?;
     write_position(out, position)?;
     out.write_str(".")?;
-    write_cure(out, "Cure", position, handle)
+    write_cure(out, "\nCure", position, handle)
 }
 
 /// Writes where an expression is to be emitted so that no Continue skips it.
@@ -154,11 +167,9 @@ fn write_cure_of_skipped<W: fmt::Write>(
     position: Position,
     handle: Handle<tag::Expression>,
 ) -> fmt::Result {
-    write!(
-        out,
-        "\nCure: emit {handle:?} in that body before the first statement that "
-    )?;
-    out.write_str("holds a Continue, or in the continuing part before ")?;
+    let after =
+        "] in that body before the first statement that holds a Continue, or in the continuing part before ";
+    write_number(out, "\nCure: emit [", handle.index(), after)?;
     write_position(out, position)?;
     out.write_str(".")
 }
@@ -176,11 +187,11 @@ pub fn write_cures<W: fmt::Write>(
         return Ok(());
     };
     if kept.is_of_loop {
-        write_keeping(out, "Cure", function, emitted, kept)?;
-        return write_cure(out, "Or", position, handle);
+        write_keeping(out, "\nCure", function, emitted, kept)?;
+        return write_cure(out, "\nOr", position, handle);
     }
-    write_cure(out, "Cure", position, handle)?;
-    write_keeping(out, "Or", function, emitted, kept)
+    write_cure(out, "\nCure", position, handle)?;
+    write_keeping(out, "\nOr", function, emitted, kept)
 }
 
 /// Writes in which local a value is kept, or that one is needed.
@@ -191,19 +202,16 @@ fn write_keeping<W: fmt::Write>(
     emitted: usize,
     kept: &Kept,
 ) -> fmt::Result {
+    out.write_str(lead)?;
     let Some(Stored { number, local }) = kept.stored else {
-        return write!(
-            out,
-            "\n{lead}: store it in a local after #{emitted}, and use a Load of that."
-        );
+        let after = ", and use a Load of that.";
+        return write_number(out, ": store it in a local after #", emitted, after);
     };
-    write!(out, "\n{lead}: use a Load of local {local:?}")?;
+    write_number(out, ": use a Load of local [", local.index(), "]")?;
     if let Some(local) = function.local_variables.as_slice().get(local.index()) {
-        if let Some(name) = &local.name {
-            write!(out, " {name:?}")?;
-        }
+        write_name(out, &local.name)?;
     }
-    write!(out, ", in which #{number} stores it.")
+    write_number(out, ", in which #", number, " stores it.")
 }
 
 /// Writes where an expression is to be emitted.
@@ -213,7 +221,8 @@ fn write_cure<W: fmt::Write>(
     position: Position,
     handle: Handle<tag::Expression>,
 ) -> fmt::Result {
-    write!(out, "\n{lead}: emit {handle:?} before ")?;
+    out.write_str(lead)?;
+    write_number(out, ": emit [", handle.index(), "] before ")?;
     write_position(out, position)?;
     out.write_str(", in the same list or in one around it.")
 }
@@ -222,26 +231,30 @@ fn write_cure<W: fmt::Write>(
 fn write_list_name<W: fmt::Write>(out: &mut W, list: Inside) -> fmt::Result {
     let number = list.number;
     match list.part {
-        Part::Block => write!(out, "the Block #{number}"),
-        Part::Accept => write!(out, "the accept list of the If #{number}"),
-        Part::Reject => write!(out, "the reject list of the If #{number}"),
-        Part::Case(index) => write!(out, "case {index} of the Switch #{number}"),
-        Part::Body => write!(out, "the body of the Loop #{number}"),
-        Part::Continuing => write!(out, "the continuing part of the Loop #{number}"),
-        Part::BreakIf => write!(out, "the break condition of #{number}"),
+        Part::Block => write_number(out, "the Block #", number, ""),
+        Part::Accept => write_number(out, "the accept list of the If #", number, ""),
+        Part::Reject => write_number(out, "the reject list of the If #", number, ""),
+        Part::Case(index) => write_two(out, "case ", index, " of the Switch #", number, ""),
+        Part::Body => write_number(out, "the body of the Loop #", number, ""),
+        Part::Continuing => write_number(out, "the continuing part of the Loop #", number, ""),
+        Part::BreakIf => write_number(out, "the break condition of #", number, ""),
     }
 }
 
 /// Writes what an earlier statement has to do with a fault.
 pub fn write_earlier<W: fmt::Write>(out: &mut W, earlier: Earlier) -> fmt::Result {
     match earlier {
-        Earlier::Emits(number) => write!(
+        Earlier::Emits(number) => write_number(
             out,
-            "\nWhy: #{number} emits it first, and its list has not ended.\nCure: leave out one of the two."
+            "\nWhy: #",
+            number,
+            " emits it first, and its list has not ended.\nCure: leave out one of the two.",
         ),
-        Earlier::Fills(number) => write!(
+        Earlier::Fills(number) => write_number(
             out,
-            "\nWhy: #{number} has this result already.\nCure: give each of the two a result of its own."
+            "\nWhy: #",
+            number,
+            " has this result already.\nCure: give each of the two a result of its own.",
         ),
         Earlier::FromStart => out.write_str(
             "\nWhy: it is in scope from the start of the body, and is never emitted.\nCure: leave it out.",
@@ -266,9 +279,13 @@ pub fn write_cases<W: fmt::Write>(
     };
     match statement {
         Statement::Switch { cases, .. } => match two_cases(cases.as_slice(), value) {
-            Some((first, second)) => write!(
+            Some((first, second)) => write_two(
                 out,
-                "\nWhy: case {second} has the value of case {first}."
+                "\nWhy: case ",
+                second,
+                " has the value of case ",
+                first,
+                ".",
             ),
             None => Ok(()),
         },
@@ -342,9 +359,19 @@ fn is_of_twins(fault: &VaryingError) -> bool {
 /// Writes which of them is the first.
 fn write_first<W: fmt::Write>(out: &mut W, first: &Option<Spot>) -> fmt::Result {
     match first {
-        Some(Spot::Argument(index)) => write!(out, "\nWhy: argument {index} has it first."),
+        Some(Spot::Argument(index)) => {
+            write_number(out, "\nWhy: argument ", *index, " has it first.")
+        }
         Some(Spot::Member { ty, index }) => {
-            write!(out, "\nWhy: member {index} of type {ty:?} has it first.")
+            let after = "] has it first.";
+            write_two(
+                out,
+                "\nWhy: member ",
+                *index,
+                " of type [",
+                ty.index(),
+                after,
+            )
         }
         _ => Ok(()),
     }
@@ -364,11 +391,11 @@ fn write_global_twins<W: fmt::Write>(
     for (index, other) in globals.iter().enumerate() {
         if index < global.index() && other.binding == own.binding {
             let before = if count == 0 {
-                "\nWhy: earlier globals with its binding: "
+                "\nWhy: earlier globals with its binding: ["
             } else {
-                ", "
+                ", ["
             };
-            write!(out, "{before}[{index}]")?;
+            write_number(out, before, index, "]")?;
             count = count.saturating_add(1);
         }
     }

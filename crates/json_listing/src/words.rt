@@ -2,7 +2,7 @@
 
 use json_places::Part;
 use layer_sentences::kinds::name_of;
-use naga_below::{Expression, Handle, Module, Range, Statement, SwitchCase, TypeInner, tag};
+use naga_below::{Expression, Handle, Module, Name, Range, Statement, SwitchCase, TypeInner, tag};
 use std::fmt;
 
 /// Writes spaces.
@@ -13,16 +13,55 @@ pub fn write_spaces<W: fmt::Write>(out: &mut W, count: usize) -> fmt::Result {
     Ok(())
 }
 
+/// Writes a number between two texts.
+pub fn write_number<W: fmt::Write>(
+    out: &mut W,
+    before: &str,
+    number: usize,
+    after: &str,
+) -> fmt::Result {
+    out.write_str(before)?;
+    write!(out, "{number}")?;
+    out.write_str(after)
+}
+
+/// Writes a name, if there is one.
+pub fn write_name<W: fmt::Write>(out: &mut W, name: &Option<Name>) -> fmt::Result {
+    match name {
+        Some(name) => write!(out, " {name:?}"),
+        None => Ok(()),
+    }
+}
+
+/// Writes two numbers, with texts before, between and after them.
+pub fn write_two<W: fmt::Write>(
+    out: &mut W,
+    before: &str,
+    first: usize,
+    between: &str,
+    second: usize,
+    after: &str,
+) -> fmt::Result {
+    write_number(out, before, first, between)?;
+    write_number(out, "", second, after)
+}
+
 /// Writes a statement without those that it holds.
 pub fn write_statement<W: fmt::Write>(out: &mut W, statement: &Statement) -> fmt::Result {
     match statement {
         Statement::Emit(range) => write_emit(out, range),
         Statement::Block(_) => out.write_str("Block"),
-        Statement::If { condition, .. } => write!(out, "If {{ condition: {condition:?} }}"),
-        Statement::Switch { selector, cases } => {
-            let count = cases.len();
-            write!(out, "Switch {{ selector: {selector:?} }} of {count} cases")
+        Statement::If { condition, .. } => {
+            write_number(out, "If { condition: [", condition.index(), "] }")
         }
+        Statement::Switch { selector, cases } => write_two(
+            out,
+            "Switch { selector: [",
+            selector.index(),
+            "] } of ",
+            cases.len(),
+            " cases",
+        ),
         Statement::Loop { break_if, .. } => write!(out, "Loop {{ break_if: {break_if:?} }}"),
         leaf => write!(out, "{leaf:?}"),
     }
@@ -36,9 +75,9 @@ fn write_emit<W: fmt::Write>(out: &mut W, range: &Range) -> fmt::Result {
     }
     let last = end.saturating_sub(1);
     if start == last {
-        write!(out, "Emit [{start}]")
+        write_number(out, "Emit [", start as usize, "]")
     } else {
-        write!(out, "Emit [{start}] to [{last}]")
+        write_two(out, "Emit [", start as usize, "] to [", last as usize, "]")
     }
 }
 
@@ -72,16 +111,17 @@ pub fn write_part<W: fmt::Write>(out: &mut W, statement: &Statement, part: Part)
         Part::Case(index) => match statement {
             Statement::Switch { cases, .. } => match cases.as_slice().get(index) {
                 Some(case) => write_case(out, index, case),
-                None => write!(out, "case {index}"),
+                None => write_number(out, "case ", index, ""),
             },
-            _ => write!(out, "case {index}"),
+            _ => write_number(out, "case ", index, ""),
         },
     }
 }
 
 fn write_case<W: fmt::Write>(out: &mut W, index: usize, case: &SwitchCase) -> fmt::Result {
     let value = case.value;
-    write!(out, "case {index}, {value:?}")?;
+    write_number(out, "case ", index, ", ")?;
+    write!(out, "{value:?}")?;
     if case.fall_through {
         out.write_str(", which falls through")?;
     }
@@ -94,17 +134,14 @@ pub fn write_type<W: fmt::Write>(
     module: &Module,
     handle: Handle<tag::Type>,
 ) -> fmt::Result {
-    write!(out, "type {handle:?}")?;
+    write_number(out, "type [", handle.index(), "]")?;
     let Some(ty) = module.types.as_slice().get(handle.index()) else {
         return Ok(());
     };
-    if let Some(name) = &ty.name {
-        write!(out, " {name:?}")?;
-    }
+    write_name(out, &ty.name)?;
     match &ty.inner {
         TypeInner::Struct { members, .. } => {
-            let count = members.len();
-            write!(out, ", Struct of {count} members")
+            write_number(out, ", Struct of ", members.len(), " members")
         }
         inner => write!(out, ", {inner:?}"),
     }

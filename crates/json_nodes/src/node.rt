@@ -102,14 +102,6 @@ impl<'v> Node<'v> {
         }
     }
 
-    /// Whether it is an array.
-    #[inline]
-    pub fn is_array(&self) -> bool
-        ensures { result ≡ is_some (as_array (data_of self.now)) }
-    {
-        self.items().is_some()
-    }
-
     /// Whether it is an object.
     #[inline]
     pub fn is_object(&self) -> bool

@@ -4,7 +4,7 @@ use naga_below::{Block, Handle, Located, RayQueryFunction, Statement, SwitchCase
 use std::alloc::{AllocError, Global};
 
 /// A part of a statement: one of its lists of statements, or the break condition of a Loop. Cases count from 0.
-#[derive(Clone, Copy, PartialEq, Eq, Debug)]
+#[derive(Clone, Copy, PartialEq)]
 pub enum Part {
     Block,
     Accept,
@@ -16,7 +16,7 @@ pub enum Part {
 }
 
 /// A part of the statement with this number.
-#[derive(Clone, Copy, PartialEq, Eq, Debug)]
+#[derive(Clone, Copy, PartialEq)]
 pub struct Inside {
     pub number: usize,
     pub part: Part,
@@ -35,7 +35,7 @@ pub struct Node<'a> {
 }
 
 /// Where in a body something is used: at a statement, or at the break condition of a Loop.
-#[derive(Clone, Copy, PartialEq, Eq, Debug)]
+#[derive(Clone, Copy, PartialEq)]
 pub enum Position {
     Statement(usize),
     BreakIf(usize),

@@ -12,7 +12,7 @@ use naga_rules::{FunctionError, VaryingError};
 use std::alloc::{AllocError, Global};
 
 /// A field of an entry point.
-#[derive(Clone, Copy, PartialEq, Eq, Debug)]
+#[derive(Clone, Copy, PartialEq)]
 pub enum EntryField {
     Stage,
     EarlyDepthTest,
@@ -35,7 +35,7 @@ impl EntryField {
 }
 
 /// A field of what an entry point declares of a mesh.
-#[derive(Clone, Copy, PartialEq, Eq, Debug)]
+#[derive(Clone, Copy)]
 pub enum MeshField {
     Topology,
     VertexOutputType,

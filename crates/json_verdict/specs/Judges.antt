@@ -1,10 +1,10 @@
 -- The verdict of a text.
 use Rattle.std.specs.Prelude.{◌≡◌, ◌⊎◌, ℕ, List, [], Option, None, Some, Result, Ok, Err}
 use Rattle.ir_facts.specs.declared.valid.info.ModuleInfo.{ModuleInfo}
-use Rattle.ir_facts.specs.declared.valid.types.TypeInfo.{TypeInfo}
+use Rattle.ir_types.specs.declared.type_info.TypeInfo.{TypeInfo}
 use Rattle.ir_module.specs.declared.module.Module.{Module}
 use Rattle.ir_types.specs.declared.typifier.TypeResolution.{TypeResolution}
-use Rattle.ir_facts.specs.Points.{first_fault}
+use Rattle.ir_arena.specs.Points.{first_fault}
 use Rattle.ir_misfits.specs.declared.misfit.Misfit.{Misfit}
 use Rattle.ir_facts.specs.Meaning.{Meaning}
 use Rattle.layer_types.specs.Infos.{infos_from}

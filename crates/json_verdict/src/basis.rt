@@ -1,14 +1,15 @@
 //! What a module is judged over: the facts of its document, or what is computed from it.
 
 ghost use Rattle.std.specs.Prelude.{◌≡◌, Some, IfOk};
-ghost use Rattle.ir_facts.specs.Points.{first_fault};
+ghost use Rattle.ir_arena.specs.Points.{first_fault};
 ghost use Rattle.naga_module.specs.Misfits.{module_points};
 ghost use Rattle.naga_module.specs.ModuleJudgement.{IsJudgementOrMemory};
 ghost use Rattle.json_verdict.specs.Basis.{IsBasis, meaning_of};
 ghost use Rattle.json_verdict.specs.Judges.{computed_infos, computed_types, recorded_of};
 
+use ir_arena::duplicate::duplicates;
 use json_document::Known;
-use naga_below::{Module, ModuleInfo, Sequence, Settings, TypeResolution};
+use naga_below::{Module, ModuleInfo, Sequence, Settings};
 use naga_layers::{Lent, Typed, global_types, type_infos};
 use naga_module::{Given, Misfit, ModuleFault, Recorded, check_module, find_misfit};
 use std::alloc::{AllocError, Global};
@@ -107,20 +108,9 @@ fn copy_of(alloc: Global, given: &Given) -> Result<Given, AllocError>
     ensures globals { IfOk result (λ copy. copy.global_types.items ≡ given.now.global_types.items) }
 {
     let types = given.types.as_slice().to_vec(alloc)?;
-    let global_types = clone_types(alloc, given.global_types.as_slice())?;
+    let global_types = duplicates(alloc, given.global_types.as_slice())?;
     Ok(Given {
         types,
         global_types,
     })
-}
-
-/// Equal types.
-fn clone_types(alloc: Global, types: &[TypeResolution]) -> Result<Vec<TypeResolution>, AllocError>
-    ensures { IfOk result (λ made. made.items ≡ types.now) }
-{
-    let mut made = Vec::new(alloc);
-    for resolution in types {
-        made.push(resolution.clone(alloc)?)?;
-    }
-    Ok(made)
 }

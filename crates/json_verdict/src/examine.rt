@@ -1,7 +1,7 @@
 //! Judges a text, and finds where its fault stands.
 
 ghost use Rattle.std.specs.Prelude.{◌≡◌, None};
-ghost use Rattle.ir_facts.specs.Points.{first_fault};
+ghost use Rattle.ir_arena.specs.Points.{first_fault};
 ghost use Rattle.naga_module.specs.Misfits.{module_points};
 ghost use Rattle.check_faults.specs.declared.module.ModuleFault.TheVariants as faults;
 ghost use Rattle.json_verdict.specs.Basis.{meaning_of};
@@ -11,6 +11,7 @@ ghost use Rattle.json_answers.specs.declared.verdict.Verdict.TheVariants as verd
 
 use crate::basis::Basis;
 use crate::find::locate;
+use ir_module::module;
 use json_answers::{Examined, Refused, Verdict, alone};
 use json_document::{Document, Id, ReadError, Reading, read_text};
 use json_places::{Found, locate_misfit};
@@ -99,7 +100,7 @@ pub fn examine(alloc: Global, text: &[u8]) -> Examined
     let basis = match Basis::new(alloc, &module, known) {
         Ok(basis) => basis,
         Err(_) => {
-            drop(module);
+            module::let_go(module);
             return alone(id, Verdict::Refused(ModuleFault::Memory));
         }
     };

@@ -1,6 +1,7 @@
 //! Finds what has a fault, and where it stands.
 
 use crate::basis::Basis;
+use ir_module::module;
 use json_places::Found;
 use json_places::located::found_in;
 use json_places::numbered::numbered_module;
@@ -62,7 +63,7 @@ fn number_of(
     match numbered_module(alloc, module) {
         Ok(numbered) => {
             let number = number_again(alloc, basis, settings, &numbered);
-            drop(numbered);
+            module::let_go(numbered);
             number
         }
         Err(_) => None,
@@ -83,7 +84,7 @@ fn number_again(
         }
         Err(again) => {
             let number = number_in(spans_of(&again));
-            drop(again);
+            check_faults::module::let_go(again);
             number
         }
     }

@@ -23,6 +23,8 @@ pub fn judge(alloc: Global, text: &[u8]) -> Verdict
         refused,
     } = examine(alloc, text);
     drop(id);
-    drop(refused);
+    if let Some(refused) = refused {
+        refused.let_go();
+    }
     verdict
 }

@@ -62,6 +62,6 @@ pub fn reply_to<W: Write>(
 {
     let examined = bytes.examine(alloc);
     let replied = reply(alloc, writer, &examined, form);
-    drop(examined);
+    examined.let_go();
     replied
 }

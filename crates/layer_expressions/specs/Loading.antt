@@ -1,16 +1,16 @@
 -- The types of image loads and image queries.
 use Rattle.std.specs.Prelude.{ℕ, Bool, true, false, ◌+◌, ◌==◌, ◌&&◌, List, [], ◌∷◌, Option, None, Some, Result, Err, length, slice_get, if◌then◌else◌}
-use Rattle.ir_facts.specs.Points.{Point, first_fault, answer}
+use Rattle.ir_arena.specs.Points.{Point, first_fault, answer}
 use Rattle.ir_flags.specs.Bits.{contains, LOAD}
 use Rattle.ir_module.specs.declared.expressions.Expression.{Expression}
-use Rattle.ir_types.specs.Formats.{format_scalar}
+use Rattle.ir_leaves.specs.Formats.{format_scalar}
 use Rattle.ir_types.specs.declared.types.ImageClass.{ImageClass}
 use Rattle.ir_types.specs.declared.types.ImageClass.TheVariants as class
-use Rattle.ir_types.specs.declared.types.ImageDimension.{ImageDimension}
-use Rattle.ir_types.specs.declared.types.ImageDimension.TheVariants.{D1, D2, D3, Cube}
-use Rattle.ir_types.specs.declared.types.ScalarKind.TheVariants as kind
+use Rattle.ir_leaves.specs.declared.images.ImageDimension.{ImageDimension}
+use Rattle.ir_leaves.specs.declared.images.ImageDimension.TheVariants.{D1, D2, D3, Cube}
+use Rattle.ir_leaves.specs.declared.scalars.ScalarKind.TheVariants as kind
 use Rattle.ir_types.specs.declared.types.Type.{«Type» as IrType}
-use Rattle.ir_types.specs.declared.types.VectorSize.TheVariants.{Bi, Tri, Quad}
+use Rattle.ir_leaves.specs.declared.scalars.VectorSize.TheVariants.{Bi, Tri, Quad}
 use Rattle.ir_types.specs.declared.typifier.TypeResolution.{TypeResolution}
 use Rattle.layer_forms.specs.declared.images.ImageQuery.{ImageQuery}
 use Rattle.layer_forms.specs.declared.images.ImageQuery.TheVariants as query

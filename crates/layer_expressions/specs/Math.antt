@@ -1,10 +1,10 @@
 -- The shapes that the functions of Math give, by what each takes; None where it doesn't take its arguments.
 use Rattle.std.specs.Prelude.{ℕ, Bool, true, false, not, ◌==◌, ◌&&◌, ◌||◌, Option, None, Some, if◌then◌else◌, option_and_then}
-use Rattle.ir_types.specs.declared.types.Scalar.{Scalar}
-use Rattle.ir_types.specs.declared.types.ScalarKind.{ScalarKind}
-use Rattle.ir_types.specs.declared.types.ScalarKind.TheVariants as kind
-use Rattle.ir_types.specs.declared.types.VectorSize.{VectorSize}
-use Rattle.ir_types.specs.declared.types.VectorSize.TheVariants.{Tri}
+use Rattle.ir_leaves.specs.declared.scalars.Scalar.{Scalar}
+use Rattle.ir_leaves.specs.declared.scalars.ScalarKind.{ScalarKind}
+use Rattle.ir_leaves.specs.declared.scalars.ScalarKind.TheVariants as kind
+use Rattle.ir_leaves.specs.declared.scalars.VectorSize.{VectorSize}
+use Rattle.ir_leaves.specs.declared.scalars.VectorSize.TheVariants.{Tri}
 use Rattle.layer_forms.specs.declared.math.MathClass.{MathClass}
 use Rattle.layer_forms.specs.declared.math.MathClass.TheVariants as class
 use Rattle.layer_types.specs.Leaves.{is_number}

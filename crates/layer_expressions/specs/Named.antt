@@ -10,9 +10,9 @@ use Rattle.ir_module.specs.declared.module.Module.{Module}
 use Rattle.ir_types.specs.Types.{bool_scalar}
 use Rattle.ir_types.specs.declared.types.AddressSpace.{AddressSpace}
 use Rattle.ir_types.specs.declared.types.AddressSpace.TheVariants as space
-use Rattle.ir_types.specs.declared.types.ScalarKind.TheVariants.{Uint}
+use Rattle.ir_leaves.specs.declared.scalars.ScalarKind.TheVariants.{Uint}
 use Rattle.ir_types.specs.declared.types.TypeInner.TheVariants as inner
-use Rattle.ir_types.specs.declared.types.VectorSize.TheVariants.{Quad}
+use Rattle.ir_leaves.specs.declared.scalars.VectorSize.TheVariants.{Quad}
 use Rattle.ir_types.specs.declared.typifier.TypeResolution.{TypeResolution}
 use Rattle.ir_types.specs.declared.typifier.TypeResolution.TheVariants.{Handle, Value}
 use Rattle.layer_expressions.specs.declared.rules.Rule.{Rule}

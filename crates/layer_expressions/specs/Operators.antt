@@ -1,12 +1,12 @@
 -- The shapes that operators give; None where they don't take their operands.
 use Rattle.std.specs.Prelude.{ℕ, Bool, true, false, not, ◌&&◌, ◌||◌, Option, None, Some, unwrap_or, if◌then◌else◌}
 use Rattle.ir_types.specs.Types.{bool_scalar}
-use Rattle.ir_types.specs.contracts.types.VectorSizePartialEq.TheImpl as size
-use Rattle.ir_types.specs.declared.types.Scalar.{Scalar}
-use Rattle.ir_types.specs.declared.types.ScalarKind.{ScalarKind}
-use Rattle.ir_types.specs.declared.types.ScalarKind.TheVariants as kind
-use Rattle.ir_types.specs.declared.types.VectorSize.{VectorSize}
-use Rattle.ir_types.specs.declared.types.VectorSize.TheVariants.{Bi, Tri, Quad}
+use Rattle.ir_leaves.specs.contracts.scalars.VectorSizePartialEq.TheImpl as size
+use Rattle.ir_leaves.specs.declared.scalars.Scalar.{Scalar}
+use Rattle.ir_leaves.specs.declared.scalars.ScalarKind.{ScalarKind}
+use Rattle.ir_leaves.specs.declared.scalars.ScalarKind.TheVariants as kind
+use Rattle.ir_leaves.specs.declared.scalars.VectorSize.{VectorSize}
+use Rattle.ir_leaves.specs.declared.scalars.VectorSize.TheVariants.{Bi, Tri, Quad}
 use Rattle.layer_forms.specs.declared.casts.Cast.{Cast}
 use Rattle.layer_forms.specs.declared.operators.BinaryOperator.{BinaryOperator}
 use Rattle.layer_forms.specs.declared.operators.BinaryOperator.TheVariants as binary

@@ -3,8 +3,8 @@ use Rattle.std.specs.Prelude.{ℕ, Bool, true, false, ◌/◌, ◌&&◌, List, [
 use Rattle.ir_types.specs.Types.{inner_at}
 use Rattle.ir_types.specs.declared.types.ArraySize.{ArraySize}
 use Rattle.ir_types.specs.declared.types.ArraySize.TheVariants as size
-use Rattle.ir_types.specs.declared.types.Scalar.{Scalar}
-use Rattle.ir_types.specs.declared.types.ScalarKind.TheVariants.{Uint}
+use Rattle.ir_leaves.specs.declared.scalars.Scalar.{Scalar}
+use Rattle.ir_leaves.specs.declared.scalars.ScalarKind.TheVariants.{Uint}
 use Rattle.ir_types.specs.declared.types.Type.{«Type» as IrType}
 use Rattle.ir_types.specs.declared.types.TypeInner.{TypeInner}
 use Rattle.ir_types.specs.declared.types.TypeInner.TheVariants as inner

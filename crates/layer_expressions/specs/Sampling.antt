@@ -1,15 +1,15 @@
 -- The types of image samples.
 use Rattle.std.specs.Prelude.{ℕ, Bool, true, false, not, ◌+◌, ◌==◌, ◌&&◌, ◌||◌, List, [], ◌∷◌, Option, None, Some, Result, Err, length, slice_get, is_some, is_none, if◌then◌else◌, option_and_then}
-use Rattle.ir_facts.specs.Points.{Point, first_fault, answer}
+use Rattle.ir_arena.specs.Points.{Point, first_fault, answer}
 use Rattle.ir_module.specs.declared.expressions.Expression.{Expression}
 use Rattle.ir_types.specs.declared.types.ImageClass.{ImageClass}
 use Rattle.ir_types.specs.declared.types.ImageClass.TheVariants as class
-use Rattle.ir_types.specs.declared.types.ImageDimension.{ImageDimension}
-use Rattle.ir_types.specs.declared.types.ImageDimension.TheVariants.{D1, D2, D3, Cube}
-use Rattle.ir_types.specs.declared.types.ScalarKind.{ScalarKind}
-use Rattle.ir_types.specs.declared.types.ScalarKind.TheVariants as kind
+use Rattle.ir_leaves.specs.declared.images.ImageDimension.{ImageDimension}
+use Rattle.ir_leaves.specs.declared.images.ImageDimension.TheVariants.{D1, D2, D3, Cube}
+use Rattle.ir_leaves.specs.declared.scalars.ScalarKind.{ScalarKind}
+use Rattle.ir_leaves.specs.declared.scalars.ScalarKind.TheVariants as kind
 use Rattle.ir_types.specs.declared.types.Type.{«Type» as IrType}
-use Rattle.ir_types.specs.declared.types.VectorSize.TheVariants.{Quad}
+use Rattle.ir_leaves.specs.declared.scalars.VectorSize.TheVariants.{Quad}
 use Rattle.ir_types.specs.declared.typifier.TypeResolution.{TypeResolution}
 use Rattle.layer_forms.specs.declared.images.LevelKind.{LevelKind}
 use Rattle.layer_forms.specs.declared.images.LevelKind.TheVariants as level

@@ -7,8 +7,10 @@ ghost use Rattle.layer_expressions.specs.Images.{image_of, comparison_of, is_sou
 use crate::shapes::{Shape, is_integer};
 use ir_arena::handle::Handle;
 use ir_arena::tag;
+use ir_leaves::images::ImageDimension;
+use ir_leaves::scalars::{ScalarKind, VectorSize};
 use ir_module::expressions::Expression;
-use ir_types::types::{ImageClass, ImageDimension, ScalarKind, TypeInner, VectorSize};
+use ir_types::types::{ImageClass, TypeInner};
 
 /// An image, as its type has it.
 #[derive(Clone, Copy)]

@@ -1,7 +1,7 @@
 //! The types of image loads and image queries.
 
 ghost use Rattle.std.specs.Prelude.{◌≡◌, ◌≤◌};
-ghost use Rattle.ir_facts.specs.Points.{first_fault};
+ghost use Rattle.ir_arena.specs.Points.{first_fault};
 ghost use Rattle.layer_expressions.specs.Loading.{before_level, loaded_of, is_readable, load_points, load_shape, is_resource_first, load_type, size_shape, queried, can_be_asked, query_shape, takes_query_level, is_size, query_type};
 
 use crate::images::{
@@ -13,8 +13,10 @@ use crate::shapes::Shape;
 use ir_arena::handle::Handle;
 use ir_arena::tag;
 use ir_flags::ir::StorageAccess;
+use ir_leaves::images::ImageDimension;
+use ir_leaves::scalars::{Scalar, ScalarKind, VectorSize};
 use ir_module::expressions::Expression;
-use ir_types::types::{ImageClass, ImageDimension, Scalar, ScalarKind, Type, VectorSize};
+use ir_types::types::{ImageClass, Type};
 use ir_types::typifier::TypeResolution;
 use layer_forms::{ImageQuery, Loading};
 

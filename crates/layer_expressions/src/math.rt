@@ -6,7 +6,7 @@ ghost use Rattle.layer_expressions.specs.Math.{alike, are_numbers, are_signed, a
 use crate::operands::Arguments;
 use crate::operators::{is_same_size, own_of};
 use crate::shapes::{Shape, four_bytes, is_float, is_integer, is_same_scalar, is_signed};
-use ir_types::types::{Scalar, ScalarKind, VectorSize};
+use ir_leaves::scalars::{Scalar, ScalarKind, VectorSize};
 use layer_forms::MathClass;
 use layer_types::leaves::is_number;
 

@@ -7,10 +7,11 @@ ghost use Rattle.layer_expressions.specs.Named.{type_at, pointer_to, global_type
 use crate::rules::Rule;
 use ir_arena::handle::Handle;
 use ir_arena::tag;
+use ir_leaves::scalars::{Scalar, VectorSize};
 use ir_module::expressions::Expression;
 use ir_module::functions::{Function, FunctionArgument, LocalVariable};
 use ir_module::module::{GlobalVariable, Module};
-use ir_types::types::{AddressSpace, Scalar, TypeInner, VectorSize};
+use ir_types::types::{AddressSpace, TypeInner};
 use ir_types::typifier::TypeResolution;
 
 /// The type with a handle, where the module has so many types.

@@ -5,7 +5,7 @@ ghost use Rattle.layer_expressions.specs.Operators.{splat_of, has_component, cov
 
 use crate::operands::Arguments;
 use crate::shapes::{Shape, is_bool, is_float, is_integer, is_same_scalar, is_signed};
-use ir_types::types::{Scalar, ScalarKind, VectorSize};
+use ir_leaves::scalars::{Scalar, ScalarKind, VectorSize};
 use layer_forms::{
     BinaryOperator, Cast, RelationalFunction, Swizzle, SwizzleComponent, UnaryOperator,
 };

@@ -8,7 +8,8 @@ use crate::operands::type_of_operand;
 use crate::rules::Rule;
 use ir_arena::handle::Handle;
 use ir_arena::tag;
-use ir_types::types::{ArraySize, Scalar, Type, TypeInner};
+use ir_leaves::scalars::Scalar;
+use ir_types::types::{ArraySize, Type, TypeInner};
 use ir_types::typifier::TypeResolution;
 use layer_types::sizes::inner_at;
 

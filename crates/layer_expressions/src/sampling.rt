@@ -1,7 +1,7 @@
 //! The types of image samples.
 
 ghost use Rattle.std.specs.Prelude.{◌≡◌, ◌≤◌};
-ghost use Rattle.ir_facts.specs.Points.{first_fault};
+ghost use Rattle.ir_arena.specs.Points.{first_fault};
 ghost use Rattle.layer_expressions.specs.Sampling.{ones, level_count, before_level, before_depth, shape_if, comparison_among, has_level, has_gradients, sampled_of, takes_class, can_be_gathered, can_be_clamped, takes_dimension, is_zero, is_depth, takes_exact, takes_level, fits_level, takes_sampler, takes_integer, sample_points, four_of, sample_shape, are_resources, image_among, sample_type};
 
 use crate::images::{
@@ -13,8 +13,10 @@ use crate::rules::Rule;
 use crate::shapes::{Shape, four_bytes, is_float};
 use ir_arena::handle::Handle;
 use ir_arena::tag;
+use ir_leaves::images::ImageDimension;
+use ir_leaves::scalars::{Scalar, ScalarKind, VectorSize};
 use ir_module::expressions::Expression;
-use ir_types::types::{ImageClass, ImageDimension, Scalar, ScalarKind, Type, VectorSize};
+use ir_types::types::{ImageClass, Type};
 use ir_types::typifier::TypeResolution;
 use layer_forms::{LevelKind, Sampling};
 

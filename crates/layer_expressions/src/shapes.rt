@@ -3,7 +3,8 @@
 ghost use Rattle.std.specs.Prelude.{◌≡◌};
 ghost use Rattle.layer_expressions.specs.Shapes.{shape_of, value_of, scalar_of, four_bytes, with_scalar, is_matrix, is_same, is_same_scalar, is_integer, is_signed, is_float, is_bool};
 
-use ir_types::types::{Scalar, ScalarKind, TypeInner, VectorSize};
+use ir_leaves::scalars::{Scalar, ScalarKind, VectorSize};
+use ir_types::types::TypeInner;
 use ir_types::typifier::TypeResolution;
 
 /// A scalar, a vector of a size, or a matrix of so many columns and rows.

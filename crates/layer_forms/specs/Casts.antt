@@ -1,8 +1,8 @@
 -- The conversions and bitcasts that `detail` stands for.
 use Rattle.std.specs.Prelude.{ℕ, ◌/◌, ◌%◌, ◌==◌, List, [], ◌∷◌, Option, None, Some, slice_get, if◌then◌else◌}
 use Rattle.std.specs.Option.{option_map}
-use Rattle.ir_types.specs.declared.types.ScalarKind.{ScalarKind}
-use Rattle.ir_types.specs.declared.types.ScalarKind.TheVariants as kind
+use Rattle.ir_leaves.specs.declared.scalars.ScalarKind.{ScalarKind}
+use Rattle.ir_leaves.specs.declared.scalars.ScalarKind.TheVariants as kind
 use Rattle.layer_forms.specs.declared.casts.Cast.{Cast}
 
 abbrev pub kinds : List ScalarKind

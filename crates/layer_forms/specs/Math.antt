@@ -1,7 +1,7 @@
 -- The functions of WGSL that `detail` stands for, by their places from 0; and what each takes and gives.
 use Rattle.std.specs.Prelude.{List, [], ◌∷◌}
-use Rattle.ir_types.specs.declared.types.ScalarKind.TheVariants.{Sint, Uint, Float}
-use Rattle.ir_types.specs.declared.types.VectorSize.TheVariants.{Bi, Quad}
+use Rattle.ir_leaves.specs.declared.scalars.ScalarKind.TheVariants.{Sint, Uint, Float}
+use Rattle.ir_leaves.specs.declared.scalars.VectorSize.TheVariants.{Bi, Quad}
 use Rattle.layer_forms.specs.declared.math.MathFunction.{MathFunction}
 use Rattle.layer_forms.specs.declared.math.MathFunction.TheVariants as f
 use Rattle.layer_forms.specs.declared.math.MathClass.{MathClass}

@@ -1,7 +1,7 @@
 -- The sizes of vectors and the swizzles that `detail` stands for.
 use Rattle.std.specs.Prelude.{ℕ, ◌/◌, ◌%◌, List, [], ◌∷◌, Option, None, Some, slice_get}
-use Rattle.ir_types.specs.declared.types.VectorSize.{VectorSize}
-use Rattle.ir_types.specs.declared.types.VectorSize.TheVariants.{Bi, Tri, Quad}
+use Rattle.ir_leaves.specs.declared.scalars.VectorSize.{VectorSize}
+use Rattle.ir_leaves.specs.declared.scalars.VectorSize.TheVariants.{Bi, Tri, Quad}
 use Rattle.layer_forms.specs.declared.vectors.Swizzle.{Swizzle}
 use Rattle.layer_forms.specs.declared.vectors.SwizzleComponent.{SwizzleComponent}
 use Rattle.layer_forms.specs.declared.vectors.SwizzleComponent.TheVariants as component

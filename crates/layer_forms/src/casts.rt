@@ -3,7 +3,7 @@
 ghost use Rattle.std.specs.Prelude.{◌≡◌, slice_get};
 ghost use Rattle.layer_forms.specs.Casts.{kinds, width_of, cast_of};
 
-use ir_types::types::ScalarKind;
+use ir_leaves::scalars::ScalarKind;
 
 /// What an `As` makes of its operand: values of this kind. `convert` is their width in bytes, `None` is a bitcast.
 #[derive(Clone, Copy)]

@@ -3,7 +3,7 @@
 ghost use Rattle.std.specs.Prelude.{◌≡◌, slice_get};
 ghost use Rattle.layer_forms.specs.Math.{functions, class_of};
 
-use ir_types::types::{ScalarKind, VectorSize};
+use ir_leaves::scalars::{ScalarKind, VectorSize};
 
 /// A function of WGSL, by naga's name.
 #[derive(Clone, Copy)]

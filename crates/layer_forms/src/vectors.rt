@@ -3,7 +3,7 @@
 ghost use Rattle.std.specs.Prelude.{◌≡◌, slice_get};
 ghost use Rattle.layer_forms.specs.Vectors.{sizes, components, swizzle_of};
 
-use ir_types::types::VectorSize;
+use ir_leaves::scalars::VectorSize;
 
 /// A component of a vector.
 #[derive(Clone, Copy)]

@@ -1,7 +1,8 @@
 //! Why an operator doesn't take the types of its two sides.
 
 use crate::types::write_type;
-use ir_types::types::{ScalarKind, Type, TypeInner};
+use ir_leaves::scalars::ScalarKind;
+use ir_types::types::{Type, TypeInner};
 use ir_types::unique_arena::UniqueArena;
 use layer_expressions::shapes::{Shape, is_integer, shape_of};
 use layer_forms::BinaryOperator;

@@ -1,7 +1,8 @@
 //! Types in WGSL's words.
 
 use ir_arena::{Handle, tag};
-use ir_types::types::{Scalar, ScalarKind, Type, TypeInner, VectorSize};
+use ir_leaves::scalars::{Scalar, ScalarKind, VectorSize};
+use ir_types::types::{Type, TypeInner};
 use ir_types::unique_arena::UniqueArena;
 use std::fmt;
 
@@ -91,6 +92,30 @@ fn write_leaf<W: fmt::Write>(writer: &mut W, inner: &TypeInner) -> fmt::Result {
     }
 }
 
+/// What a pointer or an array holds, behind what it is.
+fn write_held<W: fmt::Write>(
+    writer: &mut W,
+    before: &str,
+    types: &UniqueArena<Type>,
+    held: Handle<tag::Type>,
+) -> fmt::Result {
+    writer.write_str(before)?;
+    write_base(writer, types, held)
+}
+
+/// A pointer to a vector of a size, or to a scalar.
+fn write_value_pointer<W: fmt::Write>(
+    writer: &mut W,
+    size: Option<VectorSize>,
+    scalar: Scalar,
+) -> fmt::Result {
+    writer.write_str("a pointer to ")?;
+    match size {
+        Some(size) => write_vector(writer, size, scalar),
+        None => write_scalar(writer, scalar),
+    }
+}
+
 /// Writes a type, as `vec3<f32>`, or `a pointer to f32`. What a pointer or an array has in it stands by its name or its kind.
 ///
 /// An Err is that of the writer.
@@ -100,29 +125,13 @@ pub fn write_type<W: fmt::Write>(
     inner: &TypeInner,
 ) -> fmt::Result {
     match inner {
-        TypeInner::Pointer { base, .. } => {
-            writer.write_str("a pointer to ")?;
-            write_base(writer, types, *base)
-        }
-        TypeInner::ValuePointer {
-            size: Some(size),
-            scalar,
-            ..
-        } => {
-            writer.write_str("a pointer to ")?;
-            write_vector(writer, *size, *scalar)
-        }
-        TypeInner::ValuePointer { scalar, .. } => {
-            writer.write_str("a pointer to ")?;
-            write_scalar(writer, *scalar)
-        }
-        TypeInner::Array { base, .. } => {
-            writer.write_str("an array of ")?;
-            write_base(writer, types, *base)
-        }
+        TypeInner::Pointer { base, .. } => write_held(writer, "a pointer to ", types, *base),
+        TypeInner::Array { base, .. } => write_held(writer, "an array of ", types, *base),
         TypeInner::BindingArray { base, .. } => {
-            writer.write_str("a binding array of ")?;
-            write_base(writer, types, *base)
+            write_held(writer, "a binding array of ", types, *base)
+        }
+        TypeInner::ValuePointer { size, scalar, .. } => {
+            write_value_pointer(writer, *size, *scalar)
         }
         _ => write_leaf(writer, inner),
     }

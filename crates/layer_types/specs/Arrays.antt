@@ -5,8 +5,8 @@ use Rattle.ir_flags.specs.Bits.{contains, DATA, SIZED, COPY, HOST_SHAREABLE, CRE
 use Rattle.ir_flags.specs.declared.valid.TypeFlags.{TypeFlags}
 use Rattle.ir_types.specs.declared.types.ArraySize.{ArraySize}
 use Rattle.ir_types.specs.declared.types.ArraySize.TheVariants as size
-use Rattle.ir_errors.specs.declared.types.Disalignment.{Disalignment}
-use Rattle.ir_facts.specs.declared.valid.types.TypeInfo.{TypeInfo}
+use Rattle.ir_types.specs.declared.type_info.Disalignment.{Disalignment}
+use Rattle.ir_types.specs.declared.type_info.TypeInfo.{TypeInfo}
 use Rattle.layer_types.specs.declared.parts.Part.{Part}
 use Rattle.layer_types.specs.Leaves.{all_of}
 use Rattle.layer_types.specs.Parts.{bad_stride}

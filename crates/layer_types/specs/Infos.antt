@@ -6,7 +6,7 @@ use Rattle.ir_types.specs.declared.types.AddressSpace.{AddressSpace}
 use Rattle.ir_types.specs.declared.types.Type.{«Type» as IrType}
 use Rattle.ir_types.specs.declared.types.TypeInner.{TypeInner}
 use Rattle.ir_types.specs.declared.types.TypeInner.TheVariants as inner
-use Rattle.ir_facts.specs.declared.valid.types.TypeInfo.{TypeInfo}
+use Rattle.ir_types.specs.declared.type_info.TypeInfo.{TypeInfo}
 use Rattle.layer_types.specs.Arrays.{array_info}
 use Rattle.layer_types.specs.Leaves.{info, known_info, leaf_info, pointer_flags}
 use Rattle.layer_types.specs.Parts.{not_well_formed, part_of}

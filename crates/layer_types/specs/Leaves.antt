@@ -7,13 +7,13 @@ use Rattle.ir_types.specs.declared.types.AddressSpace.{AddressSpace}
 use Rattle.ir_types.specs.declared.types.AddressSpace.TheVariants as space
 use Rattle.ir_types.specs.declared.types.ImageClass.{ImageClass}
 use Rattle.ir_types.specs.declared.types.ImageClass.TheVariants as class
-use Rattle.ir_types.specs.declared.types.Scalar.{Scalar}
-use Rattle.ir_types.specs.declared.types.ScalarKind.{ScalarKind}
-use Rattle.ir_types.specs.declared.types.ScalarKind.TheVariants as kind
+use Rattle.ir_leaves.specs.declared.scalars.Scalar.{Scalar}
+use Rattle.ir_leaves.specs.declared.scalars.ScalarKind.{ScalarKind}
+use Rattle.ir_leaves.specs.declared.scalars.ScalarKind.TheVariants as kind
 use Rattle.ir_types.specs.declared.types.TypeInner.{TypeInner}
 use Rattle.ir_types.specs.declared.types.TypeInner.TheVariants as inner
-use Rattle.ir_errors.specs.declared.types.ImmediateError.{ImmediateError}
-use Rattle.ir_facts.specs.declared.valid.types.TypeInfo.{TypeInfo}
+use Rattle.ir_types.specs.declared.type_info.ImmediateError.{ImmediateError}
+use Rattle.ir_types.specs.declared.type_info.TypeInfo.{TypeInfo}
 use Rattle.layer_types.specs.Sizes.{aligned_components_of}
 
 -- the widths of each kind: of a bool 1, of integers 4 and 8, of floats 2, 4 and 8; of the abstract ones none

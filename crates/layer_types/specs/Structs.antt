@@ -4,13 +4,13 @@ use Rattle.std.specs.Prelude.{ℕ, Bool, true, false, not, ◌+◌, ◌*◌, ◌
 use Rattle.ir_flags.specs.Bits.{contains, ALL_TYPE_FLAGS, HOST_SHAREABLE, SIZED}
 use Rattle.ir_flags.specs.declared.valid.TypeFlags.{TypeFlags}
 use Rattle.ir_types.specs.Types.{inner_at}
-use Rattle.ir_types.specs.declared.types.Binding.{Binding}
-use Rattle.ir_types.specs.declared.types.Binding.TheVariants as binding
+use Rattle.ir_leaves.specs.declared.bindings.Binding.{Binding}
+use Rattle.ir_leaves.specs.declared.bindings.Binding.TheVariants as binding
 use Rattle.ir_types.specs.declared.types.StructMember.{StructMember}
 use Rattle.ir_types.specs.declared.types.Type.{«Type» as IrType}
-use Rattle.ir_errors.specs.declared.types.Disalignment.{Disalignment}
-use Rattle.ir_errors.specs.declared.types.ImmediateError.{ImmediateError}
-use Rattle.ir_facts.specs.declared.valid.types.TypeInfo.{TypeInfo}
+use Rattle.ir_types.specs.declared.type_info.Disalignment.{Disalignment}
+use Rattle.ir_types.specs.declared.type_info.ImmediateError.{ImmediateError}
+use Rattle.ir_types.specs.declared.type_info.TypeInfo.{TypeInfo}
 use Rattle.layer_types.specs.declared.parts.Part.{Part}
 use Rattle.layer_types.specs.declared.structs.Laid.{Laid}
 use Rattle.layer_types.specs.Leaves.{all_of, VALUE}

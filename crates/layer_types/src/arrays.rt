@@ -8,9 +8,8 @@ use crate::sizes::is_aligned;
 use bitflags::Flags;
 use ir_arena::handle::Handle;
 use ir_arena::tag;
-use ir_errors::types::Disalignment;
-use ir_facts::valid::types::TypeInfo;
 use ir_flags::valid::TypeFlags;
+use ir_types::type_info::{Disalignment, TypeInfo};
 use ir_types::types::ArraySize;
 
 /// DATA, SIZED, COPY, HOST_SHAREABLE, CREATION_RESOLVED, ARGUMENT, CONSTRUCTIBLE.

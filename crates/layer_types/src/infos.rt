@@ -12,28 +12,28 @@ use bitflags::Flags;
 use ir_arena::handle::Handle;
 use ir_arena::sequence::Sequence;
 use ir_arena::tag;
-use ir_errors::types::ImmediateError;
-use ir_facts::valid::types::TypeInfo;
 use ir_flags::valid::TypeFlags;
-use ir_module::module::Module;
+use ir_types::type_info::{ImmediateError, TypeInfo};
 use ir_types::types::{AddressSpace, Type, TypeInner};
+use ir_types::unique_arena::UniqueArena;
 use std::alloc::{AllocError, Global};
 
 /// The info of each type of a module, by its handle. An Err is out of memory.
 ///
-/// A type that isn't well formed has no flags, and no buffer takes it. Not well formed is, among others, one that names
-/// itself or a later type, a scalar of a width that its kind doesn't have, an array whose size passes 32 bits, a struct
-/// whose members overlap. docs/TYPES.md has the rule of each type.
+/// A type that isn't well formed has no flags, and no buffer takes it.
 #[tactic(auto, unfolding(crate::specs::Infos::infos_from))]
-pub fn type_infos(alloc: Global, module: &Module) -> Result<Sequence<TypeInfo>, AllocError>
-    ensures { IfOk result (λ infos. infos ≡ infos_from «module».now.types [] «module».now.types) }
+pub fn type_infos(
+    alloc: Global,
+    types: &UniqueArena<Type>,
+) -> Result<Sequence<TypeInfo>, AllocError>
+    ensures { IfOk result (λ infos. infos ≡ infos_from types.now [] types.now) }
 {
     let mut infos = Sequence::new(alloc);
-    let count = module.types.len() as u32;
+    let count = types.len() as u32;
     for index in 0..count {
         let handle = Handle::new(index);
-        let types = module.types.as_slice();
-        let info = info_of(types, infos.as_slice(), handle, &module.types[handle].inner);
+        let all = types.as_slice();
+        let info = info_of(all, infos.as_slice(), handle, &types[handle].inner);
         infos.push(info)?;
     }
     Ok(infos)

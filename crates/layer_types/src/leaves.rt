@@ -4,10 +4,10 @@ ghost use Rattle.std.specs.Prelude.{◌≡◌};
 ghost use Rattle.layer_types.specs.Leaves.{is_known, is_float, is_atomic, is_number, value_flags, immediate_of, info, of_scalar, pointer_flags, image_info, known_info, leaf_info};
 
 use crate::sizes::aligned_components_of;
-use ir_errors::types::ImmediateError;
-use ir_facts::valid::types::TypeInfo;
 use ir_flags::valid::TypeFlags;
-use ir_types::types::{AddressSpace, ImageClass, Scalar, ScalarKind, TypeInner};
+use ir_leaves::scalars::{Scalar, ScalarKind};
+use ir_types::type_info::{ImmediateError, TypeInfo};
+use ir_types::types::{AddressSpace, ImageClass, TypeInner};
 
 /// DATA, SIZED, COPY, CREATION_RESOLVED, ARGUMENT, CONSTRUCTIBLE.
 const VALUE: TypeFlags = TypeFlags(0xe7);

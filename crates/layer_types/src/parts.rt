@@ -7,9 +7,8 @@ ghost use Rattle.layer_types.specs.Parts.{is_struct, data_part, part_of};
 use crate::sizes::{inner_at, inner_size};
 use ir_arena::handle::Handle;
 use ir_arena::tag;
-use ir_errors::types::Disalignment;
-use ir_facts::valid::types::TypeInfo;
 use ir_flags::valid::TypeFlags;
+use ir_types::type_info::{Disalignment, TypeInfo};
 use ir_types::types::{Type, TypeInner};
 
 /// The type isn't well formed.

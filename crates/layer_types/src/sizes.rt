@@ -7,8 +7,8 @@ ghost use Rattle.layer_types.specs.Sizes.{components_of, aligned_components_of, 
 
 use ir_arena::handle::Handle;
 use ir_arena::tag;
-use ir_module::module::Module;
-use ir_types::types::{ArraySize, Type, TypeInner, VectorSize};
+use ir_leaves::scalars::VectorSize;
+use ir_types::types::{ArraySize, Type, TypeInner};
 
 /// The type with a handle, where it is there.
 pub fn inner_at(types: &[Type], ty: Handle<tag::Type>) -> Option<&TypeInner>
@@ -21,10 +21,10 @@ pub fn inner_at(types: &[Type], ty: Handle<tag::Type>) -> Option<&TypeInner>
 }
 
 /// The size of the type with a handle, in bytes, where it is known before the pipeline is made and fits 32 bits.
-pub fn size_of(module: &Module, ty: Handle<tag::Type>) -> Option<u32>
-    ensures { result ≡ size_at «module».now.types ty }
+pub fn size_of(types: &[Type], ty: Handle<tag::Type>) -> Option<u32>
+    ensures { result ≡ size_at types.now ty }
 {
-    match inner_at(module.types.as_slice(), ty) {
+    match inner_at(types, ty) {
         Some(inner) => inner_size(inner),
         None => None,
     }

@@ -8,10 +8,10 @@ use crate::sizes::is_aligned;
 use bitflags::Flags;
 use ir_arena::handle::Handle;
 use ir_arena::tag;
-use ir_errors::types::{Disalignment, ImmediateError};
-use ir_facts::valid::types::TypeInfo;
 use ir_flags::valid::TypeFlags;
-use ir_types::types::{Binding, StructMember, Type};
+use ir_leaves::bindings::Binding;
+use ir_types::type_info::{Disalignment, ImmediateError, TypeInfo};
+use ir_types::types::{StructMember, Type};
 
 /// What is known of a struct after some of its members.
 #[derive(Clone, Copy)]

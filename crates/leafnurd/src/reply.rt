@@ -55,6 +55,6 @@ pub(crate) fn judge_into(alloc: Global, text: &[u8], out: &mut [u8], form: Form)
 {
     let examined = examine(alloc, text);
     let answer = tell(alloc, &examined, out, form);
-    drop(examined);
+    examined.let_go();
     answer
 }

@@ -1,9 +1,9 @@
 pub use Rattle.ir_facts.specs.declared.valid.info.FunctionInfo.{FunctionInfo}
 pub use Rattle.ir_facts.specs.declared.valid.info.ModuleInfo.{ModuleInfo}
 pub use Rattle.ir_facts.specs.declared.valid.settings.Settings.{Settings}
-pub use Rattle.ir_facts.specs.declared.valid.types.TypeInfo.{TypeInfo}
+pub use Rattle.ir_types.specs.declared.type_info.TypeInfo.{TypeInfo}
 pub use Rattle.ir_facts.specs.Fits.{FitsTypes, FitsGlobals, FitsFunction, FitsEntry}
-pub use Rattle.ir_facts.specs.Points.{Point, first_fault}
+pub use Rattle.ir_arena.specs.Points.{Point, first_fault}
 pub use Rattle.ir_flags.specs.Bits.{READ, ALL_STAGES}
 pub use Rattle.ir_module.specs.declared.expressions.Expression.{Expression}
 pub use Rattle.ir_module.specs.declared.expressions.Expression.TheVariants.{CallResult, AtomicResult}
@@ -13,7 +13,7 @@ pub use Rattle.ir_module.specs.declared.module.EntryPoint.{EntryPoint}
 pub use Rattle.ir_module.specs.declared.module.GlobalVariable.{GlobalVariable}
 pub use Rattle.ir_module.specs.declared.module.Module.{Module}
 pub use Rattle.ir_module.specs.declared.module.ResourceBinding.{ResourceBinding}
-pub use Rattle.ir_types.specs.declared.stage.ShaderStage.{ShaderStage}
+pub use Rattle.ir_leaves.specs.declared.stage.ShaderStage.{ShaderStage}
 pub use Rattle.ir_statements.specs.declared.statements.Block.{Block}
 pub use Rattle.ir_statements.specs.declared.statements.Statement.{Statement}
 pub use Rattle.ir_statements.specs.Tree.{Return, Switch}

@@ -5,13 +5,15 @@
 pub use ir_arena::{
     Arena, Duplicate, Handle, MAX_LEN, Range, Refusal, Sequence, Span, Tagged, WithSpan, tag,
 };
-pub use ir_errors::{Disalignment, ExpressionError, ImmediateError};
-pub use ir_facts::{
-    ExpressionKind, ExpressionKindTracker, FunctionInfo, ModuleInfo, Settings, TypeInfo,
-};
+pub use ir_errors::ExpressionError;
+pub use ir_facts::{ExpressionKind, ExpressionKindTracker, FunctionInfo, ModuleInfo, Settings};
 pub use ir_flags::{
     Barrier, Capabilities, GlobalUse, MemoryDecorations, ShaderStages, StorageAccess,
     SubgroupOperationSet, TypeFlags, ValidationFlags,
+};
+pub use ir_leaves::{
+    Binding, BuiltIn, ImageDimension, Interpolation, Name, Sampling, Scalar, ScalarKind,
+    ShaderStage, StorageFormat, VectorSize, clone_name,
 };
 pub use ir_misfits::{fits_entry, fits_function, fits_globals, fits_types};
 pub use ir_module::{
@@ -24,8 +26,7 @@ pub use ir_statements::{
     RayPipelineFunction, RayQueryFunction, Statement, SubgroupOperation, SwitchCase, SwitchValue,
 };
 pub use ir_types::{
-    AddressSpace, ArraySize, Binding, BuiltIn, Identical, ImageClass, ImageDimension,
-    Interpolation, Members, Name, Sampling, Scalar, ScalarKind, ShaderStage, StorageFormat,
-    StructMember, Type, TypeInner, TypeResolution, UniqueArena, VectorSize, clone_name,
-    compare_types, type_tests_law,
+    AddressSpace, ArraySize, Disalignment, Identical, ImageClass, ImmediateError, Members,
+    StructMember, Type, TypeInfo, TypeInner, TypeResolution, UniqueArena, compare_types,
+    type_tests_law,
 };

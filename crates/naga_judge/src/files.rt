@@ -164,7 +164,7 @@ fn write_answer(
         Output::Listing => write_for_person(alloc, text, true, name, &examined),
         Output::Json | Output::JsonLines => write_as_json(alloc, text, name, &examined),
     };
-    drop(examined);
+    examined.let_go();
     match written {
         Ok(()) => Ok(status),
         Err(error) => Err(error),

@@ -1,6 +1,7 @@
 //! For users: three lower layers: `Recorded` answers recorded facts, `Typed` computes, `Plain` types the plainest expressions.
 #![tactic(auto)]
 
+pub mod infos;
 pub mod joins;
 pub mod kinds;
 pub mod lent;
@@ -12,6 +13,7 @@ pub mod typed;
 pub mod uses;
 pub mod walk;
 
+pub use crate::infos::type_infos;
 pub use crate::lent::Lent;
 pub use crate::plain::Plain;
 pub use crate::recorded::Recorded;
@@ -20,4 +22,3 @@ pub use ir_facts::{
     ExpressionFact, Facts, FunctionFact, InfoFact, LowerFunctionError, MeshAnalysisFact,
 };
 pub use layer_expressions::{Rule, Untyped, global_types};
-pub use layer_types::type_infos;

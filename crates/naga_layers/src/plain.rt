@@ -138,7 +138,7 @@ impl Below for Plain {
     }
 
     fn type_size(&self, module: &Module, ty: Handle<tag::Type>) -> Option<u32> {
-        size_of(module, ty)
+        size_of(module.types.as_slice(), ty)
     }
 
     ghost one_type_each = { λ _ f m _ _ _ info h. info_one_type_each f m info h };

@@ -11,6 +11,7 @@ ghost use Rattle.naga_layers.specs.Recorded.Infos.{is_lawful_type, is_lawful_inf
 
 use crate::kinds::kinds_of;
 use ir_arena::arena::Arena;
+use ir_arena::duplicate::duplicates;
 use ir_arena::handle::Handle;
 use ir_arena::sequence::Sequence;
 use ir_arena::span::{Refusal, WithSpan};
@@ -108,25 +109,11 @@ fn is_lawful_info(info: &InfoFact, fun: &Function, module: &Module) -> bool
         && are_lawful_types(info.types.as_slice(), module.types.len())
 }
 
-/// Equal types.
-fn clone_types(
-    alloc: Global,
-    types: &[TypeResolution],
-) -> Result<Sequence<TypeResolution>, AllocError>
-    ensures { IfOk result (λ made. made ≡ types.now) }
-{
-    let mut made = Sequence::new(alloc);
-    for resolution in types {
-        made.push(resolution.clone(alloc)?)?;
-    }
-    Ok(made)
-}
-
 /// A recorded info as a lower layer answers it.
 fn info_of(alloc: Global, info: &InfoFact) -> Result<FunctionInfo, AllocError>
     ensures { IfOk result (λ made. made ≡ info_of info.now) }
 {
-    let expression_types = clone_types(alloc, info.types.as_slice())?;
+    let expression_types = Sequence::from(duplicates(alloc, info.types.as_slice())?);
     let global_uses = info.uses.clone(alloc)?;
     Ok(FunctionInfo {
         expression_types,

@@ -150,7 +150,7 @@ impl Below for Typed {
     }
 
     fn type_size(&self, module: &Module, ty: Handle<tag::Type>) -> Option<u32> {
-        size_of(module, ty)
+        size_of(module.types.as_slice(), ty)
     }
 
     ghost one_type_each = { λ _ f m i _ _ info h. one_type_each f m i info h };

@@ -8,11 +8,11 @@ use Rattle.ir_module.specs.declared.functions.Function.{Function}
 use Rattle.ir_module.specs.declared.module.EntryPoint.{EntryPoint}
 use Rattle.ir_module.specs.declared.module.GlobalVariable.{GlobalVariable}
 use Rattle.ir_module.specs.declared.module.Module.{Module}
-use Rattle.ir_errors.specs.declared.types.Disalignment.{Disalignment}
-use Rattle.ir_facts.specs.declared.valid.types.TypeInfo.{TypeInfo}
+use Rattle.ir_types.specs.declared.type_info.Disalignment.{Disalignment}
+use Rattle.ir_types.specs.declared.type_info.TypeInfo.{TypeInfo}
 use Rattle.ir_facts.specs.Each.{EachAt}
 use Rattle.ir_facts.specs.Fits.{FitsTypes, FitsGlobals, FitsFunction, FitsEntry}
-use Rattle.ir_facts.specs.Points.{first_fault, points_of_each}
+use Rattle.ir_arena.specs.Points.{first_fault, points_of_each}
 use Rattle.ir_misfits.specs.declared.misfit.HandleOf.TheVariants.{Types}
 use Rattle.ir_misfits.specs.declared.misfit.Misfit.{Misfit}
 use Rattle.ir_misfits.specs.declared.misfit.Owner.TheVariants as owner

@@ -8,7 +8,7 @@ use Rattle.ir_module.specs.declared.module.Module.{Module}
 use Rattle.ir_facts.specs.declared.valid.info.FunctionInfo.{FunctionInfo}
 use Rattle.ir_facts.specs.declared.valid.info.ModuleInfo.{ModuleInfo}
 use Rattle.ir_facts.specs.declared.valid.settings.Settings.{Settings}
-use Rattle.ir_facts.specs.declared.valid.types.TypeInfo.{TypeInfo}
+use Rattle.ir_types.specs.declared.type_info.TypeInfo.{TypeInfo}
 use Rattle.ir_facts.specs.Meaning.{Meaning}
 use Rattle.ir_facts.specs.WhatIsChecked.{checks_blocks, checks_expressions, checks_bindings}
 use Rattle.check_body.proofs.Chains.{of_all_infos, of_other_entries, fits_calls_below}

@@ -4,15 +4,15 @@ use Rattle.std.proofs.lemmas.List.{at_drop_more, drop_all}
 use Rattle.std.proofs.lemmas.Option.{get_or_from_slice_get}
 use Rattle.std.specs.Option.{option_or}
 use Rattle.std.specs.Prelude.{None, Some, slice_get}
-use Rattle.ir_facts.proofs.Points.{first_turn, first_end}
-use Rattle.ir_facts.specs.Points.{Point, first_fault, points_from, points_of_each}
+use Rattle.ir_arena.proofs.Points.{first_turn, first_end}
+use Rattle.ir_arena.specs.Points.{Point, first_fault, points_from, points_of_each}
 use Rattle.ir_facts.specs.Fits.{FitsFunction, FitsEntry}
 use Rattle.ir_module.specs.declared.functions.Function.{Function}
 use Rattle.ir_module.specs.declared.module.EntryPoint.{EntryPoint}
 use Rattle.ir_module.specs.declared.module.Module.{Module}
 use Rattle.ir_facts.specs.declared.valid.info.ModuleInfo.{ModuleInfo}
 use Rattle.ir_facts.specs.declared.valid.settings.Settings.{Settings}
-use Rattle.ir_facts.specs.declared.valid.types.TypeInfo.{TypeInfo}
+use Rattle.ir_types.specs.declared.type_info.TypeInfo.{TypeInfo}
 use Rattle.ir_facts.specs.Meaning.{Meaning}
 use Rattle.ir_errors.specs.declared.function.FunctionError.{FunctionError}
 use Rattle.check_entry.specs.EntryFaults.{fault_of}

@@ -5,8 +5,8 @@ use Rattle.std.proofs.lemmas.Option.{get_or_from_slice_get, slice_get_within}
 use Rattle.std.specs.Option.{option_map, option_or}
 use Rattle.std.specs.Prelude.{All, slice_get}
 use Rattle.ir_facts.specs.Fits.{FitsFunction, FitsEntry}
-use Rattle.ir_facts.specs.Points.{Point, answer, first_fault, points_from, points_of_each, within}
-use Rattle.ir_facts.proofs.Points.{first_of_both, first_within}
+use Rattle.ir_arena.specs.Points.{Point, answer, first_fault, points_from, points_of_each, within}
+use Rattle.ir_arena.proofs.Points.{first_of_both, first_within}
 use Rattle.ir_module.specs.declared.functions.Function.{Function}
 use Rattle.ir_module.specs.declared.module.EntryPoint.{EntryPoint}
 use Rattle.ir_module.specs.declared.module.GlobalVariable.{GlobalVariable}
@@ -14,7 +14,7 @@ use Rattle.ir_module.specs.declared.module.Module.{Module}
 use Rattle.ir_types.specs.declared.typifier.TypeResolution.{TypeResolution}
 use Rattle.ir_facts.specs.declared.valid.info.ModuleInfo.{ModuleInfo}
 use Rattle.ir_facts.specs.declared.valid.settings.Settings.{Settings}
-use Rattle.ir_facts.specs.declared.valid.types.TypeInfo.{TypeInfo}
+use Rattle.ir_types.specs.declared.type_info.TypeInfo.{TypeInfo}
 use Rattle.check_body.specs.InOrder.{with_info}
 use Rattle.check_entry.specs.InterfacePoints.{HasPayloadSizes}
 use Rattle.naga_valid.specs.EntryJudgement.{entry_judgement}

@@ -6,7 +6,7 @@ use Rattle.ir_module.specs.declared.module.EntryPoint.{EntryPoint}
 use Rattle.ir_module.specs.declared.module.Module.{Module}
 use Rattle.ir_facts.specs.declared.valid.info.ModuleInfo.{ModuleInfo}
 use Rattle.ir_facts.specs.declared.valid.settings.Settings.{Settings}
-use Rattle.ir_facts.specs.declared.valid.types.TypeInfo.{TypeInfo}
+use Rattle.ir_types.specs.declared.type_info.TypeInfo.{TypeInfo}
 use Rattle.check_body.specs.InOrder.{with_info}
 use Rattle.check_entry.specs.EntryFaults.{EntryFault}
 use Rattle.check_entry.specs.InterfacePoints.{HasPayloadSizes}

@@ -5,7 +5,7 @@ use Rattle.std.specs.List.{AllByRecursion}
 use Rattle.std.specs.Prelude.{Contains, slice_get}
 use Rattle.ir_statements.proofs.Rows.{body_of-list}
 use Rattle.ir_flags.specs.Bits.{ALL_STAGES}
-use Rattle.ir_facts.specs.Points.{and_then, answer, first_fault}
+use Rattle.ir_arena.specs.Points.{and_then, answer, first_fault}
 use Rattle.ir_statements.specs.Tree.{Body}
 use Rattle.ir_statements.specs.View.{list_body}
 use Rattle.ir_module.specs.declared.functions.Function.{Function}

@@ -4,11 +4,11 @@ use Rattle.ir_facts.specs.Fits.{FitsFunction, FitsEntry}
 use Rattle.ir_module.specs.declared.functions.Function.{Function}
 use Rattle.ir_module.specs.declared.module.EntryPoint.{EntryPoint}
 use Rattle.ir_module.specs.declared.module.Module.{Module}
-use Rattle.ir_types.specs.declared.stage.ShaderStage.TheVariants.{Vertex}
+use Rattle.ir_leaves.specs.declared.stage.ShaderStage.TheVariants.{Vertex}
 use Rattle.ir_facts.specs.declared.valid.info.FunctionInfo.{FunctionInfo}
 use Rattle.ir_facts.specs.declared.valid.info.ModuleInfo.{ModuleInfo}
 use Rattle.ir_facts.specs.declared.valid.settings.Settings.{Settings}
-use Rattle.ir_facts.specs.declared.valid.types.TypeInfo.{TypeInfo}
+use Rattle.ir_types.specs.declared.type_info.TypeInfo.{TypeInfo}
 use Rattle.ir_facts.specs.Meaning.{Meaning}
 use Rattle.check_body.specs.Chains.{IsVettedInfo, AreVetted}
 use Rattle.naga_valid.specs.EntryJudgement.{entry_judgement}

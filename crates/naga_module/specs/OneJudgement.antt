@@ -2,7 +2,7 @@
 -- text there, and may have it at two addresses. In all else they are equal.
 use Rattle.std.specs.Prelude.{◌≡◌, List, Ok, Err}
 use Rattle.ir_facts.specs.declared.valid.settings.Settings.{Settings}
-use Rattle.ir_facts.specs.declared.valid.types.TypeInfo.{TypeInfo}
+use Rattle.ir_types.specs.declared.type_info.TypeInfo.{TypeInfo}
 use Rattle.ir_module.specs.declared.module.Module.{Module}
 use Rattle.ir_types.specs.declared.typifier.TypeResolution.{TypeResolution}
 use Rattle.check_entry.specs.EntryFaults.{fault_of}

@@ -2,7 +2,7 @@
 
 ghost use Rattle.std.specs.Prelude.{◌≡◌, ◌↔◌, ◌∷◌, [], None, Err, IsSome};
 ghost use Rattle.std.specs.Result.{result_err};
-ghost use Rattle.ir_facts.specs.Points.{first_fault, points_of_each};
+ghost use Rattle.ir_arena.specs.Points.{first_fault, points_of_each};
 ghost use Rattle.ir_facts.specs.declared.valid.settings.Settings.{Settings};
 ghost use Rattle.check_faults.specs.declared.module.ModuleFault.TheVariants as fault;
 ghost use Rattle.naga_module.specs.Misfits.{layout_points, info_points, one_info_each, infos_points, module_function_points, entry_point_points, size_points, module_points, AllFits};
@@ -11,9 +11,7 @@ ghost use Rattle.naga_module.specs.ModuleJudgement.{IsJudgement};
 use crate::check::Given;
 use ir_arena::handle::Handle;
 use ir_arena::tag;
-use ir_errors::types::Disalignment;
 use ir_facts::below::Below;
-use ir_facts::valid::types::TypeInfo;
 use ir_misfits::entry::check_entry_fits;
 use ir_misfits::function::check_function_fits;
 use ir_misfits::globals::check_globals_fit;
@@ -21,6 +19,7 @@ use ir_misfits::misfit::{HandleOf, Misfit, Owner, Place, Problem, VariableField}
 use ir_misfits::types::check_types_fit;
 use ir_module::functions::Function;
 use ir_module::module::{EntryPoint, GlobalVariable, Module};
+use ir_types::type_info::{Disalignment, TypeInfo};
 use ir_types::types::AddressSpace;
 use ir_types::typifier::TypeResolution;
 
@@ -49,7 +48,7 @@ pub fn find_misfit<B: Below>(below: &B, given: &Given, module: &Module) -> Optio
 }
 
 /// The first misfit, as an Err.
-#[tactic(auto, using(ir_facts::proofs::Points::first_of_both))]
+#[tactic(auto, using(ir_arena::proofs::Points::first_of_both))]
 fn check_all_fit<B: Below>(
     below: &B,
     types: &[TypeInfo],
@@ -81,7 +80,7 @@ fn check_layout(
     }
 }
 
-#[tactic(auto, using(ir_facts::proofs::Points::first_of_both))]
+#[tactic(auto, using(ir_arena::proofs::Points::first_of_both))]
 fn check_info(place: usize, info: &TypeInfo, types: usize) -> Result<(), Misfit>
     ensures { result_err result ≡ first_fault (info_points types place info.now) }
 {
@@ -110,7 +109,7 @@ fn check_one_info_each(module: &Module, infos: &[TypeInfo]) -> Result<(), Misfit
     Place::TypeInfos.fails(Problem::Length { found, wanted })
 }
 
-#[tactic(auto, using(ir_facts::proofs::Points::first_of_both))]
+#[tactic(auto, using(ir_arena::proofs::Points::first_of_both))]
 fn check_infos_fit(module: &Module, infos: &[TypeInfo]) -> Result<(), Misfit>
     ensures { result_err result ≡ first_fault (infos_points «module».now infos.now) }
 {
@@ -160,7 +159,7 @@ fn check_sizes<B: Below>(
     Ok(())
 }
 
-#[tactic(auto, using(ir_facts::proofs::Points::first_of_both))]
+#[tactic(auto, using(ir_arena::proofs::Points::first_of_both))]
 fn check_entry_point_fits(place: usize, ep: &EntryPoint, module: &Module) -> Result<(), Misfit>
     ensures { result_err result ≡ first_fault (entry_point_points «module».now place ep.now) }
 {

@@ -7,7 +7,7 @@ use Rattle.ir_statements.specs.View.{body_of}
 use Rattle.ir_statements.specs.declared.statements.Statement.{Statement}
 use Rattle.ir_statements.specs.declared.operations.SwitchValue.{SwitchValue}
 use Rattle.ir_arena.specs.declared.span.Span.{Span}
-use Rattle.ir_facts.specs.Points.{and_then, Point, first_fault, answer}
+use Rattle.ir_arena.specs.Points.{and_then, Point, first_fault, answer}
 use Rattle.naga_runs.specs.ByTree.{past, in_case, in_loop, in_continuing, at_break_if, break_if_visits, body_visits, part_visits, case_visits, judge, judge_visits, judge_body, judge_stmt, judge_parts, judge_cases, judge_break_if, JudgementIsByTree, Compositional}
 use Rattle.naga_runs.specs.Guards.{FitsIn, AcceptedIsSure, IsRead, AcceptedBlockIsSure}
 use Rattle.naga_runs.specs.Handles.{Handles}

@@ -5,7 +5,7 @@ use Rattle.ir_statements.specs.Tree.{Act, Use, Put, Leaf, Block, Branch, Switch,
 use Rattle.naga_runs.specs.Abilities.{Jump, node_jump, NoJump, ToBreak, ToContinue, ToReturn}
 use Rattle.naga_runs.specs.Guards.{FitsIn, IsRead}
 use Rattle.naga_runs.specs.Handles.{Handles, with_handle}
-use Rattle.ir_facts.specs.Points.{Point, first_fault}
+use Rattle.ir_arena.specs.Points.{Point, first_fault}
 use Rattle.naga_runs.specs.Judgement.{state_after, judgement}
 use Rattle.naga_runs.specs.PlainRules.{PlainFault, act_points, jump_points, plain_points, read_acts, read_points, PlainRulesGuard}
 use Rattle.naga_runs.specs.Positions.{Node, NoNode, StatementNode, BreakIfNode}
@@ -13,7 +13,7 @@ use Rattle.naga_runs.specs.PutsAndUses.{node_acts}
 use Rattle.naga_runs.specs.Soundness.{Fit, Allowed}
 use Rattle.naga_runs.specs.Visits.{Visit}
 use Rattle.naga_runs.specs.declared.Abilities.{Abilities}
-use Rattle.ir_facts.proofs.Points.{first_holds, not_holds}
+use Rattle.ir_arena.proofs.Points.{first_holds, not_holds}
 
 acts_fit : (known scope : Handles) (acts : List Act) → first_fault (act_points known scope acts) ≡ None →
     Fit known scope acts

@@ -3,7 +3,7 @@ use Rattle.std.proofs.lemmas.List.Elements.{All-contains, All-from_recursion, Co
 use Rattle.std.specs.List.{AllByRecursion}
 use Rattle.std.specs.Prelude.{ℕ, true, false, List, Option, Some, None, Result, Ok, Err, map, flat_map, Contains, ◌≡◌, ◌⊎◌, ◌∷◌, ◌++◌, []}
 use Rattle.std.proofs.Common.{refl, sym, ap, subst, arith, inl, inr, ◌∙◌}
-use Rattle.ir_facts.specs.Points.{Point, first_fault, answer}
+use Rattle.ir_arena.specs.Points.{Point, first_fault, answer}
 use Rattle.ir_statements.specs.Tree.{Act, Body, Use, Put}
 use Rattle.naga_runs.specs.Handles.{Handles}
 use Rattle.naga_runs.specs.Judgement.{Rules, state_after, points_after, judgement}

@@ -6,7 +6,7 @@ use Rattle.ir_statements.specs.declared.statements.Statement.{Statement}
 use Rattle.ir_statements.specs.declared.operations.SwitchValue.{SwitchValue}
 use Rattle.ir_arena.specs.declared.span.Span.{Span}
 use Rattle.naga_runs.specs.Handles.{Handles}
-use Rattle.ir_facts.specs.Points.{first_fault, answer, and_then}
+use Rattle.ir_arena.specs.Points.{first_fault, answer, and_then}
 use Rattle.naga_runs.specs.Judgement.{Rules, judgement}
 use Rattle.naga_runs.specs.Must.{with_sure}
 use Rattle.naga_runs.specs.Positions.{StatementNode, BreakIfNode}

@@ -6,7 +6,7 @@ use Rattle.ir_statements.specs.declared.statements.Block.{Block}
 use Rattle.ir_statements.specs.View.{statement_acts, body_of}
 use Rattle.naga_runs.specs.Abilities.{node_jump}
 use Rattle.naga_runs.specs.Handles.{Handles}
-use Rattle.ir_facts.specs.Points.{first_fault}
+use Rattle.ir_arena.specs.Points.{first_fault}
 use Rattle.naga_runs.specs.Judgement.{Rules, judgement}
 use Rattle.naga_runs.specs.Positions.{Node, NoNode, StatementNode, BreakIfNode, node_at}
 use Rattle.naga_runs.specs.PutsAndUses.{node_acts}

@@ -1,7 +1,7 @@
 -- The judgement of a body: the fault of the first point that fails, over all its visits in visit order; where none
 -- fails, the state that the visits leave.
 use Rattle.std.specs.Prelude.{List, Result, Ok, Err, ◌≡◌, ◌∷◌, ◌++◌, []}
-use Rattle.ir_facts.specs.Points.{Point, first_fault, answer}
+use Rattle.ir_arena.specs.Points.{Point, first_fault, answer}
 use Rattle.ir_statements.specs.Tree.{Body}
 use Rattle.naga_runs.specs.Handles.{Handles}
 use Rattle.naga_runs.specs.Visits.{Visit, visits_of}

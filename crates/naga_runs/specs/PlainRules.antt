@@ -5,7 +5,7 @@ use Rattle.ir_statements.specs.View.{statement_acts}
 use Rattle.naga_runs.specs.Abilities.{Jump, node_jump, NoJump, ToBreak, ToContinue, ToReturn}
 use Rattle.naga_runs.specs.Guards.{SurelyGuards, SurelyReadGuards}
 use Rattle.naga_runs.specs.Handles.{Handles, with_handle}
-use Rattle.ir_facts.specs.Points.{Point}
+use Rattle.ir_arena.specs.Points.{Point}
 use Rattle.naga_runs.specs.Judgement.{Rules, judgement}
 use Rattle.naga_runs.specs.Positions.{Node, StatementNode}
 use Rattle.naga_runs.specs.PutsAndUses.{node_acts}

@@ -1,6 +1,6 @@
 -- Witnesses: the run that breaks at what is refused.
 use Rattle.std.specs.Prelude.{ℕ, false, List, Some, Err, Contains, ◌≡◌, ◌∷◌, ◌++◌}
-use Rattle.ir_facts.specs.Points.{first_fault}
+use Rattle.ir_arena.specs.Points.{first_fault}
 use Rattle.ir_statements.specs.Tree.{Act, Body, Use}
 use Rattle.naga_runs.specs.Abilities.{node_jump}
 use Rattle.naga_runs.specs.ComesTo.{HasNoDeadCode, IsStuckBy}

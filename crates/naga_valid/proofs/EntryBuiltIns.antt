@@ -4,26 +4,26 @@ use Rattle.std.proofs.lemmas.Option.{slice_get_cases}
 use Rattle.std.specs.List.{AllByRecursion, list_any}
 use Rattle.std.specs.Prelude.{⊤, All, IfSome}
 use Rattle.ir_facts.proofs.Callers.{types_name_each_other}
-use Rattle.ir_facts.proofs.Points.{both_hold, not_holds}
+use Rattle.ir_arena.proofs.Points.{both_hold, not_holds}
 use Rattle.ir_flags.specs.Bits.{IO_SHAREABLE}
-use Rattle.ir_facts.specs.Points.{first_fault}
+use Rattle.ir_arena.specs.Points.{first_fault}
 use Rattle.ir_types.specs.Types.{inner_at, NameEachOther, NamesTypesBelow}
-use Rattle.ir_types.specs.contracts.built_in.BuiltInEq.TheImpl.Laws.{laws-law as built_in_laws}
-use Rattle.ir_types.specs.declared.built_in.BuiltIn.{BuiltIn}
+use Rattle.ir_leaves.specs.contracts.built_in.BuiltInEq.TheImpl.Laws.{laws-law as built_in_laws}
+use Rattle.ir_leaves.specs.declared.built_in.BuiltIn.{BuiltIn}
 use Rattle.ir_module.specs.declared.functions.FunctionArgument.{FunctionArgument}
 use Rattle.ir_module.specs.declared.module.EntryPoint.{EntryPoint}
-use Rattle.ir_types.specs.declared.types.Binding.{Binding}
-use Rattle.ir_types.specs.declared.types.Binding.TheVariants as binding
+use Rattle.ir_leaves.specs.declared.bindings.Binding.{Binding}
+use Rattle.ir_leaves.specs.declared.bindings.Binding.TheVariants as binding
 use Rattle.ir_types.specs.declared.types.StructMember.{StructMember}
 use Rattle.ir_types.specs.declared.types.Type.{«Type» as IrType}
 use Rattle.ir_types.specs.declared.types.TypeInner.{TypeInner}
 use Rattle.ir_types.specs.declared.types.TypeInner.TheVariants as inner
 use Rattle.ir_facts.specs.declared.valid.settings.Settings.{Settings}
-use Rattle.ir_facts.specs.declared.valid.types.TypeInfo.{TypeInfo}
+use Rattle.ir_types.specs.declared.type_info.TypeInfo.{TypeInfo}
 use Rattle.check_varyings.proofs.Seeing.{goes_own_way}
 use Rattle.check_varyings.proofs.TypesAt.{inner_is, named_at}
 use Rattle.check_varyings.specs.BuiltIns.{built_in_rule, canonical, is_same_built_in}
-use Rattle.ir_facts.specs.TypeInfos.{type_has}
+use Rattle.ir_types.specs.TypeInfos.{type_has}
 use Rattle.check_varyings.specs.VaryingFaults.{Itself}
 use Rattle.check_varyings.specs.Varyings.{Part, Placed, Bound, BlendSources, UnboundMember, Unbound, built_in_points, go_same_way, is_built_in, member_part, member_parts, part_points, parts_of, placed, placed_parts, placed_points, ruled_points, seen_at, unbound_parts, group_parts}
 use Rattle.check_varyings.specs.declared.varying.MeshOutputType.TheVariants.{Neither}

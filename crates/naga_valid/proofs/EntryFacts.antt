@@ -3,22 +3,22 @@ use Rattle.std.proofs.Common.{◌≡◌, ◌≢◌, ◌⊎◌, inl, inr, ℕ, ze
 use Rattle.std.proofs.lemmas.Bool.Decides.{nat_tests}
 use Rattle.std.specs.Option.{option_map}
 use Rattle.std.specs.Prelude.{option_and_then, if◌then◌else◌}
-use Rattle.ir_facts.proofs.Points.{first_holds, both_hold, first_within, not_holds}
-use Rattle.ir_facts.specs.Points.{Point, first_fault, points_from, within}
+use Rattle.ir_arena.proofs.Points.{first_holds, both_hold, first_within, not_holds}
+use Rattle.ir_arena.specs.Points.{Point, first_fault, points_from, within}
 use Rattle.ir_flags.specs.Bits.{IO_SHAREABLE}
-use Rattle.ir_types.specs.EqualBuiltIns.{built_in_same}
+use Rattle.ir_leaves.specs.EqualBuiltIns.{built_in_same}
 use Rattle.ir_types.specs.Types.{inner_at}
-use Rattle.ir_types.specs.declared.built_in.BuiltIn.{BuiltIn}
-use Rattle.ir_types.specs.declared.built_in.BuiltIn.TheVariants.{Position}
+use Rattle.ir_leaves.specs.declared.built_in.BuiltIn.{BuiltIn}
+use Rattle.ir_leaves.specs.declared.built_in.BuiltIn.TheVariants.{Position}
 use Rattle.ir_module.specs.declared.functions.FunctionResult.{FunctionResult}
 use Rattle.ir_module.specs.declared.module.EntryPoint.{EntryPoint}
 use Rattle.ir_module.specs.declared.module.GlobalVariable.{GlobalVariable}
 use Rattle.ir_module.specs.declared.module.Module.{Module}
 use Rattle.ir_module.specs.declared.module.ResourceBinding.{ResourceBinding}
-use Rattle.ir_types.specs.declared.stage.ShaderStage.{ShaderStage}
-use Rattle.ir_types.specs.declared.stage.ShaderStage.TheVariants.{Vertex}
-use Rattle.ir_types.specs.declared.types.Binding.{Binding}
-use Rattle.ir_types.specs.declared.types.Binding.TheVariants as binding
+use Rattle.ir_leaves.specs.declared.stage.ShaderStage.{ShaderStage}
+use Rattle.ir_leaves.specs.declared.stage.ShaderStage.TheVariants.{Vertex}
+use Rattle.ir_leaves.specs.declared.bindings.Binding.{Binding}
+use Rattle.ir_leaves.specs.declared.bindings.Binding.TheVariants as binding
 use Rattle.ir_types.specs.declared.types.StructMember.{StructMember}
 use Rattle.ir_types.specs.declared.types.Type.{«Type» as IrType}
 use Rattle.ir_types.specs.declared.types.TypeInner.{TypeInner}
@@ -27,11 +27,11 @@ use Rattle.ir_flags.specs.declared.valid.GlobalUse.{GlobalUse}
 use Rattle.ir_flags.specs.declared.valid.ValidationFlags.{ValidationFlags}
 use Rattle.ir_facts.specs.declared.valid.info.FunctionInfo.{FunctionInfo}
 use Rattle.ir_facts.specs.declared.valid.settings.Settings.{Settings}
-use Rattle.ir_facts.specs.declared.valid.types.TypeInfo.{TypeInfo}
+use Rattle.ir_types.specs.declared.type_info.TypeInfo.{TypeInfo}
 use Rattle.check_varyings.specs.BuiltIns.{canonical, is_same_built_in}
 use Rattle.ir_facts.specs.WhatIsChecked.{checks_bindings}
 use Rattle.ir_facts.specs.Meaning.{Meaning}
-use Rattle.ir_facts.specs.TypeInfos.{type_has}
+use Rattle.ir_types.specs.TypeInfos.{type_has}
 use Rattle.check_varyings.specs.Varyings.{Bound, is_built_in, member_part, member_parts, parts_of, unbound_parts}
 use Rattle.check_entry.specs.EntryFaults.{EntryFault, fault_of}
 use Rattle.check_entry.specs.UsedGlobals.{binding_at, binding_points, global_points, globals_points, immediate_points, is_bound_to, is_same_binding, is_some_use, is_taken_before, is_used, use_points}

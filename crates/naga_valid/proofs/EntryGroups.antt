@@ -3,18 +3,18 @@ use Rattle.std.proofs.Common.{◌≡◌, ℕ, zero, suc, ◌<◌, ◌==◌, Bool
 use Rattle.std.proofs.lemmas.Bool.Decides.{nat_tests}
 use Rattle.std.specs.List.{AllByRecursion, list_any}
 use Rattle.std.specs.Option.{option_or}
-use Rattle.ir_facts.proofs.Points.{first_holds, both_hold, first_of_both}
-use Rattle.ir_facts.specs.Points.{Point, first_fault, within}
+use Rattle.ir_arena.proofs.Points.{first_holds, both_hold, first_of_both}
+use Rattle.ir_arena.specs.Points.{Point, first_fault, within}
 use Rattle.ir_module.specs.declared.functions.FunctionArgument.{FunctionArgument}
 use Rattle.ir_module.specs.declared.functions.FunctionResult.{FunctionResult}
 use Rattle.ir_module.specs.declared.module.EntryPoint.{EntryPoint}
 use Rattle.ir_module.specs.declared.module.MeshStageInfo.{MeshStageInfo}
 use Rattle.ir_module.specs.declared.module.Module.{Module}
-use Rattle.ir_types.specs.declared.types.Binding.TheVariants as binding
+use Rattle.ir_leaves.specs.declared.bindings.Binding.TheVariants as binding
 use Rattle.ir_types.specs.declared.types.Type.{«Type» as IrType}
 use Rattle.ir_facts.specs.declared.valid.info.FunctionInfo.{FunctionInfo}
 use Rattle.ir_facts.specs.declared.valid.settings.Settings.{Settings}
-use Rattle.ir_facts.specs.declared.valid.types.TypeInfo.{TypeInfo}
+use Rattle.ir_types.specs.declared.type_info.TypeInfo.{TypeInfo}
 use Rattle.check_varyings.specs.Locations.{carried_type, interpolation_points, location_points, per_vertex_points, sharing_points}
 use Rattle.ir_facts.specs.WhatIsChecked.{checks_bindings}
 use Rattle.ir_facts.specs.Meaning.{Meaning}

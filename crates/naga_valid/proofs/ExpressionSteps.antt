@@ -1,7 +1,7 @@
 -- The fold over a function's expressions, one by one.
 use Rattle.std.proofs.Common.{◌≡◌, ℕ, suc, true, length, ◌+◌, ◌-◌, ◌<◌, ◌≤◌, Result, Ok, sym, ap, ◌∙◌, subst, arith}
 use Rattle.std.specs.Prelude.{if◌then◌else◌, Err}
-use Rattle.ir_facts.specs.Points.{and_then}
+use Rattle.ir_arena.specs.Points.{and_then}
 use Rattle.ir_arena.specs.declared.span.Refusal.{Refusal}
 use Rattle.ir_arena.specs.declared.span.Refusal.TheVariants as refusal
 use Rattle.ir_flags.specs.declared.valid.ShaderStages.{ShaderStages}

@@ -1,13 +1,13 @@
 -- The judgement of an entry point: a chain of steps, of which that of its function is one.
 use Rattle.std.specs.Prelude.{◌≡◌, true, List, Result, Ok, Err, None}
-use Rattle.ir_facts.specs.Points.{Point, first_fault, answer, and_then, within}
+use Rattle.ir_arena.specs.Points.{Point, first_fault, answer, and_then, within}
 use Rattle.ir_module.specs.declared.module.EntryPoint.{EntryPoint}
 use Rattle.ir_module.specs.declared.module.Module.{Module}
 use Rattle.ir_arena.specs.declared.span.Refusal.{Refusal}
 use Rattle.ir_arena.specs.declared.span.Refusal.TheVariants.{Fault, Memory}
 use Rattle.ir_facts.specs.declared.valid.info.ModuleInfo.{ModuleInfo}
 use Rattle.ir_facts.specs.declared.valid.settings.Settings.{Settings}
-use Rattle.ir_facts.specs.declared.valid.types.TypeInfo.{TypeInfo}
+use Rattle.ir_types.specs.declared.type_info.TypeInfo.{TypeInfo}
 use Rattle.ir_facts.specs.Meaning.{Meaning}
 use Rattle.ir_errors.specs.declared.function.FunctionError.{FunctionError}
 use Rattle.check_entry.specs.EntryFaults.{EntryFault, Other, fault_of}

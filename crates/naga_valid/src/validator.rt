@@ -18,10 +18,10 @@ use check_scope::trace::{TraceRayVertexReturnState, TraceState};
 use ir_arena::sequence::Sequence;
 use ir_facts::below::Below;
 use ir_facts::valid::settings::Settings;
-use ir_facts::valid::types::TypeInfo;
 use ir_flags::capabilities::Capabilities;
 use ir_flags::valid::{ShaderStages, SubgroupOperationSet, ValidationFlags};
 use ir_module::module::Module;
+use ir_types::type_info::TypeInfo;
 use std::marker::Model;
 
 /// Validates the functions of a module over a lower layer: naga's `Validator`.

@@ -1,4 +1,4 @@
-//! Tests of the IR (types, sets, spans) and of errors, of inputs and outputs, and of lower layers and what they compute.
+//! Tests of the IR (texts, clones, spans) and of errors, of inputs and outputs, and of lower layers and what they compute.
 #![tactic(auto)]
 
 #[cfg(test)]

@@ -3,7 +3,6 @@
 //! A test makes what owns memory by a helper, hands references to helpers that assert, and lets it go by a call: so the proofs
 //! stay small.
 
-use ir_module::Module;
 use std::process::Abort;
 
 /// What `assert!` does, by a call: a function that asserts much is then quick to prove.
@@ -27,6 +26,3 @@ fn made<T, E>(rt: &impl Abort, answer: Result<T, E>) -> T {
         Err(_) => panic!(rt; "no memory"),
     }
 }
-
-/// Lets a module go: by a call of its own, since a function that lets one go itself takes seconds to prove.
-fn let_go(_module: Module) {}

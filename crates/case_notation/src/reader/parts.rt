@@ -5,7 +5,7 @@ use ir_statements::operations::SwitchValue;
 use ir_statements::statements::{Block, Located, SwitchCase};
 
 /// What the newest statement may still get.
-#[derive(Clone, Copy, Debug)]
+#[derive(Clone, Copy)]
 pub enum Tail {
     Nothing,
     /// `..` and the last name of the range that begins here.
@@ -19,7 +19,7 @@ pub enum Tail {
 }
 
 /// What a name stands for.
-#[derive(Clone, Copy, Debug)]
+#[derive(Clone, Copy)]
 pub enum Naming {
     /// The first emitted expression.
     First,
@@ -37,7 +37,7 @@ pub enum Naming {
 }
 
 /// What a brace opens.
-#[derive(Clone, Copy, Debug)]
+#[derive(Clone, Copy)]
 pub enum Brace {
     Block,
     /// The first list of an If with this condition.
@@ -53,7 +53,7 @@ pub enum Brace {
 }
 
 /// Which token is wanted next.
-#[derive(Clone, Copy, Debug)]
+#[derive(Clone, Copy)]
 pub enum Wants {
     /// The tail of the newest statement, a new statement, or the end of the list.
     Statement(Tail),

@@ -1,7 +1,7 @@
 //! The checks of the globals that an entry point uses which ask the lower layer for a size.
 
 ghost use Rattle.std.specs.Prelude.{◌≡◌, ◌<◌, ◌+◌, IfOk, IsTrue, IsSome, None, [], if◌then◌else◌};
-ghost use Rattle.ir_facts.specs.Points.{first_fault, points_of_each, within};
+ghost use Rattle.ir_arena.specs.Points.{first_fault, points_of_each, within};
 ghost use Rattle.ir_types.specs.declared.types.AddressSpace.TheVariants as space;
 ghost use Rattle.check_entry.specs.TakenBindings.{AreTaken};
 ghost use Rattle.check_entry.specs.UsedGlobals.{used_payload_points, use_points, global_points, globals_points};

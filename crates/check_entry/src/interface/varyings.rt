@@ -3,10 +3,10 @@
 ghost use Rattle.std.specs.Prelude.{◌≡◌, ◌<◌, ◌∷◌, ◌++◌, [], None, OnOk, true, false, length};
 ghost use Rattle.ir_facts.specs.Fits.{FitsTypes, FitsEntry};
 ghost use Rattle.ir_facts.specs.FitsBody.{SignatureFits};
-ghost use Rattle.ir_facts.specs.Points.{within};
+ghost use Rattle.ir_arena.specs.Points.{within};
 ghost use Rattle.ir_types.specs.TypeTests.{it_is};
 ghost use Rattle.ir_types.specs.Types.{inner_at};
-ghost use Rattle.ir_types.specs.declared.built_in.BuiltIn.TheVariants.{Position};
+ghost use Rattle.ir_leaves.specs.declared.built_in.BuiltIn.TheVariants.{Position};
 ghost use Rattle.check_varyings.specs.Varyings.{nothing_seen, parts_of, placed_parts, points_from, seen_at, seen_in, seen_with};
 ghost use Rattle.check_varyings.specs.declared.varying.MeshOutputType.TheVariants as which;
 ghost use Rattle.check_entry.specs.EntryFaults.{OfArgument, OfResult, Other, fault_of};
@@ -30,8 +30,8 @@ use check_varyings::varying::{MeshOutputType, VaryingPlace, VaryingState};
 use ir_arena::handle::Handle;
 use ir_arena::tag;
 use ir_facts::below::Below;
+use ir_leaves::built_in::BuiltIn;
 use ir_module::module::{EntryPoint, MeshStageInfo};
-use ir_types::built_in::BuiltIn;
 
 impl<'a, B: Below> InterfaceContext<'a, B> {
     /// Where an input or an output of an entry point stands.

@@ -2,7 +2,7 @@
 use Rattle.std.specs.Prelude.{ℕ, not, [], ◌∷◌, ◌++◌, Option, is_some}
 use Rattle.ir_statements.specs.declared.operations.AtomicFunction.{AtomicFunction}
 use Rattle.ir_types.specs.declared.types.AddressSpace.{AddressSpace}
-use Rattle.ir_types.specs.declared.types.Scalar.{Scalar}
+use Rattle.ir_leaves.specs.declared.scalars.Scalar.{Scalar}
 use Rattle.ir_errors.specs.declared.function.AtomicError.TheVariants as wrong
 use Rattle.naga_runs.specs.Handles.{Handles}
 use Rattle.naga_runs.specs.Visits.{Place}

@@ -1,11 +1,11 @@
 -- Parts of the check lists of images, as the code checks them: work of lemmas, cited by functions that the validator alone calls.
 use Rattle.std.specs.Prelude.{ℕ, Bool, [], ◌∷◌, ◌++◌, Option}
-use Rattle.ir_types.specs.Formats.{format_scalar}
+use Rattle.ir_leaves.specs.Formats.{format_scalar}
 use Rattle.ir_types.specs.TypeTests.{is_scalar}
 use Rattle.ir_statements.specs.declared.operations.AtomicFunction.{AtomicFunction}
 use Rattle.ir_types.specs.declared.types.ImageClass.{ImageClass}
-use Rattle.ir_types.specs.declared.types.ImageDimension.{ImageDimension}
-use Rattle.ir_types.specs.declared.types.StorageFormat.{StorageFormat}
+use Rattle.ir_leaves.specs.declared.images.ImageDimension.{ImageDimension}
+use Rattle.ir_leaves.specs.declared.images.StorageFormat.{StorageFormat}
 use Rattle.ir_errors.specs.declared.expression.ExpressionError.{ExpressionError}
 use Rattle.ir_errors.specs.declared.expression.ExpressionError.TheVariants as wrong
 use Rattle.ir_errors.specs.declared.function.FunctionError.{FunctionError}

@@ -4,7 +4,7 @@ use Rattle.std.specs.Prelude.{◌≡◌, ◌≢◌, List, None, OnErr, Result, �
 use Rattle.ir_arena.specs.declared.span.Refusal.{Refusal}
 use Rattle.ir_arena.specs.declared.span.Refusal.TheVariants as refusal
 use Rattle.ir_errors.specs.declared.function.FunctionError.{FunctionError}
-use Rattle.ir_facts.specs.Points.{Point, first_fault}
+use Rattle.ir_arena.specs.Points.{Point, first_fault}
 
 -- the refusal is for this fault, or for want of memory
 abbrev pub IsRefusalFor : FunctionError → Refusal FunctionError → Type 0

@@ -1,14 +1,14 @@
 -- What a validator asks of a function, as the definitions have it: work of lemmas, cited by functions that the validator alone
 -- calls.
 use Rattle.std.specs.Prelude.{Bool, List, Result}
-use Rattle.ir_facts.specs.Points.{and_then}
+use Rattle.ir_arena.specs.Points.{and_then}
 use Rattle.ir_module.specs.declared.functions.Function.{Function}
 use Rattle.ir_module.specs.declared.module.Module.{Module}
 use Rattle.ir_facts.specs.declared.proc.expression_kinds.ExpressionKind.{ExpressionKind}
 use Rattle.ir_facts.specs.declared.valid.info.FunctionInfo.{FunctionInfo}
 use Rattle.ir_facts.specs.declared.valid.info.ModuleInfo.{ModuleInfo}
 use Rattle.ir_facts.specs.declared.valid.settings.Settings.{Settings}
-use Rattle.ir_facts.specs.declared.valid.types.TypeInfo.{TypeInfo}
+use Rattle.ir_types.specs.declared.type_info.TypeInfo.{TypeInfo}
 use Rattle.ir_facts.specs.Meaning.{Meaning}
 use Rattle.ir_errors.specs.declared.function.FunctionError.{FunctionError}
 use Rattle.check_scope.specs.Context.{Context}

@@ -1,7 +1,7 @@
 -- What the code keeps along the visits of a body: the stages that are left, the results that are filled, and what ray
 -- traces leave. Work of lemmas, cited by functions that the validator alone calls.
 use Rattle.std.specs.Prelude.{List, Option, None, Some, Result, ℕ}
-use Rattle.ir_facts.specs.Points.{first_fault, answer, and_then}
+use Rattle.ir_arena.specs.Points.{first_fault, answer, and_then}
 use Rattle.ir_statements.specs.Tree.{Stmt}
 use Rattle.ir_errors.specs.declared.function.FunctionError.{FunctionError}
 use Rattle.ir_flags.specs.declared.valid.ShaderStages.{ShaderStages}

@@ -3,9 +3,9 @@
 ghost use Rattle.std.specs.Prelude.{◌≡◌, IfOk, IsOk};
 ghost use Rattle.ir_types.specs.Members.{HasNoMembers};
 
-use crate::name::clone_name;
 use crate::types::{Members, StructMember, Type, TypeInner};
 use ir_arena::duplicate::{Duplicate, duplicates};
+use ir_leaves::name::clone_name;
 use std::alloc::{AllocError, Global};
 
 impl StructMember {

@@ -2,16 +2,16 @@
 use Rattle.std.specs.Prelude.{ℕ, List, [], ◌∷◌, codes, Option, option_map}
 use Rattle.serde_json.specs.Data.{Data}
 use Rattle.serde_json.specs.Find.{as_bool}
-use Rattle.ir_types.specs.declared.built_in.BuiltIn.{BuiltIn}
-use Rattle.ir_types.specs.declared.built_in.BuiltIn.TheVariants as built_in
+use Rattle.ir_leaves.specs.declared.built_in.BuiltIn.{BuiltIn}
+use Rattle.ir_leaves.specs.declared.built_in.BuiltIn.TheVariants as built_in
 use Rattle.json_document.specs.declared.read.bindings.BuiltInName.{BuiltInName}
 use Rattle.json_document.specs.declared.read.bindings.BuiltInName.TheVariants as built_in_name
-use Rattle.ir_types.specs.declared.types.Interpolation.{Interpolation}
-use Rattle.ir_types.specs.declared.types.Interpolation.TheVariants as interpolation
-use Rattle.ir_types.specs.declared.types.Sampling.{Sampling}
-use Rattle.ir_types.specs.declared.types.Sampling.TheVariants as sampling
-use Rattle.ir_types.specs.declared.types.Binding.{Binding}
-use Rattle.ir_types.specs.declared.types.Binding.TheVariants as binding
+use Rattle.ir_leaves.specs.declared.bindings.Interpolation.{Interpolation}
+use Rattle.ir_leaves.specs.declared.bindings.Interpolation.TheVariants as interpolation
+use Rattle.ir_leaves.specs.declared.bindings.Sampling.{Sampling}
+use Rattle.ir_leaves.specs.declared.bindings.Sampling.TheVariants as sampling
+use Rattle.ir_leaves.specs.declared.bindings.Binding.{Binding}
+use Rattle.ir_leaves.specs.declared.bindings.Binding.TheVariants as binding
 use Rattle.json_document.specs.declared.read.bindings.BindingName.{BindingName}
 use Rattle.json_document.specs.declared.read.bindings.BindingName.TheVariants as binding_name
 use Rattle.json_document.specs.Form.{five_fields, given, made_of_five, named, one_field, optional}

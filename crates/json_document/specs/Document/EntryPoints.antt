@@ -1,8 +1,8 @@
 -- Global variables, and entry points.
 use Rattle.std.specs.Prelude.{ℕ, List, [], ◌∷◌, codes, Option, option_map}
 use Rattle.serde_json.specs.Data.{Data}
-use Rattle.ir_types.specs.declared.stage.ShaderStage.{ShaderStage}
-use Rattle.ir_types.specs.declared.stage.ShaderStage.TheVariants as shader_stage
+use Rattle.ir_leaves.specs.declared.stage.ShaderStage.{ShaderStage}
+use Rattle.ir_leaves.specs.declared.stage.ShaderStage.TheVariants as shader_stage
 use Rattle.ir_module.specs.declared.module.MeshOutputTopology.{MeshOutputTopology}
 use Rattle.ir_module.specs.declared.module.MeshOutputTopology.TheVariants as mesh_output_topology
 use Rattle.ir_module.specs.declared.module.MeshStageInfo.{MeshStageInfo}

@@ -7,9 +7,9 @@ use Rattle.ir_errors.specs.declared.mesh.MeshFault.{MeshFault}
 use Rattle.ir_errors.specs.declared.mesh.MeshFault.TheVariants as mesh_fault
 use Rattle.json_document.specs.declared.read.facts.OutcomeName.{OutcomeName}
 use Rattle.json_document.specs.declared.read.facts.OutcomeName.TheVariants as outcome_name
-use Rattle.ir_errors.specs.declared.types.Disalignment.{Disalignment}
-use Rattle.ir_errors.specs.declared.types.ImmediateError.{ImmediateError}
-use Rattle.ir_facts.specs.declared.valid.types.TypeInfo.{TypeInfo}
+use Rattle.ir_types.specs.declared.type_info.Disalignment.{Disalignment}
+use Rattle.ir_types.specs.declared.type_info.ImmediateError.{ImmediateError}
+use Rattle.ir_types.specs.declared.type_info.TypeInfo.{TypeInfo}
 use Rattle.ir_facts.specs.declared.facts.MeshAnalysisFact.{MeshAnalysisFact}
 use Rattle.ir_facts.specs.declared.facts.ExpressionFact.{ExpressionFact}
 use Rattle.ir_facts.specs.declared.facts.ExpressionFact.TheVariants as expression_fact

@@ -5,8 +5,8 @@ use Rattle.std.specs.Prelude.{ℕ, ℤ, List, [], ◌∷◌, Bool, true, false, 
 use Rattle.serde_json.specs.Data.{Data}
 use Rattle.serde_json.specs.Find.{as_bool, as_i64, as_number, to_float}
 use Rattle.ir_module.specs.declared.expressions.Literal.{Literal}
-use Rattle.ir_types.specs.declared.types.Scalar.{Scalar}
-use Rattle.ir_types.specs.declared.types.ScalarKind.TheVariants as kind
+use Rattle.ir_leaves.specs.declared.scalars.Scalar.{Scalar}
+use Rattle.ir_leaves.specs.declared.scalars.ScalarKind.TheVariants as kind
 use Rattle.json_document.specs.declared.read.literals.LiteralName.{LiteralName}
 use Rattle.json_document.specs.declared.read.literals.LiteralName.TheVariants as name
 use Rattle.json_document.specs.Form.{given}

@@ -1,11 +1,11 @@
 -- Scalars, and sizes of vectors.
 use Rattle.std.specs.Prelude.{ℕ, List, [], ◌∷◌, codes, Option}
 use Rattle.serde_json.specs.Data.{Data}
-use Rattle.ir_types.specs.declared.types.ScalarKind.{ScalarKind}
-use Rattle.ir_types.specs.declared.types.ScalarKind.TheVariants as scalar_kind
-use Rattle.ir_types.specs.declared.types.Scalar.{Scalar}
-use Rattle.ir_types.specs.declared.types.VectorSize.{VectorSize}
-use Rattle.ir_types.specs.declared.types.VectorSize.TheVariants as vector_size
+use Rattle.ir_leaves.specs.declared.scalars.ScalarKind.{ScalarKind}
+use Rattle.ir_leaves.specs.declared.scalars.ScalarKind.TheVariants as scalar_kind
+use Rattle.ir_leaves.specs.declared.scalars.Scalar.{Scalar}
+use Rattle.ir_leaves.specs.declared.scalars.VectorSize.{VectorSize}
+use Rattle.ir_leaves.specs.declared.scalars.VectorSize.TheVariants as vector_size
 use Rattle.json_document.specs.Form.{made_of_two, named, two_fields}
 use Rattle.json_document.specs.Numbers.{u8_of}
 

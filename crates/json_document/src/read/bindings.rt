@@ -7,7 +7,7 @@ ghost use Rattle.json_document.specs.Document.Bindings.{binding_from, binding_of
 use crate::read::error::ReadError;
 use crate::read::from_json::{FromJson, Held};
 use crate::read::variant::{Holding, read_either, read_holding, read_name};
-use ir_types::{Binding, BuiltIn, Interpolation, Sampling};
+use ir_leaves::{Binding, BuiltIn, Interpolation, Sampling};
 use json_nodes::Node;
 use std::alloc::Global;
 

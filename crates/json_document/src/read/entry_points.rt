@@ -5,11 +5,11 @@ ghost use Rattle.json_document.specs.Document.EntryPoints.{constant_of, early_de
 use crate::read::error::ReadError;
 use crate::read::from_json::{FromJson, Held};
 use crate::read::variant::read_name;
+use ir_leaves::ShaderStage;
 use ir_module::{
     Constant, EarlyDepthTest, EntryPoint, GlobalVariable, MeshOutputTopology, MeshStageInfo,
     Override, SpecialTypes,
 };
-use ir_types::ShaderStage;
 use json_nodes::Node;
 use std::alloc::Global;
 

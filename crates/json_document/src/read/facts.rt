@@ -7,8 +7,9 @@ use crate::read::error::ReadError;
 use crate::read::from_json::{FromJson, Held};
 use crate::read::variant::{Holding, read_holding, read_name};
 use ir_arena::{Handle, tag};
-use ir_errors::{Disalignment, ImmediateError, MeshFault};
-use ir_facts::{ExpressionFact, FunctionFact, InfoFact, MeshAnalysisFact, TypeInfo};
+use ir_errors::MeshFault;
+use ir_facts::{ExpressionFact, FunctionFact, InfoFact, MeshAnalysisFact};
+use ir_types::{Disalignment, ImmediateError, TypeInfo};
 use json_nodes::Node;
 use std::alloc::Global;
 

@@ -5,7 +5,8 @@ ghost use Rattle.json_document.specs.Document.Images.{image_class_from, image_cl
 use crate::read::error::ReadError;
 use crate::read::from_json::{FromJson, Held};
 use crate::read::variant::{Holding, read_either, read_name};
-use ir_types::{ImageClass, ImageDimension, StorageFormat};
+use ir_leaves::{ImageDimension, StorageFormat};
+use ir_types::ImageClass;
 use json_nodes::Node;
 use std::alloc::Global;
 

@@ -12,8 +12,8 @@ ghost use Rattle.json_document.specs.Document.Literals.{bit, bits_of, double_bit
 use crate::read::error::ReadError;
 use crate::read::from_json::{FromJson, Held};
 use crate::read::variant::{Holding, read_holding};
+use ir_leaves::{Scalar, ScalarKind};
 use ir_module::Literal;
-use ir_types::{Scalar, ScalarKind};
 use json_nodes::Node;
 use std::alloc::Global;
 use std::num::nearest_f64_to_f32_with_nan;

@@ -8,7 +8,7 @@ ghost use Rattle.json_document.specs.Numbers.{u8_of, u32_of, u64_of, i32_of, non
 use crate::read::error::ReadError;
 use crate::read::from_json::FromJson;
 use ir_arena::Handle;
-use ir_types::Name;
+use ir_leaves::Name;
 use json_nodes::Node;
 use std::alloc::Global;
 use std::num::NonZeroU32;

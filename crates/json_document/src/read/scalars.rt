@@ -5,7 +5,7 @@ ghost use Rattle.json_document.specs.Document.Scalars.{scalar_kind_of, scalar_of
 use crate::read::error::ReadError;
 use crate::read::from_json::{FromJson, Held};
 use crate::read::variant::read_name;
-use ir_types::{Scalar, ScalarKind, VectorSize};
+use ir_leaves::{Scalar, ScalarKind, VectorSize};
 use json_nodes::Node;
 use std::alloc::Global;
 

@@ -8,7 +8,7 @@ use Rattle.std.proofs.lemmas.Option.{slice_get_within}
 use Rattle.std.proofs.lemmas.Result.{IfOk-at_ok}
 use Rattle.ir_types.specs.Types.{ResolutionFits, inner_at}
 use Rattle.ir_types.specs.declared.types.AddressSpace.{AddressSpace}
-use Rattle.ir_types.specs.declared.types.Scalar.{Scalar}
+use Rattle.ir_leaves.specs.declared.scalars.Scalar.{Scalar}
 use Rattle.ir_types.specs.declared.types.StructMember.{StructMember}
 use Rattle.ir_types.specs.declared.types.Type.{«Type» as IrType}
 use Rattle.ir_types.specs.declared.types.TypeInner.{TypeInner}

@@ -5,13 +5,13 @@ use Rattle.ir_module.specs.declared.module.MeshOutputTopology.TheVariants.{Point
 use Rattle.ir_module.specs.declared.module.MeshStageInfo.{MeshStageInfo}
 use Rattle.ir_module.specs.declared.module.Module.{Module}
 use Rattle.ir_types.specs.Types.{inner_at}
-use Rattle.ir_types.specs.declared.built_in.BuiltIn.{BuiltIn}
-use Rattle.ir_types.specs.declared.built_in.BuiltIn.TheVariants as built_in
+use Rattle.ir_leaves.specs.declared.built_in.BuiltIn.{BuiltIn}
+use Rattle.ir_leaves.specs.declared.built_in.BuiltIn.TheVariants as built_in
 use Rattle.ir_types.specs.declared.types.ArraySize.{ArraySize}
 use Rattle.ir_types.specs.declared.types.ArraySize.TheVariants as size
-use Rattle.ir_types.specs.declared.types.Binding.{Binding}
-use Rattle.ir_types.specs.declared.types.Binding.TheVariants as binding
-use Rattle.ir_types.specs.declared.types.ScalarKind.TheVariants.{Uint}
+use Rattle.ir_leaves.specs.declared.bindings.Binding.{Binding}
+use Rattle.ir_leaves.specs.declared.bindings.Binding.TheVariants as binding
+use Rattle.ir_leaves.specs.declared.scalars.ScalarKind.TheVariants.{Uint}
 use Rattle.ir_types.specs.declared.types.StructMember.{StructMember}
 use Rattle.ir_types.specs.declared.types.Type.{«Type» as IrType}
 use Rattle.ir_types.specs.declared.types.TypeInner.{TypeInner}

@@ -2,7 +2,7 @@
 
 ghost use Rattle.std.specs.Prelude.{◌≡◌, None, OnOk, Result, Err, length};
 ghost use Rattle.ir_errors.specs.declared.function.FunctionError.{FunctionError as Inner};
-ghost use Rattle.ir_facts.specs.Points.{first_fault};
+ghost use Rattle.ir_arena.specs.Points.{first_fault};
 ghost use Rattle.ir_facts.specs.Fits.{FitsTypes, FitsFunction, FitsEntry};
 ghost use Rattle.ir_facts.specs.FitsBody.{SignatureFits};
 ghost use Rattle.check_entry.specs.InterfacePoints.{HasPayloadSizes, interface_points};

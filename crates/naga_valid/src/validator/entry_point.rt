@@ -2,7 +2,7 @@
 
 ghost use Rattle.std.specs.Prelude.{◌≡◌, true, OnOk, OnErr, IfOk, length};
 ghost use Rattle.ir_facts.specs.Fits.{FitsTypes, FitsFunction, FitsEntry};
-ghost use Rattle.ir_types.specs.declared.stage.ShaderStage.TheVariants.{Vertex};
+ghost use Rattle.ir_leaves.specs.declared.stage.ShaderStage.TheVariants.{Vertex};
 ghost use Rattle.naga_runs.specs.Soundness.{RunsAreSure};
 ghost use Rattle.ir_facts.specs.WhatIsChecked.{checks_bindings};
 ghost use Rattle.check_body.specs.Accepted.{ResultsAreFilledOnce, StagesAreOfAll};

@@ -1,11 +1,11 @@
-//! The IR: questions about types by tables of cases, the bits of sets, what is printed, and spans, which no clause says.
+//! The IR: what is printed, clones, and spans, which no clause says.
 
-use ir_types::{Scalar, Type, TypeInner};
+use ir_leaves::Scalar;
+use ir_types::{Type, TypeInner};
 
 mod clones;
 mod errors;
-mod flags;
-mod types;
+mod spans;
 
 fn scalar_type(scalar: Scalar) -> Type {
     Type {

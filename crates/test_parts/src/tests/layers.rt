@@ -1,12 +1,14 @@
 //! The lower layers by themselves: the plain one, asked by code that knows the laws alone; and recorded facts, where no document
 //! asks for them.
 
-use crate::tests::{let_go, made};
+use crate::tests::made;
 use ir_arena::{Arena, Handle, Span};
 use ir_facts::{Below, ExpressionKindTracker};
+use ir_leaves::{Scalar, VectorSize};
+use ir_module::module::let_go;
 use ir_module::{Expression, Literal, Module};
 use ir_statements::Operands;
-use ir_types::{ArraySize, Scalar, Type, TypeInner, UniqueArena, VectorSize};
+use ir_types::{ArraySize, Type, TypeInner, UniqueArena};
 use naga_layers::plain::Plain;
 use std::num::NonZeroU32;
 use std::process::Abort;
@@ -155,7 +157,7 @@ fn expect_sizes(rt: &impl Abort, module: &Module) {
         (5, None),
         (6, None),
     ] {
-        holds!(rt; layer_types::size_of(module, Handle::new(ty)) == size);
+        holds!(rt; layer_types::size_of(module.types.as_slice(), Handle::new(ty)) == size);
         holds!(rt; plain.type_size(module, Handle::new(ty)) == size);
     }
 }

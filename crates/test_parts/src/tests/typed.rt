@@ -1,15 +1,14 @@
 //! What no document says of computed types: how types are aligned that nothing holds, and types that name themselves.
 //! All else that the `layer_` crates compute is shown by documents of the stored run (`typed`, `computed`).
 
-use crate::tests::{let_go, made};
+use crate::tests::made;
 use ir_arena::{Handle, Span};
-use ir_errors::Disalignment;
-use ir_facts::TypeInfo;
 use ir_flags::StorageAccess;
+use ir_leaves::{ImageDimension, Scalar, ScalarKind, StorageFormat};
 use ir_module::Module;
+use ir_module::module::let_go;
 use ir_types::{
-    AddressSpace, ArraySize, ImageClass, ImageDimension, Scalar, ScalarKind, StorageFormat, Type,
-    TypeInner, UniqueArena,
+    AddressSpace, ArraySize, Disalignment, ImageClass, Type, TypeInfo, TypeInner, UniqueArena,
 };
 use layer_types::type_infos;
 use std::alloc::Global;
@@ -164,7 +163,7 @@ fn expect_infos(rt: &impl Abort, infos: &[TypeInfo]) {
 #[test]
 fn types_that_nothing_holds(rt: HostRuntime) {
     let module = module_of(rt.alloc(), types_of_rows(&rt));
-    let infos = made(&rt, type_infos(rt.alloc(), &module));
+    let infos = made(&rt, type_infos(rt.alloc(), &module.types));
     let_go(module);
     expect_infos(&rt, infos.as_slice());
     drop(infos);
@@ -204,7 +203,7 @@ fn expect_last(rt: &impl Abort, infos: &[TypeInfo]) {
 #[test]
 fn types_that_name_each_other_deep(rt: HostRuntime) {
     let module = module_of(rt.alloc(), tower(&rt, 100000));
-    let infos = made(&rt, type_infos(rt.alloc(), &module));
+    let infos = made(&rt, type_infos(rt.alloc(), &module.types));
     let_go(module);
     expect_last(&rt, infos.as_slice());
     drop(infos);

@@ -4,7 +4,7 @@ use crate::tests::bench::{Bench, make_bench};
 use crate::tests::faltering::Faltering;
 use crate::tests::judged::{expect_own, layer, module_falters, module_of, validator_over};
 use crate::tests::parts::let_go;
-use crate::tests::rows::{CALLING_KILL, FORBIDDEN, ROWS, Row, left_by};
+use crate::tests::rows::{CALLING_KILL, FORBIDDEN, Row, left_by, rows};
 use naga_below::Module;
 use std::cell::Cell;
 use std::process::Abort;
@@ -44,7 +44,7 @@ fn expect_refusals(rt: &(impl Abort + AllocGlobal), bench: &Bench, row: &Row) {
 #[test]
 fn rows_over_a_layer_that_falters(rt: HostRuntime) {
     let bench = make_bench(&rt);
-    for row in &ROWS {
+    for row in rows() {
         expect_refusals(&rt, &bench, row);
     }
     bench.let_go();

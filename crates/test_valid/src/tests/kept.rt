@@ -5,7 +5,7 @@ use crate::tests::bench::{Bench, infos_of, infos_of_types, make_bench};
 use crate::tests::judged::{expect_own, layer, validator_over};
 use crate::tests::parts::{SETTINGS, known, made};
 use crate::tests::rows::{
-    FORBIDDEN, NOTHING, REFUSED_TRACING, ROWS, Row, TRACING, WITH_BARRIER, left_by,
+    FORBIDDEN, NOTHING, REFUSED_TRACING, Row, TRACING, WITH_BARRIER, left_by, rows,
 };
 use naga_below::{ShaderStages, SubgroupOperationSet, TypeInfo};
 use naga_layers::plain::Plain;
@@ -24,7 +24,7 @@ fn expect_rows(rt: &(impl Abort + AllocGlobal), bench: &Bench, rows: &[(Row, Tra
 
 /// Each row behind one that is refused.
 fn expect_behind(rt: &(impl Abort + AllocGlobal), bench: &Bench, refused: &Row) {
-    for row in &ROWS {
+    for row in rows() {
         expect_rows(rt, bench, &[(*refused, NOTHING), (*row, left_by(row))]);
     }
 }
@@ -33,7 +33,7 @@ fn expect_behind(rt: &(impl Abort + AllocGlobal), bench: &Bench, refused: &Row) 
 #[test]
 fn a_refusal_changes_no_later_answer(rt: HostRuntime) {
     let bench = make_bench(&rt);
-    for row in &ROWS {
+    for row in rows() {
         if !row.told.is_empty() {
             expect_behind(&rt, &bench, row);
         }

@@ -149,8 +149,13 @@ pub const MISLED: Row = Row {
     ..TRACING_ALONE
 };
 
+/// All rows.
+pub fn rows() -> &'static [Row] {
+    &ROWS
+}
+
 /// What is refused before its function is judged, in it, and behind it, by one step after the other; and what is accepted.
-pub static ROWS: [Row; 16] = [
+static ROWS: [Row; 16] = [
     Row {
         workgroup_size: [1, 0, 1],
         told: "entry point 0: OutOfRangeWorkgroupSize: a dimension of the workgroup size is 0, or more than 16384",

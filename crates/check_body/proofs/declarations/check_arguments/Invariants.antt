@@ -1,5 +1,5 @@
 use Rattle.std.proofs.Common.{◌≡◌, drop}
-use Rattle.ir_facts.specs.Points.{first_fault, points_from}
+use Rattle.ir_arena.specs.Points.{first_fault, points_from}
 use Rattle.check_statement.specs.Declarations.{argument_points}
 use Rattle.check_scope.specs.walk.SeenContext.{context_of}
 use Rattle.check_body.proofs.declarations.check_arguments.Given as goal

@@ -1,6 +1,6 @@
 use Rattle.std.proofs.Common.{rules, None, Some, sym, ap, ◌∙◌}
 use Rattle.std.specs.Result.{result_err}
-use Rattle.ir_facts.specs.Points.{points_of_each}
+use Rattle.ir_arena.specs.Points.{points_of_each}
 use Rattle.check_statement.specs.Declarations.{variable_points, argument_points, result_points}
 use Rattle.check_scope.specs.walk.SeenContext.{context_of}
 use Rattle.check_body.proofs.Each.{third_decides}

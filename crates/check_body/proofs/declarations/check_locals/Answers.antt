@@ -1,7 +1,7 @@
 use Rattle.std.proofs.Common.{rules, ◌≡◌, Some, None, sym, subst}
 use Rattle.std.proofs.lemmas.Option.{get_or_from_slice_get}
 use Rattle.std.specs.Prelude.{slice_get}
-use Rattle.ir_facts.specs.Points.{first_fault}
+use Rattle.ir_arena.specs.Points.{first_fault}
 use Rattle.ir_facts.specs.Answers.{Answers, FirstOf}
 use Rattle.check_statement.specs.Declarations.{variable_points}
 use Rattle.check_scope.specs.walk.SeenContext.{context_of}

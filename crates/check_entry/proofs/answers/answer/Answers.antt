@@ -1,7 +1,7 @@
 use Rattle.std.proofs.Common.{◌≡◌, None, Some, sym, ap, ◌∙◌}
 use Rattle.std.specs.Option.{option_map}
-use Rattle.ir_facts.proofs.Points.{first_within}
-use Rattle.ir_facts.specs.Points.{first_fault, within}
+use Rattle.ir_arena.proofs.Points.{first_within}
+use Rattle.ir_arena.specs.Points.{first_fault, within}
 use Rattle.check_entry.specs.EntryFaults.{fault_of}
 use Rattle.check_entry.proofs.EntrySteps.{passes_within, refuses_as, refuses_fault}
 use Rattle.check_entry.proofs.answers.answer.Goals as goal

@@ -1,5 +1,5 @@
 use Rattle.std.proofs.Common.{◌≡◌, Some, sym, ap, ◌∙◌}
-use Rattle.ir_facts.specs.Points.{first_fault, within}
+use Rattle.ir_arena.specs.Points.{first_fault, within}
 use Rattle.check_varyings.specs.VaryingFaults.{varying_fault_of}
 use Rattle.check_entry.specs.EntryFaults.{OfResult, fault_of}
 use Rattle.check_entry.proofs.EntrySteps.{refuses_as, result_fault}

@@ -1,6 +1,6 @@
 use Rattle.std.proofs.Common.{rules, ◌≡◌, None, arith, subst, sym, ◌∙◌}
 use Rattle.std.specs.Prelude.{◌≢◌}
-use Rattle.ir_facts.specs.Points.{first_fault}
+use Rattle.ir_arena.specs.Points.{first_fault}
 use Rattle.check_flow.specs.Control.{emit_points}
 use Rattle.ir_facts.specs.Answers.{IsFirstFault}
 use Rattle.check_scope.specs.walk.Place.{place_at}

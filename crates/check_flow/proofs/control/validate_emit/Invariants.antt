@@ -1,5 +1,5 @@
 use Rattle.std.proofs.Common.{◌≡◌, ◌≤◌, ◌-◌}
-use Rattle.ir_facts.specs.Points.{first_fault}
+use Rattle.ir_arena.specs.Points.{first_fault}
 use Rattle.check_scope.specs.walk.Place.{place_at}
 use Rattle.check_flow.specs.Control.{emit_points, emit_points_from}
 use Rattle.check_flow.specs.walk.Emitted.{handles_between}

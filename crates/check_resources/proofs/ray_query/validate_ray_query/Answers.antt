@@ -1,5 +1,5 @@
 use Rattle.std.proofs.Common.{rules, sym, ap, ◌∙◌}
-use Rattle.ir_facts.specs.Points.{first_fault}
+use Rattle.ir_arena.specs.Points.{first_fault}
 use Rattle.check_resources.specs.RayQuery.{ray_query_points}
 use Rattle.check_scope.specs.walk.Place.{place_at}
 use Rattle.check_scope.specs.walk.SeenContext.{context_of}

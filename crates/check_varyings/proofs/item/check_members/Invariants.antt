@@ -1,5 +1,5 @@
 use Rattle.std.proofs.Common.{◌≡◌, ℕ, [], take, drop}
-use Rattle.ir_facts.specs.Points.{first_fault}
+use Rattle.ir_arena.specs.Points.{first_fault}
 use Rattle.check_varyings.specs.CodeVaryings.{far_less}
 use Rattle.check_varyings.specs.Varyings.{member_parts, points_behind, far_in, seen_in, seen_with}
 use Rattle.check_varyings.proofs.item.check_members.Given as goal

@@ -1,5 +1,5 @@
 use Rattle.std.proofs.Common.{List, sym, subst, ◌∙◌}
-use Rattle.ir_facts.specs.Points.{Point}
+use Rattle.ir_arena.specs.Points.{Point}
 use Rattle.check_varyings.specs.VaryingFaults.{VaryingFault, varying_fault_of}
 use Rattle.check_varyings.specs.Varyings.{Bound, seen_in}
 use Rattle.check_varyings.proofs.Kept.{more_is, on_ok}

@@ -1,7 +1,7 @@
 use Rattle.std.proofs.Common.{◌≡◌, rules, sym, ap, subst, ◌∙◌}
 use Rattle.std.specs.Prelude.{IfOk}
 use Rattle.std.specs.Result.{result_err}
-use Rattle.ir_facts.specs.Points.{first_fault}
+use Rattle.ir_arena.specs.Points.{first_fault}
 use Rattle.ir_statements.specs.Tree.{Stmt}
 use Rattle.ir_statements.specs.View.{no_operands, tree_of, list_body, list_cases}
 use Rattle.ir_statements.proofs.Rows.{body_of-list, tree_of-switch}

@@ -1,5 +1,5 @@
 use Rattle.std.proofs.Common.{◌≡◌, drop}
-use Rattle.ir_facts.specs.Points.{first_fault}
+use Rattle.ir_arena.specs.Points.{first_fault}
 use Rattle.ir_statements.specs.View.{no_operands, list_body, list_cases}
 use Rattle.ir_misfits.specs.OfBodies.{after_body, after_cases, body_points, cases_points}
 use Rattle.ir_misfits.proofs.body.+check.Given as goal

@@ -1,5 +1,5 @@
 use Rattle.std.proofs.Common.{◌++◌, rules}
-use Rattle.ir_facts.specs.Points.{points_of_each}
+use Rattle.ir_arena.specs.Points.{points_of_each}
 use Rattle.ir_misfits.specs.declared.misfit.HandleOf.TheVariants.{Functions}
 use Rattle.ir_misfits.specs.declared.misfit.Place.TheVariants.{InStatement}
 use Rattle.ir_misfits.specs.declared.misfit.StatementField.TheVariants as field

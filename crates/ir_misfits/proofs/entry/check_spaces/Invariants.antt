@@ -1,5 +1,5 @@
 use Rattle.std.proofs.Common.{◌≡◌, drop}
-use Rattle.ir_facts.specs.Points.{first_fault, points_from, points_of_each}
+use Rattle.ir_arena.specs.Points.{first_fault, points_from, points_of_each}
 use Rattle.ir_misfits.specs.OfEntries.{space_points}
 use Rattle.ir_misfits.proofs.entry.check_spaces.Given as goal
 

@@ -1,5 +1,5 @@
 use Rattle.std.proofs.Common.{◌∙◌, ap}
-use Rattle.ir_facts.specs.Points.{first_fault}
+use Rattle.ir_arena.specs.Points.{first_fault}
 use Rattle.ir_misfits.specs.OfGlobals.{globals_points}
 use Rattle.ir_misfits.proofs.ExactParts.{globals_exact}
 use Rattle.ir_misfits.proofs.Tests.{decides}

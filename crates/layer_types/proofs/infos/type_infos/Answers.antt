@@ -6,12 +6,12 @@ use Rattle.layer_types.proofs.infos.type_infos.Goals as goal
 
 pub loop-index-preserved : goal.loop-index-preserved
 loop-index-preserved c =
-    let types = c.args.module.now.types in
+    let types = c.args.types.now in
     let infos = c.loop-index.infos in
     let inner = c.index.result.now.inner in
     let at = rw c.new-handle.ensures at c.index.ensures in
     let lt = rw c.len-count.ensures.len at c.loop-index-test.true in
-    let own : c.info_of-info.result ≡ info_of types infos (length infos) inner = c.info_of-info.ensures ∙ (λ j. info_of (c.as_slice-types.ensures.values j) (c.as_slice.ensures j) ((c.new-handle.ensures ∙ sym c.loop-index.invariant.place) j) inner) in
+    let own : c.info_of-info.result ≡ info_of types infos (length infos) inner = c.info_of-info.ensures ∙ (λ j. info_of (c.as_slice-all.ensures.values j) (c.as_slice.ensures j) ((c.new-handle.ensures ∙ sym c.loop-index.invariant.place) j) inner) in
     let found = next_info types infos types c.loop-index.index c.index.result.now lt at in
     let pushed = c.in_ok-push.ensures.pushed in
     record {

@@ -6,5 +6,5 @@ abbrev pub invariant-loop-index : goal.invariant-loop-index
 invariant-loop-index l =
     record {
       place : length l.infos ≡ l.index;
-      rest : infos_from l.module.types l.infos (drop l.index l.module.types) ≡ infos_from l.module.types [] l.module.types;
+      rest : infos_from l.types l.infos (drop l.index l.types) ≡ infos_from l.types [] l.types;
     }

@@ -1,5 +1,5 @@
 use Rattle.std.proofs.Common.{◌≡◌, drop}
-use Rattle.ir_facts.specs.Points.{first_fault, points_from, points_of_each}
+use Rattle.ir_arena.specs.Points.{first_fault, points_from, points_of_each}
 use Rattle.naga_module.specs.Misfits.{module_function_points}
 use Rattle.naga_module.proofs.misfit.check_functions_fit.Given as goal
 

@@ -1,5 +1,5 @@
 use Rattle.std.proofs.Common.{ap, ◌∙◌}
-use Rattle.ir_facts.specs.Points.{first_fault}
+use Rattle.ir_arena.specs.Points.{first_fault}
 use Rattle.naga_module.specs.Misfits.{module_points, AllFits}
 use Rattle.naga_module.proofs.Misfits.{module_exact, none_exactly, some_where}
 use Rattle.naga_module.proofs.NotFit.{all_fits_is_other}

@@ -1,16 +1,18 @@
 //! Arenas and their clones keep spans. (That a clone is equal is a clause of each.)
 
 use crate::tests::ir::scalar_type;
-use crate::tests::{let_go, made};
+use crate::tests::made;
 use bitflags::Flags;
 use ir_arena::{Arena, Handle, Sequence, Span, Tagged};
 use ir_flags::MemoryDecorations;
+use ir_leaves::{Scalar, ShaderStage};
+use ir_module::module::let_go;
 use ir_module::{
     Constant, EntryPoint, Expression, Function, GlobalVariable, LocalVariable, Module, Override,
     SpecialTypes,
 };
 use ir_statements::{Block, Statement};
-use ir_types::{AddressSpace, Scalar, ShaderStage, UniqueArena};
+use ir_types::{AddressSpace, UniqueArena};
 use std::process::Abort;
 
 const SPAN: Span = Span { start: 4, end: 9 };

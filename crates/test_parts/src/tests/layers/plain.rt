@@ -5,7 +5,7 @@ ghost use Rattle.std.specs.Prelude.{◌≡◌, ◌<◌, length};
 use crate::tests::layers::{
     HERE, LITERAL, add, composed, expect_kinds, expressions_of_kinds, put, unary,
 };
-use crate::tests::{let_go, made};
+use crate::tests::made;
 use bitflags::Flags;
 use ir_arena::{Arena, Handle, Refusal, tag};
 use ir_errors::{ExpressionError, FunctionError};
@@ -13,8 +13,10 @@ use ir_facts::{Below, FunctionInfo, ModuleInfo, Settings};
 use ir_flags::{
     Capabilities, GlobalUse, MemoryDecorations, ShaderStages, SubgroupOperationSet, ValidationFlags,
 };
+use ir_leaves::{Scalar, VectorSize};
+use ir_module::module::let_go;
 use ir_module::{Expression, Function, GlobalVariable, Module};
-use ir_types::{AddressSpace, Scalar, TypeInner, TypeResolution, VectorSize};
+use ir_types::{AddressSpace, TypeInner, TypeResolution};
 use naga_layers::plain::Plain;
 use std::alloc::{AllocError, Global};
 use std::process::Abort;

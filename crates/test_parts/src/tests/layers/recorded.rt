@@ -3,14 +3,16 @@
 
 use crate::tests::layers::plain::settings;
 use crate::tests::layers::{LITERAL, add, expect_kinds, expressions_of_kinds, put};
-use crate::tests::{let_go, made};
+use crate::tests::made;
 use bitflags::Flags;
 use ir_arena::{Handle, Refusal, Sequence};
 use ir_errors::{ExpressionError, MeshFault};
 use ir_facts::{Below, FunctionInfo, MeshAnalysis, ModuleInfo};
 use ir_flags::ShaderStages;
+use ir_leaves::Scalar;
+use ir_module::module::let_go;
 use ir_module::{Function, MeshOutputTopology, MeshStageInfo, Module};
-use ir_types::{Scalar, TypeInner};
+use ir_types::TypeInner;
 use naga_layers::recorded::Recorded;
 use naga_layers::{Facts, FunctionFact, LowerFunctionError, MeshAnalysisFact};
 use std::alloc::Global;

@@ -1,19 +1,17 @@
 //! Items behind others: what each takes, and what is kept of one that is refused.
 
+use crate::tests::made;
 use crate::tests::varyings::places::at;
-use crate::tests::{let_go, made};
 use bitflags::Flags;
 use check_varyings::{VaryingPlace, VaryingState, check_varying_item};
 use ir_arena::{Handle, Refusal, Sequence, Span};
 use ir_errors::VaryingError;
-use ir_facts::TypeInfo;
 use ir_flags::{Capabilities, TypeFlags, ValidationFlags};
+use ir_leaves::{Binding, BuiltIn, Interpolation, Scalar, ShaderStage, VectorSize};
 use ir_misfits::fits_types;
 use ir_module::Module;
-use ir_types::{
-    Binding, BuiltIn, Interpolation, Scalar, ShaderStage, StructMember, Type, TypeInner,
-    UniqueArena, VectorSize,
-};
+use ir_module::module::let_go;
+use ir_types::{StructMember, Type, TypeInfo, TypeInner, UniqueArena};
 use std::alloc::AllocError;
 use std::process::Abort;
 

@@ -2,7 +2,7 @@
 
 use check_varyings::{BuiltInRule, MeshOutputType, VaryingPlace, builtin_rule};
 use ir_flags::{Capabilities, ValidationFlags};
-use ir_types::{BuiltIn, ShaderStage};
+use ir_leaves::{BuiltIn, ShaderStage};
 use std::process::Abort;
 
 /// How many built-ins there are, with both values of `invariant` and of `perspective`.

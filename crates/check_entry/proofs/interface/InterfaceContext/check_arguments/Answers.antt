@@ -2,10 +2,10 @@ use Rattle.std.proofs.Common.{rules, ◌≡◌, ◌<◌, ◌≤◌, ◌+◌, Lis
 use Rattle.std.proofs.Math.ListN.{get_or-map}
 use Rattle.std.proofs.lemmas.List.{length-map}
 use Rattle.ir_facts.proofs.Callers.{types_name_each_other}
-use Rattle.ir_facts.specs.Points.{first_fault, within}
+use Rattle.ir_arena.specs.Points.{first_fault, within}
 use Rattle.ir_module.specs.declared.functions.FunctionArgument.{FunctionArgument}
 use Rattle.check_varyings.proofs.Seeing.{leaves_the_next}
-use Rattle.ir_facts.specs.declared.valid.types.TypeInfo.{TypeInfo}
+use Rattle.ir_types.specs.declared.type_info.TypeInfo.{TypeInfo}
 use Rattle.ir_arena.specs.declared.span.Refusal.{Refusal}
 use Rattle.check_varyings.specs.Seen.{Seen}
 use Rattle.check_faults.specs.declared.entry.EntryPointError.{EntryPointError}

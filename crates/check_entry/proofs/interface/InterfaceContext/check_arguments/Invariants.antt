@@ -1,5 +1,5 @@
 use Rattle.std.proofs.Common.{◌≡◌, [], drop, map, take}
-use Rattle.ir_facts.specs.Points.{first_fault}
+use Rattle.ir_arena.specs.Points.{first_fault}
 use Rattle.check_varyings.specs.Varyings.{group_points_from, seen_at, seen_in, group_parts}
 use Rattle.check_entry.specs.EntryFaults.{OfArgument}
 use Rattle.check_entry.specs.EntryVaryings.{argument_item}

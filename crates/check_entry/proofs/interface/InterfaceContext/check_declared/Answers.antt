@@ -1,8 +1,8 @@
 use Rattle.std.proofs.Common.{List, false, Result, Ok, Err, sym, ap, ◌∙◌, subst}
-use Rattle.ir_facts.specs.Points.{within}
-use Rattle.ir_facts.specs.declared.valid.types.TypeInfo.{TypeInfo}
+use Rattle.ir_arena.specs.Points.{within}
+use Rattle.ir_types.specs.declared.type_info.TypeInfo.{TypeInfo}
 use Rattle.ir_arena.specs.declared.span.Refusal.{Refusal}
-use Rattle.ir_types.specs.declared.built_in.BuiltIn.TheVariants.{Position}
+use Rattle.ir_leaves.specs.declared.built_in.BuiltIn.TheVariants.{Position}
 use Rattle.check_varyings.specs.Seen.{Seen}
 use Rattle.check_varyings.specs.Varyings.{points_from, parts_of, seen_in, seen_with}
 use Rattle.check_varyings.specs.declared.varying.VaryingPlace.{VaryingPlace}

@@ -1,5 +1,5 @@
 use Rattle.std.proofs.Common.{rules, ◌≡◌, subst, None}
-use Rattle.ir_facts.specs.Points.{first_fault, points_of_each}
+use Rattle.ir_arena.specs.Points.{first_fault, points_of_each}
 use Rattle.check_entry.specs.UsedGlobals.{global_points}
 use Rattle.check_entry.proofs.EntrySteps.{each_meets, each_goes_on}
 use Rattle.check_entry.proofs.interface.InterfaceContext.check_each_used_global.Goals as goal

@@ -1,5 +1,5 @@
 use Rattle.std.proofs.Common.{rules, ◌++◌, sym, subst}
-use Rattle.ir_facts.specs.Points.{within}
+use Rattle.ir_arena.specs.Points.{within}
 use Rattle.check_entry.specs.EntryFaults.{fault_of}
 use Rattle.check_entry.specs.Mesh.{variable_points, said_points, mesh_points}
 use Rattle.check_entry.specs.EntryVaryings.{outputs_points}

@@ -1,5 +1,5 @@
 use Rattle.std.proofs.Common.{rules, ◌≡◌, ◌∷◌, ◌++◌, true, false, None, [], sym, ◌∙◌, subst}
-use Rattle.ir_facts.specs.Points.{first_fault, within}
+use Rattle.ir_arena.specs.Points.{first_fault, within}
 use Rattle.ir_types.specs.TypeTests.{it_is}
 use Rattle.ir_types.specs.Types.{inner_at}
 use Rattle.check_varyings.specs.Varyings.{parts_of, placed_parts, points_from, seen_in}

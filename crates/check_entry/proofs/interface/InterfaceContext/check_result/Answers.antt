@@ -1,6 +1,6 @@
 use Rattle.std.proofs.Common.{rules, ◌∙◌, false, Bool, subst}
-use Rattle.ir_facts.specs.Points.{within}
-use Rattle.ir_types.specs.declared.built_in.BuiltIn.TheVariants.{Position}
+use Rattle.ir_arena.specs.Points.{within}
+use Rattle.ir_leaves.specs.declared.built_in.BuiltIn.TheVariants.{Position}
 use Rattle.check_entry.specs.EntryFaults.{fault_of}
 use Rattle.check_entry.specs.EntryVaryings.{declared_points, has_built_in, result_parts, returned_points}
 use Rattle.check_entry.proofs.EntrySteps.{judges_first, judges_second}

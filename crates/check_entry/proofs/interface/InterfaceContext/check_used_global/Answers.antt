@@ -1,5 +1,5 @@
 use Rattle.std.proofs.Common.{rules, ◌≡◌, ◌==◌, false, [], Some, None, slice_get, sym}
-use Rattle.ir_facts.specs.Points.{first_fault}
+use Rattle.ir_arena.specs.Points.{first_fault}
 use Rattle.check_entry.specs.UsedGlobals.{binding_points, use_points}
 use Rattle.check_entry.proofs.EntryGlobals.{use_refused, binding_decides}
 use Rattle.check_entry.proofs.interface.InterfaceContext.check_used_global.Goals as goal

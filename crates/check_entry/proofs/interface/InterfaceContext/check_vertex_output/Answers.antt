@@ -1,8 +1,8 @@
 use Rattle.std.proofs.Common.{rules, ◌≡◌, ◌∷◌, ◌++◌, true, false, None, [], sym, ap, ◌∙◌, subst}
-use Rattle.ir_facts.specs.Points.{first_fault, within}
+use Rattle.ir_arena.specs.Points.{first_fault, within}
 use Rattle.ir_types.specs.TypeTests.{it_is}
 use Rattle.ir_types.specs.Types.{inner_at}
-use Rattle.ir_types.specs.declared.built_in.BuiltIn.TheVariants.{Position}
+use Rattle.ir_leaves.specs.declared.built_in.BuiltIn.TheVariants.{Position}
 use Rattle.check_varyings.proofs.Seeing.{leaves_the_next}
 use Rattle.check_varyings.specs.Seen.{Seen}
 use Rattle.check_varyings.specs.Varyings.{parts_of, points_from, seen_in, seen_with}

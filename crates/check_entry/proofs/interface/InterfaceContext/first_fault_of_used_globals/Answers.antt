@@ -1,6 +1,6 @@
 use Rattle.std.proofs.Common.{rules, ◌++◌}
 use Rattle.check_entry.specs.UsedGlobals.{immediate_points, global_points}
-use Rattle.ir_facts.specs.Points.{points_of_each}
+use Rattle.ir_arena.specs.Points.{points_of_each}
 use Rattle.check_entry.proofs.EntrySteps.{meets_first, meets_second, judges_within}
 use Rattle.check_entry.proofs.interface.InterfaceContext.first_fault_of_used_globals.Goals as goal
 use Rattle.ir_facts.specs.Answers.{Answers, FirstOf}

@@ -2,8 +2,8 @@ use Rattle.std.proofs.Common.{◌≡◌, ◌∙◌, Some, None, Err, inr, refl, 
 use Rattle.std.proofs.lemmas.Option.{get_or_from_slice_get}
 use Rattle.std.specs.Prelude.{slice_get}
 use Rattle.std.specs.Option.{option_map}
-use Rattle.ir_facts.proofs.Points.{first_within}
-use Rattle.ir_facts.specs.Points.{answer, first_fault, points_of_each}
+use Rattle.ir_arena.proofs.Points.{first_within}
+use Rattle.ir_arena.specs.Points.{answer, first_fault, points_of_each}
 use Rattle.check_entry.specs.GlobalPoints.{module_global_points}
 use Rattle.naga_module.specs.ModuleJudgement.{points_of_global}
 use Rattle.check_faults.specs.declared.module.ModuleFault.TheVariants as fault

@@ -1,5 +1,5 @@
 use Rattle.std.proofs.Common.{◌≡◌, drop}
-use Rattle.ir_facts.specs.Points.{first_fault, points_from, points_of_each}
+use Rattle.ir_arena.specs.Points.{first_fault, points_from, points_of_each}
 use Rattle.naga_module.specs.ModuleJudgement.{points_of_global}
 use Rattle.naga_module.proofs.check.globals.validate_globals.Given as goal
 

@@ -1,5 +1,5 @@
 use Rattle.std.proofs.Common.{rules, ◌≡◌, Some, Err, sym, subst}
-use Rattle.ir_facts.specs.Points.{first_fault}
+use Rattle.ir_arena.specs.Points.{first_fault}
 use Rattle.naga_valid.specs.EntryJudgement.{AnswersAfter, entry_judgement}
 use Rattle.check_entry.specs.Start.{start_points}
 use Rattle.naga_valid.proofs.EntryJudgement.{start_refuses}

@@ -1,5 +1,5 @@
 use Rattle.std.proofs.Common.{rules}
-use Rattle.ir_facts.specs.Points.{within}
+use Rattle.ir_arena.specs.Points.{within}
 use Rattle.check_entry.specs.EntryFaults.{fault_of}
 use Rattle.check_entry.specs.InterfacePoints.{used_points}
 use Rattle.check_entry.specs.EntryUses.{payload_points, with_own_uses}

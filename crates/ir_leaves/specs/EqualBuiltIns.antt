@@ -6,9 +6,9 @@ use denote.Struct.Field.{Field}
 use denote.Struct.Values.{Values}
 use denote.Enum.Declared.{Choice, values_one}
 use denote.Enum.Compared.{Each, by}
-use Rattle.ir_types.specs.declared.built_in.BuiltIn.{BuiltIn}
-use Rattle.ir_types.specs.contracts.built_in.BuiltIn as built_in_type
-use Rattle.ir_types.specs.contracts.built_in.BuiltInPartialEq.TheImpl as built_in
+use Rattle.ir_leaves.specs.declared.built_in.BuiltIn.{BuiltIn}
+use Rattle.ir_leaves.specs.contracts.built_in.BuiltIn as built_in_type
+use Rattle.ir_leaves.specs.contracts.built_in.BuiltInPartialEq.TheImpl as built_in
 
 -- each variant's test finds only the same fields equal
 abbrev pub EachSame : (Fss : List (List Field)) → Each Bool Fss → Type 0

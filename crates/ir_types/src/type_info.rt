@@ -1,8 +1,7 @@
-//! The info of a type. Another layer finds it, and the checks here read it.
+//! The info of a type, and why a type is unfit. Another layer finds it, and the checks here read it.
 
 use ir_arena::handle::Handle;
 use ir_arena::tag;
-use ir_errors::types::{Disalignment, ImmediateError};
 use ir_flags::valid::TypeFlags;
 
 /// The info of a type: what it can be used for. Infos are indexed by the handles of a module's types.
@@ -15,3 +14,11 @@ pub struct TypeInfo {
     pub uniform_layout: Result<u32, (Handle<tag::Type>, Disalignment)>,
     pub immediates_compatibility: Result<(), ImmediateError>,
 }
+
+/// Why a layout is bad: a number that no check reads.
+#[derive(Clone, Copy, PartialEq, Eq, Debug)]
+pub struct Disalignment(pub u32);
+
+/// Why a type can't be an immediate: a number that no check reads.
+#[derive(Clone, Copy, PartialEq, Eq, Debug)]
+pub struct ImmediateError(pub u32);

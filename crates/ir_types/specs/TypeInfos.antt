@@ -2,7 +2,7 @@
 use Rattle.std.specs.Prelude.{ℕ, Bool, false, List, Option, None, Some, slice_get}
 use Rattle.ir_flags.specs.Bits.{contains}
 use Rattle.ir_flags.specs.declared.valid.TypeFlags.{TypeFlags}
-use Rattle.ir_facts.specs.declared.valid.types.TypeInfo.{TypeInfo}
+use Rattle.ir_types.specs.declared.type_info.TypeInfo.{TypeInfo}
 
 abbrev pub info_has : Option TypeInfo → TypeFlags → Bool
 info_has None flags = false

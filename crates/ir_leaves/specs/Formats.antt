@@ -1,10 +1,10 @@
 -- The scalar that a texel of a storage image has.
 use Rattle.std.specs.Prelude.{ℕ}
-use Rattle.ir_types.specs.declared.types.ScalarKind.{ScalarKind}
-use Rattle.ir_types.specs.declared.types.ScalarKind.TheVariants.{Sint, Uint, Float}
-use Rattle.ir_types.specs.declared.types.Scalar.{Scalar}
-use Rattle.ir_types.specs.declared.types.StorageFormat.{StorageFormat}
-use Rattle.ir_types.specs.declared.types.StorageFormat.TheVariants as format
+use Rattle.ir_leaves.specs.declared.scalars.ScalarKind.{ScalarKind}
+use Rattle.ir_leaves.specs.declared.scalars.ScalarKind.TheVariants.{Sint, Uint, Float}
+use Rattle.ir_leaves.specs.declared.scalars.Scalar.{Scalar}
+use Rattle.ir_leaves.specs.declared.images.StorageFormat.{StorageFormat}
+use Rattle.ir_leaves.specs.declared.images.StorageFormat.TheVariants as format
 
 -- a format whose name ends in Uint or Sint holds integers of that sign; any other is read as floats
 abbrev pub format_kind : StorageFormat → ScalarKind

@@ -3,7 +3,7 @@ use Rattle.std.specs.Option.{option_map, option_or}
 use Rattle.std.specs.Prelude.{ℕ, suc, ◌<◌, ◌≤◌, ◌+◌, Bool, true, false, not, List, None, ◌≡◌, ◌∷◌, ◌++◌, [], drop, get_or, length}
 use Rattle.std.proofs.Common.{arith, refl, sym, ap, ◌∙◌}
 use Rattle.std.proofs.lemmas.List.{at_drop_more, at_drop_all}
-use Rattle.ir_facts.specs.Points.{Point, first_fault, within, points_from}
+use Rattle.ir_arena.specs.Points.{Point, first_fault, within, points_from}
 
 module _ {Fault : Type 0} where
   -- of the first point and the others
