@@ -28,7 +28,7 @@ pub enum Shape {
     Calls(u32),
     /// So many statements, by turns an Emit of two, a Store, a Call and a Store.
     Mix(u32),
-    /// Lists that hold each other, each with so many Emits before and so many Stores behind.
+    /// Lists that hold each other, each with so many Emits before and so many Stores after.
     Nest {
         holder: Holder,
         depth: u32,
@@ -168,7 +168,7 @@ fn put_mix(maker: &mut Maker, count: u32) {
     }
 }
 
-/// A mixed body, and a Return of the `u32` behind it, with a signature and more locals.
+/// A mixed body, and a Return of the `u32` after it, with a signature and more locals.
 fn put_whole(maker: &mut Maker, count: u32) {
     for _ in 0..15u32 {
         maker.append_local();

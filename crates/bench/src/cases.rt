@@ -10,9 +10,9 @@ pub enum Workload {
     Body(Shape),
     /// The same, by a validator that judged one of a million expressions before.
     AfterLarge(Shape),
-    /// The first such function behind one of a million expressions.
+    /// The first such function after one of a million expressions.
     FirstAfterLarge(Shape),
-    /// So many functions of a shape, one behind the other.
+    /// So many functions of a shape, one after the other.
     Functions(Shape, u32),
     /// An entry point that takes in varyings, from a location on, and uses globals.
     Entry {

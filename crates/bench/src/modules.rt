@@ -52,7 +52,7 @@ fn append(functions: &mut Arena<Function>, function: Function) -> Result<(), All
     Ok(())
 }
 
-/// Gives a module the types, the function that is called and, behind it, so many functions of a shape.
+/// Gives a module the types, the function that is called and, after it, so many functions of a shape.
 pub fn fill_module(
     alloc: Global,
     module: &mut Module,

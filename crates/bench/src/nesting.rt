@@ -1,5 +1,5 @@
 //! What a body that nests deep asks of the stack. It is made (without recursion), maybe tested and judged, and dropped, and
-//! each step is told once it is done; tools/stack finds the depth at which a step no longer ends.
+//! each step is printed once it is done; tools/stack finds the depth at which a step no longer ends.
 
 use crate::bodies::{Holder, Shape};
 use crate::judge_first;

@@ -78,7 +78,7 @@ impl Times {
         conditions: u64::MAX,
     };
 
-    /// Both, one behind the other.
+    /// The sum of both.
     pub fn plus(self, other: Times) -> Times {
         Times {
             whole: self.whole.saturating_add(other.whole),

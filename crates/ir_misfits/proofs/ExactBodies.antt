@@ -161,7 +161,7 @@ module _ (m : Module) (n earlier : ℕ) (of : Owner) where
       (both ps2 (ps3 ++ ps4) P2 (P3 × P4) (callee_exact m at f)
       (both ps3 ps4 P3 P4 (arguments_exact n of k xs) (last_if n of k field.Result r))))
 
-  leaf_exact : (k : ℕ) (x : Statement) → Exact (leaf_points m n earlier of k x) (LeafFits m n earlier x)
+  pub leaf_exact : (k : ℕ) (x : Statement) → Exact (leaf_points m n earlier of k x) (LeafFits m n earlier x)
   leaf_exact k (s.Emit r) = range_exact n of k r
   leaf_exact k (s.Store p v) = two n of k field.Pointer field.Value p v
   leaf_exact k (s.ImageStore i c a v) = image_store_exact n of k i c a v

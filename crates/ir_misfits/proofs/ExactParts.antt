@@ -142,10 +142,13 @@ pub callee_exact : (m : Module) (at : Place) (h : ℕ) → Exact (callee_points 
 callee_exact m at h = callee_where m at h (slice_get m.functions h) refl
 
 -- expressions
+pub operands_exact : (of : Owner) (k : ℕ) (x : Expression) → Exact (operands_points of k x) (All (λ h. h < k) (operands_of x))
+operands_exact of k x =
+    all_exact (λ h. h < k) (operand_points of k) (λ i h. named_alone (place.Operand of k i) (expressions_of of) k h) (operands_of x)
+
 pub expressions_exact : (of : Owner) (xs : List Expression) → Exact (expressions_points of xs) (NameEarlierExpressions xs)
 expressions_exact of xs =
-    each_exact (operands_points of) (λ k x. All (λ h. h < k) (operands_of x))
-    (λ k x. all_exact (λ h. h < k) (operand_points of k) (λ i h. named_alone (place.Operand of k i) (expressions_of of) k h) (operands_of x)) xs
+    each_exact (operands_points of) (λ k x. All (λ h. h < k) (operands_of x)) (operands_exact of) xs
 
 pub reference_exact : (m : Module) (f : Function) (of : Owner) (k : ℕ) (x : Expression) → Exact (reference_points m f of k x) (ReferencesFit m f x)
 reference_exact m f of k (e.Constant h) = named_alone (place.Reference of k) handle.Constants (length m.constants) h

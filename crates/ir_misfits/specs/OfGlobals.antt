@@ -38,7 +38,15 @@ is_unbindable_array types _ = false
 -- what a global of this type in this space may be: no binding array of external images or ray queries in Handle
 abbrev pub is_bindable : List IrType → AddressSpace → ℕ → Bool
 is_bindable types space.Handle ty = not (is_unbindable_array types (inner_at types ty))
-is_bindable types _ ty = true
+is_bindable types space.Function ty = true
+is_bindable types space.Private ty = true
+is_bindable types space.WorkGroup ty = true
+is_bindable types space.Uniform ty = true
+is_bindable types (space.Storage access) ty = true
+is_bindable types space.Immediate ty = true
+is_bindable types space.TaskPayload ty = true
+is_bindable types space.RayPayload ty = true
+is_bindable types space.IncomingRayPayload ty = true
 
 -- a global: its type and its initializer are there, and in space Handle it is no such binding array
 abbrev pub global_points : Module → ℕ → GlobalVariable → Points

@@ -1,14 +1,16 @@
 //! What doesn't fit of the statements of a body, at any depth.
 
-ghost use Rattle.std.specs.Prelude.{◌≡◌, IfOk};
+ghost use Rattle.std.specs.Prelude.{◌<◌, ◌≡◌, ◌↔◌, IsTrue, IfOk, IfSome, All};
 ghost use Rattle.std.specs.Result.{result_err};
+ghost use Rattle.ir_arena.specs.declared.span.Span.{Span};
 ghost use Rattle.ir_arena.specs.Points.{first_fault};
-ghost use Rattle.ir_statements.specs.View.{no_operands, tree_of, body_of, list_body, list_cases};
+ghost use Rattle.ir_statements.specs.View.{no_operands, leaf_of, tree_of, body_of, list_body, list_cases};
+ghost use Rattle.ir_facts.specs.FitsBody.{CalleeFits, LeafFits};
 ghost use Rattle.ir_misfits.specs.OfBodies.{next, after_statement, after_body, after_cases, call_points, leaf_points, statement_points, body_points, cases_points};
 
 use crate::misfit::{HandleOf, Misfit, Owner, Place, StatementField};
 use crate::numbered::Numbered;
-use crate::signature::check_callee;
+use crate::signature::{callee_fits, check_callee};
 use ir_arena::handle::Handle;
 use ir_arena::tag;
 use ir_module::module::Module;
@@ -31,6 +33,68 @@ fn next(number: usize) -> usize
         number + 1
     } else {
         number
+    }
+}
+
+impl Asked<'_> {
+    /// Whether an expression is there.
+    fn has(&self, handle: Handle<tag::Expression>) -> bool
+        ensures { IsTrue result ↔ (handle < self.now.expressions) }
+    {
+        handle.index() < self.expressions
+    }
+
+    /// The same of one that may be left out.
+    fn has_if_any(&self, handle: Option<Handle<tag::Expression>>) -> bool
+        ensures { IsTrue result ↔ IfSome handle (λ h. h < self.now.expressions) }
+    {
+        match handle {
+            Some(handle) => self.has(handle),
+            None => true,
+        }
+    }
+
+    /// Whether each of these is there.
+    fn has_all(&self, handles: &[Handle<tag::Expression>]) -> bool
+        ensures { IsTrue result ↔ All (λ h. h < self.now.expressions) handles.now }
+    {
+        handles.iter().all(|handle| self.has(*handle))
+    }
+
+    /// Whether a Call names an earlier function, whose signature fits, and expressions that are there.
+    fn has_call(
+        &self,
+        function: Handle<tag::Function>,
+        arguments: &[Handle<tag::Expression>],
+        answer: Option<Handle<tag::Expression>>,
+    ) -> bool
+        ensures { IsTrue result ↔ (function < self.now.earlier) × CalleeFits self.now.module.now function
+            × All (λ h. h < self.now.expressions) arguments.now × IfSome answer (λ h. h < self.now.expressions) }
+    {
+        function.index() < self.earlier
+            && callee_fits(function, self.module)
+            && self.has_all(arguments)
+            && self.has_if_any(answer)
+    }
+
+    /// Whether it is an Emit, a Store or a Call, and what it names is there.
+    fn has_frequent(&self, statement: &Statement) -> bool
+        ensures fits { IsTrue result → LeafFits self.now.module.now self.now.expressions self.now.earlier statement.now }
+        ensures leaf { IsTrue result → (span : Span)
+            → tree_of no_operands statement.now span ≡ leaf_of no_operands statement.now span }
+    {
+        match statement {
+            Statement::Emit(range) => {
+                range.start <= range.end && range.end as usize <= self.expressions
+            }
+            Statement::Store { pointer, value } => self.has(*pointer) && self.has(*value),
+            Statement::Call {
+                function,
+                arguments,
+                result: answer,
+            } => self.has_call(*function, arguments.as_slice(), *answer),
+            _ => false,
+        }
     }
 }
 
@@ -172,8 +236,26 @@ fn check_cases(asked: &Asked, number: usize, cases: &[SwitchCase]) -> Result<usi
 
 /// The statement with this number, and those that it holds.
 #[cycle(check)]
-#[tactic(auto, using(ir_arena::proofs::Points::first_of_both))]
+#[inline(always)]
 fn check_statement(asked: &Asked, number: usize, located: &Located) -> Result<usize, Misfit>
+    ensures first { result_err result ≡ first_fault (statement_points asked.now.module.now asked.now.expressions
+        asked.now.earlier asked.now.owner number
+        (tree_of no_operands located.now.statement located.now.span)) }
+    ensures after { IfOk result (λ after. after
+        ≡ after_statement number (tree_of no_operands located.now.statement located.now.span)) }
+{
+    // (asked first for its time: room for a misfit costs more than to see that there is none)
+    if asked.has_frequent(&located.statement) {
+        return Ok(next(number));
+    }
+    check_any(asked, number, located)
+}
+
+/// The same of a statement of any kind.
+#[cycle(check)]
+#[inline(never)]
+#[tactic(auto, using(ir_arena::proofs::Points::first_of_both))]
+fn check_any(asked: &Asked, number: usize, located: &Located) -> Result<usize, Misfit>
     ensures first { result_err result ≡ first_fault (statement_points asked.now.module.now asked.now.expressions
         asked.now.earlier asked.now.owner number
         (tree_of no_operands located.now.statement located.now.span)) }

@@ -79,7 +79,15 @@ fn check_space(place: usize, global: &GlobalVariable) -> Result<(), Misfit>
         AddressSpace::Function => {
             Place::InGlobal(place, VariableField::Space).fails(Problem::InFunctionSpace)
         }
-        _ => Ok(()),
+        AddressSpace::Private
+        | AddressSpace::WorkGroup
+        | AddressSpace::Uniform
+        | AddressSpace::Storage { .. }
+        | AddressSpace::Handle
+        | AddressSpace::Immediate
+        | AddressSpace::TaskPayload
+        | AddressSpace::RayPayload
+        | AddressSpace::IncomingRayPayload => Ok(()),
     }
 }
 

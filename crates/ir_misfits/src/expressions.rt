@@ -1,14 +1,15 @@
 //! What doesn't fit of expressions.
 
-ghost use Rattle.std.specs.Prelude.{◌≡◌, slice_get};
+ghost use Rattle.std.specs.Prelude.{◌<◌, ◌≡◌, ◌↔◌, IsTrue, IsSomeAnd, All, slice_get};
 ghost use Rattle.std.specs.Result.{result_err};
 ghost use Rattle.ir_arena.specs.Points.{first_fault, points_of_each};
 ghost use Rattle.ir_module.specs.Operands.{operands_of};
+ghost use Rattle.ir_facts.specs.Fits.{ReferencesFit};
 ghost use Rattle.ir_misfits.specs.Points.{points_if};
 ghost use Rattle.ir_misfits.specs.OfExpressions.{expressions_of, operand_points, operands_points, expressions_points, reference_points};
 
 use crate::misfit::{HandleOf, Misfit, Owner, Place};
-use crate::signature::check_callee;
+use crate::signature::{callee_fits, check_callee};
 use ir_module::expressions::Expression;
 use ir_module::functions::Function;
 use ir_module::module::Module;
@@ -44,8 +45,47 @@ fn check_operand(
     }
 }
 
+/// Whether this operand is there, and is an expression before the one at `place`.
+fn is_earlier(place: usize, expression: &Expression, index: usize) -> bool
+    ensures { IsTrue result ↔ IsSomeAnd (slice_get (operands_of expression.now) index) (λ h. h < place) }
+{
+    match operand(expression, index) {
+        Some(handle) => handle.index() < place,
+        None => false,
+    }
+}
+
+/// Whether each operand is an expression before the one at `place`.
+fn has_earlier_operands(place: usize, expression: &Expression) -> bool
+    ensures { IsTrue result ↔ All (λ h. h < place) (operands_of expression.now) }
+{
+    for index in 0..operand_count(expression) {
+        if !is_earlier(place, expression, index) {
+            return false;
+        }
+    }
+    true
+}
+
 /// Each operand of the expression at `place` is an earlier expression.
 fn check_operands(owner: Owner, place: usize, expression: &Expression) -> Result<(), Misfit>
+    ensures { result_err result ≡ first_fault (operands_points owner place expression.now) }
+{
+    // (asked first for its time: room for a misfit costs more than to see that there is none)
+    if has_earlier_operands(place, expression) {
+        return Ok(());
+    }
+    first_misfit_of_operands(owner, place, expression)
+}
+
+/// The first operand that isn't an earlier expression.
+#[cold]
+#[inline(never)]
+fn first_misfit_of_operands(
+    owner: Owner,
+    place: usize,
+    expression: &Expression,
+) -> Result<(), Misfit>
     ensures { result_err result ≡ first_fault (operands_points owner place expression.now) }
 {
     for index in 0..operand_count(expression) {
@@ -64,8 +104,69 @@ pub(crate) fn check_expressions(owner: Owner, expressions: &[Expression]) -> Res
     Ok(())
 }
 
+/// Whether what the expression names besides its operands is there.
+fn has_reference(expression: &Expression, fun: &Function, module: &Module) -> bool
+    ensures { IsTrue result ↔ ReferencesFit «module».now fun.now expression.now }
+{
+    match expression {
+        Expression::Constant(handle) => handle.index() < module.constants.len(),
+        Expression::Override(handle) => handle.index() < module.overrides.len(),
+        Expression::ZeroValue(ty)
+        | Expression::Compose { ty, .. }
+        | Expression::AtomicResult { ty, .. }
+        | Expression::WorkGroupUniformLoadResult { ty }
+        | Expression::SubgroupOperationResult { ty } => ty.index() < module.types.len(),
+        Expression::GlobalVariable(handle) => handle.index() < module.global_variables.len(),
+        Expression::LocalVariable(handle) => handle.index() < fun.local_variables.len(),
+        Expression::CallResult(function) => callee_fits(*function, module),
+        Expression::Literal(_)
+        | Expression::Access { .. }
+        | Expression::AccessIndex { .. }
+        | Expression::FunctionArgument(_)
+        | Expression::Load { .. }
+        | Expression::RayQueryProceedResult
+        | Expression::SubgroupBallotResult
+        | Expression::Splat { .. }
+        | Expression::Swizzle { .. }
+        | Expression::ImageSample { .. }
+        | Expression::ImageLoad { .. }
+        | Expression::ImageQuery { .. }
+        | Expression::Unary { .. }
+        | Expression::Binary { .. }
+        | Expression::Select { .. }
+        | Expression::Derivative { .. }
+        | Expression::Relational { .. }
+        | Expression::Math { .. }
+        | Expression::As { .. }
+        | Expression::ArrayLength { .. }
+        | Expression::RayQueryGetIntersection { .. }
+        | Expression::RayQueryVertexPositions { .. }
+        | Expression::CooperativeLoad { .. }
+        | Expression::CooperativeMultiplyAdd { .. } => true,
+    }
+}
+
 /// What the expression at `place` names besides its operands is there.
 fn check_reference(
+    owner: Owner,
+    place: usize,
+    expression: &Expression,
+    fun: &Function,
+    module: &Module,
+) -> Result<(), Misfit>
+    ensures { result_err result ≡ first_fault (reference_points «module».now fun.now owner place expression.now) }
+{
+    // (asked first for its time, as above)
+    if has_reference(expression, fun, module) {
+        return Ok(());
+    }
+    misfit_of_reference(owner, place, expression, fun, module)
+}
+
+/// What isn't there.
+#[cold]
+#[inline(never)]
+fn misfit_of_reference(
     owner: Owner,
     place: usize,
     expression: &Expression,

@@ -74,7 +74,15 @@ fn is_bindable(types: &UniqueArena<Type>, space: AddressSpace, ty: Handle<tag::T
 {
     match space {
         AddressSpace::Handle => !is_unbindable_array(inner_at(types, ty), types),
-        _ => true,
+        AddressSpace::Function
+        | AddressSpace::Private
+        | AddressSpace::WorkGroup
+        | AddressSpace::Uniform
+        | AddressSpace::Storage { .. }
+        | AddressSpace::Immediate
+        | AddressSpace::TaskPayload
+        | AddressSpace::RayPayload
+        | AddressSpace::IncomingRayPayload => true,
     }
 }
 

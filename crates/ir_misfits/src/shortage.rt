@@ -3,7 +3,7 @@
 use crate::texts::write_length;
 use std::fmt;
 
-/// What is missing in the facts about a function, or breaks a law. Lists of an info go by their names in `InfoFact`.
+/// What is missing in the facts about a function, or breaks a law. Lists of an info have their names in `InfoFact`.
 #[derive(Clone, Copy, PartialEq, Eq, Debug)]
 pub enum Shortage {
     /// The list of the facts of functions, or of entry points, has no item for it.

@@ -1,8 +1,9 @@
 //! What doesn't fit of the signature of a function.
 
-ghost use Rattle.std.specs.Prelude.{◌≡◌, length};
+ghost use Rattle.std.specs.Prelude.{◌≡◌, ◌↔◌, IsTrue, length};
 ghost use Rattle.std.specs.Result.{result_err};
 ghost use Rattle.ir_arena.specs.Points.{first_fault, points_of_each};
+ghost use Rattle.ir_facts.specs.FitsBody.{SignatureFits, CalleeFits};
 ghost use Rattle.ir_misfits.specs.OfSignatures.{argument_points, outcome_points, signature_points, callee_points};
 
 use crate::misfit::{HandleOf, Misfit, Owner, Place};
@@ -56,4 +57,19 @@ pub(crate) fn check_callee(
     )?;
     let callee = &module.functions[function];
     check_signature(Owner::Function(function.index()), callee, module)
+}
+
+/// Whether the signature of a function fits.
+fn signature_fits(fun: &Function, module: &Module) -> bool
+    ensures { IsTrue result ↔ SignatureFits «module».now fun.now }
+{
+    // (that doesn't depend on whose it is)
+    check_signature(Owner::Function(0), fun, module).is_ok()
+}
+
+/// Whether a function is there, with a signature that fits.
+pub(crate) fn callee_fits(function: Handle<tag::Function>, module: &Module) -> bool
+    ensures { IsTrue result ↔ CalleeFits «module».now function }
+{
+    function.index() < module.functions.len() && signature_fits(&module.functions[function], module)
 }

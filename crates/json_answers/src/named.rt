@@ -1,4 +1,4 @@
-//! Ids in front of verdicts.
+//! Ids before verdicts.
 
 ghost use Rattle.std.specs.Prelude.{◌≡◌, IfOk, option_map, string_bytes};
 ghost use Rattle.json_faults.specs.Form.{Writes};
@@ -42,7 +42,7 @@ fn behind_brace(text: &str) -> Option<&str>
     text.strip_prefix('{')
 }
 
-/// A JSON object with an id in front of its first field. What is no object stays as it is.
+/// A JSON object with an id before its first field. What is no object stays as it is.
 fn with_id(alloc: Global, id: &Id, line: String) -> Result<String, AllocError>
     ensures { IfOk result (λ text. string_bytes text ≡ spliced id.now (string_bytes line)) }
 {

@@ -8,7 +8,7 @@ use naga_rules::FunctionError;
 use std::alloc::Global;
 use std::fmt;
 
-/// Tells on a line of its own why an expression has no type, if that is the fault and the types were computed.
+/// Says on a line of its own why an expression has no type, if that is the fault and the types were computed.
 ///
 /// An Err is that of the writer, or out of memory.
 pub fn tell_untyped<W: fmt::Write>(

@@ -107,7 +107,7 @@ impl Examined {
     }
 }
 
-/// A verdict of which there is no more to tell.
+/// A verdict of which there is no more to say.
 pub fn alone(id: Option<Id>, verdict: Verdict) -> Examined
     ensures id { result.id ≡ id }
     ensures verdict { result.verdict ≡ verdict }

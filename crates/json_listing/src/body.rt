@@ -131,7 +131,7 @@ pub fn write_body<W: fmt::Write>(
     write_gap(out, hidden)
 }
 
-/// Writes the head of a body: which number the place has that the verdict tells.
+/// Writes the head of a body: which number the place of the verdict has.
 fn write_head<W: fmt::Write>(
     out: &mut W,
     position: Option<Position>,

@@ -106,196 +106,212 @@ fn write_function<W: fmt::Write>(
 ) -> fmt::Result {
     write_declarations(out, module, function, found.spot)?;
     let nodes = nodes_of(alloc, &function.body)?;
-    let written = write_statements(alloc, out, function, nodes.as_slice(), fault, found);
+    let refused = Refused {
+        function,
+        nodes: nodes.as_slice(),
+        fault,
+        found,
+    };
+    let written = refused.write(alloc, out);
     drop(nodes);
     written
 }
 
-/// Writes the expressions and the statements of a body, and why one of these is refused.
-fn write_statements<W: fmt::Write>(
-    alloc: Global,
-    out: &mut W,
-    function: &Function,
-    nodes: &[Node<'_>],
-    fault: Option<&FunctionError>,
-    found: &Found,
-) -> fmt::Result {
-    let earlier = earlier_at(alloc, function, nodes, fault, found.spot)?;
-    let kept = kept_before(alloc, function, nodes, fault, found)?;
-    let shown = write_shown(alloc, out, function, nodes, fault, found, earlier, &kept);
-    let written = match shown {
-        Ok(()) => write_causes(out, function, nodes, fault, found, earlier, &kept),
-        Err(error) => Err(error),
-    };
-    drop(kept);
-    written
+/// A function of which something is refused: the statements of its body by their numbers, the fault, if it is the function's
+/// own, and where it was found.
+#[derive(Clone, Copy)]
+struct Refused<'a> {
+    function: &'a Function,
+    nodes: &'a [Node<'a>],
+    fault: Option<&'a FunctionError>,
+    found: &'a Found,
 }
 
-/// What an earlier statement has to do with the fault of a statement.
-fn earlier_at(
-    alloc: Global,
-    function: &Function,
-    nodes: &[Node<'_>],
-    fault: Option<&FunctionError>,
-    spot: Spot,
-) -> Result<Earlier, AllocError> {
-    match (fault, position_of(spot)) {
-        (Some(fault), Some(position)) => earlier_of(alloc, function, nodes, fault, position),
-        _ => Ok(Earlier::None),
+impl<'a> Refused<'a> {
+    /// Writes the expressions and the statements, and why one of these is refused.
+    fn write<W: fmt::Write>(self, alloc: Global, out: &mut W) -> fmt::Result {
+        let earlier = self.earlier(alloc)?;
+        let kept = self.kept(alloc)?;
+        let shown = self.write_shown(alloc, out, earlier, &kept);
+        let written = match shown {
+            Ok(()) => self.write_causes(out, earlier, &kept),
+            Err(error) => Err(error),
+        };
+        drop(kept);
+        written
     }
-}
 
-/// Writes what an earlier statement has to do with the fault of a statement, and why this one is refused.
-fn write_causes<W: fmt::Write>(
-    out: &mut W,
-    function: &Function,
-    nodes: &[Node<'_>],
-    fault: Option<&FunctionError>,
-    found: &Found,
-    earlier: Earlier,
-    kept: &Option<Kept>,
-) -> fmt::Result {
-    match (fault, position_of(found.spot)) {
-        (Some(fault), Some(position)) => {
-            write_earlier(out, earlier)?;
-            write_why(out, function, nodes, fault, position, found, kept)
-        }
-        _ => Ok(()),
+    /// The statement that has the fault, if one has.
+    fn statement(self) -> Option<&'a Statement> {
+        let position = position_of(self.found.spot)?;
+        let node = self.nodes.get(position.number())?;
+        Some(&node.located.statement)
     }
-}
 
-/// Writes the statements that are shown, after the expressions that they name.
-fn write_shown<W: fmt::Write>(
-    alloc: Global,
-    out: &mut W,
-    function: &Function,
-    nodes: &[Node<'_>],
-    fault: Option<&FunctionError>,
-    found: &Found,
-    earlier: Earlier,
-    kept: &Option<Kept>,
-) -> fmt::Result {
-    let position = position_of(found.spot);
-    let shown = shown_of(alloc, nodes, found, earlier, kept)?;
-    let marks = marks_of(alloc, function, nodes, fault, found)?;
-    write_marked_expressions(alloc, out, function, nodes, &marks, &shown, found.spot)?;
-    write_body(out, nodes, &shown, position, &found.place)
-}
-
-/// The statements that are shown.
-fn shown_of(
-    alloc: Global,
-    nodes: &[Node<'_>],
-    found: &Found,
-    earlier: Earlier,
-    kept: &Option<Kept>,
-) -> Result<Shown, AllocError> {
-    let named = named_by(alloc, found.reason, earlier, kept)?;
-    Shown::new(alloc, nodes, position_of(found.spot), named.as_slice())
-}
-
-/// Writes the expressions that the fault is about, and those that shown statements name.
-fn write_marked_expressions<W: fmt::Write>(
-    alloc: Global,
-    out: &mut W,
-    function: &Function,
-    nodes: &[Node<'_>],
-    marks: &Marks,
-    shown: &Shown,
-    spot: Spot,
-) -> fmt::Result {
-    let all = marks_of_shown(alloc, function, nodes, marks, shown)?;
-    write_expressions(out, function, marks, &all, spot)
-}
-
-/// What is done with a value before its list ends, if the fault is that it has ended. An Err is out of memory.
-fn kept_before(
-    alloc: Global,
-    function: &Function,
-    nodes: &[Node<'_>],
-    fault: Option<&FunctionError>,
-    found: &Found,
-) -> Result<Option<Kept>, AllocError> {
-    let Some(
-        Reason::Ended {
-            emitted,
-            ended_loop,
-            ..
-        },
-    ) = found.reason
-    else {
-        return Ok(None);
-    };
-    let handle = match fault {
-        Some(fault) => unseen(fault, nodes, &found.spot),
-        None => None,
-    };
-    match handle {
-        Some(handle) => Ok(Some(kept_of(alloc, function, nodes, emitted, ended_loop, handle)?)),
-        None => Ok(None),
+    /// The expression that isn't in scope, if that is the fault.
+    fn unseen(self) -> Option<Handle<tag::Expression>> {
+        unseen(self.fault?, self.nodes, &self.found.spot)
     }
-}
 
-/// The expressions that the fault is about, and those that the shown statements name, with all that they are made from.
-fn marks_of_shown(
-    alloc: Global,
-    function: &Function,
-    nodes: &[Node<'_>],
-    marks: &Marks,
-    shown: &Shown,
-) -> Result<Marks, AllocError> {
-    let mut all = marks.copy(alloc)?;
-    for (number, node) in nodes.iter().enumerate() {
-        if shown.has(number) {
-            all.add_whole_statement(&node.located.statement);
+    /// What an earlier statement has to do with the fault of a statement.
+    fn earlier(self, alloc: Global) -> Result<Earlier, AllocError> {
+        match (self.fault, position_of(self.found.spot)) {
+            (Some(fault), Some(position)) => {
+                earlier_of(alloc, self.function, self.nodes, fault, position)
+            }
+            _ => Ok(Earlier::None),
         }
     }
-    all.close(function);
-    Ok(all)
-}
 
-/// The expressions that the fault is about, with all that they are made from.
-fn marks_of(
-    alloc: Global,
-    function: &Function,
-    nodes: &[Node<'_>],
-    fault: Option<&FunctionError>,
-    found: &Found,
-) -> Result<Marks, AllocError> {
-    let mut marks = Marks::new(alloc, function.expressions.len())?;
-    if let Spot::Expression(handle) = found.spot {
-        marks.add(handle);
+    /// What is done with a value before its list ends, if the fault is that it has ended. An Err is out of memory.
+    fn kept(self, alloc: Global) -> Result<Option<Kept>, AllocError> {
+        let Some(
+            Reason::Ended {
+                emitted,
+                ended_loop,
+                ..
+            },
+        ) = self.found.reason
+        else {
+            return Ok(None);
+        };
+        match self.unseen() {
+            Some(handle) => {
+                let kept = kept_of(
+                    alloc,
+                    self.function,
+                    self.nodes,
+                    emitted,
+                    ended_loop,
+                    handle,
+                )?;
+                Ok(Some(kept))
+            }
+            None => Ok(None),
+        }
     }
-    if let Some(position) = position_of(found.spot) {
-        if let Some(node) = nodes.get(position.number()) {
-            let statement = &node.located.statement;
+
+    /// Writes the statements that are shown, after the expressions that the fault is about and those that they name.
+    fn write_shown<W: fmt::Write>(
+        self,
+        alloc: Global,
+        out: &mut W,
+        earlier: Earlier,
+        kept: &Option<Kept>,
+    ) -> fmt::Result {
+        let position = position_of(self.found.spot);
+        let named = named_by(alloc, self.found.reason, earlier, kept)?;
+        let shown = Shown::new(alloc, self.nodes, position, named.as_slice())?;
+        let marks = self.marks(alloc)?;
+        let all = self.marks_of_shown(alloc, &marks, &shown)?;
+        write_expressions(out, self.function, &marks, &all, self.found.spot)?;
+        write_body(out, self.nodes, &shown, position, &self.found.place)
+    }
+
+    /// The expressions that the fault is about, with all that they are made from.
+    fn marks(self, alloc: Global) -> Result<Marks, AllocError> {
+        let mut marks = Marks::new(alloc, self.function.expressions.len())?;
+        if let Spot::Expression(handle) = self.found.spot {
+            marks.add(handle);
+        }
+        if let Some(statement) = self.statement() {
             marks.add_statement(statement);
-            add_unseen(&mut marks, function, nodes, statement, fault, found.spot);
+            self.add_unseen(&mut marks, statement);
+        }
+        marks.close(self.function);
+        Ok(marks)
+    }
+
+    /// Marks the expression that isn't in scope, and of an Emit those that are made from it.
+    fn add_unseen(self, marks: &mut Marks, statement: &Statement) {
+        let handle = match self.fault {
+            Some(
+                FunctionError::ExpressionAlreadyInScope(handle) | FunctionError::EmitResult(handle),
+            ) => Some(*handle),
+            _ => self.unseen(),
+        };
+        if let Some(handle) = handle {
+            marks.add(handle);
+            if let Statement::Emit(range) = statement {
+                marks.add_users(self.function, range.start, range.end, handle);
+            }
         }
     }
-    marks.close(function);
-    Ok(marks)
-}
 
-/// Marks the expression that isn't in scope, and of an Emit those that are made from it.
-fn add_unseen(
-    marks: &mut Marks,
-    function: &Function,
-    nodes: &[Node<'_>],
-    statement: &Statement,
-    fault: Option<&FunctionError>,
-    spot: Spot,
-) {
-    let handle = match fault {
-        Some(FunctionError::ExpressionAlreadyInScope(handle) | FunctionError::EmitResult(handle)) =>
-            { Some(*handle) }
-        Some(fault) => unseen(fault, nodes, &spot),
-        None => None,
-    };
-    if let Some(handle) = handle {
-        marks.add(handle);
-        if let Statement::Emit(range) = statement {
-            marks.add_users(function, range.start, range.end, handle);
+    /// The expressions that the fault is about, and those that the shown statements name, with all that they are made from.
+    fn marks_of_shown(
+        self,
+        alloc: Global,
+        marks: &Marks,
+        shown: &Shown,
+    ) -> Result<Marks, AllocError> {
+        let mut all = marks.copy(alloc)?;
+        for (number, node) in self.nodes.iter().enumerate() {
+            if shown.has(number) {
+                all.add_whole_statement(&node.located.statement);
+            }
+        }
+        all.close(self.function);
+        Ok(all)
+    }
+
+    /// Writes what an earlier statement has to do with the fault of a statement, and why this one is refused.
+    fn write_causes<W: fmt::Write>(
+        self,
+        out: &mut W,
+        earlier: Earlier,
+        kept: &Option<Kept>,
+    ) -> fmt::Result {
+        match (self.fault, position_of(self.found.spot)) {
+            (Some(fault), Some(position)) => {
+                write_earlier(out, earlier)?;
+                self.write_why(out, fault, position, kept)
+            }
+            _ => Ok(()),
+        }
+    }
+
+    /// Writes why a statement is refused, where the body shows it.
+    fn write_why<W: fmt::Write>(
+        self,
+        out: &mut W,
+        fault: &FunctionError,
+        position: Position,
+        kept: &Option<Kept>,
+    ) -> fmt::Result {
+        if let (Some(reason), Some(handle)) = (self.found.reason, self.unseen()) {
+            self.write_user(out, position.number(), handle)?;
+            write_reason(out, position, handle, reason)?;
+            return match kept {
+                Some(kept) => write_cures(out, self.function, position, handle, reason, kept),
+                None => Ok(()),
+            };
+        }
+        match self.statement() {
+            Some(statement) => write_cases(out, statement, fault),
+            None => Ok(()),
+        }
+    }
+
+    /// Writes which expression of an Emit of several is made from one that isn't in scope.
+    fn write_user<W: fmt::Write>(
+        self,
+        out: &mut W,
+        number: usize,
+        handle: Handle<tag::Expression>,
+    ) -> fmt::Result {
+        let Some(Statement::Emit(range)) = self.statement() else {
+            return Ok(());
+        };
+        if range.end.saturating_sub(range.start) < 2 {
+            return Ok(());
+        }
+        match user_in(self.function, range.start, range.end, handle) {
+            Some(user) => {
+                write_two(out, "\nWhere: #", number, " emits [", user.index(), "], ")?;
+                write_number(out, "which is made from [", handle.index(), "].")
+            }
+            None => Ok(()),
         }
     }
 }
@@ -329,54 +345,4 @@ fn named_by(
         }
     }
     Ok(named)
-}
-
-/// Writes why a statement is refused, where the body shows it.
-fn write_why<W: fmt::Write>(
-    out: &mut W,
-    function: &Function,
-    nodes: &[Node<'_>],
-    fault: &FunctionError,
-    position: Position,
-    found: &Found,
-    kept: &Option<Kept>,
-) -> fmt::Result {
-    if let (Some(reason), Some(handle)) = (found.reason, unseen(fault, nodes, &found.spot)) {
-        write_user(out, function, nodes, position.number(), handle)?;
-        write_reason(out, position, handle, reason)?;
-        return match kept {
-            Some(kept) => write_cures(out, function, position, handle, reason, kept),
-            None => Ok(()),
-        };
-    }
-    match nodes.get(position.number()) {
-        Some(node) => write_cases(out, &node.located.statement, fault),
-        None => Ok(()),
-    }
-}
-
-/// Writes which expression of an Emit of several is made from one that isn't in scope.
-fn write_user<W: fmt::Write>(
-    out: &mut W,
-    function: &Function,
-    nodes: &[Node<'_>],
-    number: usize,
-    handle: Handle<tag::Expression>,
-) -> fmt::Result {
-    let Some(node) = nodes.get(number) else {
-        return Ok(());
-    };
-    let Statement::Emit(range) = &node.located.statement else {
-        return Ok(());
-    };
-    if range.end.saturating_sub(range.start) < 2 {
-        return Ok(());
-    }
-    match user_in(function, range.start, range.end, handle) {
-        Some(user) => {
-            write_two(out, "\nWhere: #", number, " emits [", user.index(), "], ")?;
-            write_number(out, "which is made from [", handle.index(), "].")
-        }
-        None => Ok(()),
-    }
 }

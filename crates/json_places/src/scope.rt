@@ -75,7 +75,7 @@ pub fn first_emission(
     Ok(None)
 }
 
-/// Of what is known so far and what a further statement shows, what tells more.
+/// Of what is known so far and what a further statement shows, what says more.
 fn told(known: Reason, shown: Option<Reason>) -> Reason {
     let Some(reason) = shown else {
         return known;

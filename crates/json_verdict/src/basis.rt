@@ -14,7 +14,7 @@ use naga_layers::{Lent, Typed, global_types, type_infos};
 use naga_module::{Given, Misfit, ModuleFault, Recorded, check_module, find_misfit};
 use std::alloc::{AllocError, Global};
 
-/// What a module is judged over. It is lent, so that a refused module can be looked at again.
+/// What a module is judged over. It is lent, so that a refused module can be judged again.
 #[derive(Drop)]
 pub struct Basis {
     pub given: Given,

@@ -80,7 +80,7 @@ pub fn examine(alloc: Global, text: &[u8]) -> Examined
     // The verdict is that of the text.
     ensures judged { Judges text.now result.verdict }
 
-    // What is told not to fit is the first misfit of the document's module.
+    // What is reported not to fit is the first misfit of the document's module.
     ensures misfit { HasMisfit text.now result.verdict result.misfit }
 
     // The id is the one that the text has.

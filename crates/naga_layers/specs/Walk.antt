@@ -26,7 +26,16 @@ BOTH = joined (Some READ) WRITE
 -- what is given to a call: a resource is read, what is pointed to is read and written
 abbrev pub space_use : Option AddressSpace → GlobalUse
 space_use (Some space.Handle) = READ
-space_use _ = BOTH
+space_use (Some space.Function) = BOTH
+space_use (Some space.Private) = BOTH
+space_use (Some space.WorkGroup) = BOTH
+space_use (Some space.Uniform) = BOTH
+space_use (Some (space.Storage access)) = BOTH
+space_use (Some space.Immediate) = BOTH
+space_use (Some space.TaskPayload) = BOTH
+space_use (Some space.RayPayload) = BOTH
+space_use (Some space.IncomingRayPayload) = BOTH
+space_use None = BOTH
 
 abbrev pub call_use : List GlobalVariable → Option ℕ → GlobalUse
 call_use globals None = BOTH

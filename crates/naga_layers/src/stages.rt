@@ -58,6 +58,34 @@ pub fn stages_of(
         Some(Expression::CooperativeLoad { .. } | Expression::CooperativeMultiplyAdd { .. }) => {
             Ok(ShaderStages::COMPUTE)
         }
-        _ => Ok(ShaderStages::ALL),
+        Some(
+            Expression::Literal(_)
+            | Expression::Constant(_)
+            | Expression::Override(_)
+            | Expression::ZeroValue(_)
+            | Expression::Compose { .. }
+            | Expression::Access { .. }
+            | Expression::AccessIndex { .. }
+            | Expression::FunctionArgument(_)
+            | Expression::GlobalVariable(_)
+            | Expression::LocalVariable(_)
+            | Expression::Load { .. }
+            | Expression::AtomicResult { .. }
+            | Expression::RayQueryProceedResult
+            | Expression::Splat { .. }
+            | Expression::Swizzle { .. }
+            | Expression::ImageLoad { .. }
+            | Expression::ImageQuery { .. }
+            | Expression::Unary { .. }
+            | Expression::Binary { .. }
+            | Expression::Select { .. }
+            | Expression::Relational { .. }
+            | Expression::Math { .. }
+            | Expression::As { .. }
+            | Expression::ArrayLength { .. }
+            | Expression::RayQueryGetIntersection { .. }
+            | Expression::RayQueryVertexPositions { .. },
+        )
+        | None => Ok(ShaderStages::ALL),
     }
 }

@@ -30,7 +30,15 @@ fn call_use(globals: &[GlobalVariable], root: &Root) -> GlobalUse
     match globals.get(global.index()) {
         Some(variable) => match variable.space {
             AddressSpace::Handle => GlobalUse::READ,
-            _ => BOTH,
+            AddressSpace::Function
+            | AddressSpace::Private
+            | AddressSpace::WorkGroup
+            | AddressSpace::Uniform
+            | AddressSpace::Storage { .. }
+            | AddressSpace::Immediate
+            | AddressSpace::TaskPayload
+            | AddressSpace::RayPayload
+            | AddressSpace::IncomingRayPayload => BOTH,
         },
         None => BOTH,
     }

@@ -28,7 +28,7 @@ use ir_types::typifier::TypeResolution;
 ///
 /// The order is that of `check_module`: the infos of types, the types, the globals, each function, the sizes of task
 /// payloads, each entry point. Of each the misfit is the first in the order of its `check_.._fits` in `ir_misfits`. Where
-/// `check_module` answers `NotFit`, this is why. It may also tell a misfit behind the fault that `check_module` answers.
+/// `check_module` answers `NotFit`, this is why. It may also report a misfit after the fault that `check_module` answers.
 pub fn find_misfit<B: Below>(below: &B, given: &Given, module: &Module) -> Option<Misfit>
     // The answer is the first misfit, in the order of the tests.
     ensures first { result ≡ first_fault (module_points (B.meaning below.now) given.now.types.items «module».now
@@ -38,7 +38,7 @@ pub fn find_misfit<B: Below>(below: &B, given: &Given, module: &Module) -> Optio
     ensures exact { (result ≡ None) ↔ AllFits (B.meaning below.now) given.now.types.items «module».now
         given.now.global_types.items }
 
-    // Of a module that the judgement answers NotFit of, whatever the settings, a misfit is told.
+    // Of a module that the judgement answers NotFit of, whatever the settings, a misfit is reported.
     ensures told { (settings : Settings) → IsJudgement (B.meaning below.now) settings given.now.types.items «module».now
         given.now.global_types.items (Err fault.NotFit) → IsSome result }
 {

@@ -1,6 +1,6 @@
 //! Tests of the IR, of errors and of the parts of the validator by themselves.
 //!
-//! A test makes what owns memory by a helper, hands references to helpers that assert, and lets it go by a call: so the proofs
+//! A test makes what owns memory by a helper, hands references to helpers that assert, and drops it by a call: so the proofs
 //! stay small.
 
 use std::process::Abort;

@@ -49,7 +49,7 @@ fn composed(rt: &(impl Abort + AllocGlobal), handles: &[u32]) -> Expression {
     }
 }
 
-/// Puts an expression last.
+/// Appends an expression.
 fn add(rt: &impl Abort, expressions: &mut Arena<Expression>, expression: Expression) {
     if expressions.is_full() {
         panic!(rt; "full");

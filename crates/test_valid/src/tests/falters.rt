@@ -1,4 +1,4 @@
-//! Each call of the lower layer in turn finds no memory: the answer is the row's own or want of memory, which leaves nothing.
+//! Each call of the lower layer in turn finds no memory: the answer is the row's own or out of memory, which leaves nothing.
 
 use crate::tests::bench::{Bench, make_bench};
 use crate::tests::faltering::Faltering;
@@ -21,14 +21,14 @@ fn faltering<'a>(calls: &'a Cell<u32>, refused: u32) -> Faltering<'a> {
     }
 }
 
-/// Whether want of memory is answered of a row where this call finds none. Asked again the validator gives the row's own answer.
+/// Whether out of memory is answered of a row where this call finds none. Asked again the validator gives the row's own answer.
 fn falters(rt: &(impl Abort + AllocGlobal), bench: &Bench, row: &Row, refused: u32) -> bool {
     let calls = Cell::new(0);
     let mut validator = validator_over(rt, faltering(&calls, refused));
     expect_own(rt, &mut validator, bench, row, left_by(row))
 }
 
-/// Each call that a row takes finds no memory in turn: want of memory is answered no fewer times than this, and not any more
+/// Each call that a row takes finds no memory in turn: out of memory is answered no fewer times than this, and not any more
 /// where the call is none of the row's.
 fn expect_refusals(rt: &(impl Abort + AllocGlobal), bench: &Bench, row: &Row) {
     let mut refusals: u32 = 0;

@@ -17,7 +17,7 @@ use naga_module::{
 use naga_valid::validator::Validator;
 use std::process::Abort;
 
-/// The greatest number of 32 bits.
+/// The largest number of 32 bits.
 const GREATEST: u32 = 4294967295;
 
 /// Which tests hold where this is known of each type: `has_types_of`, `fits_types`, `fits_globals`, `fits_entry`, and

@@ -14,7 +14,7 @@ use naga_valid::validator::Validator;
 use std::alloc::{AllocError, Global};
 use std::process::Abort;
 
-/// A request of so many bytes tells tools/memory that each later one is to be refused.
+/// A request of so many bytes says to tools/memory that each later one is to be refused.
 const MARK: usize = 1000003;
 
 /// Asks for so many bytes, and gives them back.
@@ -72,7 +72,7 @@ fn expect(
     holds!(rt; answer == expected);
 }
 
-/// It takes no memory: behind the mark each request may be refused.
+/// It takes no memory: after the mark each request may be refused.
 #[test]
 fn globals_are_judged_with_what_the_layer_knows(rt: HostRuntime) {
     let module = two_more(&rt);

@@ -14,7 +14,7 @@ use naga_valid::TraceState;
 use naga_valid::validator::Validator;
 use std::process::Abort;
 
-/// Accepted, out of memory, or refused with what is told of it.
+/// Accepted, out of memory, or refused with what is reported of it.
 #[derive(Drop)]
 pub enum Answer {
     Accepted,
@@ -22,7 +22,7 @@ pub enum Answer {
     Told(String),
 }
 
-/// The plain layer, by which triangles are put out, and no override is a greatest number.
+/// The plain layer, by which triangles are put out, and no override is a largest value.
 pub fn layer() -> Plain {
     Plain::new(MeshAnalysis {
         implied: triangles(),
@@ -65,7 +65,7 @@ fn answer_of<E: Explain + Drop>(
     }
 }
 
-/// What is answered of a function behind those of the module.
+/// What is answered of a function after those of the module.
 fn ask_alone<B: Below>(
     rt: &(impl Abort + AllocGlobal),
     validator: &mut Validator<B>,
@@ -151,7 +151,7 @@ pub fn expect_own<B: Below>(
     is_refused
 }
 
-/// What is told of what `check_module` answers.
+/// What is reported of what `check_module` answers.
 fn told_of(rt: &(impl Abort + AllocGlobal), answer: &Result<ModuleInfo, ModuleFault>) -> Answer {
     match answer {
         Ok(_) => Answer::Accepted,
@@ -187,7 +187,7 @@ pub fn module_of(rt: &(impl Abort + AllocGlobal), row: &Row) -> Module {
     module(rt, entry_points)
 }
 
-/// The module with the entry point of a row has this row's own answer, or is answered want of memory: whether that is so.
+/// The module with the entry point of a row has this row's own answer, or is answered out of memory: whether that is so.
 pub fn module_falters<B: Below + Drop>(
     rt: &(impl Abort + AllocGlobal),
     below: B,

@@ -22,7 +22,7 @@ fn expect_rows(rt: &(impl Abort + AllocGlobal), bench: &Bench, rows: &[(Row, Tra
     drop(validator);
 }
 
-/// Each row behind one that is refused.
+/// Each row after one that is refused.
 fn expect_behind(rt: &(impl Abort + AllocGlobal), bench: &Bench, refused: &Row) {
     for row in rows() {
         expect_rows(rt, bench, &[(*refused, NOTHING), (*row, left_by(row))]);

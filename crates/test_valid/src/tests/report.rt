@@ -24,7 +24,7 @@ fn assert_told(
     drop(told);
 }
 
-/// A refusal without a place, one with two, and want of memory.
+/// A refusal without a place, one with two, and out of memory.
 fn placed(rt: &(impl Abort + AllocGlobal), index: usize) -> Refusal<FunctionError> {
     let fault = WithSpan::new(rt.alloc(), FunctionError::MissingDefaultCase);
     match index {
@@ -37,7 +37,7 @@ fn placed(rt: &(impl Abort + AllocGlobal), index: usize) -> Refusal<FunctionErro
     }
 }
 
-/// What is told of them in function 0.
+/// What is reported of them in function 0.
 static PLACED: [&str; 3] = [
     "function [0]: MissingDefaultCase: a switch has no default case",
     "function [0]: 3..5, 7..9: MissingDefaultCase: a switch has no default case",

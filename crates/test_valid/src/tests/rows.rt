@@ -1,4 +1,4 @@
-//! Rows: an entry point of the module of `bench`, or a function behind its own, what is told of it, and what its ray traces
+//! Rows: an entry point of the module of `bench`, or a function after its own, what is reported of it, and what its ray traces
 //! leave.
 
 use crate::tests::bench::{
@@ -27,7 +27,7 @@ pub enum Step {
     Ray(u32, u32, u32),
 }
 
-/// What is judged. Its function names globals, which are its first expressions, and behind them is a ray descriptor, as which
+/// What is judged. Its function names globals, which are its first expressions, and after them is a ray descriptor, as which
 /// its local begins.
 #[derive(Clone, Copy)]
 pub struct Row {
@@ -42,7 +42,7 @@ pub struct Row {
     pub steps: &'static [Step],
     /// The type of its argument, which has no binding.
     pub takes: Option<u32>,
-    /// What is told of its refusal, or nothing where it is accepted.
+    /// What is reported of its refusal, or nothing where it is accepted.
     pub told: &'static str,
     /// The type of the payload that its ray traces leave.
     pub leaves: Option<u32>,
@@ -154,7 +154,7 @@ pub fn rows() -> &'static [Row] {
     &ROWS
 }
 
-/// What is refused before its function is judged, in it, and behind it, by one step after the other; and what is accepted.
+/// What is refused before its function is judged, in it, and after it, by one step after the other; and what is accepted.
 static ROWS: [Row; 16] = [
     Row {
         workgroup_size: [1, 0, 1],
@@ -270,7 +270,7 @@ fn body_of(rt: &(impl Abort + AllocGlobal), steps: &[Step]) -> Block {
     body
 }
 
-/// Puts an expression last.
+/// Appends an expression.
 fn add(rt: &impl Abort, expressions: &mut Arena<Expression>, expression: Expression) {
     holds!(rt; !expressions.is_full());
     made(rt, expressions.append(expression, NOWHERE));

@@ -31,7 +31,7 @@ pub fn settings() -> Settings {
     }
 }
 
-/// What a layer is asked about: a function of a module, behind the functions of these infos.
+/// What a layer is asked about: a function of a module, after the functions of these infos.
 #[derive(Clone, Copy)]
 struct Subject<'a> {
     fun: &'a Function,

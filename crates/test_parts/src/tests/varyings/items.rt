@@ -1,4 +1,4 @@
-//! Items behind others: what each takes, and what is kept of one that is refused.
+//! Items after others: what each takes, and what is kept of one that is refused.
 
 use crate::tests::made;
 use crate::tests::varyings::places::at;
@@ -116,7 +116,7 @@ struct Item {
     binding: Option<Binding>,
 }
 
-/// The answer for an item, behind what the state has: the fault, if there is one. The last two structs aren't shared.
+/// The answer for an item, after what the state has: the fault, if there is one. The last two structs aren't shared.
 #[tactic(auto, using(ir_facts::proofs::Callers::types_name_each_other))]
 fn answer_of(
     rt: &(impl Abort + AllocGlobal),
@@ -143,7 +143,7 @@ fn expect_fault(rt: &impl Abort, fault: &Option<VaryingError>, expected: &Option
     holds!(rt; fault == expected);
 }
 
-/// An item behind what the state has gets this answer. Where there was no memory, the same call is made again, and there is.
+/// An item after what the state has gets this answer. Where there was no memory, the same call is made again, and there is.
 fn next(
     rt: &(impl Abort + AllocGlobal),
     module: &Module,
@@ -206,7 +206,7 @@ fn expect_taken(rt: &impl Abort, state: &VaryingState, are_taken: bool) {
     holds!(rt; state.has_built_in(BuiltIn::Position { invariant: false }) == are_taken);
 }
 
-/// Bindings are looked at: nothing is taken.
+/// Bindings are checked: nothing is taken.
 fn refuse_members(rt: &(impl Abort + AllocGlobal), module: &Module, state: &mut VaryingState) {
     let vertex = at(ShaderStage::Vertex, true);
     let fault = VaryingError::BindingCollision { location: 2 };
@@ -231,7 +231,7 @@ fn refuse_members(rt: &(impl Abort + AllocGlobal), module: &Module, state: &mut 
     holds!(rt; !state.has_location(3));
 }
 
-/// Bindings aren't looked at: what is bound is taken.
+/// Bindings aren't checked: what is bound is taken.
 fn take_members(rt: &(impl Abort + AllocGlobal), module: &Module, state: &mut VaryingState) {
     let mut vertex = at(ShaderStage::Vertex, true);
     vertex.flags = ValidationFlags::empty();

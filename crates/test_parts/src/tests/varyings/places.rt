@@ -84,7 +84,7 @@ pub static STAGES: [ShaderStage; 9] = [
     ShaderStage::Miss,
 ];
 
-/// A place where bindings are looked at, on a target with every capability, of an entry point without a task payload and with
+/// A place where bindings are checked, on a target with every capability, of an entry point without a task payload and with
 /// one invocation.
 pub fn at(stage: ShaderStage, output: bool) -> VaryingPlace {
     VaryingPlace {
