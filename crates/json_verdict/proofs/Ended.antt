@@ -1,5 +1,5 @@
 -- How a stream of lines goes on.
-use Rattle.std.proofs.Common.{◌≡◌, ℕ, true, false, cond, List, [], ◌∷◌, ◌++◌, Option, max, refl, sym, ap, ◌∙◌, subst, arith}
+use Rattle.std.proofs.Common.{◌≡◌, ℕ, true, false, cond, List, [], ◌∷◌, ◌++◌, length, Option, max, refl, sym, ap, ◌∙◌, subst, arith}
 use Rattle.std.proofs.lemmas.List.{append-nil, append_assoc}
 use Rattle.std.proofs.KnownBytes.{Appends-kept, Appends-nil, Appends-trans}
 use Rattle.std.specs.Prelude.{◌==◌}
@@ -10,13 +10,13 @@ use Rattle.json_verdict.specs.declared.stream.Stream.{Stream}
 use Rattle.json_verdict.specs.walk.Lines.{IsPlain, is_begun, Follows}
 use Rattle.json_verdict.specs.walk.Stream.{Holds}
 
-plain_push : (line : List ℕ) (b : ℕ) → IsPlain line → (b == 10) ≡ false → IsPlain (line ++ b ∷ [])
-plain_push [] b plain other = (other, tt)
-plain_push (x ∷ xs) b plain other = (plain.0, plain_push xs b plain.1 other)
+plain_more : (line part : List ℕ) → IsPlain line → IsPlain part → IsPlain (line ++ part)
+plain_more [] part plain more = more
+plain_more (x ∷ xs) part plain more = (plain.0, plain_more xs part plain.1 more)
 
-begun_push : (line : List ℕ) (b : ℕ) → is_begun (line ++ b ∷ []) ≡ true
-begun_push [] b = refl
-begun_push (x ∷ xs) b = refl
+begun_more : (line part : List ℕ) → is_begun part ≡ true → is_begun (line ++ part) ≡ true
+begun_more [] part begun = begun
+begun_more (x ∷ xs) part begun = refl
 
 plain_byte : (b : ℕ) (bs : List ℕ) → (b == 10) ≡ false → lines_of (b ∷ bs) ≡ with_byte b (lines_of bs)
 plain_byte b bs other = ap (λ t. cond t ([] ∷ lines_of bs) (with_byte b (lines_of bs))) other
@@ -68,20 +68,38 @@ follows_none s start kept begun status = record {
   begun = begun;
 }
 
--- a byte that is no newline
-pub follows_byte : (s t : Stream) (input : List ℕ) (b : ℕ) (old new : Option (List ℕ)) → (b == 10) ≡ false → Follows s input old new
-    → ((text : List ℕ) → Holds s.bytes text → Holds t.bytes (text ++ b ∷ [])) → t.is_begun ≡ true → t.status ≡ s.status → Follows t (input ++ b ∷ []) old new
-follows_byte s t input b old new other f kept begun status = record {
+-- bytes that are no newline
+pub follows_part : (s t : Stream) (input part : List ℕ) (old new : Option (List ℕ)) → IsPlain part → is_begun part ≡ true → Follows s input old new
+    → ((text : List ℕ) → Holds s.bytes text → Holds t.bytes (text ++ part)) → t.is_begun ≡ true → t.status ≡ s.status → Follows t (input ++ part) old new
+follows_part s t input part old new plain more f kept begun status = record {
   done = f.done;
-  line = f.line ++ b ∷ [];
+  line = f.line ++ part;
   out = f.out;
-  lines = λ more. ap lines_of (append_assoc input (b ∷ []) more) ∙ f.lines (b ∷ more) ∙ ap (λ l. f.done ++ lines_of l) (sym (append_assoc f.line (b ∷ []) more));
+  lines = λ rest. ap lines_of (append_assoc input part rest) ∙ f.lines (part ++ rest) ∙ ap (λ l. f.done ++ lines_of l) (sym (append_assoc f.line part rest));
   replies = subst (AreReplies f.done f.out) (sym status) f.replies;
   written = f.written;
   kept = kept f.line f.kept;
-  plain = plain_push f.line b f.plain other;
-  begun = begun ∙ sym (begun_push f.line b);
+  plain = plain_more f.line part f.plain plain;
+  begun = begun ∙ sym (begun_more f.line part more);
 }
+
+pub no_byte : (part : List ℕ) → length part ≡ 0 → part ≡ []
+no_byte [] none = refl
+no_byte (b ∷ bs) none = absurd (omega (arith, none))
+
+-- no byte
+pub follows_nothing : (s : Stream) (input part : List ℕ) (old new : Option (List ℕ)) → part ≡ [] → Follows s input old new → Follows s (input ++ part) old new
+follows_nothing s input part old new none f =
+    subst (λ seen. Follows s seen old new) (sym (ap (λ l. input ++ l) none ∙ append-nil input)) f
+
+-- a line whose newline was seen, and what comes after it
+pub line_seen : (input seen line : List ℕ) → ((input ++ seen) ++ line) ++ 10 ∷ [] ≡ input ++ (seen ++ (line ++ 10 ∷ []))
+line_seen input seen line =
+    append_assoc (input ++ seen) line (10 ∷ []) ∙ append_assoc input seen (line ++ 10 ∷ [])
+
+pub line_cut : (seen line after : List ℕ) → seen ++ (line ++ 10 ∷ after) ≡ (seen ++ (line ++ 10 ∷ [])) ++ after
+line_cut seen line after =
+    ap (λ l. seen ++ l) (sym (append_assoc line (10 ∷ []) after)) ∙ sym (append_assoc seen (line ++ 10 ∷ []) after)
 
 -- a newline
 pub follows_end : (s t : Stream) (input : List ℕ) (old mid new : Option (List ℕ)) (this : ℕ) → Follows s input old mid

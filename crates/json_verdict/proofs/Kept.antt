@@ -1,5 +1,5 @@
 -- What is kept of a text says its verdict.
-use Rattle.std.proofs.Common.{◌≡◌, ◌≤◌, ◌<◌, ℕ, true, List, [], ◌∷◌, ◌++◌, length, take, Option, None, Some, sym, ap, ◌∙◌, subst, inl, inr, arith}
+use Rattle.std.proofs.Common.{◌≡◌, ◌≤◌, ◌<◌, ◌+◌, ℕ, true, List, [], ◌∷◌, ◌++◌, length, take, Option, None, Some, sym, ap, ◌∙◌, subst, inl, inr, arith}
 use Rattle.std.proofs.lemmas.List.{length-take, length-append, take_all, take-append-le}
 use Rattle.ir_misfits.specs.declared.misfit.Misfit.{Misfit}
 use Rattle.check_faults.specs.declared.module.ModuleFault.{ModuleFault}
@@ -25,6 +25,15 @@ kept_push n kept text b lt is =
     let all : take n text ≡ text = take_all n text (omega (arith, length-take n text)) in
     let grown : take n (text ++ b ∷ []) ≡ text ++ b ∷ [] = take_all n (text ++ b ∷ []) (omega (arith, length-take n text, length-append text (b ∷ []))) in
     ap (λ l. l ++ b ∷ []) (is ∙ all) ∙ sym grown
+
+-- there is room for these bytes, and one more
+pub kept_append : (n : ℕ) (kept text bytes : List ℕ) → length kept + length bytes < n → kept ≡ take n text → kept ++ bytes ≡ take n (text ++ bytes)
+kept_append n kept text bytes lt is =
+    let sized : length kept ≡ length (take n text) = ap length is in
+    let all : take n text ≡ text = take_all n text (omega (arith, length-take n text)) in
+    let same : length text ≡ length kept = ap length (sym (is ∙ all)) in
+    let grown : take n (text ++ bytes) ≡ text ++ bytes = take_all n (text ++ bytes) (omega (arith, length-append text bytes)) in
+    ap (λ l. l ++ bytes) (is ∙ all) ∙ sym grown
 
 -- there is no room, whatever comes
 pub kept_full : (n : ℕ) (kept text more : List ℕ) → n ≤ length kept → kept ≡ take n text → kept ≡ take n (text ++ more)

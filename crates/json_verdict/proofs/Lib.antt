@@ -1,3 +1,4 @@
+pub mod Cut
 pub mod Ended
 pub mod Kept
 pub mod Misfits

@@ -19,10 +19,10 @@ fn no_end() -> io::Error {
 }
 
 /// Room for what one read gives.
-fn room() -> [u8; 4096]
-    ensures { length result ≡ 4096 }
+fn room() -> [u8; 32768]
+    ensures { length result ≡ 32768 }
 {
-    [0; 4096]
+    [0; 32768]
 }
 
 /// Reads until the input ends, or until so much was read that the verdict is known.

@@ -1,12 +1,13 @@
 //! A stream of documents, one a line.
 
-ghost use Rattle.std.specs.Prelude.{◌≡◌, max, ◌++◌, ◌∷◌, ℕ, List, [], Option, IfOk, OnOk};
+ghost use Rattle.std.specs.Prelude.{◌≡◌, max, ◌++◌, ◌∷◌, ℕ, List, [], Option, IfOk, OnOk, MatchOption};
 ghost use Rattle.json_verdict.specs.Runs.{RepliesToLines};
-ghost use Rattle.json_verdict.specs.walk.Lines.{Follows};
+ghost use Rattle.json_verdict.specs.walk.Lines.{Follows, IsPlain};
 
 use crate::reply::reply_to;
 use crate::text::Bytes;
 use json_answers::Form;
+use memchr::memchr;
 use std::alloc::Global;
 use std::io;
 use std::io::Write;
@@ -16,6 +17,17 @@ fn greater(a: u8, b: u8) -> u8
     ensures { result ≡ max a b }
 {
     if a < b { b } else { a }
+}
+
+/// The bytes before the first newline, and those after it; `None` where there is none.
+fn cut<'b>(bytes: &'b [u8]) -> Option<(&'b [u8], &'b [u8])>
+    ensures { MatchOption result (IsPlain bytes.now)
+        (λ parts. IsPlain parts.0.now × (bytes.now ≡ parts.0.now ++ 10 ∷ parts.1.now)) }
+{
+    match memchr(b'\n', bytes) {
+        Some(end) => Some((&bytes[..end], &bytes[end + 1..])),
+        None => None,
+    }
 }
 
 /// A stream of lines: the line that is being read, whether it has a byte, and the greatest exit status so far.
@@ -50,17 +62,17 @@ impl Stream {
         Ok(())
     }
 
-    /// Takes one byte more.
-    fn take<W: Write>(&mut self, alloc: Global, writer: &mut W, byte: u8) -> io::Result<()>
-        ensures { OnOk result ((input : List ℕ) (start : Option (List ℕ)) → Follows self.old input start (W.contents writer.old) →
-            Follows self.new (input ++ byte ∷ []) start (W.contents writer.new)) }
+    /// Takes bytes of the line, which have no newline.
+    fn take(&mut self, part: &[u8])
+        requires plain { IsPlain part.now }
+        ensures { (input : List ℕ) (start written : Option (List ℕ)) → Follows self.old input start written →
+            Follows self.new (input ++ part.now) start written }
     {
-        if byte == b'\n' {
-            return self.end_line(alloc, writer);
+        if part.is_empty() {
+            return;
         }
-        self.bytes.push(byte);
+        self.bytes.push_all(part);
         self.is_begun = true;
-        Ok(())
     }
 
     /// Takes these bytes, and writes the verdict of each line that ends in them.
@@ -73,9 +85,13 @@ impl Stream {
         ensures { OnOk result ((input : List ℕ) (start : Option (List ℕ)) → Follows self.old input start (W.contents writer.old) →
             Follows self.new (input ++ bytes.now) start (W.contents writer.new)) }
     {
-        for byte in bytes {
-            self.take(alloc, writer, *byte)?;
+        let mut rest = bytes;
+        'lines: while let Some((line, after)) = cut(rest) {
+            self.take(line);
+            self.end_line(alloc, writer)?;
+            rest = after;
         }
+        self.take(rest);
         Ok(())
     }
 

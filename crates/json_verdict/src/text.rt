@@ -1,6 +1,6 @@
 //! A text as its bytes come in.
 
-ghost use Rattle.std.specs.Prelude.{◌≡◌, ◌++◌, ◌∷◌, [], ℕ, List, true, false};
+ghost use Rattle.std.specs.Prelude.{◌≡◌, ◌≤◌, ◌+◌, ◌++◌, ◌∷◌, [], ℕ, List, true, false, length};
 ghost use Rattle.std.specs.Bool.{OnTrue};
 ghost use Rattle.json_verdict.specs.Judges.{HasMisfit, Judges};
 ghost use Rattle.json_answers.specs.Named.{HasItsId};
@@ -43,13 +43,36 @@ impl Bytes {
         }
     }
 
-    /// Takes these bytes.
-    pub fn push_all(&mut self, bytes: &[u8])
+    /// Takes these bytes, one by one.
+    fn push_each(&mut self, bytes: &[u8])
         ensures { (text : List ℕ) → Holds self.old text → Holds self.new (text ++ bytes.now) }
     {
         for byte in bytes {
             self.push(*byte);
         }
+    }
+
+    /// Takes these bytes, with which it is no longer than a document may be.
+    fn append(&mut self, bytes: &[u8])
+        requires room { length self.old.kept.items + length bytes.now ≤ 16777216 }
+        ensures { (text : List ℕ) → Holds self.old text → Holds self.new (text ++ bytes.now) }
+    {
+        match self.kept.extend_from_slice(bytes) {
+            Ok(()) => {}
+            Err(_) => self.is_lost = true,
+        }
+    }
+
+    /// Takes these bytes.
+    pub fn push_all(&mut self, bytes: &[u8])
+        ensures { (text : List ℕ) → Holds self.old text → Holds self.new (text ++ bytes.now) }
+    {
+        if bytes.len() <= MOST_BYTES {
+            if self.kept.as_slice().len() <= MOST_BYTES - bytes.len() {
+                return self.append(bytes);
+            }
+        }
+        self.push_each(bytes)
     }
 
     /// Begins the next text.
