@@ -31,7 +31,7 @@ impl Bytes {
     }
 
     /// Takes one byte more.
-    pub fn push(&mut self, byte: u8)
+    fn push(&mut self, byte: u8)
         ensures { (text : List ℕ) → Holds self.old text → Holds self.new (text ++ byte ∷ []) }
     {
         if self.kept.as_slice().len() > MOST_BYTES {
