@@ -1,6 +1,7 @@
 pub mod Exact
 pub mod ExactParts
 pub mod ExactBodies
+pub mod Fitting
 pub mod Lists
 pub mod Tests
 pub mod Walks

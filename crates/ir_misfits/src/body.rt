@@ -1,28 +1,130 @@
 //! What doesn't fit of the statements of a body, at any depth.
 
-ghost use Rattle.std.specs.Prelude.{◌<◌, ◌≡◌, ◌↔◌, IsTrue, IfOk, IfSome, All};
+ghost use Rattle.std.specs.Prelude.{◌≡◌, ◌↔◌, IsTrue, IfOk};
 ghost use Rattle.std.specs.Result.{result_err};
-ghost use Rattle.ir_arena.specs.declared.span.Span.{Span};
 ghost use Rattle.ir_arena.specs.Points.{first_fault};
-ghost use Rattle.ir_statements.specs.View.{no_operands, leaf_of, tree_of, body_of, list_body, list_cases};
-ghost use Rattle.ir_facts.specs.FitsBody.{CalleeFits, LeafFits};
-ghost use Rattle.ir_misfits.specs.OfBodies.{next, after_statement, after_body, after_cases, call_points, leaf_points, statement_points, body_points, cases_points};
+ghost use Rattle.ir_statements.specs.View.{no_operands, tree_of, body_of, list_body, list_cases};
+ghost use Rattle.ir_facts.specs.FitsBody.{StatementFits, BodyFits, CasesFit};
+ghost use Rattle.ir_misfits.specs.OfBodies.{next, after_statement, after_body, after_cases, statement_points, body_points, cases_points};
 
-use crate::misfit::{HandleOf, Misfit, Owner, Place, StatementField};
+use crate::leaf::{Asked, check_leaf, leaf_fits};
+use crate::misfit::{Misfit, StatementField};
 use crate::numbered::Numbered;
-use crate::signature::{callee_fits, check_callee};
-use ir_arena::handle::Handle;
-use ir_arena::tag;
-use ir_module::module::Module;
 use ir_statements::statements::{Block, Located, Statement, SwitchCase};
 
-/// Whose body it is, in which module, how many expressions there are, and how many functions calls may name.
-#[derive(Drop)]
-pub(crate) struct Asked<'a> {
-    pub owner: Owner,
-    pub module: &'a Module,
-    pub expressions: usize,
-    pub earlier: usize,
+/// The first misfit of a body.
+pub(crate) fn check_statements(asked: &Asked, body: &Block) -> Result<(), Misfit>
+    ensures { result_err result ≡ first_fault (body_points asked.now.module.now asked.now.expressions
+        asked.now.earlier asked.now.owner 0 (body_of no_operands body.now)) }
+{
+    // (asked first for its time: room for a misfit costs more than to see that there is none)
+    if block_fits(asked, body) {
+        return Ok(());
+    }
+    first_misfit_of_body(asked, body)
+}
+
+/// Whether a block fits, at any depth.
+#[cycle(fit)]
+fn block_fits(asked: &Asked, block: &Block) -> bool
+    ensures { IsTrue result ↔ BodyFits asked.now.module.now asked.now.expressions asked.now.earlier
+        (body_of no_operands block.now) }
+{
+    list_fits(asked, block.list.as_slice())
+}
+
+/// Whether each of these fits.
+#[cycle(fit)]
+fn list_fits(asked: &Asked, list: &[Located]) -> bool
+    ensures { IsTrue result ↔ BodyFits asked.now.module.now asked.now.expressions asked.now.earlier
+        (list_body no_operands list.now) }
+{
+    for located in list {
+        if !statement_fits(asked, located) {
+            return false;
+        }
+    }
+    true
+}
+
+/// Whether the body of each of these fits.
+#[cycle(fit)]
+fn cases_fit(asked: &Asked, cases: &[SwitchCase]) -> bool
+    ensures { IsTrue result ↔ CasesFit asked.now.module.now asked.now.expressions asked.now.earlier
+        (list_cases no_operands cases.now) }
+{
+    for case in cases {
+        if !block_fits(asked, &case.body) {
+            return false;
+        }
+    }
+    true
+}
+
+/// Whether the statement, and those that it holds, fit.
+#[cycle(fit)]
+#[inline(always)]
+fn statement_fits(asked: &Asked, located: &Located) -> bool
+    ensures { IsTrue result ↔ StatementFits asked.now.module.now asked.now.expressions asked.now.earlier
+        (tree_of no_operands located.now.statement located.now.span) }
+{
+    let statement = &located.statement;
+    match statement {
+        Statement::Emit(range) => {
+            range.start <= range.end && range.end as usize <= asked.expressions
+        }
+        Statement::Store { pointer, value } => asked.has(*pointer) && asked.has(*value),
+        Statement::Call {
+            function,
+            arguments,
+            result: answer,
+        } => asked.has_call(*function, arguments.as_slice(), *answer),
+        Statement::Block(block) => block_fits(asked, block),
+        Statement::If {
+            condition,
+            accept,
+            reject,
+        } => { asked.has(*condition) && block_fits(asked, accept) && block_fits(asked, reject) }
+        Statement::Switch { selector, cases } => {
+            asked.has(*selector) && cases_fit(asked, cases.as_slice())
+        }
+        Statement::Loop {
+            body,
+            continuing,
+            break_if,
+        } => {
+            block_fits(asked, body) && block_fits(asked, continuing) && asked.has_if_any(*break_if)
+        }
+        Statement::Return { value } => asked.has_if_any(*value),
+        Statement::Break
+        | Statement::Continue
+        | Statement::Kill
+        | Statement::ControlBarrier(_)
+        | Statement::MemoryBarrier(_) => true,
+        Statement::ImageStore { .. }
+        | Statement::Atomic { .. }
+        | Statement::ImageAtomic { .. }
+        | Statement::WorkGroupUniformLoad { .. }
+        | Statement::RayQuery { .. }
+        | Statement::SubgroupBallot { .. }
+        | Statement::SubgroupCollectiveOperation { .. }
+        | Statement::SubgroupGather { .. }
+        | Statement::CooperativeStore { .. }
+        | Statement::RayPipelineFunction(_) => leaf_fits(asked, statement),
+    }
+}
+
+/// The first misfit of a body that doesn't fit. Its first statement has number 0.
+#[cold]
+#[inline(never)]
+fn first_misfit_of_body(asked: &Asked, body: &Block) -> Result<(), Misfit>
+    ensures { result_err result ≡ first_fault (body_points asked.now.module.now asked.now.expressions
+        asked.now.earlier asked.now.owner 0 (body_of no_operands body.now)) }
+{
+    match check_block(asked, 0, body) {
+        Ok(_) => Ok(()),
+        Err(misfit) => Err(misfit),
+    }
 }
 
 /// The number of the next statement. Numbers end where a `usize` does.
@@ -36,169 +138,9 @@ fn next(number: usize) -> usize
     }
 }
 
-impl Asked<'_> {
-    /// Whether an expression is there.
-    fn has(&self, handle: Handle<tag::Expression>) -> bool
-        ensures { IsTrue result ↔ (handle < self.now.expressions) }
-    {
-        handle.index() < self.expressions
-    }
-
-    /// The same of one that may be left out.
-    fn has_if_any(&self, handle: Option<Handle<tag::Expression>>) -> bool
-        ensures { IsTrue result ↔ IfSome handle (λ h. h < self.now.expressions) }
-    {
-        match handle {
-            Some(handle) => self.has(handle),
-            None => true,
-        }
-    }
-
-    /// Whether each of these is there.
-    fn has_all(&self, handles: &[Handle<tag::Expression>]) -> bool
-        ensures { IsTrue result ↔ All (λ h. h < self.now.expressions) handles.now }
-    {
-        handles.iter().all(|handle| self.has(*handle))
-    }
-
-    /// Whether a Call names an earlier function, whose signature fits, and expressions that are there.
-    fn has_call(
-        &self,
-        function: Handle<tag::Function>,
-        arguments: &[Handle<tag::Expression>],
-        answer: Option<Handle<tag::Expression>>,
-    ) -> bool
-        ensures { IsTrue result ↔ (function < self.now.earlier) × CalleeFits self.now.module.now function
-            × All (λ h. h < self.now.expressions) arguments.now × IfSome answer (λ h. h < self.now.expressions) }
-    {
-        function.index() < self.earlier
-            && callee_fits(function, self.module)
-            && self.has_all(arguments)
-            && self.has_if_any(answer)
-    }
-
-    /// Whether it is an Emit, a Store or a Call, and what it names is there.
-    fn has_frequent(&self, statement: &Statement) -> bool
-        ensures fits { IsTrue result → LeafFits self.now.module.now self.now.expressions self.now.earlier statement.now }
-        ensures leaf { IsTrue result → (span : Span)
-            → tree_of no_operands statement.now span ≡ leaf_of no_operands statement.now span }
-    {
-        match statement {
-            Statement::Emit(range) => {
-                range.start <= range.end && range.end as usize <= self.expressions
-            }
-            Statement::Store { pointer, value } => self.has(*pointer) && self.has(*value),
-            Statement::Call {
-                function,
-                arguments,
-                result: answer,
-            } => self.has_call(*function, arguments.as_slice(), *answer),
-            _ => false,
-        }
-    }
-}
-
-/// A Call names an earlier function, whose signature fits, and expressions that are there.
-#[tactic(auto, using(ir_arena::proofs::Points::first_of_both))]
-fn check_call(
-    asked: &Asked,
-    number: usize,
-    function: Handle<tag::Function>,
-    arguments: &[Handle<tag::Expression>],
-    answer: Option<Handle<tag::Expression>>,
-) -> Result<(), Misfit>
-    ensures { result_err result ≡ first_fault (call_points asked.now.module.now asked.now.expressions
-        asked.now.earlier asked.now.owner number function arguments.now answer) }
-{
-    let place = Place::InStatement(asked.owner, number, StatementField::Function);
-    let statement = Numbered {
-        owner: asked.owner,
-        number,
-        expressions: asked.expressions,
-    };
-    place.names(HandleOf::Functions, function.index(), asked.earlier)?;
-    check_callee(place, function, asked.module)?;
-    statement.check_call_arguments(arguments)?;
-    statement.names_if_any(StatementField::Result, answer)
-}
-
-/// A statement that is neither a jump nor holds others; nothing of any other.
-#[tactic(auto, using(ir_arena::proofs::Points::first_of_both))]
-fn check_leaf(asked: &Asked, number: usize, statement: &Statement) -> Result<(), Misfit>
-    ensures { result_err result ≡ first_fault (leaf_points asked.now.module.now asked.now.expressions
-        asked.now.earlier asked.now.owner number statement.now) }
-{
-    let this = Numbered {
-        owner: asked.owner,
-        number,
-        expressions: asked.expressions,
-    };
-    match statement {
-        Statement::Emit(range) => this.check_range(*range),
-        Statement::Store { pointer, value } => this.check_store(*pointer, *value),
-        Statement::ImageStore {
-            image,
-            coordinate,
-            array_index,
-            value,
-        } => this.check_image_store(*image, *coordinate, *array_index, *value),
-        Statement::Atomic {
-            pointer,
-            fun,
-            value,
-            result: answer,
-        } => this.check_operation(*pointer, *fun, *value, *answer),
-        Statement::ImageAtomic {
-            image,
-            coordinate,
-            array_index,
-            fun,
-            value,
-        } => this.check_image_operation(*image, *coordinate, *array_index, *fun, *value),
-        Statement::WorkGroupUniformLoad {
-            pointer,
-            result: answer,
-        } => this.check_uniform_load(*pointer, *answer),
-        Statement::Call {
-            function,
-            arguments,
-            result: answer,
-        } => check_call(asked, number, *function, arguments.as_slice(), *answer),
-        Statement::RayQuery { query, fun } => this.check_ray_query(*query, *fun),
-        Statement::SubgroupBallot {
-            result: answer,
-            predicate,
-        } => this.check_ballot(*answer, *predicate),
-        Statement::SubgroupCollectiveOperation {
-            argument,
-            result: answer,
-            ..
-        } => this.check_collective(*argument, *answer),
-        Statement::SubgroupGather {
-            mode,
-            argument,
-            result: answer,
-        } => this.check_gathering(*mode, *argument, *answer),
-        Statement::CooperativeStore { target, source } => {
-            this.check_cooperative_store(*target, source.pointer)
-        }
-        Statement::RayPipelineFunction(fun) => this.check_pipeline(*fun),
-        Statement::ControlBarrier(_)
-        | Statement::MemoryBarrier(_)
-        | Statement::Block(_)
-        | Statement::If { .. }
-        | Statement::Switch { .. }
-        | Statement::Loop { .. }
-        | Statement::Break
-        | Statement::Continue
-        | Statement::Return { .. }
-        | Statement::Kill => Ok(()),
-    }
-}
-
 /// The statements of a block, of which the first has this number. Ok has the number of the one after it.
 #[cycle(check)]
-pub(crate) fn check_block(asked: &Asked, number: usize, block: &Block) -> Result<usize, Misfit>
+fn check_block(asked: &Asked, number: usize, block: &Block) -> Result<usize, Misfit>
     ensures first { result_err result ≡ first_fault (body_points asked.now.module.now asked.now.expressions
         asked.now.earlier asked.now.owner number (body_of no_operands block.now)) }
     ensures after { IfOk result (λ after. after ≡ after_body number (body_of no_operands block.now)) }
@@ -236,26 +178,8 @@ fn check_cases(asked: &Asked, number: usize, cases: &[SwitchCase]) -> Result<usi
 
 /// The statement with this number, and those that it holds.
 #[cycle(check)]
-#[inline(always)]
-fn check_statement(asked: &Asked, number: usize, located: &Located) -> Result<usize, Misfit>
-    ensures first { result_err result ≡ first_fault (statement_points asked.now.module.now asked.now.expressions
-        asked.now.earlier asked.now.owner number
-        (tree_of no_operands located.now.statement located.now.span)) }
-    ensures after { IfOk result (λ after. after
-        ≡ after_statement number (tree_of no_operands located.now.statement located.now.span)) }
-{
-    // (asked first for its time: room for a misfit costs more than to see that there is none)
-    if asked.has_frequent(&located.statement) {
-        return Ok(next(number));
-    }
-    check_any(asked, number, located)
-}
-
-/// The same of a statement of any kind.
-#[cycle(check)]
-#[inline(never)]
 #[tactic(auto, using(ir_arena::proofs::Points::first_of_both))]
-fn check_any(asked: &Asked, number: usize, located: &Located) -> Result<usize, Misfit>
+fn check_statement(asked: &Asked, number: usize, located: &Located) -> Result<usize, Misfit>
     ensures first { result_err result ≡ first_fault (statement_points asked.now.module.now asked.now.expressions
         asked.now.earlier asked.now.owner number
         (tree_of no_operands located.now.statement located.now.span)) }

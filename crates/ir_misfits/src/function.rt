@@ -7,8 +7,9 @@ ghost use Rattle.ir_statements.specs.View.{no_operands, body_of};
 ghost use Rattle.ir_misfits.specs.OfBodies.{body_points};
 ghost use Rattle.ir_misfits.specs.OfFunctions.{local_points, function_points};
 
-use crate::body::{Asked, check_block};
+use crate::body::check_statements;
 use crate::expressions::{check_expressions, check_references};
+use crate::leaf::Asked;
 use crate::misfit::{HandleOf, Misfit, Owner, Place, VariableField};
 use crate::signature::check_signature;
 use ir_module::functions::{Function, LocalVariable};
@@ -73,7 +74,7 @@ fn check_locals(
     Ok(())
 }
 
-/// The statements, of which the first has number 0.
+/// The statements.
 fn check_body(owner: Owner, fun: &Function, module: &Module, earlier: usize) -> Result<(), Misfit>
     ensures { result_err result ≡ first_fault (body_points «module».now (length fun.now.expressions) earlier owner 0
         (body_of no_operands fun.now.body)) }
@@ -84,8 +85,5 @@ fn check_body(owner: Owner, fun: &Function, module: &Module, earlier: usize) -> 
         expressions: fun.expressions.len(),
         earlier,
     };
-    match check_block(&asked, 0, &fun.body) {
-        Ok(_) => Ok(()),
-        Err(misfit) => Err(misfit),
-    }
+    check_statements(&asked, &fun.body)
 }

@@ -9,6 +9,7 @@ pub mod fits;
 pub mod function;
 pub mod globals;
 pub mod laws;
+mod leaf;
 pub mod misfit;
 pub mod naming;
 mod numbered;

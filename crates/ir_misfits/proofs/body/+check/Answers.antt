@@ -1,5 +1,5 @@
 use Rattle.std.proofs.Common.{◌≡◌, rules, sym, ap, subst, ◌∙◌}
-use Rattle.std.specs.Prelude.{IfOk, None}
+use Rattle.std.specs.Prelude.{IfOk}
 use Rattle.std.specs.Result.{result_err}
 use Rattle.ir_arena.specs.Points.{first_fault}
 use Rattle.ir_statements.specs.Tree.{Stmt}
@@ -10,7 +10,6 @@ use Rattle.ir_misfits.specs.declared.misfit.Place.TheVariants.{InStatement}
 use Rattle.ir_misfits.specs.declared.misfit.StatementField.TheVariants.{Selector}
 use Rattle.ir_misfits.specs.Points.{named}
 use Rattle.ir_misfits.specs.OfBodies.{next, after_statement, after_body, after_cases, statement_points, body_points, cases_points}
-use Rattle.ir_misfits.proofs.ExactBodies.{leaf_exact}
 use Rattle.ir_misfits.proofs.Walks.{goes_on, list_stops, list_passes, list_after, cases_stop, cases_pass, cases_after}
 use Rattle.ir_misfits.proofs.body.+check.Goals as goal
 
@@ -49,8 +48,8 @@ check_cases-loop-case-preserved t c =
       cases_after asked.module.now asked.expressions asked.earlier asked.owner c.args.cases.now c.loop-case.case-index c.case-item.result c.loop-case-test.true c.case-item.is c.loop-case.after c.in_ok-after.after count c.loop-case.invariant.1 c.in_ok-after.ensures.after,
     )
 
-pub check_any-returns-in_ok-names-in-Switch-clause-first : goal.check_any-returns-in_ok-names-in-Switch-clause-first
-check_any-returns-in_ok-names-in-Switch-clause-first t c =
+pub check_statement-returns-in_ok-names-in-Switch-clause-first : goal.check_statement-returns-in_ok-names-in-Switch-clause-first
+check_statement-returns-in_ok-names-in-Switch-clause-first t c =
     let asked = c.args.asked.now in
     let k = c.args.number in
     let span = c.args.located.now.span in
@@ -61,24 +60,10 @@ check_any-returns-in_ok-names-in-Switch-clause-first t c =
     let told = goes_on first.0 first.1 (cases_points asked.module.now asked.expressions asked.earlier asked.owner (next k) (list_cases no_operands c.in-Switch.cases)) (result_err c.check_cases.result) c.in_ok-names-in-Switch.ensures cases in
     subst P (sym e) told
 
-pub check_any-returns-in_ok-names-in-Switch-clause-after : goal.check_any-returns-in_ok-names-in-Switch-clause-after
-check_any-returns-in_ok-names-in-Switch-clause-after t c =
+pub check_statement-returns-in_ok-names-in-Switch-clause-after : goal.check_statement-returns-in_ok-names-in-Switch-clause-after
+check_statement-returns-in_ok-names-in-Switch-clause-after t c =
     let span = c.args.located.now.span in
     let e = ap (λ x. tree_of no_operands x span) c.in-Switch.is ∙ tree_of-switch no_operands c.in-Switch.selector c.in-Switch.cases span in
     let P : Stmt → Type 0 = λ tree. IfOk c.check_cases.result (λ after. after ≡ after_statement c.args.number tree) in
     let told = rw (c.next-inside.ensures, c.as_slice.ensures) at c.check_cases.ensures.after in
     subst P (sym e) told
-
-pub check_statement-returns-then-has_frequent-clause-first : goal.check_statement-returns-then-has_frequent-clause-first
-check_statement-returns-then-has_frequent-clause-first t c =
-    let asked = c.args.asked.now in
-    let x = c.args.located.now.statement in
-    let P : Stmt → Type 0 = λ tree. None ≡ first_fault (statement_points asked.module.now asked.expressions asked.earlier asked.owner c.args.number tree) in
-    let fits = c.has_frequent.ensures.fits c.if-has_frequent.true in
-    subst P (sym (c.has_frequent.ensures.leaf c.if-has_frequent.true c.args.located.now.span))
-    (sym ((leaf_exact asked.module.now asked.expressions asked.earlier asked.owner c.args.number x).passes fits))
-
-pub check_statement-returns-then-has_frequent-clause-after : goal.check_statement-returns-then-has_frequent-clause-after
-check_statement-returns-then-has_frequent-clause-after t c =
-    let P : Stmt → Type 0 = λ tree. c.next.result ≡ after_statement c.args.number tree in
-    subst P (sym (c.has_frequent.ensures.leaf c.if-has_frequent.true c.args.located.now.span)) c.next.ensures

@@ -7,7 +7,7 @@ use Rattle.ir_misfits.specs.Points.{named}
 use Rattle.ir_misfits.specs.OfSignatures.{callee_points}
 use Rattle.ir_misfits.specs.OfBodies.{call_argument_points, names_if}
 use Rattle.ir_misfits.proofs.Walks.{stops_in}
-use Rattle.ir_misfits.proofs.body.check_call.Goals as goal
+use Rattle.ir_misfits.proofs.leaf.check_call.Goals as goal
 
 pub returns-in_err-check_callee : goal.returns-in_err-check_callee
 returns-in_err-check_callee c =

@@ -1,0 +1,37 @@
+use Rattle.std.proofs.Common.{◌↔◌, IsTrue, sym, ap, subst, ◌∙◌}
+use Rattle.ir_statements.specs.declared.statements.SwitchCase.{out-SwitchCase}
+use Rattle.ir_statements.specs.Tree.{Stmt}
+use Rattle.ir_statements.specs.View.{no_operands, tree_of, body_of, list_body, list_cases}
+use Rattle.ir_statements.proofs.Rows.{body_of-list, tree_of-switch}
+use Rattle.ir_facts.specs.FitsBody.{StatementFits, BodyFits, CasesFit}
+use Rattle.ir_misfits.proofs.Fitting.{goes_on}
+use Rattle.ir_misfits.proofs.body.+fit.Goals as goal
+
+pub block_fits-returns : goal.block_fits-returns
+block_fits-returns t c = rw (body_of-list no_operands c.args.block.now, ← c.as_slice.ensures) c.list_fits.ensures
+
+pub list_fits-loop-located-preserved : goal.list_fits-loop-located-preserved
+list_fits-loop-located-preserved t c =
+    let asked = c.args.asked.now in
+    goes_on (λ xs. BodyFits asked.module.now asked.expressions asked.earlier (list_body no_operands xs))
+    (λ x. StatementFits asked.module.now asked.expressions asked.earlier (tree_of no_operands x.statement x.span)) (λ x xs. (λ h. h, λ h. h))
+    c.args.list.now c.loop-located.located-index c.located-item.result c.loop-located-test.true c.located-item.is c.loop-located.invariant
+    (c.statement_fits.ensures.0 c.if-not-statement_fits.false)
+
+pub cases_fit-loop-case-preserved : goal.cases_fit-loop-case-preserved
+cases_fit-loop-case-preserved t c =
+    let asked = c.args.asked.now in
+    goes_on (λ xs. CasesFit asked.module.now asked.expressions asked.earlier (list_cases no_operands xs))
+    (λ x. BodyFits asked.module.now asked.expressions asked.earlier (body_of no_operands (out-SwitchCase x).body)) (λ x xs. (λ h. h, λ h. h))
+    c.args.cases.now c.loop-case.case-index c.case-item.result c.loop-case-test.true c.case-item.is c.loop-case.invariant
+    (c.block_fits.ensures.0 c.if-not-block_fits.false)
+
+pub statement_fits-returns-then-has-3 : goal.statement_fits-returns-then-has-3
+statement_fits-returns-then-has-3 t c =
+    let asked = c.args.asked.now in
+    let span = c.args.located.now.span in
+    let e = ap (λ x. tree_of no_operands x span) c.in-Switch.is ∙ tree_of-switch no_operands c.in-Switch.selector c.in-Switch.cases span in
+    let P : Stmt → Type 0 = λ tree. IsTrue c.cases_fit.result ↔ StatementFits asked.module.now asked.expressions asked.earlier tree in
+    let selector = c.has-in-Switch.ensures.0 c.if-has-3.true in
+    let cases = rw c.as_slice-then-has-3.ensures at c.cases_fit.ensures in
+    subst P (sym e) (λ h. (selector, cases.0 h), λ f. cases.1 f.1)
