@@ -35,7 +35,7 @@ impl From<AllocError> for ModuleFault {
     }
 }
 
-/// Lets a fault go. A crate that drops one has the drops of all its parts to prove, and one that calls this has not.
-pub fn let_go(fault: ModuleFault) {
+/// Drops a fault. A crate that drops one itself has the drops of all its parts to prove, and one that calls this has not.
+pub fn drop_fault(fault: ModuleFault) {
     drop(fault);
 }

@@ -215,7 +215,7 @@ impl Module {
     }
 }
 
-/// Lets a module go. A crate that drops one has the drops of all its parts to prove, and one that calls this has not.
-pub fn let_go(module: Module) {
+/// Drops a module. A crate that drops one itself has the drops of all its parts to prove, and one that calls this has not.
+pub fn drop_module(module: Module) {
     drop(module);
 }

@@ -4,8 +4,9 @@ ghost use Rattle.std.specs.Prelude.{◌≡◌, None};
 ghost use Rattle.json_answers.specs.Status.{status_of};
 
 use check_faults::ModuleFault;
+use check_faults::module::drop_fault;
 use ir_misfits::Misfit;
-use ir_module::module;
+use ir_module::module::drop_module;
 use json_document::{Id, Unreadable};
 use json_places::Found;
 use naga_below::{Module, ModuleInfo};
@@ -36,17 +37,15 @@ impl Verdict {
     }
 }
 
-impl Verdict {
-    /// Lets it go, as [`module::let_go`] does a module.
-    pub fn let_go(self) {
-        match self {
-            Verdict::Accepted { module, infos } => {
-                module::let_go(module);
-                drop(infos);
-            }
-            Verdict::Refused(fault) => check_faults::module::let_go(fault),
-            Verdict::Unreadable(unreadable) => drop(unreadable),
+/// Drops a verdict, as [`drop_module`] does a module.
+fn drop_verdict(verdict: Verdict) {
+    match verdict {
+        Verdict::Accepted { module, infos } => {
+            drop_module(module);
+            drop(infos);
         }
+        Verdict::Refused(fault) => drop_fault(fault),
+        Verdict::Unreadable(unreadable) => drop(unreadable),
     }
 }
 
@@ -72,35 +71,33 @@ pub struct Refused {
     pub found: Option<Found>,
 }
 
-impl Refused {
-    /// Lets it go, as [`module::let_go`] does a module.
-    pub fn let_go(self) {
-        let Refused {
-            module,
-            is_computed: _,
-            found,
-        } = self;
-        module::let_go(module);
-        drop(found);
+/// Drops what is known of a refused module, as [`drop_module`] does a module.
+pub fn drop_refused(refused: Refused) {
+    let Refused {
+        module,
+        is_computed: _,
+        found,
+    } = refused;
+    drop_module(module);
+    drop(found);
+}
+
+/// Drops what is known of a text, as [`drop_module`] does a module.
+pub fn drop_examined(examined: Examined) {
+    let Examined {
+        id,
+        verdict,
+        misfit: _,
+        refused,
+    } = examined;
+    drop(id);
+    drop_verdict(verdict);
+    if let Some(refused) = refused {
+        drop_refused(refused);
     }
 }
 
 impl Examined {
-    /// Lets it go, as [`module::let_go`] does a module.
-    pub fn let_go(self) {
-        let Examined {
-            id,
-            verdict,
-            misfit: _,
-            refused,
-        } = self;
-        drop(id);
-        verdict.let_go();
-        if let Some(refused) = refused {
-            refused.let_go();
-        }
-    }
-
     /// What was found of the fault.
     pub fn found(&self) -> Option<&Found> {
         self.refused.as_ref()?.found.as_ref()

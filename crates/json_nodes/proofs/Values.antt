@@ -68,10 +68,7 @@ object_kept =
     by_kind (λ j d. option_and_then (λ ms. of_members ms no_members) (find.as_object j) ≡ as_object d)
     refl (λ b. refl) (λ s n e. refl) (λ s. refl) (λ js ds e. refl) (λ ms ds e. e)
 
--- an array is one, and an object is one
-pub is_array_kept : (j : json.Json) (d : Data) → of_json j ≡ Some d → is_some (find.as_array j) ≡ is_some (as_array d)
-is_array_kept = by_kind (λ j d. is_some (find.as_array j) ≡ is_some (as_array d)) refl (λ b. refl) (λ s n e. refl) (λ s. refl) (λ js ds e. refl) (λ ms ds e. refl)
-
+-- an object is one
 pub is_object_kept : (j : json.Json) (d : Data) → of_json j ≡ Some d → is_some (find.as_object j) ≡ is_some (as_object d)
 is_object_kept = by_kind (λ j d. is_some (find.as_object j) ≡ is_some (as_object d)) refl (λ b. refl) (λ s n e. refl) (λ s. refl) (λ js ds e. refl) (λ ms ds e. refl)
 

@@ -11,7 +11,7 @@ ghost use Rattle.json_answers.specs.declared.verdict.Verdict.TheVariants as verd
 
 use crate::basis::Basis;
 use crate::find::locate;
-use ir_module::module;
+use ir_module::module::drop_module;
 use json_answers::{Examined, Refused, Verdict, alone};
 use json_document::{Document, Id, ReadError, Reading, read_text};
 use json_places::{Found, locate_misfit};
@@ -100,7 +100,7 @@ pub fn examine(alloc: Global, text: &[u8]) -> Examined
     let basis = match Basis::new(alloc, &module, known) {
         Ok(basis) => basis,
         Err(_) => {
-            module::let_go(module);
+            drop_module(module);
             return alone(id, Verdict::Refused(ModuleFault::Memory));
         }
     };

@@ -1,7 +1,8 @@
 //! Finds what has a fault, and where it stands.
 
 use crate::basis::Basis;
-use ir_module::module;
+use check_faults::module::drop_fault;
+use ir_module::module::drop_module;
 use json_places::Found;
 use json_places::located::found_in;
 use json_places::numbered::numbered_module;
@@ -63,7 +64,7 @@ fn number_of(
     match numbered_module(alloc, module) {
         Ok(numbered) => {
             let number = number_again(alloc, basis, settings, &numbered);
-            module::let_go(numbered);
+            drop_module(numbered);
             number
         }
         Err(_) => None,
@@ -84,7 +85,7 @@ fn number_again(
         }
         Err(again) => {
             let number = number_in(spans_of(&again));
-            check_faults::module::let_go(again);
+            drop_fault(again);
             number
         }
     }

@@ -5,6 +5,7 @@ ghost use Rattle.json_verdict.specs.Judges.{Judges};
 ghost use Rattle.json_answers.specs.Status.{status_of};
 
 use crate::examine::examine;
+use json_answers::verdict::drop_refused;
 use json_answers::{Examined, Verdict};
 use std::alloc::Global;
 
@@ -24,7 +25,7 @@ pub fn judge(alloc: Global, text: &[u8]) -> Verdict
     } = examine(alloc, text);
     drop(id);
     if let Some(refused) = refused {
-        refused.let_go();
+        drop_refused(refused);
     }
     verdict
 }

@@ -8,6 +8,7 @@ ghost use Rattle.json_verdict.specs.walk.Stream.{Holds, Tells};
 
 use crate::text::Bytes;
 use json_answers::form::text_of;
+use json_answers::verdict::drop_examined;
 use json_answers::{Examined, Form};
 use std::alloc::Global;
 use std::io;
@@ -62,6 +63,6 @@ pub fn reply_to<W: Write>(
 {
     let examined = bytes.examine(alloc);
     let replied = reply(alloc, writer, &examined, form);
-    examined.let_go();
+    drop_examined(examined);
     replied
 }

@@ -4,6 +4,7 @@ ghost use Rattle.std.specs.Prelude.{◌≡◌, length};
 ghost use Rattle.leafnurd.specs.Replies.{IsAnswered, IsTold, laid};
 
 use json_answers::form::{memory_text, text_of};
+use json_answers::verdict::drop_examined;
 use json_answers::{Examined, Form};
 use json_verdict::examine::examine;
 use std::alloc::Global;
@@ -55,6 +56,6 @@ pub(crate) fn judge_into(alloc: Global, text: &[u8], out: &mut [u8], form: Form)
 {
     let examined = examine(alloc, text);
     let answer = tell(alloc, &examined, out, form);
-    examined.let_go();
+    drop_examined(examined);
     answer
 }

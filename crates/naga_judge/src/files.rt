@@ -3,6 +3,7 @@
 use crate::answered::write_answered;
 use check_faults::ModuleFault;
 use json_answers::named::named_line;
+use json_answers::verdict::drop_examined;
 use json_answers::{Examined, Verdict, alone};
 use json_document::MOST_BYTES;
 use json_faults::writer::JsonWriter;
@@ -164,7 +165,7 @@ fn write_answer(
         Output::Listing => write_for_person(alloc, text, true, name, &examined),
         Output::Json | Output::JsonLines => write_as_json(alloc, text, name, &examined),
     };
-    examined.let_go();
+    drop_examined(examined);
     match written {
         Ok(()) => Ok(status),
         Err(error) => Err(error),

@@ -5,7 +5,7 @@ use crate::tests::made;
 use ir_arena::{Arena, Handle, Span};
 use ir_facts::{Below, ExpressionKindTracker};
 use ir_leaves::{Scalar, VectorSize};
-use ir_module::module::let_go;
+use ir_module::module::drop_module;
 use ir_module::{Expression, Literal, Module};
 use ir_statements::Operands;
 use ir_types::{ArraySize, Type, TypeInner, UniqueArena};
@@ -166,5 +166,5 @@ fn expect_sizes(rt: &impl Abort, module: &Module) {
 fn sizes(rt: HostRuntime) {
     let module = module_of_sizes(&rt);
     expect_sizes(&rt, &module);
-    let_go(module);
+    drop_module(module);
 }

@@ -6,7 +6,7 @@ use ir_arena::{Handle, Span};
 use ir_flags::StorageAccess;
 use ir_leaves::{ImageDimension, Scalar, ScalarKind, StorageFormat};
 use ir_module::Module;
-use ir_module::module::let_go;
+use ir_module::module::drop_module;
 use ir_types::{
     AddressSpace, ArraySize, Disalignment, ImageClass, Type, TypeInfo, TypeInner, UniqueArena,
 };
@@ -164,7 +164,7 @@ fn expect_infos(rt: &impl Abort, infos: &[TypeInfo]) {
 fn types_that_nothing_holds(rt: HostRuntime) {
     let module = module_of(rt.alloc(), types_of_rows(&rt));
     let infos = made(&rt, type_infos(rt.alloc(), &module.types));
-    let_go(module);
+    drop_module(module);
     expect_infos(&rt, infos.as_slice());
     drop(infos);
 }
@@ -204,7 +204,7 @@ fn expect_last(rt: &impl Abort, infos: &[TypeInfo]) {
 fn types_that_name_each_other_deep(rt: HostRuntime) {
     let module = module_of(rt.alloc(), tower(&rt, 100000));
     let infos = made(&rt, type_infos(rt.alloc(), &module.types));
-    let_go(module);
+    drop_module(module);
     expect_last(&rt, infos.as_slice());
     drop(infos);
 }

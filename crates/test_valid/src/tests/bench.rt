@@ -1,6 +1,6 @@
 //! One module for all rows, and what is known of it. All that its handles name is there, and it is accepted.
 
-use crate::tests::parts::{NOWHERE, add_type, let_go, made};
+use crate::tests::parts::{NOWHERE, add_type, drop_module, made};
 use crate::tests::rows::{KILLING, RESTING, Row, function};
 use bitflags::Flags;
 use naga_below::{
@@ -191,13 +191,11 @@ pub struct Bench {
     pub infos: ModuleInfo,
 }
 
-impl Bench {
-    /// Lets it go, as [`let_go`](crate::tests::parts::let_go) does.
-    pub fn let_go(self) {
-        let Bench { module, infos } = self;
-        let_go(module);
-        drop(infos);
-    }
+/// Drops a bench, as [`drop_module`] does a module.
+pub fn drop_bench(bench: Bench) {
+    let Bench { module, infos } = bench;
+    drop_module(module);
+    drop(infos);
 }
 
 pub fn make_bench(rt: &(impl Abort + AllocGlobal)) -> Bench {

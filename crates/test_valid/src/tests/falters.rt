@@ -1,9 +1,9 @@
 //! Each call of the lower layer in turn finds no memory: the answer is the row's own or out of memory, which leaves nothing.
 
-use crate::tests::bench::{Bench, make_bench};
+use crate::tests::bench::{Bench, drop_bench, make_bench};
 use crate::tests::faltering::Faltering;
 use crate::tests::judged::{expect_own, layer, module_falters, module_of, validator_over};
-use crate::tests::parts::let_go;
+use crate::tests::parts::drop_module;
 use crate::tests::rows::{CALLING_KILL, FORBIDDEN, Row, left_by, rows};
 use naga_below::Module;
 use std::cell::Cell;
@@ -47,7 +47,7 @@ fn rows_over_a_layer_that_falters(rt: HostRuntime) {
     for row in rows() {
         expect_refusals(&rt, &bench, row);
     }
-    bench.let_go();
+    drop_bench(bench);
 }
 
 /// The same of a module with the entry point of a row: the same call, made again, has the row's own answer.
@@ -82,8 +82,8 @@ fn expect_module_refusals(rt: &(impl Abort + AllocGlobal), module: &Module, row:
 fn modules_over_a_layer_that_falters(rt: HostRuntime) {
     let accepted = module_of(&rt, &CALLING_KILL);
     expect_module_refusals(&rt, &accepted, &CALLING_KILL);
-    let_go(accepted);
+    drop_module(accepted);
     let refused = module_of(&rt, &FORBIDDEN);
     expect_module_refusals(&rt, &refused, &FORBIDDEN);
-    let_go(refused);
+    drop_module(refused);
 }

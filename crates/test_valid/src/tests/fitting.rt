@@ -1,9 +1,11 @@
 //! Each test of conditions by itself, once where it holds and once where it alone doesn't; `find_misfit` and `find_short_fact` by
 //! themselves; and a malicious module. All places that a handle may stand in are documents of the stored run of `naga_judge`.
 
-use crate::tests::bench::{Bench, GLOBALS, TYPES, U32, global, infos_of_types, make_bench};
+use crate::tests::bench::{
+    Bench, GLOBALS, TYPES, U32, drop_bench, global, infos_of_types, make_bench,
+};
 use crate::tests::judged::{layer, module_falters, module_of};
-use crate::tests::parts::{NOWHERE, SETTINGS, known, let_go, made};
+use crate::tests::parts::{NOWHERE, SETTINGS, drop_module, known, made};
 use crate::tests::rows::{AT_COMPUTE, Row, entry_point};
 use naga_below::{
     AddressSpace, Arena, Disalignment, EntryPoint, Handle, Module, TypeInfo, TypeResolution,
@@ -81,7 +83,7 @@ fn tests_of_conditions(rt: HostRuntime) {
     made(&rt, bench.infos.global_types.push(unasked));
     expect_tests(&rt, &bench, &ep, known(), &[true, true, false, true, true]);
     drop(ep);
-    bench.let_go();
+    drop_bench(bench);
 }
 
 /// A module has this misfit, if any.
@@ -110,7 +112,7 @@ fn a_malicious_module(rt: HostRuntime) {
         },
     };
     expect_misfit(&rt, &module, Some(misfit));
-    let_go(module);
+    drop_module(module);
 }
 
 /// No verdict has this misfit: a global in Function has a fault before it.
@@ -128,7 +130,7 @@ fn no_global_lies_in_function(rt: HostRuntime) {
     made(&rt, globals.append(variable, NOWHERE));
     module.global_variables = globals;
     expect_misfit(&rt, &module, Some(IN_FUNCTION));
-    let_go(module);
+    drop_module(module);
     let misfit = IN_FUNCTION;
     let text = made(&rt, format!(in rt.alloc(); "{misfit}"));
     holds!(&rt; text.as_str() == "the space of global 0 is Function, where no global may lie");
@@ -156,5 +158,5 @@ fn facts_that_are_not_there(rt: HostRuntime) {
     expect_short(&rt, &facts, &module, Owner::Function(2), None);
     expect_short(&rt, &facts, &module, Owner::Module, None);
     drop(facts);
-    let_go(module);
+    drop_module(module);
 }

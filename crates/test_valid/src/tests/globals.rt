@@ -3,7 +3,7 @@
 
 use crate::tests::bench::{GLOBALS, U32, global, infos_of_types, module};
 use crate::tests::judged::layer;
-use crate::tests::parts::{NOWHERE, SETTINGS, known, let_go, made};
+use crate::tests::parts::{NOWHERE, SETTINGS, drop_module, known, made};
 use naga_below::{
     AddressSpace, Expression, ExpressionKindTracker, GlobalVariable, Handle, Literal, Module,
     ModuleInfo, Scalar, Sequence, TypeResolution, fits_globals, fits_types,
@@ -100,5 +100,5 @@ fn globals_are_judged_with_what_the_layer_knows(rt: HostRuntime) {
         unbound,
     );
     drop(validator);
-    let_go(module);
+    drop_module(module);
 }

@@ -1,7 +1,7 @@
 //! What a validator keeps: what the ray traces of accepted rows leave, and nothing of refused ones; its settings; the infos of
 //! types.
 
-use crate::tests::bench::{Bench, infos_of, infos_of_types, make_bench};
+use crate::tests::bench::{Bench, drop_bench, infos_of, infos_of_types, make_bench};
 use crate::tests::judged::{expect_own, layer, validator_over};
 use crate::tests::parts::{SETTINGS, known, made};
 use crate::tests::rows::{
@@ -38,7 +38,7 @@ fn a_refusal_changes_no_later_answer(rt: HostRuntime) {
             expect_behind(&rt, &bench, row);
         }
     }
-    bench.let_go();
+    drop_bench(bench);
 }
 
 #[test]
@@ -49,7 +49,7 @@ fn a_refusal_leaves_what_was_traced(rt: HostRuntime) {
         (REFUSED_TRACING, left_by(&TRACING)),
     ];
     expect_rows(&rt, &bench, &rows);
-    bench.let_go();
+    drop_bench(bench);
 }
 
 /// Infos by which a function that kills may run in all stages.
@@ -62,7 +62,7 @@ fn infos_that_claim_all_stages_are_believed(rt: HostRuntime) {
         ..FORBIDDEN
     };
     expect_rows(&rt, &bench, &[(row, NOTHING)]);
-    bench.let_go();
+    drop_bench(bench);
 }
 
 /// At first a target has no subgroup operations and no stages for them.
@@ -82,7 +82,7 @@ fn settings_let_subgroups_be_used(rt: HostRuntime) {
     };
     expect_own(&rt, &mut validator, &bench, &row, NOTHING);
     drop(validator);
-    bench.let_go();
+    drop_bench(bench);
 }
 
 /// Whether a validator has one info for each type of the module.
@@ -103,5 +103,5 @@ fn there_is_one_info_for_each_type(rt: HostRuntime) {
     let validator = validator.with_types(one_info(&rt));
     expect_types(&rt, &validator, &bench, false);
     drop(validator);
-    bench.let_go();
+    drop_bench(bench);
 }

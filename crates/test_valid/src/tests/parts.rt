@@ -38,8 +38,8 @@ pub fn made<T, E>(rt: &impl Abort, answer: Result<T, E>) -> T {
     }
 }
 
-/// Lets a module go: by a call of its own, since a function that lets one go itself takes seconds to prove.
-pub fn let_go(module: Module) {
+/// Drops a module: by a call of its own, since a function that drops one itself takes seconds to prove.
+pub fn drop_module(module: Module) {
     drop(module);
 }
 

@@ -1,6 +1,6 @@
 //! The texts of refusals, and that refusals pass into `anyhow`.
 
-use crate::tests::bench::{Bench, make_bench};
+use crate::tests::bench::{Bench, drop_bench, make_bench};
 use crate::tests::judged::{layer, text_of, validator_over};
 use crate::tests::parts::{HERE, expect_text, made};
 use crate::tests::rows::{MISLED, function};
@@ -125,7 +125,7 @@ fn refusals_pass_into_anyhow(rt: HostRuntime) {
     let fun = function(&rt, &MISLED);
     expect_passed(&rt, &fun, &bench, "InvalidRayDescriptor");
     drop(fun);
-    bench.let_go();
+    drop_bench(bench);
 }
 
 /// Passes a fault with its places on.

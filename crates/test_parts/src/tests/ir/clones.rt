@@ -6,7 +6,7 @@ use bitflags::Flags;
 use ir_arena::{Arena, Handle, Sequence, Span, Tagged};
 use ir_flags::MemoryDecorations;
 use ir_leaves::{Scalar, ShaderStage};
-use ir_module::module::let_go;
+use ir_module::module::drop_module;
 use ir_module::{
     Constant, EntryPoint, Expression, Function, GlobalVariable, LocalVariable, Module, Override,
     SpecialTypes,
@@ -125,7 +125,7 @@ fn expect_spans(rt: &impl Abort, module: &Module) {
 fn clone_of_each(rt: &(impl Abort + AllocGlobal)) -> Module {
     let module = module_of_each(rt);
     let copy = made(rt, module.clone(rt.alloc()));
-    let_go(module);
+    drop_module(module);
     copy
 }
 
@@ -133,5 +133,5 @@ fn clone_of_each(rt: &(impl Abort + AllocGlobal)) -> Module {
 fn a_module(rt: HostRuntime) {
     let copy = clone_of_each(&rt);
     expect_spans(&rt, &copy);
-    let_go(copy);
+    drop_module(copy);
 }

@@ -14,7 +14,7 @@ use ir_flags::{
     Capabilities, GlobalUse, MemoryDecorations, ShaderStages, SubgroupOperationSet, ValidationFlags,
 };
 use ir_leaves::{Scalar, VectorSize};
-use ir_module::module::let_go;
+use ir_module::module::drop_module;
 use ir_module::{Expression, Function, GlobalVariable, Module};
 use ir_types::{AddressSpace, TypeInner, TypeResolution};
 use naga_layers::plain::Plain;
@@ -283,7 +283,7 @@ fn a_lawful_layer_answers(rt: HostRuntime) {
     expect_refused(&rt, &module, Expression::ZeroValue(Handle::new(3)));
     expect_refused(&rt, &module, Expression::FunctionArgument(0));
     drop(fun);
-    let_go(module);
+    drop_module(module);
 }
 
 /// The kinds of these expressions.

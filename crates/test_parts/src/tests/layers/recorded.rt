@@ -10,7 +10,7 @@ use ir_errors::{ExpressionError, MeshFault};
 use ir_facts::{Below, FunctionInfo, MeshAnalysis, ModuleInfo};
 use ir_flags::ShaderStages;
 use ir_leaves::Scalar;
-use ir_module::module::let_go;
+use ir_module::module::drop_module;
 use ir_module::{Function, MeshOutputTopology, MeshStageInfo, Module};
 use ir_types::TypeInner;
 use naga_layers::recorded::Recorded;
@@ -168,7 +168,7 @@ fn facts(rt: HostRuntime) {
     expect_meshes(&rt, &recorded, &module);
     ask(&rt, &recorded, &module);
     drop(recorded);
-    let_go(module);
+    drop_module(module);
 }
 
 #[test]

@@ -10,7 +10,7 @@ use ir_flags::{Capabilities, TypeFlags, ValidationFlags};
 use ir_leaves::{Binding, BuiltIn, Interpolation, Scalar, ShaderStage, VectorSize};
 use ir_misfits::fits_types;
 use ir_module::Module;
-use ir_module::module::let_go;
+use ir_module::module::drop_module;
 use ir_types::{StructMember, Type, TypeInfo, TypeInner, UniqueArena};
 use std::alloc::AllocError;
 use std::process::Abort;
@@ -263,5 +263,5 @@ fn items_behind_others(rt: HostRuntime) {
     blends_twice(&rt, &module);
     view_twice(&rt, &module);
     expect_members(&rt, &module);
-    let_go(module);
+    drop_module(module);
 }
