@@ -1,7 +1,6 @@
 -- A list fits where each item of it does: one step on.
-use Rattle.std.proofs.Common.{◌<◌, ◌≡◌, ◌↔◌, ◌+◌, ℕ, List, ◌∷◌, length, drop, get_or, refl, sym, subst}
-use Rattle.std.proofs.lemmas.Option.{slice_get_read}
-use Rattle.ir_facts.proofs.Each.{from_here}
+use Rattle.std.proofs.Common.{◌<◌, ◌≡◌, ◌↔◌, ◌+◌, ℕ, List, ◌∷◌, length, drop, get_or, sym, subst}
+use Rattle.ir_misfits.proofs.Tails.{tail}
 
 module _ {A : Type 0} (Fits : List A → Type 0) (Here : A → Type 0) (split : (x : A) (xs : List A) → Fits (x ∷ xs) ↔ (Here x × Fits xs)) where
   module _ (xs : List A) (i : ℕ) (x : A) (lt : i < length xs) (is : x ≡ get_or xs i x) (left : Fits xs ↔ Fits (drop i xs)) where
@@ -9,7 +8,7 @@ module _ {A : Type 0} (Fits : List A → Type 0) (Here : A → Type 0) (split : 
     here =
         let rest = drop (i + 1) xs in
         let P : List A → Type 0 = λ l. Fits l ↔ (Here x × Fits rest) in
-        subst P (sym (from_here xs i x (slice_get_read xs (length xs) i x refl lt is))) (split x rest)
+        subst P (sym (tail xs i x lt is)) (split x rest)
 
     -- where the item that stands here fits, what is left behind it decides
     pub goes_on : Here x → Fits xs ↔ Fits (drop (i + 1) xs)

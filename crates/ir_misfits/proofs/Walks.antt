@@ -1,15 +1,14 @@
 -- The points of a list of statements, and of cases, one step on; and points one behind another.
-use Rattle.std.proofs.Common.{◌≡◌, ◌<◌, ◌+◌, ℕ, Bool, true, false, List, [], ◌∷◌, ◌++◌, Option, None, Some, length, drop, get_or, refl, sym, ap, ◌∙◌}
-use Rattle.std.proofs.lemmas.Option.{slice_get_read}
+use Rattle.std.proofs.Common.{◌≡◌, ◌<◌, ◌+◌, ℕ, Bool, true, false, List, [], ◌∷◌, ◌++◌, Option, None, Some, length, drop, get_or, sym, ap, ◌∙◌}
 use Rattle.std.specs.Option.{option_or}
 use Rattle.ir_module.specs.declared.module.Module.{Module}
 use Rattle.ir_statements.specs.declared.statements.Located.{Located}
 use Rattle.ir_statements.specs.declared.statements.SwitchCase.{SwitchCase, out-SwitchCase}
 use Rattle.ir_statements.specs.Tree.{Stmt, Body}
 use Rattle.ir_statements.specs.View.{no_operands, tree_of, body_of, list_body, list_cases}
-use Rattle.ir_facts.proofs.Each.{from_here}
 use Rattle.ir_arena.proofs.Points.{first_of_both}
 use Rattle.ir_arena.specs.Points.{first_fault}
+use Rattle.ir_misfits.proofs.Tails.{tail}
 use Rattle.ir_misfits.specs.declared.misfit.Misfit.{Misfit}
 use Rattle.ir_misfits.specs.declared.misfit.Owner.{Owner}
 use Rattle.ir_misfits.specs.Points.{Points}
@@ -34,13 +33,10 @@ module _ (m : Module) (n earlier : ℕ) (of : Owner) where
     abbrev Left : ℕ → Body
     Left k = list_body no_operands (drop k xs)
 
-    tail : drop i xs ≡ x ∷ drop (i + 1) xs
-    tail = from_here xs i x (slice_get_read xs (length xs) i x refl lt is)
-
     points_turn : (k : ℕ) → first_fault (body_points m n earlier of k (Left i))
         ≡ option_or (first_fault (statement_points m n earlier of k Here)) (first_fault (body_points m n earlier of (after_statement k Here) (Left (i + 1))))
     points_turn k =
-        ap (λ l. first_fault (body_points m n earlier of k (list_body no_operands l))) tail
+        ap (λ l. first_fault (body_points m n earlier of k (list_body no_operands l))) (tail xs i x lt is)
         ∙ first_of_both (statement_points m n earlier of k Here) (body_points m n earlier of (after_statement k Here) (Left (i + 1)))
 
     pub list_stops : (k : ℕ) (whole : Option Misfit) (told : Misfit) → first_fault (body_points m n earlier of k (Left i)) ≡ whole →
@@ -57,19 +53,16 @@ module _ (m : Module) (n earlier : ℕ) (of : Owner) where
 
     pub list_after : (k after whole : ℕ) → after_body k (Left i) ≡ whole → after ≡ after_statement k Here → after_body after (Left (i + 1)) ≡ whole
     list_after k after whole left e =
-        ap (λ a. after_body a (Left (i + 1))) e ∙ sym (ap (λ l. after_body k (list_body no_operands l)) tail) ∙ left
+        ap (λ a. after_body a (Left (i + 1))) e ∙ sym (ap (λ l. after_body k (list_body no_operands l)) (tail xs i x lt is)) ∙ left
 
   module _ (xs : List SwitchCase) (i : ℕ) (x : SwitchCase) (lt : i < length xs) (is : x ≡ get_or xs i x) where
     abbrev Inner : Body
     Inner = body_of no_operands (out-SwitchCase x).body
 
-    cases_tail : drop i xs ≡ x ∷ drop (i + 1) xs
-    cases_tail = from_here xs i x (slice_get_read xs (length xs) i x refl lt is)
-
     cases_turn : (k : ℕ) → first_fault (cases_points m n earlier of k (list_cases no_operands (drop i xs)))
         ≡ option_or (first_fault (body_points m n earlier of k Inner)) (first_fault (cases_points m n earlier of (after_body k Inner) (list_cases no_operands (drop (i + 1) xs))))
     cases_turn k =
-        ap (λ l. first_fault (cases_points m n earlier of k (list_cases no_operands l))) cases_tail
+        ap (λ l. first_fault (cases_points m n earlier of k (list_cases no_operands l))) (tail xs i x lt is)
         ∙ first_of_both (body_points m n earlier of k Inner) (cases_points m n earlier of (after_body k Inner) (list_cases no_operands (drop (i + 1) xs)))
 
     pub cases_stop : (k : ℕ) (whole : Option Misfit) (told : Misfit) → first_fault (cases_points m n earlier of k (list_cases no_operands (drop i xs))) ≡ whole →
@@ -88,4 +81,4 @@ module _ (m : Module) (n earlier : ℕ) (of : Owner) where
     pub cases_after : (k after whole : ℕ) → after_cases k (list_cases no_operands (drop i xs)) ≡ whole → after ≡ after_body k Inner →
         after_cases after (list_cases no_operands (drop (i + 1) xs)) ≡ whole
     cases_after k after whole left e =
-        ap (λ a. after_cases a (list_cases no_operands (drop (i + 1) xs))) e ∙ sym (ap (λ l. after_cases k (list_cases no_operands l)) cases_tail) ∙ left
+        ap (λ a. after_cases a (list_cases no_operands (drop (i + 1) xs))) e ∙ sym (ap (λ l. after_cases k (list_cases no_operands l)) (tail xs i x lt is)) ∙ left

@@ -163,7 +163,7 @@ pub(crate) fn check_leaf(asked: &Asked, number: usize, statement: &Statement) ->
     }
 }
 
-/// Whether it fits.
+/// Whether what a statement that holds no other names is there.
 #[inline(never)]
 pub(crate) fn leaf_fits(asked: &Asked, statement: &Statement) -> bool
     ensures { IsTrue result ↔ LeafFits asked.now.module.now asked.now.expressions asked.now.earlier statement.now }
