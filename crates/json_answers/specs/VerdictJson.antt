@@ -10,7 +10,7 @@ use Rattle.check_faults.specs.declared.module.ModuleFault.{ModuleFault}
 use Rattle.check_faults.specs.declared.module.ModuleFault.TheVariants as faults
 use Rattle.json_nodes.specs.declared.step.Step.{Step}
 use Rattle.json_nodes.specs.declared.step.Step.TheVariants as steps
-use Rattle.json_document.specs.declared.read.error.Unreadable.{Unreadable}
+use Rattle.json_values.specs.declared.error.Unreadable.{Unreadable}
 use Rattle.json_faults.specs.Faults.{function_error_form}
 use Rattle.json_faults.specs.Form.{Writes, four_fields, holding, json_text, list_form, number_form, optional, span_form, two_fields}
 use Rattle.json_faults.specs.Infos.{info_form}

@@ -8,9 +8,9 @@ use Rattle.json_document.specs.ReadsDocument.{ReadsDocument}
 use Rattle.json_document.specs.Whole.{document_of}
 use Rattle.json_document.specs.declared.document.Document.{Document}
 use Rattle.json_document.specs.declared.id.Id.{Id}
-use Rattle.json_document.specs.declared.read.error.ReadError.{ReadError}
-use Rattle.json_document.specs.Form.{given}
-use Rattle.json_document.specs.Reads.{ReadsMeaning}
+use Rattle.json_values.specs.declared.error.ReadError.{ReadError}
+use Rattle.json_values.specs.Form.{given}
+use Rattle.json_values.specs.Reads.{ReadsMeaning}
 
 some_none : {A : Type 0} (x : A) (o : Option A) → o ≡ Some x → o ≡ None → ⊥
 some_none x o is none = cc

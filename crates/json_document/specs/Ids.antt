@@ -6,10 +6,10 @@ use Rattle.serde_json.specs.Read as json
 use Rattle.json_document.specs.declared.document.Document.{Document}
 use Rattle.json_document.specs.declared.id.Id.{Id}
 use Rattle.json_document.specs.declared.id.Id.TheVariants as ids
-use Rattle.json_document.specs.declared.read.error.ReadError.{ReadError}
-use Rattle.json_document.specs.Failures.{IsUnreadable}
-use Rattle.json_document.specs.Form.{field_of, given}
-use Rattle.json_document.specs.Document.Literals.{i64_of}
+use Rattle.json_values.specs.declared.error.ReadError.{ReadError}
+use Rattle.json_values.specs.Failures.{IsUnreadable}
+use Rattle.json_values.specs.Form.{field_of, given}
+use Rattle.json_values.specs.Numbers.{i64_of}
 
 abbrev pub id_from : Option (List ℕ) → Data → Option Id
 id_from (Some text) d = Some (ids.Text text)

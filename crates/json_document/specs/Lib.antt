@@ -1,11 +1,3 @@
-pub mod Failures
-pub mod Form
-pub mod Variants
-pub mod Reads
-pub mod ReadsFields
-pub mod ReadsVariants
-pub mod Numbers
-pub mod Sets
 pub mod Document
 pub mod Ids
 pub mod Whole

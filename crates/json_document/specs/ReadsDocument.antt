@@ -2,9 +2,9 @@
 use Rattle.std.specs.Prelude.{◌≡◌, ◌≤◌, ℕ, IsUtf8, List, length, Some, Result, Ok, Err}
 use Rattle.serde_json.specs.Read as json
 use Rattle.json_document.specs.declared.document.Document.{Document}
-use Rattle.json_document.specs.declared.read.error.ReadError.{ReadError}
-use Rattle.json_document.specs.Failures.{IsUnreadable}
-use Rattle.json_document.specs.Form.{given}
+use Rattle.json_values.specs.declared.error.ReadError.{ReadError}
+use Rattle.json_values.specs.Failures.{IsUnreadable}
+use Rattle.json_values.specs.Form.{given}
 use Rattle.json_document.specs.Whole.{document_of}
 
 -- A text is a document: UTF-8, not too long, JSON whose brackets nest at most 127 deep, and a value of the form.

@@ -2,18 +2,19 @@
 
 ghost use Rattle.json_nodes.specs.Nodes.{data_of};
 ghost use Rattle.json_document.specs.Whole.{all_parts, document_of, known_of, named_parts, parts_of, settings_of};
-ghost use Rattle.json_document.specs.Reads.{ReadsMeaning};
+ghost use Rattle.json_values.specs.Reads.{ReadsMeaning};
 
 use crate::id::Id;
-use crate::read::error::ReadError;
-use crate::read::from_json::{FromJson, Held, has_field};
 use ir_arena::Sequence;
 use ir_facts::{Facts, Settings};
 use ir_flags::{Capabilities, ShaderStages, SubgroupOperationSet, ValidationFlags};
 use ir_module::Module;
 use ir_types::{TypeInfo, TypeResolution};
-use json_nodes::Node;
-use std::alloc::Global;
+use json_values::{FromJson, Held, ReadError, has_field};
+
+/// Who reads documents, and what they hold.
+#[derive(Clone, Copy)]
+pub struct Documents;
 
 /// What a document says is known of its module: infos of its types, types of its global expressions, and the facts that a
 /// lower layer answers.
@@ -32,23 +33,21 @@ pub struct Document {
     pub known: Option<Known>,
 }
 
-impl FromJson for Known {
+impl FromJson<Documents> for Known {
     ghost stands_for = { known_of };
 
-    fn from_json(alloc: Global, value: &Node) -> Result<Self, ReadError> {
-        let held = Held {
-            alloc,
-            value,
-            variant: None,
-        };
-        match held.six(&(
-            "type_infos",
-            "global_types",
-            "sizes",
-            "mesh_analyses",
-            "functions",
-            "entry_points",
-        )) {
+    fn from_json(_: Documents, held: Held) -> Result<Self, ReadError> {
+        match held.six(
+            Documents,
+            &(
+                "type_infos",
+                "global_types",
+                "sizes",
+                "mesh_analyses",
+                "functions",
+                "entry_points",
+            ),
+        ) {
             Ok((type_infos, global_types, sizes, mesh_analyses, functions, entry_points)) => {
                 let facts = Facts {
                     sizes,
@@ -91,19 +90,19 @@ fn read_settings(
 >
     ensures { ReadsMeaning (settings_of (data_of held.entry.value.now)) result }
 {
-    let flags = match held.get("flags") {
+    let flags = match held.get(Documents, "flags") {
         Ok(flags) => flags,
         Err(error) => return Err(error),
     };
-    let capabilities = match held.get("capabilities") {
+    let capabilities = match held.get(Documents, "capabilities") {
         Ok(capabilities) => capabilities,
         Err(error) => return Err(error),
     };
-    let stages = match held.get("subgroup_stages") {
+    let stages = match held.get(Documents, "subgroup_stages") {
         Ok(stages) => stages,
         Err(error) => return Err(error),
     };
-    match held.get("subgroup_operations") {
+    match held.get(Documents, "subgroup_operations") {
         Ok(operations) => Ok((flags, capabilities, stages, operations)),
         Err(error) => Err(error),
     }
@@ -117,8 +116,8 @@ fn read_all_parts(held: Held) -> Result<Parts, ReadError>
         Ok(settings) => settings,
         Err(error) => return Err(error),
     };
-    match held.get("module") {
-        Ok(module) => match held.get("facts") {
+    match held.get(Documents, "module") {
+        Ok(module) => match held.get(Documents, "facts") {
             Ok(known) => Ok((flags, capabilities, stages, operations, module, known)),
             Err(error) => Err(error),
         },
@@ -141,7 +140,7 @@ fn read_named_parts(held: Held) -> Result<Parts, ReadError>
     ]) {
         return Err(error);
     }
-    match held.get::<Id>("id") {
+    match held.get::<_, Id>(Documents, "id") {
         Ok(_) => read_all_parts(held),
         Err(error) => Err(error),
     }
@@ -154,25 +153,24 @@ fn read_parts(held: Held) -> Result<Parts, ReadError>
     if has_field(held.value, "id") {
         return read_named_parts(held);
     }
-    held.six(&(
-        "flags",
-        "capabilities",
-        "subgroup_stages",
-        "subgroup_operations",
-        "module",
-        "facts",
-    ))
+    held.six(
+        Documents,
+        &(
+            "flags",
+            "capabilities",
+            "subgroup_stages",
+            "subgroup_operations",
+            "module",
+            "facts",
+        ),
+    )
 }
 
-impl FromJson for Document {
+impl FromJson<Documents> for Document {
     ghost stands_for = { document_of };
 
-    fn from_json(alloc: Global, value: &Node) -> Result<Self, ReadError> {
-        match read_parts(Held {
-            alloc,
-            value,
-            variant: None,
-        }) {
+    fn from_json(_: Documents, held: Held) -> Result<Self, ReadError> {
+        match read_parts(held) {
             Ok((flags, capabilities, subgroup_stages, subgroup_operations, module, known)) => {
                 let settings = Settings {
                     flags,

@@ -5,14 +5,13 @@ ghost use Rattle.json_nodes.specs.Nodes.{data_of};
 ghost use Rattle.json_document.specs.Ids.{IsComplete, IsIdOf, id_in};
 ghost use Rattle.json_document.specs.ReadsDocument.{ReadsDocument};
 ghost use Rattle.json_document.specs.Whole.{document_of};
-ghost use Rattle.json_document.specs.Reads.{ReadsMeaning};
+ghost use Rattle.json_values.specs.Reads.{ReadsMeaning};
 
-use crate::document::Document;
+use crate::document::{Document, Documents};
 use crate::id::{Id, id_in};
-use crate::read::error::ReadError;
-use crate::read::from_json::FromJson;
 use json::Scratch;
 use json_nodes::{TextError, Tree, read_tree};
+use json_values::{FromJson, Held, ReadError};
 use std::alloc::Global;
 
 /// The most bytes that a document may have.
@@ -32,10 +31,15 @@ fn read_value(alloc: Global, tree: &Tree) -> Reading
     ensures id { IsComplete result.document → result.id ≡ id_in (data_of tree.now) }
 {
     let value = tree.root();
+    let held = Held {
+        alloc,
+        value: &value,
+        variant: None,
+    };
     match id_in(alloc, &value) {
         Ok(id) => Reading {
             id,
-            document: Document::from_json(alloc, &value),
+            document: Document::from_json(Documents, held),
         },
         Err(_) => Reading {
             id: None,

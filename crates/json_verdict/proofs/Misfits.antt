@@ -10,7 +10,7 @@ use Rattle.check_faults.specs.declared.module.ModuleFault.{ModuleFault}
 use Rattle.check_faults.specs.declared.module.ModuleFault.TheVariants as faults
 use Rattle.json_document.specs.ReadsDocument.{IsDocument}
 use Rattle.json_document.specs.declared.document.Document.{Document}
-use Rattle.json_document.specs.declared.read.error.Unreadable.{Unreadable}
+use Rattle.json_values.specs.declared.error.Unreadable.{Unreadable}
 use Rattle.json_verdict.specs.Basis.{IsBasis, meaning_of}
 use Rattle.json_verdict.specs.Judges.{HasMisfit, IsJudged, Judges, first_misfit}
 use Rattle.json_verdict.specs.declared.basis.Basis.{Basis}

@@ -10,13 +10,14 @@ use Rattle.ir_module.specs.declared.module.Constant.{Constant}
 use Rattle.ir_module.specs.declared.module.Override.{Override}
 use Rattle.ir_module.specs.declared.module.SpecialTypes.{SpecialTypes}
 use Rattle.ir_module.specs.declared.module.GlobalVariable.{GlobalVariable}
+use Rattle.ir_module.specs.declared.module.ResourceBinding.{ResourceBinding}
 use Rattle.ir_module.specs.declared.module.EarlyDepthTest.{EarlyDepthTest}
 use Rattle.ir_module.specs.declared.module.EntryPoint.{EntryPoint}
-use Rattle.json_document.specs.Form.{eight_fields, five_fields, made_of_eight, made_of_five, made_of_six, named, one_field, optional, six_fields, three_of}
-use Rattle.json_document.specs.Numbers.{u32_of}
-use Rattle.json_document.specs.Sets.{memory_decorations_of}
+use Rattle.json_values.specs.Form.{eight_fields, five_fields, made_of_eight, made_of_five, made_of_six, made_of_two, named, one_field, optional, six_fields, three_of, two_fields}
+use Rattle.json_values.specs.Numbers.{u32_of}
+use Rattle.json_values.specs.Sets.{memory_decorations_of}
 use Rattle.json_document.specs.Document.Functions.{function_of}
-use Rattle.json_document.specs.Document.Spaces.{address_space_of, resource_binding_of}
+use Rattle.json_values.specs.Spaces.{address_space_of}
 
 -- the stages
 abbrev pub shader_stages : List (List ℕ × ShaderStage)
@@ -69,6 +70,11 @@ override_of d = option_map (λ ty. record { ty = ty }) (one_field (codes "ty") u
 abbrev pub special_types_of : Data → Option SpecialTypes
 special_types_of d = option_map (λ ray_desc. record { ray_desc = ray_desc })
     (one_field (codes "ray_desc") (optional u32_of) d)
+
+-- where a resource is bound
+abbrev pub resource_binding_of : Data → Option ResourceBinding
+resource_binding_of d = made_of_two (λ group binding. record { group = group; binding = binding })
+    (two_fields (codes "group") u32_of (codes "binding") u32_of d)
 
 -- a global variable
 abbrev pub global_variable_of : Data → Option GlobalVariable

@@ -3,17 +3,17 @@ use Rattle.std.specs.Prelude.{ℕ, List, [], ◌∷◌, codes, Option, option_ma
 use Rattle.serde_json.specs.Data.{Data}
 use Rattle.ir_errors.specs.declared.expression.ExpressionError.{ExpressionError}
 use Rattle.ir_errors.specs.declared.expression.ExpressionError.TheVariants as expression_error
-use Rattle.json_document.specs.declared.read.errors.ExpressionErrorName.{ExpressionErrorName}
-use Rattle.json_document.specs.declared.read.errors.ExpressionErrorName.TheVariants as expression_error_name
+use Rattle.json_document.specs.declared.errors.ExpressionErrorName.{ExpressionErrorName}
+use Rattle.json_document.specs.declared.errors.ExpressionErrorName.TheVariants as expression_error_name
 use Rattle.ir_facts.specs.declared.facts.LowerFunctionError.{LowerFunctionError}
 use Rattle.ir_facts.specs.declared.facts.LowerFunctionError.TheVariants as lower_function_error
-use Rattle.json_document.specs.declared.read.errors.LowerErrorName.{LowerErrorName}
-use Rattle.json_document.specs.declared.read.errors.LowerErrorName.TheVariants as lower_error_name
-use Rattle.json_document.specs.Form.{given, made_of_two, three_of, two_fields, two_of}
-use Rattle.json_document.specs.Numbers.{u32_of}
-use Rattle.json_document.specs.Sets.{storage_access_of}
-use Rattle.json_document.specs.Variants.{variant_of, either}
-use Rattle.json_document.specs.Document.Images.{image_class_of, image_dimension_of, storage_format_of}
+use Rattle.json_document.specs.declared.errors.LowerErrorName.{LowerErrorName}
+use Rattle.json_document.specs.declared.errors.LowerErrorName.TheVariants as lower_error_name
+use Rattle.json_values.specs.Form.{given, made_of_two, three_of, two_fields, two_of}
+use Rattle.json_values.specs.Numbers.{u32_of}
+use Rattle.json_values.specs.Sets.{storage_access_of}
+use Rattle.json_values.specs.Variants.{variant_of, either}
+use Rattle.json_values.specs.Images.{image_class_of, image_dimension_of, storage_format_of}
 
 -- the faults of expressions of which no more is said
 abbrev pub bare_errors : List (List ℕ × ExpressionError)

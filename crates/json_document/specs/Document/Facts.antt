@@ -5,28 +5,28 @@ use Rattle.serde_json.specs.Data.{Data}
 use Rattle.serde_json.specs.Find.{as_bool, as_null}
 use Rattle.ir_errors.specs.declared.mesh.MeshFault.{MeshFault}
 use Rattle.ir_errors.specs.declared.mesh.MeshFault.TheVariants as mesh_fault
-use Rattle.json_document.specs.declared.read.facts.OutcomeName.{OutcomeName}
-use Rattle.json_document.specs.declared.read.facts.OutcomeName.TheVariants as outcome_name
+use Rattle.json_document.specs.declared.facts.OutcomeName.{OutcomeName}
+use Rattle.json_document.specs.declared.facts.OutcomeName.TheVariants as outcome_name
 use Rattle.ir_types.specs.declared.type_info.Disalignment.{Disalignment}
 use Rattle.ir_types.specs.declared.type_info.ImmediateError.{ImmediateError}
 use Rattle.ir_types.specs.declared.type_info.TypeInfo.{TypeInfo}
 use Rattle.ir_facts.specs.declared.facts.MeshAnalysisFact.{MeshAnalysisFact}
 use Rattle.ir_facts.specs.declared.facts.ExpressionFact.{ExpressionFact}
 use Rattle.ir_facts.specs.declared.facts.ExpressionFact.TheVariants as expression_fact
-use Rattle.json_document.specs.declared.read.facts.ExpressionFactName.{ExpressionFactName}
-use Rattle.json_document.specs.declared.read.facts.ExpressionFactName.TheVariants as expression_fact_name
+use Rattle.json_document.specs.declared.facts.ExpressionFactName.{ExpressionFactName}
+use Rattle.json_document.specs.declared.facts.ExpressionFactName.TheVariants as expression_fact_name
 use Rattle.ir_facts.specs.declared.facts.InfoFact.{InfoFact}
 use Rattle.ir_facts.specs.declared.facts.FunctionFact.{FunctionFact}
 use Rattle.ir_facts.specs.declared.facts.FunctionFact.TheVariants as function_fact
-use Rattle.json_document.specs.declared.read.facts.FunctionFactName.{FunctionFactName}
-use Rattle.json_document.specs.declared.read.facts.FunctionFactName.TheVariants as function_fact_name
-use Rattle.json_document.specs.Form.{five_fields, four_fields, given, list_of, made_of_five, made_of_four, made_of_three, named, optional, three_fields, two_of}
-use Rattle.json_document.specs.Numbers.{u32_of}
-use Rattle.json_document.specs.Sets.{global_use_of, stages_of, type_flags_of}
-use Rattle.json_document.specs.Variants.{variant_of, either}
+use Rattle.json_document.specs.declared.facts.FunctionFactName.{FunctionFactName}
+use Rattle.json_document.specs.declared.facts.FunctionFactName.TheVariants as function_fact_name
+use Rattle.json_values.specs.Form.{five_fields, four_fields, given, list_of, made_of_five, made_of_four, made_of_three, named, optional, three_fields, two_of}
+use Rattle.json_values.specs.Numbers.{u32_of}
+use Rattle.json_values.specs.Sets.{global_use_of, stages_of, type_flags_of}
+use Rattle.json_values.specs.Variants.{variant_of, either}
 use Rattle.json_document.specs.Document.EntryPoints.{mesh_stage_info_of}
 use Rattle.json_document.specs.Document.Errors.{expression_error_of, lower_function_error_of}
-use Rattle.json_document.specs.Document.Types.{type_resolution_of}
+use Rattle.json_values.specs.Types.{type_resolution_of}
 
 -- the faults of outputs of mesh shaders
 abbrev pub mesh_faults : List (List ℕ × MeshFault)

@@ -4,11 +4,11 @@ use Rattle.serde_json.specs.Data.{Data}
 use Rattle.ir_module.specs.declared.module.Module.{Module}
 use Rattle.ir_types.specs.declared.types.Type.{«Type» as IrType}
 use Rattle.ir_types.specs.contracts.types.TypePartialEq.TheImpl as ir_type
-use Rattle.json_document.specs.Form.{eight_fields, given, list_of, made_of_eight}
+use Rattle.json_values.specs.Form.{eight_fields, given, list_of, made_of_eight}
 use Rattle.json_document.specs.Document.EntryPoints.{constant_of, entry_point_of, global_variable_of, override_of, special_types_of}
-use Rattle.json_document.specs.Document.Expressions.{expression_of}
+use Rattle.json_expressions.specs.Expressions.{expression_of}
 use Rattle.json_document.specs.Document.Functions.{function_of}
-use Rattle.json_document.specs.Document.Types.{type_of}
+use Rattle.json_values.specs.Types.{type_of}
 
 -- whether one of these types equals it
 abbrev pub is_among : IrType → List IrType → Bool

@@ -1,6 +1,6 @@
 use Rattle.std.proofs.Common.{Ok, Err, subst}
 use Rattle.json_document.specs.ReadsDocument.{ReadsDocument}
-use Rattle.json_document.specs.Failures.{IsUnreadable}
+use Rattle.json_values.specs.Failures.{IsUnreadable}
 use Rattle.json_verdict.proofs.Misfits.{refused_has, unreadable_judges}
 use Rattle.json_verdict.proofs.examine.examine.Goals as goal
 

@@ -1,0 +1,4 @@
+pub mod FormNames
+pub mod Forms
+pub mod Literals
+pub mod Expressions

@@ -1,0 +1,9 @@
+//! Reads statements and blocks of a JSON document ([`read_body`]), and the operations that statements name.
+//! Part of `naga_judge`; no promise to users.
+#![tactic(auto)]
+
+pub mod leaves;
+pub mod operations;
+pub mod statements;
+
+pub use crate::statements::read_body;

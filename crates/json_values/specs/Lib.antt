@@ -1,0 +1,13 @@
+pub mod Failures
+pub mod Form
+pub mod Variants
+pub mod Reads
+pub mod ReadsFields
+pub mod ReadsVariants
+pub mod Numbers
+pub mod Sets
+pub mod Scalars
+pub mod Images
+pub mod Spaces
+pub mod Bindings
+pub mod Types

@@ -1,0 +1,23 @@
+//! Reads values of a JSON document by what they stand for (the trait [`FromJson`]): objects, variants, lists, sets, numbers and types.
+//! Part of `naga_judge`; no promise to users.
+#![tactic(auto)]
+
+pub mod bindings;
+pub mod error;
+pub mod expected;
+pub mod from_json;
+pub mod images;
+pub mod list;
+pub mod number;
+pub mod scalars;
+pub mod set;
+pub mod spaces;
+pub mod types;
+pub mod variant;
+
+pub use crate::error::{ReadError, Unreadable};
+pub use crate::expected::expected_fields;
+pub use crate::from_json::{FromJson, Held, has_field};
+pub use crate::list::{elements, fitted, triple_in};
+pub use crate::number::byte;
+pub use crate::variant::{Holding, Variant, read_either, read_holding, read_name, read_variant};
