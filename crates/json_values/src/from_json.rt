@@ -24,7 +24,8 @@ pub trait FromJson<R: Copy>: Drop {
     /// What a value stands for, if it stands for something.
     ghost stands_for: { Data → Option Self };
 
-    /// What the value stands for, or where reading stopped.
+    /// What the value stands for, or where reading stopped. It is given without the variant that holds it, whose step
+    /// [`Held::read`] adds.
     fn from_json(reader: R, held: Held) -> Result<Self, ReadError>
         ensures { ReadsMeaning (stands_for (data_of held.entry.value.now)) result };
 }
@@ -75,7 +76,7 @@ fn has_only(value: &Node, names: &[&'static str]) -> bool
     value.has_no_other(names) && has_each(value, names)
 }
 
-/// A value that is to be read, the name of the variant that holds it, where one does, and the reader.
+/// A value that is to be read, and the name of the variant that holds it, where one does.
 #[derive(Clone, Copy)]
 pub struct Held<'h, 'v> {
     pub alloc: Global,
