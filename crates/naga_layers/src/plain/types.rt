@@ -76,6 +76,8 @@ fn type_of(
 }
 
 /// The type of an expression that has one by itself: of what it names, or of the result of a function.
+// (a call, so that what the other arms give is handed on in memory and not in many pieces)
+#[inline(never)]
 fn own_type(module: &Module, fun: &Function, expression: &Expression) -> Option<TypeResolution>
     ensures { result ≡ own_type «module».now fun.now expression.now }
 {
