@@ -5,7 +5,8 @@ ghost use Rattle.ir_arena.specs.declared.span.Refusal.TheVariants.{Fault};
 ghost use Rattle.ir_errors.specs.declared.expression.ExpressionError.TheVariants.{Lower};
 ghost use Rattle.ir_facts.specs.Answers.{Answers, Exactly};
 ghost use Rattle.ir_errors.specs.declared.function.FunctionError.TheVariants.{Expression as InExpression};
-ghost use Rattle.naga_layers.specs.Plain.Types.{loaded_type, first_of, own_type, type_of, types_from};
+ghost use Rattle.naga_layers.specs.Plain.Types.{loaded_type, first_of, result_type, type_of, types_from};
+ghost use Rattle.layer_expressions.specs.Named.{named_type};
 
 use ir_arena::handle::Handle;
 use ir_arena::sequence::Sequence;
@@ -71,24 +72,29 @@ fn type_of(
     match expression {
         Expression::Load { pointer } => Ok(loaded_type_at(module, earlier, *pointer)),
         Expression::Unary { operands, .. } => type_of_first(alloc, earlier, operands.as_slice()),
+        Expression::CallResult(function) => Ok(result_type(module, *function)),
         _ => Ok(own_type(module, fun, expression)),
     }
 }
 
-/// The type of an expression that has one by itself: of what it names, or of the result of a function.
+/// The type of a function's result.
+fn result_type(module: &Module, function: Handle<tag::Function>) -> Option<TypeResolution>
+    ensures { result ≡ result_type «module».now function }
+{
+    let callee = module.functions.as_slice().get(function.index())?;
+    let declared = callee.result?;
+    type_at(module.types.len(), declared.ty)
+}
+
+/// The type of an expression that names something which has one.
 // (a call, so that what the other arms give is handed on in memory and not in many pieces)
 #[inline(never)]
 fn own_type(module: &Module, fun: &Function, expression: &Expression) -> Option<TypeResolution>
-    ensures { result ≡ own_type «module».now fun.now expression.now }
+    ensures { result ≡ named_type «module».now fun.now.arguments fun.now.local_variables expression.now }
 {
-    let Expression::CallResult(handle) = expression else {
-        let arguments = fun.arguments.as_slice();
-        let locals = fun.local_variables.as_slice();
-        return named_type(module, arguments, locals, expression);
-    };
-    let callee = module.functions.as_slice().get(handle.index())?;
-    let declared = callee.result?;
-    type_at(module.types.len(), declared.ty)
+    let arguments = fun.arguments.as_slice();
+    let locals = fun.local_variables.as_slice();
+    named_type(module, arguments, locals, expression)
 }
 
 /// The type that the pointer with a handle points to.
