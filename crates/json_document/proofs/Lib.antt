@@ -1,3 +1,3 @@
-pub mod Types
+pub mod Distinct
 pub mod Made
 pub mod Texts

@@ -14,7 +14,7 @@ use Rattle.json_values.specs.Numbers.{u32_of}
 use Rattle.json_values.specs.Sets.{capabilities_of, stages_of, subgroup_operations_of, validation_flags_of}
 use Rattle.json_document.specs.Document.Facts.{function_fact_of, mesh_analysis_fact_of, type_info_of}
 use Rattle.json_document.specs.Document.Modules.{module_of}
-use Rattle.json_values.specs.Types.{type_resolution_of}
+use Rattle.json_types.specs.Types.{type_resolution_of}
 
 -- what is known of a module
 abbrev pub known_of : Data → Option Known

@@ -43,11 +43,7 @@ pub(crate) fn id_in(alloc: Global, value: &Node) -> Result<Option<Id>, AllocErro
 {
     match value.get("id") {
         Some(inner) => {
-            let held = Held {
-                alloc,
-                value: &inner,
-                variant: None,
-            };
+            let held = Held::new(alloc, &inner);
             match Id::from_json(Documents, held) {
                 Ok(id) => Ok(Some(id)),
                 Err(ReadError::Unreadable(_)) => Ok(None),

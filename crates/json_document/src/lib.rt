@@ -10,6 +10,7 @@ pub mod functions;
 pub mod id;
 pub mod module;
 pub mod text;
+mod types;
 
 pub use crate::document::{Document, Known};
 pub use crate::id::Id;

@@ -31,11 +31,7 @@ fn read_value(alloc: Global, tree: &Tree) -> Reading
     ensures id { IsComplete result.document → result.id ≡ id_in (data_of tree.now) }
 {
     let value = tree.root();
-    let held = Held {
-        alloc,
-        value: &value,
-        variant: None,
-    };
+    let held = Held::new(alloc, &value);
     match id_in(alloc, &value) {
         Ok(id) => Reading {
             id,

@@ -61,7 +61,7 @@ impl FromJson<Expressions> for Parts {
 
 /// The kinds of expressions that are said by their parts.
 #[derive(Clone, Copy)]
-pub enum PartsName {
+pub(crate) enum PartsName {
     Splat,
     Swizzle,
     ImageSample,

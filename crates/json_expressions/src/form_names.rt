@@ -157,7 +157,7 @@ fn read_math_function(alloc: Global, value: &Node) -> Result<u32, ReadError>
 }
 
 /// What a text that is one of the names of a table counts.
-pub fn read_form_name(alloc: Global, value: &Node, table: Table) -> Result<u32, ReadError>
+pub(crate) fn read_form_name(alloc: Global, value: &Node, table: Table) -> Result<u32, ReadError>
     ensures { ReadsMeaning (named (names_of table) (data_of value.now)) result }
 {
     match table {

@@ -65,7 +65,7 @@ pub enum Field {
 
 /// What a field gives: operands, and what it counts in `detail`.
 #[derive(Clone, Copy)]
-pub struct Piece {
+pub(crate) struct Piece {
     pub first: Option<Handle<tag::Expression>>,
     pub second: Option<Handle<tag::Expression>>,
     pub count: u32,
@@ -83,7 +83,7 @@ fn counted(count: u32) -> Piece
 }
 
 /// An operand that counts so much.
-pub fn operand(count: u32, handle: Handle<tag::Expression>) -> Piece
+pub(crate) fn operand(count: u32, handle: Handle<tag::Expression>) -> Piece
     ensures { result ≡ operand count handle }
 {
     Piece {
@@ -382,7 +382,7 @@ fn push_operand(
 }
 
 /// These parts, and what a field gives.
-pub fn with_piece(parts: Parts, piece: Piece) -> Result<Parts, ReadError>
+pub(crate) fn with_piece(parts: Parts, piece: Piece) -> Result<Parts, ReadError>
     ensures { ReadsMeaning (Some (with_piece parts piece)) result }
 {
     let Parts {
@@ -410,11 +410,7 @@ fn with_field(
         Ok(value) => value,
         Err(error) => return Err(error),
     };
-    let within = Held {
-        alloc: held.alloc,
-        value: &value,
-        variant: None,
-    };
+    let within = Held::new(held.alloc, &value);
     match read_piece(within, field) {
         Ok(piece) => with_piece(parts, piece),
         Err(error) => Err(held.in_field(error, name)),
@@ -440,7 +436,7 @@ fn read_fields(held: Held, form: &[(&'static str, Field)]) -> Result<Parts, Read
 }
 
 /// The most fields that a form has.
-pub const MOST_FIELDS: usize = 9;
+pub(crate) const MOST_FIELDS: usize = 9;
 
 /// Whether it is an object, each of whose fields is one of this form.
 fn has_no_other(value: &Node, form: &[(&'static str, Field)]) -> bool
@@ -479,7 +475,7 @@ fn no_form(held: Held, form: &[(&'static str, Field)]) -> ReadError {
 
 /// What the fields of an object with exactly these give. That one is missing is told before what is wrong in another.
 #[tactic(auto, using(crate::proofs::Names::missing), unfolding(crate::specs::Forms::form_of))]
-pub fn read_form(held: Held, form: &[(&'static str, Field)]) -> Result<Parts, ReadError>
+pub(crate) fn read_form(held: Held, form: &[(&'static str, Field)]) -> Result<Parts, ReadError>
     requires { length form.now ≤ MOST_FIELDS }
     ensures { ReadsMeaning (form_of (rows_of form.now) (data_of held.entry.value.now)) result }
 {

@@ -185,7 +185,7 @@ impl Holding<LiteralName, Expressions> for Literal {
 }
 
 /// A literal by its scalar's name and its value.
-pub fn read_literal_by_value(held: Held) -> Result<Literal, ReadError>
+pub(crate) fn read_literal_by_value(held: Held) -> Result<Literal, ReadError>
     ensures { ReadsMeaning (literal_by_value (data_of held.entry.value.now)) result }
 {
     read_holding(Expressions, held, &LITERAL_NAMES)

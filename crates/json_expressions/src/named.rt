@@ -116,7 +116,7 @@ fn read_length(held: Held) -> Result<Parts, ReadError>
 }
 
 /// What the form of a kind gives.
-pub fn read_named_parts(kind: PartsName, held: Held) -> Result<Parts, ReadError>
+pub(crate) fn read_named_parts(kind: PartsName, held: Held) -> Result<Parts, ReadError>
     ensures { ReadsMeaning (named_parts kind (data_of held.entry.value.now)) result }
 {
     match kind {

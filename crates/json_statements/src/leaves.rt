@@ -10,7 +10,7 @@ use json_values::{Held, ReadError};
 
 /// The statements that hold something, and no others.
 #[derive(Clone, Copy)]
-pub enum LeafName {
+pub(crate) enum LeafName {
     Emit,
     Return,
     ControlBarrier,
@@ -170,7 +170,7 @@ fn read_cooperative_store(held: Held) -> Result<Statement, ReadError>
 }
 
 /// The statement of this kind, by what it holds.
-pub fn read_leaf(kind: LeafName, held: Held) -> Result<Statement, ReadError>
+pub(crate) fn read_leaf(kind: LeafName, held: Held) -> Result<Statement, ReadError>
     ensures { ReadsMeaning (leaf_from kind (data_of held.entry.value.now)) result }
 {
     match kind {

@@ -184,11 +184,7 @@ fn read_located(alloc: Global, levels: usize, value: &Node) -> Result<Located, R
 fn read_long(alloc: Global, levels: usize, value: &Node) -> Result<Located, ReadError>
     ensures { ReadsMeaning (long_with (block_at levels) (data_of value.now)) result }
 {
-    let held = Held {
-        alloc,
-        value,
-        variant: None,
-    };
+    let held = Held::new(alloc, value);
     if let Err(error) = held.fields(&["span", "statement"]) {
         return Err(error);
     }
@@ -359,11 +355,7 @@ fn read_cases(alloc: Global, levels: usize, value: &Node) -> Result<Sequence<Swi
 fn read_case(alloc: Global, levels: usize, value: &Node) -> Result<SwitchCase, ReadError>
     ensures { ReadsMeaning (case_with (block_at levels) (data_of value.now)) result }
 {
-    let held = Held {
-        alloc,
-        value,
-        variant: None,
-    };
+    let held = Held::new(alloc, value);
     if let Err(error) = held.fields(&["value", "body", "fall_through"]) {
         return Err(error);
     }

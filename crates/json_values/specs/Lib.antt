@@ -7,7 +7,3 @@ pub mod ReadsVariants
 pub mod Numbers
 pub mod Sets
 pub mod Scalars
-pub mod Images
-pub mod Spaces
-pub mod Bindings
-pub mod Types

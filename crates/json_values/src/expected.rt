@@ -94,7 +94,7 @@ pub fn expected_fields(alloc: Global, value: &Node, names: &[&'static str]) -> R
 }
 
 /// One of these variants was expected: of those that hold nothing, or of those that hold something.
-pub fn expected_variant<P: Copy, H: Copy>(
+pub(crate) fn expected_variant<P: Copy, H: Copy>(
     alloc: Global,
     plain: &[(&'static str, P)],
     holding: &[(&'static str, H)],
@@ -105,13 +105,13 @@ pub fn expected_variant<P: Copy, H: Copy>(
 }
 
 /// One of the names of this table was expected.
-pub fn expected_name<T: Copy>(alloc: Global, table: &[(&'static str, T)]) -> ReadError {
+pub(crate) fn expected_name<T: Copy>(alloc: Global, table: &[(&'static str, T)]) -> ReadError {
     let none: [(&'static str, ()); 0] = [];
     expected_variant(alloc, table, &none)
 }
 
 /// One of the names of a set's bits was expected.
-pub fn expected_bit<B: Flags>(alloc: Global, joined: &str) -> ReadError {
+pub(crate) fn expected_bit<B: Flags>(alloc: Global, joined: &str) -> ReadError {
     let mut text = String::new(alloc);
     let written = write_bits::<B, String>(&mut text, joined);
     told(alloc, text, written)

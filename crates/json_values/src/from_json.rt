@@ -31,7 +31,7 @@ pub trait FromJson<R: Copy>: Drop {
 }
 
 /// What stands a step away.
-pub fn read_at<R: Copy, T: FromJson<R>>(
+pub(crate) fn read_at<R: Copy, T: FromJson<R>>(
     reader: R,
     alloc: Global,
     step: Step,
@@ -39,11 +39,7 @@ pub fn read_at<R: Copy, T: FromJson<R>>(
 ) -> Result<T, ReadError>
     ensures { ReadsMeaning (T.stands_for (data_of value.now)) result }
 {
-    let inner = Held {
-        alloc,
-        value,
-        variant: None,
-    };
+    let inner = Held::new(alloc, value);
     match T::from_json(reader, inner) {
         Ok(read) => Ok(read),
         Err(error) => Err(error.within(step)),
@@ -85,6 +81,17 @@ pub struct Held<'h, 'v> {
 }
 
 impl<'h, 'v> Held<'h, 'v> {
+    /// A value that no variant holds.
+    pub fn new(alloc: Global, value: &'h Node<'v>) -> Held<'h, 'v>
+        ensures { data_of result.value.now ≡ data_of value.now }
+    {
+        Held {
+            alloc,
+            value,
+            variant: None,
+        }
+    }
+
     /// The error of this value, seen from the variant that holds it.
     pub fn outside(self, error: ReadError) -> ReadError
         ensures { IsUnreadable result → IsUnreadable error }
@@ -99,11 +106,7 @@ impl<'h, 'v> Held<'h, 'v> {
     pub fn read<R: Copy, T: FromJson<R>>(self, reader: R) -> Result<T, ReadError>
         ensures { ReadsMeaning (T.stands_for (data_of self.entry.value.now)) result }
     {
-        let inner = Held {
-            alloc: self.alloc,
-            value: self.value,
-            variant: None,
-        };
+        let inner = Held::new(self.alloc, self.value);
         match T::from_json(reader, inner) {
             Ok(read) => Ok(read),
             Err(error) => Err(self.outside(error)),
@@ -143,11 +146,7 @@ impl<'h, 'v> Held<'h, 'v> {
     {
         match self.value.get(name) {
             Some(value) => {
-                let inner = Held {
-                    alloc: self.alloc,
-                    value: &value,
-                    variant: None,
-                };
+                let inner = Held::new(self.alloc, &value);
                 match T::from_json(reader, inner) {
                     Ok(read) => Ok(read),
                     Err(error) => Err(self.in_field(error, name)),

@@ -1,18 +1,14 @@
-//! Reads values of a JSON document by what they stand for (the trait [`FromJson`]): objects, variants, lists, sets, numbers and types.
+//! Reads values of a JSON document by what they stand for (the trait [`FromJson`]): objects, variants, lists, sets, numbers and scalars.
 //! Part of `naga_judge`; no promise to users.
 #![tactic(auto)]
 
-pub mod bindings;
 pub mod error;
 pub mod expected;
 pub mod from_json;
-pub mod images;
 pub mod list;
 pub mod number;
 pub mod scalars;
 pub mod set;
-pub mod spaces;
-pub mod types;
 pub mod variant;
 
 pub use crate::error::{ReadError, Unreadable};

@@ -17,7 +17,7 @@ use Rattle.json_values.specs.Form.{eight_fields, five_fields, made_of_eight, mad
 use Rattle.json_values.specs.Numbers.{u32_of}
 use Rattle.json_values.specs.Sets.{memory_decorations_of}
 use Rattle.json_document.specs.Document.Functions.{function_of}
-use Rattle.json_values.specs.Spaces.{address_space_of}
+use Rattle.json_types.specs.Spaces.{address_space_of}
 
 -- the stages
 abbrev pub shader_stages : List (List ℕ × ShaderStage)

@@ -26,7 +26,7 @@ use Rattle.json_values.specs.Sets.{global_use_of, stages_of, type_flags_of}
 use Rattle.json_values.specs.Variants.{variant_of, either}
 use Rattle.json_document.specs.Document.EntryPoints.{mesh_stage_info_of}
 use Rattle.json_document.specs.Document.Errors.{expression_error_of, lower_function_error_of}
-use Rattle.json_values.specs.Types.{type_resolution_of}
+use Rattle.json_types.specs.Types.{type_resolution_of}
 
 -- the faults of outputs of mesh shaders
 abbrev pub mesh_faults : List (List ℕ × MeshFault)

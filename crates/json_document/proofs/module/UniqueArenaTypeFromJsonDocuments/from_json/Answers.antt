@@ -1,7 +1,7 @@
 use Rattle.std.proofs.Common.{arith, rules, ◌≡◌, ◌<◌, ◌+◌, length, get_or, sym, ap, ◌∙◌}
 use Rattle.std.proofs.lemmas.List.{length_push}
 use Rattle.json_document.specs.Document.Modules.{types_behind}
-use Rattle.json_document.proofs.Types.{found_again, put_last}
+use Rattle.json_document.proofs.Distinct.{found_again, put_last}
 use Rattle.json_document.proofs.module.UniqueArenaTypeFromJsonDocuments.from_json.Goals as goal
 
 pub returns-then-index : goal.returns-then-index

@@ -2,12 +2,14 @@
 
 ghost use Rattle.json_nodes.specs.Nodes.{data_of};
 ghost use Rattle.json_values.specs.Reads.{ReadsMeaning};
-ghost use Rattle.json_values.specs.Types.{acceleration_structure_of, array_of, array_size_from, array_size_of, binding_array_of, cooperative_matrix_of, image_of, matrix_of, pointer_of, ray_query_of, sampler_of, struct_member_of, struct_of, type_inner_from, type_inner_of, type_of, type_resolution_from, type_resolution_of, value_pointer_of, vector_of};
+ghost use Rattle.json_types.specs.Types.{acceleration_structure_of, array_of, array_size_from, array_size_of, binding_array_of, cooperative_matrix_of, image_of, matrix_of, pointer_of, ray_query_of, sampler_of, struct_member_of, struct_of, type_inner_from, type_inner_of, type_of, type_resolution_from, type_resolution_of, value_pointer_of, vector_of};
 
-use crate::error::ReadError;
-use crate::from_json::{FromJson, Held};
-use crate::variant::{Holding, read_either, read_holding};
 use ir_types::{ArraySize, StructMember, Type, TypeInner, TypeResolution};
+use json_values::{FromJson, Held, Holding, ReadError, read_either, read_holding};
+
+/// Who reads types, and what they hold.
+#[derive(Clone, Copy)]
+pub struct Types;
 
 /// The size that holds nothing.
 const ARRAY_SIZES: [(&str, ArraySize); 1] = [("Dynamic", ArraySize::Dynamic)];
@@ -25,24 +27,24 @@ const HOLDING_SIZES: [(&str, SizeName); 2] = [
     ("Pending", SizeName::Pending),
 ];
 
-impl<R: Copy> FromJson<R> for ArraySize {
+impl FromJson<Types> for ArraySize {
     ghost stands_for = { array_size_of };
 
-    fn from_json(reader: R, held: Held) -> Result<Self, ReadError> {
-        read_either(reader, held, &ARRAY_SIZES, &HOLDING_SIZES)
+    fn from_json(_: Types, held: Held) -> Result<Self, ReadError> {
+        read_either(Types, held, &ARRAY_SIZES, &HOLDING_SIZES)
     }
 }
 
-impl<R: Copy> Holding<SizeName, R> for ArraySize {
+impl Holding<SizeName, Types> for ArraySize {
     ghost held_of = { array_size_from };
 
-    fn read_held(name: SizeName, reader: R, held: Held) -> Result<Self, ReadError> {
+    fn read_held(name: SizeName, _: Types, held: Held) -> Result<Self, ReadError> {
         match name {
-            SizeName::Constant => match held.read(reader) {
+            SizeName::Constant => match held.read(Types) {
                 Ok(count) => Ok(ArraySize::Constant(count)),
                 Err(error) => Err(error),
             },
-            SizeName::Pending => match held.read(reader) {
+            SizeName::Pending => match held.read(Types) {
                 Ok(pending) => Ok(ArraySize::Pending(pending)),
                 Err(error) => Err(error),
             },
@@ -50,11 +52,11 @@ impl<R: Copy> Holding<SizeName, R> for ArraySize {
     }
 }
 
-impl<R: Copy> FromJson<R> for StructMember {
+impl FromJson<Types> for StructMember {
     ghost stands_for = { struct_member_of };
 
-    fn from_json(reader: R, held: Held) -> Result<Self, ReadError> {
-        match held.four(reader, &("name", "ty", "binding", "offset")) {
+    fn from_json(_: Types, held: Held) -> Result<Self, ReadError> {
+        match held.four(Types, &("name", "ty", "binding", "offset")) {
             Ok((name, ty, binding, offset)) => Ok(StructMember {
                 name,
                 ty,
@@ -103,19 +105,19 @@ const TYPE_NAMES: [(&str, TypeName); 14] = [
     ("BindingArray", TypeName::BindingArray),
 ];
 
-fn read_vector<R: Copy>(reader: R, held: Held) -> Result<TypeInner, ReadError>
+fn read_vector(held: Held) -> Result<TypeInner, ReadError>
     ensures { ReadsMeaning (vector_of (data_of held.entry.value.now)) result }
 {
-    match held.two(reader, &("size", "scalar")) {
+    match held.two(Types, &("size", "scalar")) {
         Ok((size, scalar)) => Ok(TypeInner::Vector { size, scalar }),
         Err(error) => Err(error),
     }
 }
 
-fn read_matrix<R: Copy>(reader: R, held: Held) -> Result<TypeInner, ReadError>
+fn read_matrix(held: Held) -> Result<TypeInner, ReadError>
     ensures { ReadsMeaning (matrix_of (data_of held.entry.value.now)) result }
 {
-    match held.three(reader, &("columns", "rows", "scalar")) {
+    match held.three(Types, &("columns", "rows", "scalar")) {
         Ok((columns, rows, scalar)) => Ok(TypeInner::Matrix {
             columns,
             rows,
@@ -125,28 +127,28 @@ fn read_matrix<R: Copy>(reader: R, held: Held) -> Result<TypeInner, ReadError>
     }
 }
 
-fn read_cooperative_matrix<R: Copy>(reader: R, held: Held) -> Result<TypeInner, ReadError>
+fn read_cooperative_matrix(held: Held) -> Result<TypeInner, ReadError>
     ensures { ReadsMeaning (cooperative_matrix_of (data_of held.entry.value.now)) result }
 {
-    match held.two(reader, &("scalar", "detail")) {
+    match held.two(Types, &("scalar", "detail")) {
         Ok((scalar, detail)) => Ok(TypeInner::CooperativeMatrix { scalar, detail }),
         Err(error) => Err(error),
     }
 }
 
-fn read_pointer<R: Copy>(reader: R, held: Held) -> Result<TypeInner, ReadError>
+fn read_pointer(held: Held) -> Result<TypeInner, ReadError>
     ensures { ReadsMeaning (pointer_of (data_of held.entry.value.now)) result }
 {
-    match held.two(reader, &("base", "space")) {
+    match held.two(Types, &("base", "space")) {
         Ok((base, space)) => Ok(TypeInner::Pointer { base, space }),
         Err(error) => Err(error),
     }
 }
 
-fn read_value_pointer<R: Copy>(reader: R, held: Held) -> Result<TypeInner, ReadError>
+fn read_value_pointer(held: Held) -> Result<TypeInner, ReadError>
     ensures { ReadsMeaning (value_pointer_of (data_of held.entry.value.now)) result }
 {
-    match held.three(reader, &("size", "scalar", "space")) {
+    match held.three(Types, &("size", "scalar", "space")) {
         Ok((size, scalar, space)) => Ok(TypeInner::ValuePointer {
             size,
             scalar,
@@ -156,28 +158,28 @@ fn read_value_pointer<R: Copy>(reader: R, held: Held) -> Result<TypeInner, ReadE
     }
 }
 
-fn read_array<R: Copy>(reader: R, held: Held) -> Result<TypeInner, ReadError>
+fn read_array(held: Held) -> Result<TypeInner, ReadError>
     ensures { ReadsMeaning (array_of (data_of held.entry.value.now)) result }
 {
-    match held.three(reader, &("base", "size", "stride")) {
+    match held.three(Types, &("base", "size", "stride")) {
         Ok((base, size, stride)) => Ok(TypeInner::Array { base, size, stride }),
         Err(error) => Err(error),
     }
 }
 
-fn read_struct<R: Copy>(reader: R, held: Held) -> Result<TypeInner, ReadError>
+fn read_struct(held: Held) -> Result<TypeInner, ReadError>
     ensures { ReadsMeaning (struct_of (data_of held.entry.value.now)) result }
 {
-    match held.two(reader, &("members", "span")) {
+    match held.two(Types, &("members", "span")) {
         Ok((members, span)) => Ok(TypeInner::Struct { members, span }),
         Err(error) => Err(error),
     }
 }
 
-fn read_image<R: Copy>(reader: R, held: Held) -> Result<TypeInner, ReadError>
+fn read_image(held: Held) -> Result<TypeInner, ReadError>
     ensures { ReadsMeaning (image_of (data_of held.entry.value.now)) result }
 {
-    match held.three(reader, &("dim", "arrayed", "class")) {
+    match held.three(Types, &("dim", "arrayed", "class")) {
         Ok((dim, arrayed, class)) => Ok(TypeInner::Image {
             dim,
             arrayed,
@@ -187,84 +189,84 @@ fn read_image<R: Copy>(reader: R, held: Held) -> Result<TypeInner, ReadError>
     }
 }
 
-fn read_sampler<R: Copy>(reader: R, held: Held) -> Result<TypeInner, ReadError>
+fn read_sampler(held: Held) -> Result<TypeInner, ReadError>
     ensures { ReadsMeaning (sampler_of (data_of held.entry.value.now)) result }
 {
-    match held.one(reader, "comparison") {
+    match held.one(Types, "comparison") {
         Ok(comparison) => Ok(TypeInner::Sampler { comparison }),
         Err(error) => Err(error),
     }
 }
 
-fn read_acceleration_structure<R: Copy>(reader: R, held: Held) -> Result<TypeInner, ReadError>
+fn read_acceleration_structure(held: Held) -> Result<TypeInner, ReadError>
     ensures { ReadsMeaning (acceleration_structure_of (data_of held.entry.value.now)) result }
 {
-    match held.one(reader, "vertex_return") {
+    match held.one(Types, "vertex_return") {
         Ok(vertex_return) => Ok(TypeInner::AccelerationStructure { vertex_return }),
         Err(error) => Err(error),
     }
 }
 
-fn read_ray_query<R: Copy>(reader: R, held: Held) -> Result<TypeInner, ReadError>
+fn read_ray_query(held: Held) -> Result<TypeInner, ReadError>
     ensures { ReadsMeaning (ray_query_of (data_of held.entry.value.now)) result }
 {
-    match held.one(reader, "vertex_return") {
+    match held.one(Types, "vertex_return") {
         Ok(vertex_return) => Ok(TypeInner::RayQuery { vertex_return }),
         Err(error) => Err(error),
     }
 }
 
-fn read_binding_array<R: Copy>(reader: R, held: Held) -> Result<TypeInner, ReadError>
+fn read_binding_array(held: Held) -> Result<TypeInner, ReadError>
     ensures { ReadsMeaning (binding_array_of (data_of held.entry.value.now)) result }
 {
-    match held.two(reader, &("base", "size")) {
+    match held.two(Types, &("base", "size")) {
         Ok((base, size)) => Ok(TypeInner::BindingArray { base, size }),
         Err(error) => Err(error),
     }
 }
 
-impl<R: Copy> Holding<TypeName, R> for TypeInner {
+impl Holding<TypeName, Types> for TypeInner {
     ghost held_of = { type_inner_from };
 
-    fn read_held(name: TypeName, reader: R, held: Held) -> Result<Self, ReadError> {
+    fn read_held(name: TypeName, _: Types, held: Held) -> Result<Self, ReadError> {
         match name {
-            TypeName::Scalar => match held.read(reader) {
+            TypeName::Scalar => match held.read(Types) {
                 Ok(scalar) => Ok(TypeInner::Scalar(scalar)),
                 Err(error) => Err(error),
             },
-            TypeName::Vector => read_vector(reader, held),
-            TypeName::Matrix => read_matrix(reader, held),
-            TypeName::CooperativeMatrix => read_cooperative_matrix(reader, held),
-            TypeName::Atomic => match held.read(reader) {
+            TypeName::Vector => read_vector(held),
+            TypeName::Matrix => read_matrix(held),
+            TypeName::CooperativeMatrix => read_cooperative_matrix(held),
+            TypeName::Atomic => match held.read(Types) {
                 Ok(scalar) => Ok(TypeInner::Atomic(scalar)),
                 Err(error) => Err(error),
             },
-            TypeName::Pointer => read_pointer(reader, held),
-            TypeName::ValuePointer => read_value_pointer(reader, held),
-            TypeName::Array => read_array(reader, held),
-            TypeName::Struct => read_struct(reader, held),
-            TypeName::Image => read_image(reader, held),
-            TypeName::Sampler => read_sampler(reader, held),
-            TypeName::AccelerationStructure => read_acceleration_structure(reader, held),
-            TypeName::RayQuery => read_ray_query(reader, held),
-            TypeName::BindingArray => read_binding_array(reader, held),
+            TypeName::Pointer => read_pointer(held),
+            TypeName::ValuePointer => read_value_pointer(held),
+            TypeName::Array => read_array(held),
+            TypeName::Struct => read_struct(held),
+            TypeName::Image => read_image(held),
+            TypeName::Sampler => read_sampler(held),
+            TypeName::AccelerationStructure => read_acceleration_structure(held),
+            TypeName::RayQuery => read_ray_query(held),
+            TypeName::BindingArray => read_binding_array(held),
         }
     }
 }
 
-impl<R: Copy> FromJson<R> for TypeInner {
+impl FromJson<Types> for TypeInner {
     ghost stands_for = { type_inner_of };
 
-    fn from_json(reader: R, held: Held) -> Result<Self, ReadError> {
-        read_holding(reader, held, &TYPE_NAMES)
+    fn from_json(_: Types, held: Held) -> Result<Self, ReadError> {
+        read_holding(Types, held, &TYPE_NAMES)
     }
 }
 
-impl<R: Copy> FromJson<R> for Type {
+impl FromJson<Types> for Type {
     ghost stands_for = { type_of };
 
-    fn from_json(reader: R, held: Held) -> Result<Self, ReadError> {
-        match held.two(reader, &("name", "inner")) {
+    fn from_json(_: Types, held: Held) -> Result<Self, ReadError> {
+        match held.two(Types, &("name", "inner")) {
             Ok((name, inner)) => Ok(Type { name, inner }),
             Err(error) => Err(error),
         }
@@ -284,24 +286,24 @@ const RESOLUTIONS: [(&str, ResolutionName); 2] = [
     ("Value", ResolutionName::Value),
 ];
 
-impl<R: Copy> FromJson<R> for TypeResolution {
+impl FromJson<Types> for TypeResolution {
     ghost stands_for = { type_resolution_of };
 
-    fn from_json(reader: R, held: Held) -> Result<Self, ReadError> {
-        read_holding(reader, held, &RESOLUTIONS)
+    fn from_json(_: Types, held: Held) -> Result<Self, ReadError> {
+        read_holding(Types, held, &RESOLUTIONS)
     }
 }
 
-impl<R: Copy> Holding<ResolutionName, R> for TypeResolution {
+impl Holding<ResolutionName, Types> for TypeResolution {
     ghost held_of = { type_resolution_from };
 
-    fn read_held(name: ResolutionName, reader: R, held: Held) -> Result<Self, ReadError> {
+    fn read_held(name: ResolutionName, _: Types, held: Held) -> Result<Self, ReadError> {
         match name {
-            ResolutionName::Handle => match held.read(reader) {
+            ResolutionName::Handle => match held.read(Types) {
                 Ok(handle) => Ok(TypeResolution::Handle(handle)),
                 Err(error) => Err(error),
             },
-            ResolutionName::Value => match held.read(reader) {
+            ResolutionName::Value => match held.read(Types) {
                 Ok(inner) => Ok(TypeResolution::Value(inner)),
                 Err(error) => Err(error),
             },

@@ -1,11 +1,10 @@
 //! Address spaces.
 
-ghost use Rattle.json_values.specs.Spaces.{address_space_from, address_space_of};
+ghost use Rattle.json_types.specs.Spaces.{address_space_from, address_space_of};
 
-use crate::error::ReadError;
-use crate::from_json::{FromJson, Held};
-use crate::variant::{Holding, read_either};
+use crate::types::Types;
 use ir_types::AddressSpace;
+use json_values::{FromJson, Held, Holding, ReadError, read_either};
 
 /// The spaces of which no more is said.
 const ADDRESS_SPACES: [(&str, AddressSpace); 9] = [
@@ -23,19 +22,19 @@ const ADDRESS_SPACES: [(&str, AddressSpace); 9] = [
 /// The space of which more is said.
 const STORAGE_SPACE: [(&str, ()); 1] = [("Storage", ())];
 
-impl<R: Copy> FromJson<R> for AddressSpace {
+impl FromJson<Types> for AddressSpace {
     ghost stands_for = { address_space_of };
 
-    fn from_json(reader: R, held: Held) -> Result<Self, ReadError> {
-        read_either(reader, held, &ADDRESS_SPACES, &STORAGE_SPACE)
+    fn from_json(_: Types, held: Held) -> Result<Self, ReadError> {
+        read_either(Types, held, &ADDRESS_SPACES, &STORAGE_SPACE)
     }
 }
 
-impl<R: Copy> Holding<(), R> for AddressSpace {
+impl Holding<(), Types> for AddressSpace {
     ghost held_of = { address_space_from };
 
-    fn read_held(_: (), reader: R, held: Held) -> Result<Self, ReadError> {
-        match held.one(reader, "access") {
+    fn read_held(_: (), _: Types, held: Held) -> Result<Self, ReadError> {
+        match held.one(Types, "access") {
             Ok(access) => Ok(AddressSpace::Storage { access }),
             Err(error) => Err(error),
         }

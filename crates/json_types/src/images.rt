@@ -1,12 +1,11 @@
 //! Images.
 
-ghost use Rattle.json_values.specs.Images.{image_class_from, image_class_of, image_dimension_of, storage_format_of};
+ghost use Rattle.json_types.specs.Images.{image_class_from, image_class_of, image_dimension_of, storage_format_of};
 
-use crate::error::ReadError;
-use crate::from_json::{FromJson, Held};
-use crate::variant::{Holding, read_either, read_name};
+use crate::types::Types;
 use ir_leaves::{ImageDimension, StorageFormat};
 use ir_types::ImageClass;
+use json_values::{FromJson, Held, Holding, ReadError, read_either, read_name};
 
 /// The dimensions of images.
 const IMAGE_DIMENSIONS: [(&str, ImageDimension); 4] = [
@@ -16,10 +15,10 @@ const IMAGE_DIMENSIONS: [(&str, ImageDimension); 4] = [
     ("Cube", ImageDimension::Cube),
 ];
 
-impl<R: Copy> FromJson<R> for ImageDimension {
+impl FromJson<Types> for ImageDimension {
     ghost stands_for = { image_dimension_of };
 
-    fn from_json(_: R, held: Held) -> Result<Self, ReadError> {
+    fn from_json(_: Types, held: Held) -> Result<Self, ReadError> {
         read_name(held.alloc, held.value, &IMAGE_DIMENSIONS)
     }
 }
@@ -69,10 +68,10 @@ const STORAGE_FORMATS: [(&str, StorageFormat); 41] = [
     ("Rgba32Float", StorageFormat::Rgba32Float),
 ];
 
-impl<R: Copy> FromJson<R> for StorageFormat {
+impl FromJson<Types> for StorageFormat {
     ghost stands_for = { storage_format_of };
 
-    fn from_json(_: R, held: Held) -> Result<Self, ReadError> {
+    fn from_json(_: Types, held: Held) -> Result<Self, ReadError> {
         read_name(held.alloc, held.value, &STORAGE_FORMATS)
     }
 }
@@ -95,20 +94,20 @@ const HOLDING_CLASSES: [(&str, ClassName); 3] = [
     ("Storage", ClassName::Storage),
 ];
 
-impl<R: Copy> Holding<ClassName, R> for ImageClass {
+impl Holding<ClassName, Types> for ImageClass {
     ghost held_of = { image_class_from };
 
-    fn read_held(name: ClassName, reader: R, held: Held) -> Result<Self, ReadError> {
+    fn read_held(name: ClassName, _: Types, held: Held) -> Result<Self, ReadError> {
         match name {
-            ClassName::Sampled => match held.two(reader, &("kind", "multi")) {
+            ClassName::Sampled => match held.two(Types, &("kind", "multi")) {
                 Ok((kind, multi)) => Ok(ImageClass::Sampled { kind, multi }),
                 Err(error) => Err(error),
             },
-            ClassName::Depth => match held.one(reader, "multi") {
+            ClassName::Depth => match held.one(Types, "multi") {
                 Ok(multi) => Ok(ImageClass::Depth { multi }),
                 Err(error) => Err(error),
             },
-            ClassName::Storage => match held.two(reader, &("format", "access")) {
+            ClassName::Storage => match held.two(Types, &("format", "access")) {
                 Ok((format, access)) => Ok(ImageClass::Storage { format, access }),
                 Err(error) => Err(error),
             },
@@ -116,10 +115,10 @@ impl<R: Copy> Holding<ClassName, R> for ImageClass {
     }
 }
 
-impl<R: Copy> FromJson<R> for ImageClass {
+impl FromJson<Types> for ImageClass {
     ghost stands_for = { image_class_of };
 
-    fn from_json(reader: R, held: Held) -> Result<Self, ReadError> {
-        read_either(reader, held, &IMAGE_CLASSES, &HOLDING_CLASSES)
+    fn from_json(_: Types, held: Held) -> Result<Self, ReadError> {
+        read_either(Types, held, &IMAGE_CLASSES, &HOLDING_CLASSES)
     }
 }

@@ -8,8 +8,8 @@ use Rattle.ir_leaves.specs.declared.images.StorageFormat.{StorageFormat}
 use Rattle.ir_leaves.specs.declared.images.StorageFormat.TheVariants as storage_format
 use Rattle.ir_types.specs.declared.types.ImageClass.{ImageClass}
 use Rattle.ir_types.specs.declared.types.ImageClass.TheVariants as image_class
-use Rattle.json_values.specs.declared.images.ClassName.{ClassName}
-use Rattle.json_values.specs.declared.images.ClassName.TheVariants as class_name
+use Rattle.json_types.specs.declared.images.ClassName.{ClassName}
+use Rattle.json_types.specs.declared.images.ClassName.TheVariants as class_name
 use Rattle.json_values.specs.Form.{given, made_of_two, named, one_field, two_fields}
 use Rattle.json_values.specs.Sets.{storage_access_of}
 use Rattle.json_values.specs.Variants.{variant_of, either}

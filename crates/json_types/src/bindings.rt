@@ -2,12 +2,11 @@
 
 ghost use Rattle.json_nodes.specs.Nodes.{data_of};
 ghost use Rattle.json_values.specs.Reads.{ReadsMeaning};
-ghost use Rattle.json_values.specs.Bindings.{binding_from, binding_of, built_in_from, built_in_of, interpolation_of, location_of, sampling_of};
+ghost use Rattle.json_types.specs.Bindings.{binding_from, binding_of, built_in_from, built_in_of, interpolation_of, location_of, sampling_of};
 
-use crate::error::ReadError;
-use crate::from_json::{FromJson, Held};
-use crate::variant::{Holding, read_either, read_holding, read_name};
+use crate::types::Types;
 use ir_leaves::{Binding, BuiltIn, Interpolation, Sampling};
+use json_values::{FromJson, Held, Holding, ReadError, read_either, read_holding, read_name};
 
 /// The built-ins of which no more is said.
 const BUILT_INS: [(&str, BuiltIn); 47] = [
@@ -73,16 +72,16 @@ const HOLDING_BUILT_INS: [(&str, BuiltInName); 2] = [
     ("Barycentric", BuiltInName::Barycentric),
 ];
 
-impl<R: Copy> Holding<BuiltInName, R> for BuiltIn {
+impl Holding<BuiltInName, Types> for BuiltIn {
     ghost held_of = { built_in_from };
 
-    fn read_held(name: BuiltInName, reader: R, held: Held) -> Result<Self, ReadError> {
+    fn read_held(name: BuiltInName, _: Types, held: Held) -> Result<Self, ReadError> {
         match name {
-            BuiltInName::Position => match held.one(reader, "invariant") {
+            BuiltInName::Position => match held.one(Types, "invariant") {
                 Ok(invariant) => Ok(BuiltIn::Position { invariant }),
                 Err(error) => Err(error),
             },
-            BuiltInName::Barycentric => match held.one(reader, "perspective") {
+            BuiltInName::Barycentric => match held.one(Types, "perspective") {
                 Ok(perspective) => Ok(BuiltIn::Barycentric { perspective }),
                 Err(error) => Err(error),
             },
@@ -90,11 +89,11 @@ impl<R: Copy> Holding<BuiltInName, R> for BuiltIn {
     }
 }
 
-impl<R: Copy> FromJson<R> for BuiltIn {
+impl FromJson<Types> for BuiltIn {
     ghost stands_for = { built_in_of };
 
-    fn from_json(reader: R, held: Held) -> Result<Self, ReadError> {
-        read_either(reader, held, &BUILT_INS, &HOLDING_BUILT_INS)
+    fn from_json(_: Types, held: Held) -> Result<Self, ReadError> {
+        read_either(Types, held, &BUILT_INS, &HOLDING_BUILT_INS)
     }
 }
 
@@ -106,10 +105,10 @@ const INTERPOLATIONS: [(&str, Interpolation); 4] = [
     ("PerVertex", Interpolation::PerVertex),
 ];
 
-impl<R: Copy> FromJson<R> for Interpolation {
+impl FromJson<Types> for Interpolation {
     ghost stands_for = { interpolation_of };
 
-    fn from_json(_: R, held: Held) -> Result<Self, ReadError> {
+    fn from_json(_: Types, held: Held) -> Result<Self, ReadError> {
         read_name(held.alloc, held.value, &INTERPOLATIONS)
     }
 }
@@ -123,10 +122,10 @@ const SAMPLINGS: [(&str, Sampling); 5] = [
     ("Either", Sampling::Either),
 ];
 
-impl<R: Copy> FromJson<R> for Sampling {
+impl FromJson<Types> for Sampling {
     ghost stands_for = { sampling_of };
 
-    fn from_json(_: R, held: Held) -> Result<Self, ReadError> {
+    fn from_json(_: Types, held: Held) -> Result<Self, ReadError> {
         read_name(held.alloc, held.value, &SAMPLINGS)
     }
 }
@@ -144,11 +143,11 @@ const BINDINGS: [(&str, BindingName); 2] = [
     ("Location", BindingName::Location),
 ];
 
-fn read_location<R: Copy>(reader: R, held: Held) -> Result<Binding, ReadError>
+fn read_location(held: Held) -> Result<Binding, ReadError>
     ensures { ReadsMeaning (location_of (data_of held.entry.value.now)) result }
 {
     match held.five(
-        reader,
+        Types,
         &(
             "location",
             "interpolation",
@@ -170,24 +169,24 @@ fn read_location<R: Copy>(reader: R, held: Held) -> Result<Binding, ReadError>
     }
 }
 
-impl<R: Copy> Holding<BindingName, R> for Binding {
+impl Holding<BindingName, Types> for Binding {
     ghost held_of = { binding_from };
 
-    fn read_held(name: BindingName, reader: R, held: Held) -> Result<Self, ReadError> {
+    fn read_held(name: BindingName, _: Types, held: Held) -> Result<Self, ReadError> {
         match name {
-            BindingName::BuiltIn => match held.read(reader) {
+            BindingName::BuiltIn => match held.read(Types) {
                 Ok(found) => Ok(Binding::BuiltIn(found)),
                 Err(error) => Err(error),
             },
-            BindingName::Location => read_location(reader, held),
+            BindingName::Location => read_location(held),
         }
     }
 }
 
-impl<R: Copy> FromJson<R> for Binding {
+impl FromJson<Types> for Binding {
     ghost stands_for = { binding_of };
 
-    fn from_json(reader: R, held: Held) -> Result<Self, ReadError> {
-        read_holding(reader, held, &BINDINGS)
+    fn from_json(_: Types, held: Held) -> Result<Self, ReadError> {
+        read_holding(Types, held, &BINDINGS)
     }
 }

@@ -4,16 +4,16 @@ use Rattle.serde_json.specs.Data.{Data}
 use Rattle.serde_json.specs.Find.{as_bool}
 use Rattle.ir_leaves.specs.declared.built_in.BuiltIn.{BuiltIn}
 use Rattle.ir_leaves.specs.declared.built_in.BuiltIn.TheVariants as built_in
-use Rattle.json_values.specs.declared.bindings.BuiltInName.{BuiltInName}
-use Rattle.json_values.specs.declared.bindings.BuiltInName.TheVariants as built_in_name
+use Rattle.json_types.specs.declared.bindings.BuiltInName.{BuiltInName}
+use Rattle.json_types.specs.declared.bindings.BuiltInName.TheVariants as built_in_name
 use Rattle.ir_leaves.specs.declared.bindings.Interpolation.{Interpolation}
 use Rattle.ir_leaves.specs.declared.bindings.Interpolation.TheVariants as interpolation
 use Rattle.ir_leaves.specs.declared.bindings.Sampling.{Sampling}
 use Rattle.ir_leaves.specs.declared.bindings.Sampling.TheVariants as sampling
 use Rattle.ir_leaves.specs.declared.bindings.Binding.{Binding}
 use Rattle.ir_leaves.specs.declared.bindings.Binding.TheVariants as binding
-use Rattle.json_values.specs.declared.bindings.BindingName.{BindingName}
-use Rattle.json_values.specs.declared.bindings.BindingName.TheVariants as binding_name
+use Rattle.json_types.specs.declared.bindings.BindingName.{BindingName}
+use Rattle.json_types.specs.declared.bindings.BindingName.TheVariants as binding_name
 use Rattle.json_values.specs.Form.{five_fields, given, made_of_five, named, one_field, optional}
 use Rattle.json_values.specs.Numbers.{u32_of}
 use Rattle.json_values.specs.Variants.{variant_of, either}

@@ -4,25 +4,25 @@ use Rattle.serde_json.specs.Data.{Data}
 use Rattle.serde_json.specs.Find.{as_bool, as_str}
 use Rattle.ir_types.specs.declared.types.ArraySize.{ArraySize}
 use Rattle.ir_types.specs.declared.types.ArraySize.TheVariants as array_size
-use Rattle.json_values.specs.declared.types.SizeName.{SizeName}
-use Rattle.json_values.specs.declared.types.SizeName.TheVariants as size_name
+use Rattle.json_types.specs.declared.types.SizeName.{SizeName}
+use Rattle.json_types.specs.declared.types.SizeName.TheVariants as size_name
 use Rattle.ir_types.specs.declared.types.StructMember.{StructMember}
 use Rattle.ir_types.specs.declared.types.TypeInner.{TypeInner}
 use Rattle.ir_types.specs.declared.types.TypeInner.TheVariants as type_inner
-use Rattle.json_values.specs.declared.types.TypeName.{TypeName}
-use Rattle.json_values.specs.declared.types.TypeName.TheVariants as type_name
+use Rattle.json_types.specs.declared.types.TypeName.{TypeName}
+use Rattle.json_types.specs.declared.types.TypeName.TheVariants as type_name
 use Rattle.ir_types.specs.declared.types.Type.{«Type» as IrType}
 use Rattle.ir_types.specs.declared.typifier.TypeResolution.{TypeResolution}
 use Rattle.ir_types.specs.declared.typifier.TypeResolution.TheVariants as type_resolution
-use Rattle.json_values.specs.declared.types.ResolutionName.{ResolutionName}
-use Rattle.json_values.specs.declared.types.ResolutionName.TheVariants as resolution_name
+use Rattle.json_types.specs.declared.types.ResolutionName.{ResolutionName}
+use Rattle.json_types.specs.declared.types.ResolutionName.TheVariants as resolution_name
 use Rattle.json_values.specs.Form.{four_fields, given, list_of, made_of_four, made_of_three, made_of_two, one_field, optional, three_fields, two_fields}
 use Rattle.json_values.specs.Numbers.{nonzero_of, u32_of}
 use Rattle.json_values.specs.Variants.{variant_of, either}
-use Rattle.json_values.specs.Bindings.{binding_of}
-use Rattle.json_values.specs.Images.{image_class_of, image_dimension_of}
+use Rattle.json_types.specs.Bindings.{binding_of}
+use Rattle.json_types.specs.Images.{image_class_of, image_dimension_of}
 use Rattle.json_values.specs.Scalars.{scalar_of, vector_size_of}
-use Rattle.json_values.specs.Spaces.{address_space_of}
+use Rattle.json_types.specs.Spaces.{address_space_of}
 
 -- the size that holds nothing
 abbrev pub array_sizes : List (List ℕ × ArraySize)

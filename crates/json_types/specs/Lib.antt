@@ -1,0 +1,4 @@
+pub mod Images
+pub mod Spaces
+pub mod Bindings
+pub mod Types
