@@ -63,6 +63,7 @@ pub(crate) fn check_binding(
 }
 
 /// The bindings with that of one global more, where it is used.
+#[inline(always)]
 pub(crate) fn take_binding(
     module: &Module,
     info: &FunctionInfo,

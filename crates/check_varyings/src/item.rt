@@ -89,7 +89,33 @@ fn check_bound_item(
     ensures seen { OnOk result (seen_in state.new ≡ seen_more (seen_in state.old) binding) }
     ensures refused { OnErr result (seen_in state.new ≡ seen_in state.old) }
 {
-    check_bound(context, state, ty, binding)?;
+    if !bound_holds(context, state, ty, binding) {
+        return check_rarer_item(context, state, ty, binding);
+    }
+    state.put(binding)?;
+    Ok(())
+}
+
+/// The same where it doesn't show at once that nothing of it fails. It stands apart so that what is asked for each item makes
+/// no room for a fault.
+#[cold]
+#[inline(never)]
+fn check_rarer_item(
+    context: &VaryingContext,
+    state: &mut VaryingState,
+    ty: Handle<tag::Type>,
+    binding: Binding,
+) -> Result<(), Refusal<VaryingError>>
+    requires ty { ty < length context.now.types.now }
+    requires infos { length context.now.infos.now ≡ length context.now.types.now }
+    requires types { NameEachOther context.now.types.now }
+    ensures fault { Answers
+        (FirstOf (part_points context.now.place.now context.now.types.now context.now.infos.now (seen_in state.old)
+        (Bound ty binding))) (read_by varying_fault_of result) }
+    ensures seen { OnOk result (seen_in state.new ≡ seen_more (seen_in state.old) binding) }
+    ensures refused { OnErr result (seen_in state.new ≡ seen_in state.old) }
+{
+    first_fault_of_bound(context, state, ty, binding)?;
     state.put(binding)?;
     Ok(())
 }
@@ -132,28 +158,7 @@ fn check_unbound(context: &VaryingContext) -> Result<(), Refusal<VaryingError>>
     Ok(())
 }
 
-/// What is bound, where the state has seen these.
-fn check_bound(
-    context: &VaryingContext,
-    state: &VaryingState,
-    ty: Handle<tag::Type>,
-    binding: Binding,
-) -> Result<(), Refusal<VaryingError>>
-    requires ty { ty < length context.now.types.now }
-    requires infos { length context.now.infos.now ≡ length context.now.types.now }
-    requires types { NameEachOther context.now.types.now }
-    ensures { Answers (FirstOf (bound_points context.now.place.now context.now.types.now context.now.infos.now
-        (seen_in state.now) ty binding)) result }
-{
-    if bound_holds(context, state, ty, binding) {
-        return Ok(());
-    }
-    first_fault_of_bound(context, state, ty, binding)
-}
-
-/// The list of what is bound, with the fault of each point, where one fails.
-#[cold]
-#[inline(never)]
+/// The list of what is bound, with the fault of each point, where the state has seen these.
 fn first_fault_of_bound(
     context: &VaryingContext,
     state: &VaryingState,
@@ -215,7 +220,33 @@ fn check_member(
         }
         return Ok(());
     };
-    check_bound(context, state, member.ty, binding)?;
+    if !bound_holds(context, state, member.ty, binding) {
+        return check_rarer_member(context, state, added, member.ty, binding);
+    }
+    hold(state, added, binding)?;
+    Ok(())
+}
+
+/// A member of this type that is bound, where it doesn't show at once that nothing of it fails.
+#[cold]
+#[inline(never)]
+fn check_rarer_member(
+    context: &VaryingContext,
+    state: &mut VaryingState,
+    added: &mut Vec<u32>,
+    ty: Handle<tag::Type>,
+    binding: Binding,
+) -> Result<(), Refusal<VaryingError>>
+    requires ty { ty < length context.now.types.now }
+    requires infos { length context.now.infos.now ≡ length context.now.types.now }
+    requires types { NameEachOther context.now.types.now }
+    ensures fault { Answers
+        (FirstOf (part_points context.now.place.now context.now.types.now context.now.infos.now (seen_in state.old)
+        (Bound ty binding))) (read_by varying_fault_of result) }
+    ensures seen { OnOk result (seen_in state.new ≡ seen_with (seen_in state.old) (Bound 0 binding ∷ [])) }
+    ensures added { (l : ℕ) → far_less (far_in state.new) added.new.items l ≡ far_less (far_in state.old) added.old.items l }
+{
+    first_fault_of_bound(context, state, ty, binding)?;
     hold(state, added, binding)?;
     Ok(())
 }

@@ -1,17 +1,14 @@
 use Rattle.std.proofs.Common.{rules, Result, Ok}
+use Rattle.std.specs.Prelude.{IsTrue}
 use Rattle.ir_arena.specs.declared.span.Refusal.{Refusal}
 use Rattle.ir_errors.specs.declared.interface.VaryingError.{VaryingError}
 use Rattle.check_varyings.specs.Varyings.{seen_in}
 use Rattle.check_varyings.proofs.PlainFaults.{part_answers}
 use Rattle.check_varyings.proofs.item.check_member.Goals as goal
 
-pub returns-in_err-check_bound-clause-fault : goal.returns-in_err-check_bound-clause-fault
-returns-in_err-check_bound-clause-fault c =
-    let context = c.args.context.now in
-    rw c.in-Some.is (part_answers context.place.now context.types.now context.infos.now (seen_in c.args.state.now) c.args.member.now.ty c.in-Some.binding c.from_residual.result (search rules))
-
 pub returns-clause-fault : goal.returns-clause-fault
 returns-clause-fault c =
     let context = c.args.context.now in
     let passed : Result (Unit {0}) (Refusal VaryingError) = Ok tt in
-    rw c.in-Some.is (part_answers context.place.now context.types.now context.infos.now (seen_in c.args.state.now) c.args.member.now.ty c.in-Some.binding passed c.in_ok-check_bound.ensures)
+    let holds : IsTrue c.bound_holds.result = search rules in
+    rw c.in-Some.is (part_answers context.place.now context.types.now context.infos.now (seen_in c.args.state.now) c.args.member.now.ty c.in-Some.binding passed (c.bound_holds.ensures holds))
