@@ -117,7 +117,7 @@ shared_operands rest more =
 operands_fit : (bench : Bench) → NameEarlierExpressions (bench_expressions bench)
 operands_fit P = shared_operands [] tt
 operands_fit C = shared_operands (CallResult 0 ∷ []) (All-nil (λ h. h < 6), tt)
-operands_fit D = shared_operands (Unary (5 ∷ []) 0 ∷ []) (All-from_recursion (λ h. h < 6) (5 ∷ []) (omega arith, tt), tt)
+operands_fit D = shared_operands (Unary 0 (5 ∷ []) ∷ []) (All-from_recursion (λ h. h < 6) (5 ∷ []) (omega arith, tt), tt)
 
 -- each name stands for an expression
 named : (bench : Bench) → length (bench_expressions bench) ≡ length (names_of bench)

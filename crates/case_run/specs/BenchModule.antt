@@ -41,7 +41,7 @@ shared_expressions =
     Literal (record { scalar = bool_scalar; bits = 1 })
     ∷ Literal (record { scalar = u32_scalar; bits = 0 })
     ∷ Literal (record { scalar = i32_scalar; bits = 0 })
-    ∷ Unary (0 ∷ []) 0
+    ∷ Unary 0 (0 ∷ [])
     ∷ LocalPointer 0
     ∷ Load 4
     ∷ []
@@ -51,7 +51,7 @@ shared_expressions =
 abbrev pub bench_expressions : Bench → List Expression
 bench_expressions P = shared_expressions
 bench_expressions C = shared_expressions ++ CallResult 0 ∷ []
-bench_expressions D = shared_expressions ++ Unary (5 ∷ []) 0 ∷ []
+bench_expressions D = shared_expressions ++ Unary 0 (5 ∷ []) ∷ []
 
 -- the function of the bench with this body: no arguments and no result
 abbrev pub bench_function : Bench → Block → Function

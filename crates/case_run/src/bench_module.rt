@@ -62,7 +62,7 @@ fn literal(scalar: Scalar, bits: u64) -> Expression
 
 /// A Unary of the expression at this index.
 fn unary(alloc: Global, operand: u32) -> Result<Expression, AllocError>
-    ensures { IfOk result (λ x. x ≡ Unary (operand ∷ []) 0) }
+    ensures { IfOk result (λ x. x ≡ Unary 0 (operand ∷ [])) }
 {
     let mut operands = Sequence::new(alloc);
     operands.push(Handle::new(operand))?;

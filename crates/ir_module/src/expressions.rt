@@ -21,6 +21,7 @@ pub struct Literal {
 ///
 /// Of some kinds the validator reads the operands only. Such a kind has `operands`, in the order of naga's fields, and
 /// `detail`, any number, which stands for the rest.
+/// `detail` stands before them so that an expression takes 32 bytes.
 ///
 /// Handles of expressions and locals belong to the same function, all others to the module. A global expression has
 /// global expressions as its operands. The numbers of `AccessIndex` and `FunctionArgument` count from 0.
@@ -62,72 +63,72 @@ pub enum Expression {
         ty: Handle<tag::Type>,
     },
     Splat {
-        operands: Operands,
         detail: u32,
+        operands: Operands,
     },
     Swizzle {
-        operands: Operands,
         detail: u32,
+        operands: Operands,
     },
     ImageSample {
-        operands: Operands,
         detail: u32,
+        operands: Operands,
     },
     ImageLoad {
-        operands: Operands,
         detail: u32,
+        operands: Operands,
     },
     ImageQuery {
-        operands: Operands,
         detail: u32,
+        operands: Operands,
     },
     Unary {
-        operands: Operands,
         detail: u32,
+        operands: Operands,
     },
     Binary {
-        operands: Operands,
         detail: u32,
+        operands: Operands,
     },
     Select {
-        operands: Operands,
         detail: u32,
+        operands: Operands,
     },
     Derivative {
-        operands: Operands,
         detail: u32,
+        operands: Operands,
     },
     Relational {
-        operands: Operands,
         detail: u32,
+        operands: Operands,
     },
     Math {
-        operands: Operands,
         detail: u32,
+        operands: Operands,
     },
     As {
-        operands: Operands,
         detail: u32,
+        operands: Operands,
     },
     ArrayLength {
-        operands: Operands,
         detail: u32,
+        operands: Operands,
     },
     RayQueryGetIntersection {
-        operands: Operands,
         detail: u32,
+        operands: Operands,
     },
     RayQueryVertexPositions {
-        operands: Operands,
         detail: u32,
+        operands: Operands,
     },
     CooperativeLoad {
-        operands: Operands,
         detail: u32,
+        operands: Operands,
     },
     CooperativeMultiplyAdd {
-        operands: Operands,
         detail: u32,
+        operands: Operands,
     },
 }
 

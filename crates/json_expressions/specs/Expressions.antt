@@ -41,23 +41,23 @@ any_parts_of kind d = if has_field (codes "operands") d then parts_of d else nam
 
 -- an expression that is said by its parts
 abbrev pub with_parts : PartsName → Parts → Expression
-with_parts parts_name.Splat parts = expression.Splat parts.operands parts.detail
-with_parts parts_name.Swizzle parts = expression.Swizzle parts.operands parts.detail
-with_parts parts_name.ImageSample parts = expression.ImageSample parts.operands parts.detail
-with_parts parts_name.ImageLoad parts = expression.ImageLoad parts.operands parts.detail
-with_parts parts_name.ImageQuery parts = expression.ImageQuery parts.operands parts.detail
-with_parts parts_name.Unary parts = expression.Unary parts.operands parts.detail
-with_parts parts_name.Binary parts = expression.Binary parts.operands parts.detail
-with_parts parts_name.Select parts = expression.Select parts.operands parts.detail
-with_parts parts_name.Derivative parts = expression.Derivative parts.operands parts.detail
-with_parts parts_name.Relational parts = expression.Relational parts.operands parts.detail
-with_parts parts_name.Math parts = expression.Math parts.operands parts.detail
-with_parts parts_name.As parts = expression.As parts.operands parts.detail
-with_parts parts_name.ArrayLength parts = expression.ArrayLength parts.operands parts.detail
-with_parts parts_name.RayQueryGetIntersection parts = expression.RayQueryGetIntersection parts.operands parts.detail
-with_parts parts_name.RayQueryVertexPositions parts = expression.RayQueryVertexPositions parts.operands parts.detail
-with_parts parts_name.CooperativeLoad parts = expression.CooperativeLoad parts.operands parts.detail
-with_parts parts_name.CooperativeMultiplyAdd parts = expression.CooperativeMultiplyAdd parts.operands parts.detail
+with_parts parts_name.Splat parts = expression.Splat parts.detail parts.operands
+with_parts parts_name.Swizzle parts = expression.Swizzle parts.detail parts.operands
+with_parts parts_name.ImageSample parts = expression.ImageSample parts.detail parts.operands
+with_parts parts_name.ImageLoad parts = expression.ImageLoad parts.detail parts.operands
+with_parts parts_name.ImageQuery parts = expression.ImageQuery parts.detail parts.operands
+with_parts parts_name.Unary parts = expression.Unary parts.detail parts.operands
+with_parts parts_name.Binary parts = expression.Binary parts.detail parts.operands
+with_parts parts_name.Select parts = expression.Select parts.detail parts.operands
+with_parts parts_name.Derivative parts = expression.Derivative parts.detail parts.operands
+with_parts parts_name.Relational parts = expression.Relational parts.detail parts.operands
+with_parts parts_name.Math parts = expression.Math parts.detail parts.operands
+with_parts parts_name.As parts = expression.As parts.detail parts.operands
+with_parts parts_name.ArrayLength parts = expression.ArrayLength parts.detail parts.operands
+with_parts parts_name.RayQueryGetIntersection parts = expression.RayQueryGetIntersection parts.detail parts.operands
+with_parts parts_name.RayQueryVertexPositions parts = expression.RayQueryVertexPositions parts.detail parts.operands
+with_parts parts_name.CooperativeLoad parts = expression.CooperativeLoad parts.detail parts.operands
+with_parts parts_name.CooperativeMultiplyAdd parts = expression.CooperativeMultiplyAdd parts.detail parts.operands
 
 -- an expression that holds a number alone
 abbrev pub with_index : IndexName → ℕ → Expression

@@ -90,6 +90,26 @@ pub fn write_expression<W: fmt::Write>(out: &mut W, expression: &Expression) -> 
         | Expression::Relational { operands, .. }
         | Expression::Math { operands, .. }
             if !is_kind(name) => { write!(out, "{name} {{ operands: {operands:?} }}") }
+        Expression::Splat { detail, operands }
+        | Expression::Swizzle { detail, operands }
+        | Expression::ImageSample { detail, operands }
+        | Expression::ImageLoad { detail, operands }
+        | Expression::ImageQuery { detail, operands }
+        | Expression::Unary { detail, operands }
+        | Expression::Binary { detail, operands }
+        | Expression::Select { detail, operands }
+        | Expression::Derivative { detail, operands }
+        | Expression::Relational { detail, operands }
+        | Expression::Math { detail, operands }
+        | Expression::As { detail, operands }
+        | Expression::ArrayLength { detail, operands }
+        | Expression::RayQueryGetIntersection { detail, operands }
+        | Expression::RayQueryVertexPositions { detail, operands }
+        | Expression::CooperativeLoad { detail, operands }
+        | Expression::CooperativeMultiplyAdd { detail, operands } => write!(
+            out,
+            "{name} {{ operands: {operands:?}, detail: {detail} }}"
+        ),
         _ => write!(out, "{expression:?}"),
     }
 }

@@ -32,28 +32,28 @@ use Rattle.layer_expressions.specs.Shapes.{value_of}
 
 -- what a kind gives whose operands have these shapes: by what `detail` stands for
 abbrev pub computed : Expression → Arguments → Result (Option Shape) Rule
-computed (e.Splat hs d) given = or_broken rule.Detail (option_map (λ n. splat_of n given) (slice_get sizes d))
-computed (e.Swizzle hs d) given = or_broken rule.Detail (option_map (λ w. swizzled w given) (swizzle_of d))
-computed (e.Unary hs d) given = or_broken rule.Detail (option_map (λ o. unary_of o given) (slice_get unary_operators d))
-computed (e.Binary hs d) given = or_broken rule.Detail (option_map (λ o. binary_of o given) (slice_get binary_operators d))
-computed (e.Select hs d) given = Ok (selected given)
-computed (e.Derivative hs d) given = or_broken rule.Detail (option_map (λ o. derived given) (derivative_of d))
-computed (e.Relational hs d) given = or_broken rule.Detail (option_map (λ f. related f given) (slice_get relational_functions d))
-computed (e.Math hs d) given = or_broken rule.Detail (option_map (λ f. math_of (class_of f) given) (slice_get functions d))
-computed (e.As hs d) given = or_broken rule.Detail (option_map (λ c. cast_of c given) (casts.cast_of d))
+computed (e.Splat d hs) given = or_broken rule.Detail (option_map (λ n. splat_of n given) (slice_get sizes d))
+computed (e.Swizzle d hs) given = or_broken rule.Detail (option_map (λ w. swizzled w given) (swizzle_of d))
+computed (e.Unary d hs) given = or_broken rule.Detail (option_map (λ o. unary_of o given) (slice_get unary_operators d))
+computed (e.Binary d hs) given = or_broken rule.Detail (option_map (λ o. binary_of o given) (slice_get binary_operators d))
+computed (e.Select d hs) given = Ok (selected given)
+computed (e.Derivative d hs) given = or_broken rule.Detail (option_map (λ o. derived given) (derivative_of d))
+computed (e.Relational d hs) given = or_broken rule.Detail (option_map (λ f. related f given) (slice_get relational_functions d))
+computed (e.Math d hs) given = or_broken rule.Detail (option_map (λ f. math_of (class_of f) given) (slice_get functions d))
+computed (e.As d hs) given = or_broken rule.Detail (option_map (λ c. cast_of c given) (casts.cast_of d))
 computed _ given = Ok None
 
 -- the rule of each kind
 abbrev pub rule_of : Expression → Rule
-rule_of (e.Splat hs d) = rule.Splat
-rule_of (e.Swizzle hs d) = rule.Swizzle
-rule_of (e.Unary hs d) = rule.Unary
-rule_of (e.Binary hs d) = rule.Binary
-rule_of (e.Select hs d) = rule.Select
-rule_of (e.Derivative hs d) = rule.Derivative
-rule_of (e.Relational hs d) = rule.Relational
-rule_of (e.Math hs d) = rule.Math
-rule_of (e.As hs d) = rule.As
+rule_of (e.Splat d hs) = rule.Splat
+rule_of (e.Swizzle d hs) = rule.Swizzle
+rule_of (e.Unary d hs) = rule.Unary
+rule_of (e.Binary d hs) = rule.Binary
+rule_of (e.Select d hs) = rule.Select
+rule_of (e.Derivative d hs) = rule.Derivative
+rule_of (e.Relational d hs) = rule.Relational
+rule_of (e.Math d hs) = rule.Math
+rule_of (e.As d hs) = rule.As
 rule_of _ = rule.Named
 
 -- the value of a shape
@@ -82,15 +82,15 @@ named m arguments locals x = or_broken rule.Named (named_type m arguments locals
 
 -- the kinds that compute with shapes
 abbrev pub is_computed : Expression → Bool
-is_computed (e.Splat hs d) = true
-is_computed (e.Swizzle hs d) = true
-is_computed (e.Unary hs d) = true
-is_computed (e.Binary hs d) = true
-is_computed (e.Select hs d) = true
-is_computed (e.Derivative hs d) = true
-is_computed (e.Relational hs d) = true
-is_computed (e.Math hs d) = true
-is_computed (e.As hs d) = true
+is_computed (e.Splat d hs) = true
+is_computed (e.Swizzle d hs) = true
+is_computed (e.Unary d hs) = true
+is_computed (e.Binary d hs) = true
+is_computed (e.Select d hs) = true
+is_computed (e.Derivative d hs) = true
+is_computed (e.Relational d hs) = true
+is_computed (e.Math d hs) = true
+is_computed (e.As d hs) = true
 is_computed _ = false
 
 -- these, and those that name something
@@ -108,14 +108,14 @@ type_of m arguments locals xs earlier (e.AccessIndex base k) =
     access_index_type m.types (type_of_operand m.types earlier base) k
 type_of m arguments locals xs earlier (e.Load pointer) = load_value m.types (type_of_operand m.types earlier pointer)
 type_of m arguments locals xs earlier (e.CallResult f) = callee_type (length m.types) (slice_get m.functions f)
-type_of m arguments locals xs earlier (e.ImageSample hs d) = shape_value (sample_type m.types xs earlier hs d)
-type_of m arguments locals xs earlier (e.ImageLoad hs d) = shape_value (load_type m.types xs earlier hs d)
-type_of m arguments locals xs earlier (e.ImageQuery hs d) = shape_value (query_type m.types xs earlier hs d)
-type_of m arguments locals xs earlier (e.ArrayLength hs d) = length_type m.types earlier hs
-type_of m arguments locals xs earlier (e.RayQueryGetIntersection hs d) = Err rule.RayQuery
-type_of m arguments locals xs earlier (e.RayQueryVertexPositions hs d) = Err rule.RayQuery
-type_of m arguments locals xs earlier (e.CooperativeLoad hs d) = cooperative_load m.types earlier hs d
-type_of m arguments locals xs earlier (e.CooperativeMultiplyAdd hs d) = multiply_add m.types earlier hs
+type_of m arguments locals xs earlier (e.ImageSample d hs) = shape_value (sample_type m.types xs earlier hs d)
+type_of m arguments locals xs earlier (e.ImageLoad d hs) = shape_value (load_type m.types xs earlier hs d)
+type_of m arguments locals xs earlier (e.ImageQuery d hs) = shape_value (query_type m.types xs earlier hs d)
+type_of m arguments locals xs earlier (e.ArrayLength d hs) = length_type m.types earlier hs
+type_of m arguments locals xs earlier (e.RayQueryGetIntersection d hs) = Err rule.RayQuery
+type_of m arguments locals xs earlier (e.RayQueryVertexPositions d hs) = Err rule.RayQuery
+type_of m arguments locals xs earlier (e.CooperativeLoad d hs) = cooperative_load m.types earlier hs d
+type_of m arguments locals xs earlier (e.CooperativeMultiplyAdd d hs) = multiply_add m.types earlier hs
 type_of m arguments locals xs earlier x = plain_type m arguments locals earlier x
 
 -- go on with the type, or end with the expression that has none

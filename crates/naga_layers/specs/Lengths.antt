@@ -100,13 +100,13 @@ used_operand-length roots uses (Some h) more = with_use-length uses (root_at roo
 expression_uses-length : (roots : List (Option ℕ)) (uses : List GlobalUse) (x : Expression)
     → length (expression_uses roots uses x) ≡ length uses
 expression_uses-length roots uses (e.Load pointer) = with_use-length uses (root_at roots pointer) READ
-expression_uses-length roots uses (e.ImageSample hs d) =
+expression_uses-length roots uses (e.ImageSample d hs) =
     used_operand-length roots (operand_use roots uses hs 0 READ) (slice_get hs 1) READ
     ∙ used_operand-length roots uses (slice_get hs 0) READ
-expression_uses-length roots uses (e.ImageLoad hs d) = used_operand-length roots uses (slice_get hs 0) READ
-expression_uses-length roots uses (e.CooperativeLoad hs d) = used_operand-length roots uses (slice_get hs 0) READ
-expression_uses-length roots uses (e.ImageQuery hs d) = used_operand-length roots uses (slice_get hs 0) QUERY
-expression_uses-length roots uses (e.ArrayLength hs d) = used_operand-length roots uses (slice_get hs 0) QUERY
+expression_uses-length roots uses (e.ImageLoad d hs) = used_operand-length roots uses (slice_get hs 0) READ
+expression_uses-length roots uses (e.CooperativeLoad d hs) = used_operand-length roots uses (slice_get hs 0) READ
+expression_uses-length roots uses (e.ImageQuery d hs) = used_operand-length roots uses (slice_get hs 0) QUERY
+expression_uses-length roots uses (e.ArrayLength d hs) = used_operand-length roots uses (slice_get hs 0) QUERY
 expression_uses-length roots uses _ = refl
 
 all_expression_uses-length : (roots : List (Option ℕ)) (uses : List GlobalUse) (xs : List Expression)

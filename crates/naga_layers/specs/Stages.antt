@@ -35,12 +35,12 @@ callee_stages (Some info) = Ok info.available_stages
 -- loads from a work group: those of computing; of subgroup operations: those that the settings name; cooperative operations:
 -- the compute stage; all others run in every stage
 abbrev pub stages_of : Settings → ModuleInfo → Option Expression → Result ShaderStages ExpressionError
-stages_of settings infos (Some (e.Derivative hs d)) = Ok FRAGMENT
-stages_of settings infos (Some (e.ImageSample hs d)) = Ok (sample_stages (sampling_of d))
+stages_of settings infos (Some (e.Derivative d hs)) = Ok FRAGMENT
+stages_of settings infos (Some (e.ImageSample d hs)) = Ok (sample_stages (sampling_of d))
 stages_of settings infos (Some (e.CallResult f)) = callee_stages (slice_get infos.functions f)
 stages_of settings infos (Some (e.WorkGroupUniformLoadResult t)) = Ok COMPUTE_LIKE
 stages_of settings infos (Some e.SubgroupBallotResult) = Ok settings.subgroup_stages
 stages_of settings infos (Some (e.SubgroupOperationResult t)) = Ok settings.subgroup_stages
-stages_of settings infos (Some (e.CooperativeLoad hs d)) = Ok COMPUTE
-stages_of settings infos (Some (e.CooperativeMultiplyAdd hs d)) = Ok COMPUTE
+stages_of settings infos (Some (e.CooperativeLoad d hs)) = Ok COMPUTE
+stages_of settings infos (Some (e.CooperativeMultiplyAdd d hs)) = Ok COMPUTE
 stages_of settings infos _ = Ok ALL_STAGES

@@ -23,11 +23,11 @@ operand_use roots uses hs place more = used_operand roots uses (slice_get hs pla
 -- a load reads what it points to, a sample its image and sampler, a load of an image the image; queries ask
 abbrev pub expression_uses : List (Option ℕ) → List GlobalUse → Expression → List GlobalUse
 expression_uses roots uses (e.Load pointer) = with_use uses (root_at roots pointer) READ
-expression_uses roots uses (e.ImageSample hs d) = operand_use roots (operand_use roots uses hs 0 READ) hs 1 READ
-expression_uses roots uses (e.ImageLoad hs d) = operand_use roots uses hs 0 READ
-expression_uses roots uses (e.CooperativeLoad hs d) = operand_use roots uses hs 0 READ
-expression_uses roots uses (e.ImageQuery hs d) = operand_use roots uses hs 0 QUERY
-expression_uses roots uses (e.ArrayLength hs d) = operand_use roots uses hs 0 QUERY
+expression_uses roots uses (e.ImageSample d hs) = operand_use roots (operand_use roots uses hs 0 READ) hs 1 READ
+expression_uses roots uses (e.ImageLoad d hs) = operand_use roots uses hs 0 READ
+expression_uses roots uses (e.CooperativeLoad d hs) = operand_use roots uses hs 0 READ
+expression_uses roots uses (e.ImageQuery d hs) = operand_use roots uses hs 0 QUERY
+expression_uses roots uses (e.ArrayLength d hs) = operand_use roots uses hs 0 QUERY
 expression_uses roots uses _ = uses
 
 unfoldable pub all_expression_uses : List (Option ℕ) → List GlobalUse → List Expression → List GlobalUse

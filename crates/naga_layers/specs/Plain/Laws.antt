@@ -68,7 +68,7 @@ own_type-lawful m f x r h =
 type_of-lawful : (m : Module) (f : Function) (earlier : List TypeResolution) (x : Expression) (r : TypeResolution)
     → All (IsLawful m.types) earlier → type_of m f earlier x ≡ Some r → IsLawful m.types r
 type_of-lawful m f earlier (e.Load p) r all h = option_and_then_some _ _ r h (λ t there is. loaded_type-lawful m t r is)
-type_of-lawful m f earlier (e.Unary hs d) r all h =
+type_of-lawful m f earlier (e.Unary d hs) r all h =
     option_and_then_some _ _ r h (λ k there is. at_index (IsLawful m.types) earlier k r all is)
 type_of-lawful m f earlier x r all h = own_type-lawful m f x r h
 

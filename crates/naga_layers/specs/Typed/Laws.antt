@@ -212,14 +212,14 @@ module _ (m : Module) (arguments : List FunctionArgument) (locals : List LocalVa
       access_index_type-lawful m.types (type_of_operand m.types earlier base) k
   type_of-lawful xs earlier (e.Load pointer) = load_value-lawful m.types (type_of_operand m.types earlier pointer)
   type_of-lawful xs earlier (e.CallResult f) = callee_type-lawful m.types (slice_get m.functions f)
-  type_of-lawful xs earlier (e.ImageSample hs d) = shape_value-lawful m.types (sample_type m.types xs earlier hs d)
-  type_of-lawful xs earlier (e.ImageLoad hs d) = shape_value-lawful m.types (load_type m.types xs earlier hs d)
-  type_of-lawful xs earlier (e.ImageQuery hs d) = shape_value-lawful m.types (query_type m.types xs earlier hs d)
-  type_of-lawful xs earlier (e.ArrayLength hs d) = length_type-lawful m.types earlier hs
-  type_of-lawful xs earlier (e.RayQueryGetIntersection hs d) = tt
-  type_of-lawful xs earlier (e.RayQueryVertexPositions hs d) = tt
-  type_of-lawful xs earlier (e.CooperativeLoad hs d) = cooperative_load-lawful m.types earlier hs d
-  type_of-lawful xs earlier (e.CooperativeMultiplyAdd hs d) = multiply_add-lawful m.types earlier hs
+  type_of-lawful xs earlier (e.ImageSample d hs) = shape_value-lawful m.types (sample_type m.types xs earlier hs d)
+  type_of-lawful xs earlier (e.ImageLoad d hs) = shape_value-lawful m.types (load_type m.types xs earlier hs d)
+  type_of-lawful xs earlier (e.ImageQuery d hs) = shape_value-lawful m.types (query_type m.types xs earlier hs d)
+  type_of-lawful xs earlier (e.ArrayLength d hs) = length_type-lawful m.types earlier hs
+  type_of-lawful xs earlier (e.RayQueryGetIntersection d hs) = tt
+  type_of-lawful xs earlier (e.RayQueryVertexPositions d hs) = tt
+  type_of-lawful xs earlier (e.CooperativeLoad d hs) = cooperative_load-lawful m.types earlier hs d
+  type_of-lawful xs earlier (e.CooperativeMultiplyAdd d hs) = multiply_add-lawful m.types earlier hs
   type_of-lawful xs earlier x = plain_type-lawful earlier x
 
   -- the types of so many expressions, each lawful
