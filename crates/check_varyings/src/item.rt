@@ -120,7 +120,9 @@ fn check_rarer_item(
     Ok(())
 }
 
-/// An item without binding. A refused call leaves the state as it was.
+/// An item without binding. A refused call leaves the state as it was. It is a call of its own so that what is asked for an item
+/// with a binding makes no room for its fault.
+#[inline(never)]
 fn check_unbound_item(
     context: &VaryingContext,
     state: &mut VaryingState,
