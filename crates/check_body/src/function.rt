@@ -162,7 +162,7 @@ fn validate_loop_body(
     context: &BlockContext,
     abilities: &Abilities,
     block: &Block,
-) -> Result<Option<u32>, Refused>
+) -> Result<Option<usize>, Refused>
     requires context { ContextFits (context_of context.now) }
     requires ready { IsBodyReady (context_of context.now) (block_of (context_of context.now) block.now) }
     requires table { IsTableOf (context_of context.now) table.old }

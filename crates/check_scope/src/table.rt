@@ -32,10 +32,10 @@ pub enum ScopeState {
 #[derive(Drop)]
 pub struct ScopeColumn {
     // by expression, the scope that put it, 0 where none did
-    numbers: Vec<u32>,
+    numbers: Vec<usize>,
     // by number
     states: Vec<ScopeState>,
-    innermost: u32,
+    innermost: usize,
     ghost sound: { IsSound numbers.items states.items innermost },
 }
 
@@ -62,7 +62,7 @@ pub struct FilledColumn {
 #[derive(Drop)]
 pub struct OperandColumn {
     // by expression, 0 where nothing is kept. Empty until something is
-    numbers: Vec<u32>,
+    numbers: Vec<usize>,
 }
 
 /// Of expressions, where the walk stops that goes from each access to its base.

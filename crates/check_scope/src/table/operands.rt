@@ -40,7 +40,7 @@ impl OperandColumn {
         &mut self,
         expressions: usize,
         handle: Handle<tag::Expression>,
-        number: u32,
+        number: usize,
     ) -> Result<(), AllocError>
         requires { handle < expressions }
         ensures ok { OnOk result ((h : ℕ) → kept_at self.new h ≡ (if h == handle then number else kept_at self.old h)) }

@@ -13,7 +13,7 @@ use ir_arena::tag;
 use std::alloc::{AllocError, Global};
 
 /// The later of two numbers.
-fn later(one: u32, other: u32) -> u32
+fn later(one: usize, other: usize) -> usize
     ensures one { one ≤ result }
     ensures other { other ≤ result }
     ensures below { (end : ℕ) → one < end → other < end → result < end }
@@ -59,7 +59,7 @@ impl ScopeColumn {
         match self.numbers.as_slice().get(handle.index()) {
             // most that is asked for was put by no scope
             Some(0) | None => false,
-            Some(number) => self.states[*number as usize] != ScopeState::Closed,
+            Some(number) => self.states[*number] != ScopeState::Closed,
         }
     }
 
@@ -68,23 +68,23 @@ impl ScopeColumn {
         ensures { result ≡ (known self.now).must handle }
     {
         match self.numbers.as_slice().get(handle.index()) {
-            Some(number) => self.states[*number as usize] == ScopeState::Open,
+            Some(number) => self.states[*number] == ScopeState::Open,
             None => false,
         }
     }
 
     /// Whether the scope of a number is open.
-    pub fn is_open(&self, number: u32) -> bool
+    pub fn is_open(&self, number: usize) -> bool
         ensures { IsTrue result → (shown self.now).state number ≡ Open }
     {
-        match self.states.as_slice().get(number as usize) {
+        match self.states.as_slice().get(number) {
             Some(state) => *state == ScopeState::Open,
             None => false,
         }
     }
 
     /// The number of the scope that put an expression, 0 where none did.
-    fn number_of(&self, handle: Handle<tag::Expression>) -> u32
+    fn number_of(&self, handle: Handle<tag::Expression>) -> usize
         ensures number { result ≡ number_at self.now.numbers.items handle }
         ensures taken { result < scopes self.now }
     {
@@ -95,7 +95,7 @@ impl ScopeColumn {
     }
 
     /// The number of the last of the scopes that put the expressions of a list, where each of these may be used.
-    pub fn last_of(&self, handles: &[Handle<tag::Expression>]) -> u32
+    pub fn last_of(&self, handles: &[Handle<tag::Expression>]) -> usize
         requires { (k : ℕ) → k < length handles.now → (known self.now).must (slice_index handles.now k) ≡ true }
         ensures taken { result < scopes self.now }
         ensures put { ArePutUpTo (shown self.now) result handles.now }
@@ -118,8 +118,8 @@ impl ScopeColumn {
     }
 
     /// Enters a scope, with the next number, and gives the number of the one outside it. A refused call leaves what is
-    /// shown as it was. Numbers have 32 bits: the states of as many scopes would take 4 GiB.
-    pub fn enter(&mut self) -> Result<u32, AllocError>
+    /// shown as it was.
+    pub fn enter(&mut self) -> Result<usize, AllocError>
         ensures known { OnOk result (known self.new ≡ known self.old) }
         ensures outside { IfOk result (λ outer. left (shown self.new) outer ≡ shown self.old) }
         ensures open { IfOk result (λ outer. (shown self.old).state outer ≡ Open) }
@@ -128,19 +128,16 @@ impl ScopeColumn {
         ensures err { OnErr result (shown self.new ≡ shown self.old) }
     {
         let number = self.states.len();
-        if number > u32::MAX as usize {
-            return Err(AllocError);
-        }
         self.states.push(ScopeState::Open)?;
         let outer = self.innermost;
-        self.innermost = number as u32;
+        self.innermost = number;
         Ok(outer)
     }
 
     /// Enters a scope for what a Loop's body emits after a statement, if that is the first that holds a Continue:
     /// `home` is none until then, and afterwards the number of the body's own scope. A refused call leaves what is
     /// shown as it was.
-    pub fn divide(&mut self, home: Option<u32>, held: bool) -> Result<Option<u32>, AllocError>
+    pub fn divide(&mut self, home: Option<usize>, held: bool) -> Result<Option<usize>, AllocError>
         ensures known { OnOk result (known self.new ≡ known self.old) }
         ensures home { IfOk result (λ next. Divides self.old self.new home held next) }
         ensures count { count self.new ≡ count self.old }
@@ -160,7 +157,7 @@ impl ScopeColumn {
 
     /// Leaves the innermost scope for the one of this number, which is open outside it, and gives the number of the one
     /// that is left. What it emitted stays in scope, and may no longer be used.
-    pub fn skip(&mut self, outer: u32) -> u32
+    pub fn skip(&mut self, outer: usize) -> usize
         requires { (left (shown self.old) outer).state outer ≡ Open }
         ensures shown { shown self.new ≡ skipped (shown self.old) outer }
         ensures number { result ≡ (shown self.old).innermost }
@@ -168,23 +165,23 @@ impl ScopeColumn {
         ensures taken { scopes self.new ≡ scopes self.old }
     {
         let number = self.innermost;
-        self.states[number as usize] = ScopeState::Skipped;
+        self.states[number] = ScopeState::Skipped;
         self.innermost = outer;
         number
     }
 
     /// Leaves the innermost scope for the one of this number, and with it the one that was skipped in it, if one was.
     /// The one of this number is open outside them.
-    pub fn leave(&mut self, outer: u32, skipped: Option<u32>)
+    pub fn leave(&mut self, outer: usize, skipped: Option<usize>)
         requires { (closing_if skipped (left (shown self.old) outer)).state outer ≡ Open }
         ensures shown { shown self.new ≡ closing_if skipped (left (shown self.old) outer) }
         ensures count { count self.new ≡ count self.old }
         ensures taken { scopes self.new ≡ scopes self.old }
     {
-        self.states[self.innermost as usize] = ScopeState::Closed;
+        self.states[self.innermost] = ScopeState::Closed;
         if let Some(number) = skipped {
-            if (number as usize) < self.states.len() {
-                self.states[number as usize] = ScopeState::Closed;
+            if number < self.states.len() {
+                self.states[number] = ScopeState::Closed;
             }
         }
         self.innermost = outer;
