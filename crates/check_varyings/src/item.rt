@@ -96,8 +96,8 @@ fn check_bound_item(
     Ok(())
 }
 
-/// The same where it doesn't show at once that nothing of it fails. It stands apart so that what is asked for each item makes
-/// no room for a fault.
+/// The same where it doesn't show at once that nothing of it fails. It stands apart, since it clears room for its faults whenever
+/// it is called.
 #[cold]
 #[inline(never)]
 fn check_rarer_item(
@@ -120,8 +120,8 @@ fn check_rarer_item(
     Ok(())
 }
 
-/// An item without binding. A refused call leaves the state as it was. It is a call of its own so that what is asked for an item
-/// with a binding makes no room for its fault.
+/// An item without binding. A refused call leaves the state as it was. It stands apart, since it clears room for its faults
+/// whenever it is called.
 #[inline(never)]
 fn check_unbound_item(
     context: &VaryingContext,
