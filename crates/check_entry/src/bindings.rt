@@ -73,11 +73,10 @@ pub(crate) fn take_binding(
     requires { AreTaken taken.old info.now.global_uses «module».now.global_variables index }
     ensures { OnOk result (AreTaken taken.new info.now.global_uses «module».now.global_variables (index + 1)) }
 {
-    if !is_used(info, index) {
-        return Ok(());
-    }
     if let Some(binding) = binding_at(module, index) {
-        taken.insert(binding)?;
+        if is_used(info, index) {
+            taken.insert(binding)?;
+        }
     }
     Ok(())
 }

@@ -1,6 +1,7 @@
 //! The check of an item: naga 30.0.1's `VaryingContext::validate`.
 
-ghost use Rattle.std.specs.Prelude.{◌≡◌, ◌<◌, ◌≤◌, ℕ, All, None, [], ◌∷◌, OnOk, OnErr, length, not};
+ghost use Rattle.std.specs.Prelude.{◌≡◌, ◌<◌, ◌≤◌, ℕ, All, IsTrue, None, [], ◌∷◌, OnOk, OnErr, false, length, not};
+ghost use Rattle.ir_arena.specs.Points.{first_fault};
 ghost use Rattle.ir_facts.specs.Fits.{MemberCountFits};
 ghost use Rattle.ir_facts.specs.FitsBody.{FitsCount};
 ghost use Rattle.ir_types.specs.Types.{NameEachOther};
@@ -71,6 +72,64 @@ pub fn check_varying_item(
         Some(binding) => check_bound_item(&context, state, ty, binding),
         None => check_unbound_item(&context, state, ty),
     }
+}
+
+/// Takes an item at once, if it is bound, shows at once that none of its points fails, and takes no memory: the state has seen it
+/// too then. Otherwise the state has seen what it had, and [`check_varying_item`] decides. It makes no fault and answers none, so
+/// a loop over items asks it first.
+pub fn take_at_once(
+    alloc: Global,
+    place: &VaryingPlace,
+    state: &mut VaryingState,
+    types: &UniqueArena<Type>,
+    infos: &[TypeInfo],
+    ty: Handle<tag::Type>,
+    binding: Option<Binding>,
+) -> bool
+    requires ty { ty < length types.now }
+    requires one_info_each { length infos.now ≡ length types.now }
+    requires types { NameEachOther types.now }
+    ensures holds { IsTrue result →
+        first_fault (points_from place.now types.now infos.now (seen_in state.old) ty binding) ≡ None }
+    ensures seen { IsTrue result →
+        seen_in state.new ≡ seen_with (seen_in state.old) (parts_of types.now infos.now ty binding) }
+    ensures stays { result ≡ false → seen_in state.new ≡ seen_in state.old }
+{
+    let context = VaryingContext {
+        alloc,
+        place,
+        types,
+        infos,
+    };
+    match binding {
+        Some(binding) => take_bound_at_once(&context, state, ty, binding),
+        None => false,
+    }
+}
+
+/// The same of what is bound.
+fn take_bound_at_once(
+    context: &VaryingContext,
+    state: &mut VaryingState,
+    ty: Handle<tag::Type>,
+    binding: Binding,
+) -> bool
+    requires ty { ty < length context.now.types.now }
+    requires infos { length context.now.infos.now ≡ length context.now.types.now }
+    requires types { NameEachOther context.now.types.now }
+    ensures holds { IsTrue result → first_fault (part_points context.now.place.now context.now.types.now
+        context.now.infos.now (seen_in state.old) (Bound ty binding)) ≡ None }
+    ensures seen { IsTrue result → seen_in state.new ≡ seen_more (seen_in state.old) binding }
+    ensures stays { result ≡ false → seen_in state.new ≡ seen_in state.old }
+{
+    if far_location(binding).is_some() {
+        return false;
+    }
+    if !bound_holds(context, state, ty, binding) {
+        return false;
+    }
+    state.put_near(binding);
+    true
 }
 
 /// An item with a binding. A refused call leaves the state as it was.

@@ -25,12 +25,13 @@ use crate::varyings::{
 };
 use check_faults::entry::EntryPointError;
 use check_faults::refused::RefusedEntry;
-use check_varyings::item::check_varying_item;
+use check_varyings::item::{check_varying_item, take_at_once};
 use check_varyings::varying::{MeshOutputType, VaryingPlace, VaryingState};
 use ir_arena::handle::Handle;
 use ir_arena::tag;
 use ir_facts::below::Below;
 use ir_leaves::built_in::BuiltIn;
+use ir_module::functions::FunctionArgument;
 use ir_module::module::{EntryPoint, MeshStageInfo};
 
 impl<'a, B: Below> InterfaceContext<'a, B> {
@@ -58,26 +59,79 @@ impl<'a, B: Below> InterfaceContext<'a, B> {
             self.now.entry_point.now)) (read_by fault_of result) }
     {
         let place = self.place_of(self.entry_point, false, MeshOutputType::Neither);
-        let types = &self.program.types;
-        let infos = self.infos;
         let mut state = VaryingState::new(self.alloc);
         let arguments = self.entry_point.function.arguments.as_slice();
         for index in 0..arguments.len() {
-            let argument = &arguments[index];
-            match check_varying_item(
-                self.alloc,
-                &place,
-                &mut state,
-                types,
-                infos,
-                argument.ty,
-                argument.binding,
-            ) {
-                Ok(()) => {}
-                Err(refused) => return Err(argument_refused(self.alloc, index as u32, refused)),
-            }
+            self.check_argument(&place, &mut state, index as u32, &arguments[index])?;
         }
         Ok(())
+    }
+
+    /// An argument, counted from 0, at its place behind what the state has seen.
+    fn check_argument(
+        &self,
+        place: &VaryingPlace,
+        state: &mut VaryingState,
+        index: u32,
+        argument: &FunctionArgument,
+    ) -> Result<(), RefusedEntry>
+        requires infos { AreInfosOf self.now.program.now self.now.infos.now }
+        requires types { FitsTypes self.now.program.now }
+        requires ty { argument.now.ty < length self.now.program.now.types }
+        ensures fault { Answers (FirstOf (within (OfArgument index) (points_from place.now self.now.program.now.types
+            self.now.infos.now (seen_in state.old) argument.now.ty argument.now.binding))) (read_by fault_of result) }
+        ensures seen { OnOk result (seen_in state.new ≡ seen_with (seen_in state.old)
+            (parts_of self.now.program.now.types self.now.infos.now argument.now.ty argument.now.binding)) }
+    {
+        let types = &self.program.types;
+        let infos = self.infos;
+        if take_at_once(
+            self.alloc,
+            place,
+            state,
+            types,
+            infos,
+            argument.ty,
+            argument.binding,
+        ) {
+            return Ok(());
+        }
+        self.check_rarer_argument(place, state, index, argument)
+    }
+
+    /// The same where it doesn't show at once that nothing of it fails. It stands apart, since it clears room for a fault whenever it
+    /// is called.
+    #[cold]
+    #[inline(never)]
+    fn check_rarer_argument(
+        &self,
+        place: &VaryingPlace,
+        state: &mut VaryingState,
+        index: u32,
+        argument: &FunctionArgument,
+    ) -> Result<(), RefusedEntry>
+        requires infos { AreInfosOf self.now.program.now self.now.infos.now }
+        requires types { FitsTypes self.now.program.now }
+        requires ty { argument.now.ty < length self.now.program.now.types }
+        ensures fault { Answers (FirstOf (within (OfArgument index) (points_from place.now self.now.program.now.types
+            self.now.infos.now (seen_in state.old) argument.now.ty argument.now.binding))) (read_by fault_of result) }
+        ensures seen { OnOk result (seen_in state.new ≡ seen_with (seen_in state.old)
+            (parts_of self.now.program.now.types self.now.infos.now argument.now.ty argument.now.binding)) }
+    {
+        let types = &self.program.types;
+        let infos = self.infos;
+        match check_varying_item(
+            self.alloc,
+            place,
+            state,
+            types,
+            infos,
+            argument.ty,
+            argument.binding,
+        ) {
+            Ok(()) => Ok(()),
+            Err(refused) => Err(argument_refused(self.alloc, index, refused)),
+        }
     }
 
     /// The result, if there is one, which is one group; whether a position is among its parts.
