@@ -286,7 +286,7 @@ fn after_large(make: impl Fn() -> Function) -> Timed {
     function(&mut validator, make, 2000)
 }
 
-/// The first such function behind the large one, in ten turns.
+/// The first such function behind the large one, in ten turns, and the lower layer in ten more.
 fn first_after_large(make: impl Fn() -> Function) -> Timed {
     let mut validator = types().good_validator();
     let small = module_of(make, 1);
@@ -298,6 +298,11 @@ fn first_after_large(make: impl Fn() -> Function) -> Timed {
         judge(&mut validator, first, &large, &infos);
         lower(first, &large, &infos);
         timed.whole.push(judge(&mut validator, fun, &small, &infos));
+    }
+    // The lower layer in turns of its own, so that it begins as cold as it does within a judgement.
+    for _ in 0..10 {
+        judge(&mut validator, first, &large, &infos);
+        lower(first, &large, &infos);
         timed.lower.push(lower(fun, &small, &infos));
     }
     timed

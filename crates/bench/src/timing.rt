@@ -141,6 +141,18 @@ fn fits(validator: &Validator<Plain>, timed: Timed) -> bool {
         && fits_function(fun, module, infos.functions.len())
 }
 
+/// The lower layer alone, after a test of the conditions.
+pub fn lower_after_conditions(
+    rt: &HostRuntime,
+    validator: &Validator<Plain>,
+    timed: Timed,
+) -> Result<u64, Stop> {
+    if !fits(validator, timed) {
+        return Err(Stop::Refused);
+    }
+    lower(rt, timed)
+}
+
 /// Tests the conditions so many times: the fastest.
 fn conditions(
     rt: &HostRuntime,

@@ -1,4 +1,4 @@
-//! What doesn't fit of the statements of a body, at any depth.
+//! Whether the statements of a body fit, at any depth, and what doesn't fit of them.
 
 ghost use Rattle.std.specs.Prelude.{◌≡◌, ◌↔◌, IsTrue, IfOk};
 ghost use Rattle.std.specs.Result.{result_err};
@@ -12,21 +12,9 @@ use crate::misfit::{Misfit, StatementField};
 use crate::numbered::Numbered;
 use ir_statements::statements::{Block, Located, Statement, SwitchCase};
 
-/// The first misfit of a body.
-pub(crate) fn check_statements(asked: &Asked, body: &Block) -> Result<(), Misfit>
-    ensures { result_err result ≡ first_fault (body_points asked.now.module.now asked.now.expressions
-        asked.now.earlier asked.now.owner 0 (body_of no_operands body.now)) }
-{
-    // (asked first for its time: room for a misfit costs more than to see that there is none)
-    if block_fits(asked, body) {
-        return Ok(());
-    }
-    first_misfit_of_body(asked, body)
-}
-
 /// Whether a block fits, at any depth.
 #[cycle(fit)]
-fn block_fits(asked: &Asked, block: &Block) -> bool
+pub(crate) fn block_fits(asked: &Asked, block: &Block) -> bool
     ensures { IsTrue result ↔ BodyFits asked.now.module.now asked.now.expressions asked.now.earlier
         (body_of no_operands block.now) }
 {
@@ -53,9 +41,12 @@ fn cases_fit(asked: &Asked, cases: &[SwitchCase]) -> bool
     ensures { IsTrue result ↔ CasesFit asked.now.module.now asked.now.expressions asked.now.earlier
         (list_cases no_operands cases.now) }
 {
+    // (its statements here and not by a call, for its time: most bodies of cases are short)
     for case in cases {
-        if !block_fits(asked, &case.body) {
-            return false;
+        for located in case.body.list.as_slice() {
+            if !statement_fits(asked, located) {
+                return false;
+            }
         }
     }
     true
@@ -114,19 +105,6 @@ fn statement_fits(asked: &Asked, located: &Located) -> bool
     }
 }
 
-/// The first misfit of a body that doesn't fit. Its first statement has number 0.
-#[cold]
-#[inline(never)]
-fn first_misfit_of_body(asked: &Asked, body: &Block) -> Result<(), Misfit>
-    ensures { result_err result ≡ first_fault (body_points asked.now.module.now asked.now.expressions
-        asked.now.earlier asked.now.owner 0 (body_of no_operands body.now)) }
-{
-    match check_block(asked, 0, body) {
-        Ok(_) => Ok(()),
-        Err(misfit) => Err(misfit),
-    }
-}
-
 /// The number of the next statement. Numbers end where a `usize` does.
 fn next(number: usize) -> usize
     ensures { result ≡ next number }
@@ -140,7 +118,7 @@ fn next(number: usize) -> usize
 
 /// The statements of a block, of which the first has this number. Ok has the number of the one after it.
 #[cycle(check)]
-fn check_block(asked: &Asked, number: usize, block: &Block) -> Result<usize, Misfit>
+pub(crate) fn check_block(asked: &Asked, number: usize, block: &Block) -> Result<usize, Misfit>
     ensures first { result_err result ≡ first_fault (body_points asked.now.module.now asked.now.expressions
         asked.now.earlier asked.now.owner number (body_of no_operands block.now)) }
     ensures after { IfOk result (λ after. after ≡ after_body number (body_of no_operands block.now)) }

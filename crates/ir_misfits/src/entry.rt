@@ -1,19 +1,74 @@
-//! What doesn't fit of an entry point besides its function.
+//! Whether an entry point fits besides its function, and what doesn't fit of it.
 
-ghost use Rattle.std.specs.Prelude.{◌≡◌, ◌++◌};
+ghost use Rattle.std.specs.Prelude.{◌≡◌, ◌≢◌, ◌<◌, ◌++◌, ◌↔◌, IsTrue, IfSome, All};
 ghost use Rattle.std.specs.Result.{result_err};
 ghost use Rattle.ir_arena.specs.Points.{first_fault, points_of_each};
+ghost use Rattle.ir_types.specs.declared.types.AddressSpace.TheVariants as space;
+ghost use Rattle.ir_facts.specs.Fits.{FitsEntry, MeshFits};
 ghost use Rattle.ir_misfits.specs.OfEntries.{mesh_points, mesh_points_if, is_of_module, space_points, entry_points};
 
 use crate::misfit::{EntryField, HandleOf, Misfit, Place, Problem, VariableField};
+use ir_arena::handle::Handle;
 use ir_module::module::{EntryPoint, GlobalVariable, MeshStageInfo, Module};
 use ir_types::types::AddressSpace;
+
+/// Whether what the entry point names besides its function is there, and no global is in `AddressSpace::Function`.
+pub(crate) fn entry_fits(ep: &EntryPoint, module: &Module) -> bool
+    ensures { IsTrue result ↔ FitsEntry ep.now «module».now }
+{
+    is_below_if_any(ep.task_payload, module.global_variables.len())
+        && match &ep.mesh_info {
+            Some(info) => mesh_fits(info, module),
+            None => true,
+        }
+        && avoid_function_space(module.global_variables.as_slice())
+}
+
+fn is_below_if_any<T>(handle: Option<Handle<T>>, count: usize) -> bool
+    ensures { IsTrue result ↔ IfSome handle (λ h. h < count) }
+{
+    match handle {
+        Some(handle) => handle.index() < count,
+        None => true,
+    }
+}
+
+fn mesh_fits(info: &MeshStageInfo, module: &Module) -> bool
+    ensures { IsTrue result ↔ MeshFits «module».now info.now }
+{
+    let expressions = module.global_expressions.len();
+    is_below_if_any(info.max_vertices_override, expressions)
+        && is_below_if_any(info.max_primitives_override, expressions)
+        && info.vertex_output_type.index() < module.types.len()
+        && info.primitive_output_type.index() < module.types.len()
+        && info.output_variable.index() < module.global_variables.len()
+}
+
+fn avoid_function_space(globals: &[GlobalVariable]) -> bool
+    ensures { IsTrue result ↔ All (λ g. g.space ≢ space.Function) globals.now }
+{
+    globals
+        .iter()
+        .all(|global| !matches!(global.space, AddressSpace::Function))
+}
 
 /// The first misfit of the entry point with this index: Ok exactly where `fits_entry` is true.
 ///
 /// In this order: the payload; of its mesh the overrides, the types and the variable; a global in `AddressSpace::Function`.
-#[tactic(auto, using(ir_arena::proofs::Points::first_of_both))]
 pub fn check_entry_fits(index: usize, ep: &EntryPoint, module: &Module) -> Result<(), Misfit>
+    ensures { result_err result ≡ first_fault (entry_points index ep.now «module».now) }
+{
+    // (asked first for its time: room for a misfit costs more than to see that there is none)
+    if entry_fits(ep, module) {
+        return Ok(());
+    }
+    first_misfit_of_entry(index, ep, module)
+}
+
+#[cold]
+#[inline(never)]
+#[tactic(auto, using(ir_arena::proofs::Points::first_of_both))]
+fn first_misfit_of_entry(index: usize, ep: &EntryPoint, module: &Module) -> Result<(), Misfit>
     ensures { result_err result ≡ first_fault (entry_points index ep.now «module».now) }
 {
     Place::InEntryPoint(index, EntryField::TaskPayload).names_if_any(

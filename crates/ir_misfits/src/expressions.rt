@@ -1,10 +1,10 @@
-//! What doesn't fit of expressions.
+//! Whether expressions fit, and what doesn't fit of them.
 
 ghost use Rattle.std.specs.Prelude.{◌<◌, ◌≡◌, ◌↔◌, IsTrue, IsSomeAnd, All, slice_get};
 ghost use Rattle.std.specs.Result.{result_err};
 ghost use Rattle.ir_arena.specs.Points.{first_fault, points_of_each};
 ghost use Rattle.ir_module.specs.Operands.{operands_of};
-ghost use Rattle.ir_facts.specs.Fits.{ReferencesFit};
+ghost use Rattle.ir_facts.specs.Fits.{NameEarlierExpressions, ReferencesFit};
 ghost use Rattle.ir_misfits.specs.Points.{points_if};
 ghost use Rattle.ir_misfits.specs.OfExpressions.{expressions_of, operand_points, operands_points, expressions_points, reference_points};
 
@@ -67,25 +67,20 @@ fn has_earlier_operands(place: usize, expression: &Expression) -> bool
     true
 }
 
-/// Each operand of the expression at `place` is an earlier expression.
-fn check_operands(owner: Owner, place: usize, expression: &Expression) -> Result<(), Misfit>
-    ensures { result_err result ≡ first_fault (operands_points owner place expression.now) }
+/// Whether each operand of each expression is an earlier one.
+pub(crate) fn name_earlier_expressions(expressions: &[Expression]) -> bool
+    ensures { IsTrue result ↔ NameEarlierExpressions expressions.now }
 {
-    // (asked first for its time: room for a misfit costs more than to see that there is none)
-    if has_earlier_operands(place, expression) {
-        return Ok(());
+    for (place, expression) in expressions.iter().enumerate() {
+        if !has_earlier_operands(place, expression) {
+            return false;
+        }
     }
-    first_misfit_of_operands(owner, place, expression)
+    true
 }
 
-/// The first operand that isn't an earlier expression.
-#[cold]
-#[inline(never)]
-fn first_misfit_of_operands(
-    owner: Owner,
-    place: usize,
-    expression: &Expression,
-) -> Result<(), Misfit>
+/// Each operand of the expression at `place` is an earlier expression.
+fn check_operands(owner: Owner, place: usize, expression: &Expression) -> Result<(), Misfit>
     ensures { result_err result ≡ first_fault (operands_points owner place expression.now) }
 {
     for index in 0..operand_count(expression) {
@@ -94,8 +89,21 @@ fn first_misfit_of_operands(
     Ok(())
 }
 
-/// The same of each expression.
+/// Each operand of each expression is an earlier one.
 pub(crate) fn check_expressions(owner: Owner, expressions: &[Expression]) -> Result<(), Misfit>
+    ensures { result_err result ≡ first_fault (expressions_points owner expressions.now) }
+{
+    // (asked first for its time: room for a misfit costs more than to see that there is none)
+    if name_earlier_expressions(expressions) {
+        return Ok(());
+    }
+    first_misfit_of_expressions(owner, expressions)
+}
+
+/// The first operand that isn't an earlier expression.
+#[cold]
+#[inline(never)]
+fn first_misfit_of_expressions(owner: Owner, expressions: &[Expression]) -> Result<(), Misfit>
     ensures { result_err result ≡ first_fault (expressions_points owner expressions.now) }
 {
     for (place, expression) in expressions.iter().enumerate() {
@@ -146,27 +154,17 @@ fn has_reference(expression: &Expression, fun: &Function, module: &Module) -> bo
     }
 }
 
-/// What the expression at `place` names besides its operands is there.
-fn check_reference(
-    owner: Owner,
-    place: usize,
-    expression: &Expression,
-    fun: &Function,
-    module: &Module,
-) -> Result<(), Misfit>
-    ensures { result_err result ≡ first_fault (reference_points «module».now fun.now owner place expression.now) }
+/// Whether what each expression of a function names besides its operands is there.
+pub(crate) fn references_fit(expressions: &[Expression], fun: &Function, module: &Module) -> bool
+    ensures { IsTrue result ↔ All (ReferencesFit «module».now fun.now) expressions.now }
 {
-    // (asked first for its time, as above)
-    if has_reference(expression, fun, module) {
-        return Ok(());
-    }
-    misfit_of_reference(owner, place, expression, fun, module)
+    expressions
+        .iter()
+        .all(|expression| has_reference(expression, fun, module))
 }
 
-/// What isn't there.
-#[cold]
-#[inline(never)]
-fn misfit_of_reference(
+/// What the expression at `place` names besides its operands is there.
+fn check_reference(
     owner: Owner,
     place: usize,
     expression: &Expression,

@@ -4,10 +4,9 @@
 ghost use Rattle.std.specs.Prelude.{◌↔◌, IsTrue};
 ghost use Rattle.ir_facts.specs.Fits.{FitsTypes, FitsGlobals, FitsFunction, FitsEntry};
 
-use crate::entry::check_entry_fits;
-use crate::function::check_function_fits;
+use crate::entry::entry_fits;
+use crate::function::function_fits;
 use crate::globals::check_globals_fit;
-use crate::misfit::Owner;
 use crate::types::check_types_fit;
 use ir_facts::valid::info::ModuleInfo;
 use ir_module::functions::Function;
@@ -41,14 +40,12 @@ pub fn fits_globals(module: &Module, mod_info: &ModuleInfo) -> bool
 pub fn fits_function(fun: &Function, module: &Module, earlier: usize) -> bool
     ensures { IsTrue result ↔ FitsFunction fun.now «module».now earlier }
 {
-    // (whether it fits doesn't depend on whose function it is)
-    check_function_fits(Owner::Function(0), fun, module, earlier).is_ok()
+    function_fits(fun, module, earlier)
 }
 
 /// Whether all that the entry point names besides its function exists, and no global is in `AddressSpace::Function`.
 pub fn fits_entry(ep: &EntryPoint, module: &Module) -> bool
     ensures { IsTrue result ↔ FitsEntry ep.now «module».now }
 {
-    // (nor on the entry point's index)
-    check_entry_fits(0, ep, module).is_ok()
+    entry_fits(ep, module)
 }

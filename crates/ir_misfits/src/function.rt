@@ -1,27 +1,92 @@
-//! What doesn't fit of a function.
+//! Whether a function fits, and what doesn't fit of it.
 
-ghost use Rattle.std.specs.Prelude.{◌≡◌, length};
+ghost use Rattle.std.specs.Prelude.{◌≡◌, ◌↔◌, IsTrue, All, length};
 ghost use Rattle.std.specs.Result.{result_err};
 ghost use Rattle.ir_arena.specs.Points.{first_fault, points_of_each};
 ghost use Rattle.ir_statements.specs.View.{no_operands, body_of};
+ghost use Rattle.ir_facts.specs.Fits.{FitsFunction, LocalFits};
+ghost use Rattle.ir_facts.specs.FitsBody.{BodyFits};
 ghost use Rattle.ir_misfits.specs.OfBodies.{body_points};
 ghost use Rattle.ir_misfits.specs.OfFunctions.{local_points, function_points};
 
-use crate::body::check_statements;
-use crate::expressions::{check_expressions, check_references};
+use crate::body::{block_fits, check_block};
+use crate::expressions::{
+    check_expressions, check_references, name_earlier_expressions, references_fit,
+};
 use crate::leaf::Asked;
 use crate::misfit::{HandleOf, Misfit, Owner, Place, VariableField};
-use crate::signature::check_signature;
+use crate::signature::{check_signature, signature_fits};
 use ir_module::functions::{Function, LocalVariable};
 use ir_module::module::Module;
+
+/// Whether a function fits.
+pub(crate) fn function_fits(fun: &Function, module: &Module, earlier: usize) -> bool
+    ensures { IsTrue result ↔ FitsFunction fun.now «module».now earlier }
+{
+    let expressions = fun.expressions.as_slice();
+    signature_fits(fun, module)
+        && locals_fit(fun.local_variables.as_slice(), fun, module)
+        && name_earlier_expressions(expressions)
+        && references_fit(expressions, fun, module)
+        && body_fits(fun, module, earlier)
+}
+
+/// Whether the type and the initializer of a local are there.
+fn local_fits(local: &LocalVariable, fun: &Function, module: &Module) -> bool
+    ensures { IsTrue result ↔ LocalFits «module».now fun.now local.now }
+{
+    local.ty.index() < module.types.len()
+        && match local.init {
+            Some(init) => init.index() < fun.expressions.len(),
+            None => true,
+        }
+}
+
+fn locals_fit(locals: &[LocalVariable], fun: &Function, module: &Module) -> bool
+    ensures { IsTrue result ↔ All (LocalFits «module».now fun.now) locals.now }
+{
+    locals.iter().all(|local| local_fits(local, fun, module))
+}
+
+/// Whether the statements fit.
+fn body_fits(fun: &Function, module: &Module, earlier: usize) -> bool
+    ensures { IsTrue result ↔ BodyFits «module».now (length fun.now.expressions) earlier
+        (body_of no_operands fun.now.body) }
+{
+    let asked = Asked {
+        // (whose function it is isn't asked)
+        owner: Owner::Function(0),
+        module,
+        expressions: fun.expressions.len(),
+        earlier,
+    };
+    block_fits(&asked, &fun.body)
+}
 
 /// The first misfit of a function, which is that of `owner`: Ok exactly where `fits_function` is true.
 ///
 /// In this order: the number of arguments, their types and that of the result; of each local the type and the initializer;
 /// the operands of the expressions, which are earlier ones; what else each expression names; the statements, in visit order.
 /// Where a function is named whose signature doesn't fit, the misfit is that signature's.
-#[tactic(auto, using(ir_arena::proofs::Points::first_of_both))]
 pub fn check_function_fits(
+    owner: Owner,
+    fun: &Function,
+    module: &Module,
+    earlier: usize,
+) -> Result<(), Misfit>
+    ensures { result_err result ≡ first_fault (function_points owner fun.now «module».now earlier) }
+{
+    // (asked first for its time: room for a misfit costs more than to see that there is none)
+    if function_fits(fun, module, earlier) {
+        return Ok(());
+    }
+    first_misfit_of_function(owner, fun, module, earlier)
+}
+
+#[cold]
+#[inline(never)]
+#[tactic(auto, using(ir_arena::proofs::Points::first_of_both))]
+fn first_misfit_of_function(
     owner: Owner,
     fun: &Function,
     module: &Module,
@@ -74,7 +139,7 @@ fn check_locals(
     Ok(())
 }
 
-/// The statements.
+/// The statements. The first has number 0.
 fn check_body(owner: Owner, fun: &Function, module: &Module, earlier: usize) -> Result<(), Misfit>
     ensures { result_err result ≡ first_fault (body_points «module».now (length fun.now.expressions) earlier owner 0
         (body_of no_operands fun.now.body)) }
@@ -85,5 +150,6 @@ fn check_body(owner: Owner, fun: &Function, module: &Module, earlier: usize) -> 
         expressions: fun.expressions.len(),
         earlier,
     };
-    check_statements(&asked, &fun.body)
+    check_block(&asked, 0, &fun.body)?;
+    Ok(())
 }

@@ -1,6 +1,6 @@
-//! What doesn't fit of the signature of a function.
+//! Whether the signature of a function fits, and what doesn't fit of it.
 
-ghost use Rattle.std.specs.Prelude.{◌≡◌, ◌↔◌, IsTrue, length};
+ghost use Rattle.std.specs.Prelude.{◌≡◌, ◌<◌, ◌↔◌, IsTrue, IfSome, All, length};
 ghost use Rattle.std.specs.Result.{result_err};
 ghost use Rattle.ir_arena.specs.Points.{first_fault, points_of_each};
 ghost use Rattle.ir_facts.specs.FitsBody.{SignatureFits, CalleeFits};
@@ -11,6 +11,33 @@ use ir_arena::handle::Handle;
 use ir_arena::tag;
 use ir_module::functions::{Function, FunctionArgument, FunctionResult};
 use ir_module::module::Module;
+
+/// Of so many types: whether that of each argument is there.
+fn arguments_fit(arguments: &[FunctionArgument], types: usize) -> bool
+    ensures { IsTrue result ↔ All (λ a. a.ty < types) arguments.now }
+{
+    arguments.iter().all(|argument| argument.ty.index() < types)
+}
+
+/// And whether that of the result is.
+fn outcome_fits(outcome: Option<FunctionResult>, types: usize) -> bool
+    ensures { IsTrue result ↔ IfSome outcome (λ r. r.ty < types) }
+{
+    match outcome {
+        Some(outcome) => outcome.ty.index() < types,
+        None => true,
+    }
+}
+
+/// Whether the signature of a function fits.
+pub(crate) fn signature_fits(fun: &Function, module: &Module) -> bool
+    ensures { IsTrue result ↔ SignatureFits «module».now fun.now }
+{
+    let types = module.types.len();
+    fun.arguments.len() <= u32::MAX as usize
+        && arguments_fit(fun.arguments.as_slice(), types)
+        && outcome_fits(fun.result, types)
+}
 
 /// Of so many types: that of each argument is there.
 fn check_arguments(owner: Owner, arguments: &[FunctionArgument], types: usize) -> Result<(), Misfit>
@@ -57,14 +84,6 @@ pub(crate) fn check_callee(
     )?;
     let callee = &module.functions[function];
     check_signature(Owner::Function(function.index()), callee, module)
-}
-
-/// Whether the signature of a function fits.
-fn signature_fits(fun: &Function, module: &Module) -> bool
-    ensures { IsTrue result ↔ SignatureFits «module».now fun.now }
-{
-    // (that doesn't depend on whose it is)
-    check_signature(Owner::Function(0), fun, module).is_ok()
 }
 
 /// Whether a function is there, with a signature that fits.

@@ -99,8 +99,8 @@ impl<'a, B: Below> InterfaceContext<'a, B> {
         self.check_rarer_argument(place, state, index, argument)
     }
 
-    /// The same where it doesn't show at once that nothing of it fails. It stands apart, since it clears room for a fault whenever it
-    /// is called.
+    /// The same where it doesn't show at once that nothing of it fails. It stands apart, since it clears room for a
+    /// fault whenever it is called.
     #[cold]
     #[inline(never)]
     fn check_rarer_argument(

@@ -9,6 +9,11 @@ invariant-list_fits-loop-located l =
     BodyFits l.asked.module.now l.asked.expressions l.asked.earlier (list_body no_operands l.list)
     ↔ BodyFits l.asked.module.now l.asked.expressions l.asked.earlier (list_body no_operands (drop l.located-index l.list))
 
+abbrev pub invariant-cases_fit-loop-located : goal.invariant-cases_fit-loop-located
+invariant-cases_fit-loop-located l =
+    BodyFits l.asked.module.now l.asked.expressions l.asked.earlier (list_body no_operands l.located-items)
+    ↔ BodyFits l.asked.module.now l.asked.expressions l.asked.earlier (list_body no_operands (drop l.located-index l.located-items))
+
 abbrev pub invariant-cases_fit-loop-case : goal.invariant-cases_fit-loop-case
 invariant-cases_fit-loop-case l =
     CasesFit l.asked.module.now l.asked.expressions l.asked.earlier (list_cases no_operands l.cases)

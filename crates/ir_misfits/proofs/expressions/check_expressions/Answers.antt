@@ -1,13 +1,7 @@
-use Rattle.std.proofs.Common.{rules}
-use Rattle.ir_misfits.specs.OfExpressions.{operands_points}
-use Rattle.ir_misfits.proofs.Lists.{item_stops, item_passes}
+use Rattle.std.proofs.Common.{sym}
+use Rattle.ir_misfits.proofs.ExactParts.{expressions_exact}
 use Rattle.ir_misfits.proofs.expressions.check_expressions.Goals as goal
 
-pub returns-in_err-check_operands : goal.returns-in_err-check_operands
-returns-in_err-check_operands c =
-    let told = item_stops (operands_points c.args.owner) c.args.expressions.now c.loop-place.place c.index-expressions-place.result c.loop-place-test.true c.index-expressions-place.is c.loop-place.invariant c.in_err-check_operands.field-0.0 c.in_err-check_operands.ensures in
-    search (rules, told)
-
-pub loop-place-preserved : goal.loop-place-preserved
-loop-place-preserved c =
-    item_passes (operands_points c.args.owner) c.args.expressions.now c.loop-place.place c.index-expressions-place.result c.loop-place-test.true c.index-expressions-place.is c.loop-place.invariant c.in_ok-check_operands.ensures
+pub returns-then-name_earlier_expressions : goal.returns-then-name_earlier_expressions
+returns-then-name_earlier_expressions c =
+    sym ((expressions_exact c.args.owner c.args.expressions.now).passes (c.name_earlier_expressions.ensures.0 c.if-name_earlier_expressions.true))

@@ -2,7 +2,7 @@ use Rattle.std.proofs.Common.{◌≡◌, drop}
 use Rattle.ir_arena.specs.Points.{first_fault, points_from, points_of_each}
 use Rattle.ir_module.specs.Operands.{operands_of}
 use Rattle.ir_misfits.specs.OfExpressions.{operand_points}
-use Rattle.ir_misfits.proofs.expressions.first_misfit_of_operands.Given as goal
+use Rattle.ir_misfits.proofs.expressions.check_operands.Given as goal
 
 -- what is left decides
 abbrev pub invariant-loop-index : goal.invariant-loop-index

@@ -1,7 +1,7 @@
 use Rattle.std.proofs.Common.{◌≡◌, drop}
 use Rattle.ir_arena.specs.Points.{first_fault, points_from, points_of_each}
 use Rattle.ir_misfits.specs.OfExpressions.{operands_points}
-use Rattle.ir_misfits.proofs.expressions.check_expressions.Given as goal
+use Rattle.ir_misfits.proofs.expressions.first_misfit_of_expressions.Given as goal
 
 -- what is left decides
 abbrev pub invariant-loop-place : goal.invariant-loop-place
