@@ -1,39 +1,20 @@
 //! Whether an entry point fits besides its function, and what doesn't fit of it.
 
-ghost use Rattle.std.specs.Prelude.{◌≡◌, ◌≢◌, ◌<◌, ◌++◌, ◌↔◌, IsTrue, IfSome, All};
+ghost use Rattle.std.specs.Prelude.{◌≡◌, ◌≢◌, ◌++◌, ◌↔◌, IsTrue, All};
 ghost use Rattle.std.specs.Result.{result_err};
 ghost use Rattle.ir_arena.specs.Points.{first_fault, points_of_each};
 ghost use Rattle.ir_types.specs.declared.types.AddressSpace.TheVariants as space;
-ghost use Rattle.ir_facts.specs.Fits.{FitsEntry, MeshFits};
+ghost use Rattle.ir_facts.specs.Fits.{MeshFits};
 ghost use Rattle.ir_misfits.specs.OfEntries.{mesh_points, mesh_points_if, is_of_module, space_points, entry_points};
 
+use crate::fits::fits_entry;
 use crate::misfit::{EntryField, HandleOf, Misfit, Place, Problem, VariableField};
-use ir_arena::handle::Handle;
+use crate::naming::is_below_if_any;
 use ir_module::module::{EntryPoint, GlobalVariable, MeshStageInfo, Module};
 use ir_types::types::AddressSpace;
 
-/// Whether what the entry point names besides its function is there, and no global is in `AddressSpace::Function`.
-pub(crate) fn entry_fits(ep: &EntryPoint, module: &Module) -> bool
-    ensures { IsTrue result ↔ FitsEntry ep.now «module».now }
-{
-    is_below_if_any(ep.task_payload, module.global_variables.len())
-        && match &ep.mesh_info {
-            Some(info) => mesh_fits(info, module),
-            None => true,
-        }
-        && avoid_function_space(module.global_variables.as_slice())
-}
-
-fn is_below_if_any<T>(handle: Option<Handle<T>>, count: usize) -> bool
-    ensures { IsTrue result ↔ IfSome handle (λ h. h < count) }
-{
-    match handle {
-        Some(handle) => handle.index() < count,
-        None => true,
-    }
-}
-
-fn mesh_fits(info: &MeshStageInfo, module: &Module) -> bool
+/// Whether what the mesh names is there.
+pub(crate) fn mesh_fits(info: &MeshStageInfo, module: &Module) -> bool
     ensures { IsTrue result ↔ MeshFits «module».now info.now }
 {
     let expressions = module.global_expressions.len();
@@ -44,7 +25,8 @@ fn mesh_fits(info: &MeshStageInfo, module: &Module) -> bool
         && info.output_variable.index() < module.global_variables.len()
 }
 
-fn avoid_function_space(globals: &[GlobalVariable]) -> bool
+/// Whether none of these is in `AddressSpace::Function`.
+pub(crate) fn avoid_function_space(globals: &[GlobalVariable]) -> bool
     ensures { IsTrue result ↔ All (λ g. g.space ≢ space.Function) globals.now }
 {
     globals
@@ -59,7 +41,7 @@ pub fn check_entry_fits(index: usize, ep: &EntryPoint, module: &Module) -> Resul
     ensures { result_err result ≡ first_fault (entry_points index ep.now «module».now) }
 {
     // (asked first for its time: room for a misfit costs more than to see that there is none)
-    if entry_fits(ep, module) {
+    if fits_entry(ep, module) {
         return Ok(());
     }
     first_misfit_of_entry(index, ep, module)

@@ -4,10 +4,13 @@
 ghost use Rattle.std.specs.Prelude.{◌↔◌, IsTrue};
 ghost use Rattle.ir_facts.specs.Fits.{FitsTypes, FitsGlobals, FitsFunction, FitsEntry};
 
-use crate::entry::entry_fits;
-use crate::function::function_fits;
+use crate::entry::{avoid_function_space, mesh_fits};
+use crate::expressions::{name_earlier_expressions, references_fit};
+use crate::function::{body_fits, locals_fit};
 use crate::globals::check_globals_fit;
-use crate::types::check_types_fit;
+use crate::naming::is_below_if_any;
+use crate::signature::signature_fits;
+use crate::types::{constants_fit, counts_fit, name_earlier_types, overrides_fit};
 use ir_facts::valid::info::ModuleInfo;
 use ir_module::functions::Function;
 use ir_module::module::{EntryPoint, Module};
@@ -19,7 +22,12 @@ use ir_module::module::{EntryPoint, Module};
 pub fn fits_types(module: &Module) -> bool
     ensures { IsTrue result ↔ FitsTypes «module».now }
 {
-    check_types_fit(module).is_ok()
+    let types = module.types.as_slice();
+    name_earlier_types(types)
+        && counts_fit(types)
+        && is_below_if_any(module.special_types.ray_desc, types.len())
+        && constants_fit(module.constants.as_slice(), types.len())
+        && overrides_fit(module.overrides.as_slice(), types.len())
 }
 
 /// Whether the globals fit the module.
@@ -40,12 +48,22 @@ pub fn fits_globals(module: &Module, mod_info: &ModuleInfo) -> bool
 pub fn fits_function(fun: &Function, module: &Module, earlier: usize) -> bool
     ensures { IsTrue result ↔ FitsFunction fun.now «module».now earlier }
 {
-    function_fits(fun, module, earlier)
+    let expressions = fun.expressions.as_slice();
+    signature_fits(fun, module)
+        && locals_fit(fun.local_variables.as_slice(), fun, module)
+        && name_earlier_expressions(expressions)
+        && references_fit(expressions, fun, module)
+        && body_fits(fun, module, earlier)
 }
 
 /// Whether all that the entry point names besides its function exists, and no global is in `AddressSpace::Function`.
 pub fn fits_entry(ep: &EntryPoint, module: &Module) -> bool
     ensures { IsTrue result ↔ FitsEntry ep.now «module».now }
 {
-    entry_fits(ep, module)
+    is_below_if_any(ep.task_payload, module.global_variables.len())
+        && match &ep.mesh_info {
+            Some(info) => mesh_fits(info, module),
+            None => true,
+        }
+        && avoid_function_space(module.global_variables.as_slice())
 }

@@ -4,52 +4,37 @@ ghost use Rattle.std.specs.Prelude.{◌≡◌, ◌↔◌, IsTrue, All, length};
 ghost use Rattle.std.specs.Result.{result_err};
 ghost use Rattle.ir_arena.specs.Points.{first_fault, points_of_each};
 ghost use Rattle.ir_statements.specs.View.{no_operands, body_of};
-ghost use Rattle.ir_facts.specs.Fits.{FitsFunction, LocalFits};
+ghost use Rattle.ir_facts.specs.Fits.{LocalFits};
 ghost use Rattle.ir_facts.specs.FitsBody.{BodyFits};
 ghost use Rattle.ir_misfits.specs.OfBodies.{body_points};
 ghost use Rattle.ir_misfits.specs.OfFunctions.{local_points, function_points};
 
 use crate::body::{block_fits, check_block};
-use crate::expressions::{
-    check_expressions, check_references, name_earlier_expressions, references_fit,
-};
+use crate::expressions::{check_expressions, check_references};
+use crate::fits::fits_function;
 use crate::leaf::Asked;
 use crate::misfit::{HandleOf, Misfit, Owner, Place, VariableField};
-use crate::signature::{check_signature, signature_fits};
+use crate::naming::is_below_if_any;
+use crate::signature::check_signature;
 use ir_module::functions::{Function, LocalVariable};
 use ir_module::module::Module;
-
-/// Whether a function fits.
-pub(crate) fn function_fits(fun: &Function, module: &Module, earlier: usize) -> bool
-    ensures { IsTrue result ↔ FitsFunction fun.now «module».now earlier }
-{
-    let expressions = fun.expressions.as_slice();
-    signature_fits(fun, module)
-        && locals_fit(fun.local_variables.as_slice(), fun, module)
-        && name_earlier_expressions(expressions)
-        && references_fit(expressions, fun, module)
-        && body_fits(fun, module, earlier)
-}
 
 /// Whether the type and the initializer of a local are there.
 fn local_fits(local: &LocalVariable, fun: &Function, module: &Module) -> bool
     ensures { IsTrue result ↔ LocalFits «module».now fun.now local.now }
 {
-    local.ty.index() < module.types.len()
-        && match local.init {
-            Some(init) => init.index() < fun.expressions.len(),
-            None => true,
-        }
+    local.ty.index() < module.types.len() && is_below_if_any(local.init, fun.expressions.len())
 }
 
-fn locals_fit(locals: &[LocalVariable], fun: &Function, module: &Module) -> bool
+/// Whether those of each local are.
+pub(crate) fn locals_fit(locals: &[LocalVariable], fun: &Function, module: &Module) -> bool
     ensures { IsTrue result ↔ All (LocalFits «module».now fun.now) locals.now }
 {
     locals.iter().all(|local| local_fits(local, fun, module))
 }
 
 /// Whether the statements fit.
-fn body_fits(fun: &Function, module: &Module, earlier: usize) -> bool
+pub(crate) fn body_fits(fun: &Function, module: &Module, earlier: usize) -> bool
     ensures { IsTrue result ↔ BodyFits «module».now (length fun.now.expressions) earlier
         (body_of no_operands fun.now.body) }
 {
@@ -77,7 +62,7 @@ pub fn check_function_fits(
     ensures { result_err result ≡ first_fault (function_points owner fun.now «module».now earlier) }
 {
     // (asked first for its time: room for a misfit costs more than to see that there is none)
-    if function_fits(fun, module, earlier) {
+    if fits_function(fun, module, earlier) {
         return Ok(());
     }
     first_misfit_of_function(owner, fun, module, earlier)

@@ -7,6 +7,7 @@ ghost use Rattle.ir_facts.specs.FitsBody.{CalleeFits, LeafFits};
 ghost use Rattle.ir_misfits.specs.OfBodies.{call_points, leaf_points};
 
 use crate::misfit::{HandleOf, Misfit, Owner, Place, StatementField};
+use crate::naming::is_below_if_any;
 use crate::numbered::Numbered;
 use crate::signature::{callee_fits, check_callee};
 use ir_arena::handle::Handle;
@@ -35,10 +36,7 @@ impl Asked<'_> {
     pub(crate) fn has_if_any(&self, handle: Option<Handle<tag::Expression>>) -> bool
         ensures { IsTrue result ↔ IfSome handle (λ h. h < self.now.expressions) }
     {
-        match handle {
-            Some(handle) => self.has(handle),
-            None => true,
-        }
+        is_below_if_any(handle, self.expressions)
     }
 
     /// Whether each of these is there.

@@ -1,12 +1,22 @@
 //! Whether a handle that stands at a place names something there.
 
-ghost use Rattle.std.specs.Prelude.{◌≡◌, nat_lt, nat_le, true, false, IfErr, OnOk, [], ◌∷◌};
+ghost use Rattle.std.specs.Prelude.{◌≡◌, ◌<◌, ◌↔◌, nat_lt, nat_le, true, false, IsTrue, IfErr, IfSome, OnOk, [], ◌∷◌};
 ghost use Rattle.std.specs.Result.{result_err};
 ghost use Rattle.ir_arena.specs.Points.{first_fault};
 ghost use Rattle.ir_misfits.specs.Points.{named, named_if, counted};
 
 use crate::misfit::{HandleOf, Misfit, Place, Problem};
 use ir_arena::handle::Handle;
+
+/// Whether the handle, where one is given, is one of so many.
+pub(crate) fn is_below_if_any<T>(handle: Option<Handle<T>>, count: usize) -> bool
+    ensures { IsTrue result ↔ IfSome handle (λ h. h < count) }
+{
+    match handle {
+        Some(handle) => handle.index() < count,
+        None => true,
+    }
+}
 
 impl Place {
     /// What is wrong at this place.
