@@ -127,7 +127,7 @@ fn validate_nested(
             let skipped = validate_loop_body(table, state, context, &inside, body)?;
             let behind = Abilities::in_continuing();
             validate_statements(table, state, context, &behind, continuing)?;
-            check_break_if(&table.scope, context, *break_if, located.span)?;
+            check_break_if(&table.scope, context, *break_if, &located.span)?;
             table.scope.leave(outer, skipped);
             Ok(false)
         }

@@ -10,7 +10,7 @@ ghost use Rattle.ir_errors.specs.declared.function.CallError.TheVariants.{Argume
 ghost use Rattle.ir_errors.specs.declared.function.FunctionError.TheVariants.{InvalidCall};
 ghost use Rattle.naga_runs.specs.PutsAndUses.{puts_of};
 ghost use Rattle.check_scope.specs.walk.Findings.{AllHold, IsRefusalFor, RefusesFaultsAlone};
-ghost use Rattle.ir_facts.specs.Answers.{Answers, Finds, FirstOf};
+ghost use Rattle.ir_facts.specs.Answers.{Answers, Finds, FirstOf, IsFirstFault};
 ghost use Rattle.check_flow.specs.Call.{is_passed_as, passed_points, all_passed_points, is_call_result_of, call_result_points, call_points};
 ghost use Rattle.check_scope.specs.Context.{ContextFits};
 ghost use Rattle.check_scope.specs.walk.Place.{place_at};
@@ -34,10 +34,10 @@ use std::alloc::Global;
 
 /// What a Call calls, the result that it names, if it names one, and its place.
 #[derive(Clone, Copy)]
-pub struct CallSite {
+pub struct CallSite<'a> {
     pub function: Handle<tag::Function>,
     pub named: Option<Handle<tag::Expression>>,
-    pub span: Span,
+    pub span: &'a Span,
 }
 
 /// Call: its arguments and its result, which is in scope afterwards.
@@ -86,7 +86,12 @@ fn check_call(
     if call_holds(scope, filled, context, site, arguments) {
         return Ok(());
     }
-    first_fault_of_call(scope, filled, context, site, arguments)
+    let CallSite {
+        function,
+        named,
+        span,
+    } = *site;
+    Err(refused_site(scope, filled, context, function, named, span, arguments))
 }
 
 /// Whether no point of a Call fails.
@@ -161,9 +166,37 @@ fn call_result_holds(
     }
 }
 
-/// The list of a Call, with the fault of each point, where one fails.
+/// The refusal of a Call of which a point fails.
 #[cold]
 #[inline(never)]
+fn refused_site(
+    scope: &ScopeColumn,
+    filled: &FilledColumn,
+    context: &BlockContext,
+    function: Handle<tag::Function>,
+    named: Option<Handle<tag::Expression>>,
+    span: &Span,
+    arguments: &[Handle<tag::Expression>],
+) -> Refused
+    requires context { ContextFits (context_of context.now) }
+    requires callee { CalleeFits (context_of context.now).program function }
+    requires fails { AllHold (call_points (context_of context.now) (filled_in filled.now) (place_at (known scope.now))
+        function arguments.now named) → ⊥ }
+    ensures { IsFirstFault (call_points (context_of context.now) (filled_in filled.now) (place_at (known scope.now))
+        function arguments.now named) result }
+{
+    let site = CallSite {
+        function,
+        named,
+        span,
+    };
+    match first_fault_of_call(scope, filled, context, &site, arguments) {
+        Err(refused) => refused,
+        Ok(()) => unreachable!(),
+    }
+}
+
+/// The list of a Call, with the fault of each point.
 fn first_fault_of_call(
     scope: &ScopeColumn,
     filled: &FilledColumn,
@@ -328,7 +361,7 @@ fn refused_call(alloc: Global, site: &CallSite, error: CallError) -> Refused
     Refused::placed(
         alloc,
         FunctionError::InvalidCall { function, error },
-        site.span,
+        *site.span,
     )
 }
 

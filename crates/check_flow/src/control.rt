@@ -8,7 +8,7 @@ ghost use Rattle.check_scope.specs.walk.Place.{no_sets, place_at};
 ghost use Rattle.check_flow.specs.walk.Emitted.{handles_between, place};
 ghost use Rattle.ir_errors.specs.declared.function.FunctionError.TheVariants.{BreakOutsideOfLoopOrSwitch, ContinueOutsideOfLoop, InvalidReturnType};
 ghost use Rattle.check_scope.specs.walk.Findings.{AllHold, IsRefusalFor, RefusesFaultsAlone};
-ghost use Rattle.ir_facts.specs.Answers.{Answers, Finds, FirstOf};
+ghost use Rattle.ir_facts.specs.Answers.{Answers, Finds, FirstOf, IsFirstFault};
 ghost use Rattle.check_scope.specs.Context.{ContextFits};
 ghost use Rattle.check_scope.specs.walk.SeenContext.{context_of};
 ghost use Rattle.check_scope.specs.BodyTrees.{emitted_operands, operands_if};
@@ -43,7 +43,7 @@ pub fn validate_emit(
     operands: &mut OperandColumn,
     context: &BlockContext,
     range: Range,
-    span: Span,
+    span: &Span,
 ) -> Result<(), Refused>
     requires there { range.end ≤ count scope.old }
     requires count { count scope.old ≡ length (context_of context.now).fun.expressions }
@@ -70,7 +70,7 @@ fn check_emitted(
     operands: &mut OperandColumn,
     context: &BlockContext,
     handle: Handle<tag::Expression>,
-    span: Span,
+    span: &Span,
 ) -> Result<(), Refused>
     requires there { handle < length (context_of context.now).fun.expressions }
     requires operands { KnowsOperands (emitted_operands (context_of context.now).fun) operands.old scope.now }
@@ -84,7 +84,7 @@ fn check_emitted(
     if emitted_holds(scope, operands, context, handle) {
         return Ok(());
     }
-    first_fault_of_emitted(scope, context, handle, span)
+    Err(refused_emission(scope, context, handle, span))
 }
 
 /// Whether no point of an expression that is emitted fails.
@@ -181,14 +181,33 @@ fn long_list_holds(
     true
 }
 
-/// The refusal of an expression of which a point fails.
+/// The refusal of an expression of which a point fails. What it answers is small, so that whoever asks has no room to
+/// clear while all is well.
 #[cold]
 #[inline(never)]
+fn refused_emission(
+    scope: &ScopeColumn,
+    context: &BlockContext,
+    handle: Handle<tag::Expression>,
+    span: &Span,
+) -> Refused
+    requires fails { AllHold (emitted_points (context_of context.now) (place_at (known scope.now))
+        (place_at (known scope.now)) handle) → ⊥ }
+    ensures { IsFirstFault (emitted_points (context_of context.now) (place_at (known scope.now))
+        (place_at (known scope.now)) handle) result }
+{
+    match first_fault_of_emitted(scope, context, handle, span) {
+        Err(refused) => refused,
+        Ok(()) => unreachable!(),
+    }
+}
+
+/// The list of an expression that is emitted, with the place of each fault.
 fn first_fault_of_emitted(
     scope: &ScopeColumn,
     context: &BlockContext,
     handle: Handle<tag::Expression>,
-    span: Span,
+    span: &Span,
 ) -> Result<(), Refused>
     ensures fault { Answers (FirstOf (emitted_points (context_of context.now) (place_at (known scope.now))
         (place_at (known scope.now)) handle)) result }
@@ -197,7 +216,7 @@ fn first_fault_of_emitted(
         result }
 {
     let checked = check_emitted_points(scope, context, handle);
-    answer(scope.allocator(), checked, span)
+    answer(scope.allocator(), checked, *span)
 }
 
 /// The list of an expression that is emitted, with the fault of each point.
@@ -269,7 +288,7 @@ pub fn check_condition(
     scope: &ScopeColumn,
     context: &BlockContext,
     condition: Handle<tag::Expression>,
-    span: Span,
+    span: &Span,
 ) -> Result<(), Refused>
     ensures fault { Answers (FirstOf (condition_points (context_of context.now) (place_at (known scope.now))
         condition)) result }
@@ -279,7 +298,7 @@ pub fn check_condition(
     if condition_holds(scope, context, condition) {
         return Ok(());
     }
-    first_fault_of_condition(scope, context, condition, span)
+    Err(refused_condition(scope, context, condition, span))
 }
 
 /// Whether no point of a condition fails.
@@ -293,14 +312,30 @@ fn condition_holds(
     scope.may_use(condition) && is_bool_scalar(context.type_inner(condition))
 }
 
-/// The list of a condition, with the fault of each point, where one fails.
+/// The refusal of a condition of which a point fails.
 #[cold]
 #[inline(never)]
+fn refused_condition(
+    scope: &ScopeColumn,
+    context: &BlockContext,
+    condition: Handle<tag::Expression>,
+    span: &Span,
+) -> Refused
+    requires fails { AllHold (condition_points (context_of context.now) (place_at (known scope.now)) condition) → ⊥ }
+    ensures { IsFirstFault (condition_points (context_of context.now) (place_at (known scope.now)) condition) result }
+{
+    match first_fault_of_condition(scope, context, condition, span) {
+        Err(refused) => refused,
+        Ok(()) => unreachable!(),
+    }
+}
+
+/// The list of a condition, with the fault of each point.
 fn first_fault_of_condition(
     scope: &ScopeColumn,
     context: &BlockContext,
     condition: Handle<tag::Expression>,
-    span: Span,
+    span: &Span,
 ) -> Result<(), Refused>
     ensures fault { Answers (FirstOf (condition_points (context_of context.now) (place_at (known scope.now))
         condition)) result }
@@ -308,11 +343,11 @@ fn first_fault_of_condition(
         (condition_points (context_of context.now) (place_at (known scope.now)) condition) result }
 {
     if !scope.may_use(condition) {
-        return Err(not_in_scope(scope.allocator(), condition, span));
+        return Err(not_in_scope(scope.allocator(), condition, *span));
     }
     if !is_bool_scalar(context.type_inner(condition)) {
         let fault = FunctionError::InvalidIfType(condition);
-        return Err(Refused::placed(scope.allocator(), fault, span));
+        return Err(Refused::placed(scope.allocator(), fault, *span));
     }
     Ok(())
 }

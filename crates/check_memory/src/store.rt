@@ -4,7 +4,7 @@ ghost use Rattle.std.specs.Prelude.{◌≡◌, ◌<◌, ◌↔◌, true, IsTrue,
 ghost use Rattle.std.specs.Option.{option_copied};
 ghost use Rattle.ir_errors.specs.declared.function.FunctionError.TheVariants.{InvalidStoreTexture};
 ghost use Rattle.check_scope.specs.walk.Findings.{AllHold, IsRefusalFor, RefusesFaultsAlone};
-ghost use Rattle.ir_facts.specs.Answers.{Answers, FirstOf};
+ghost use Rattle.ir_facts.specs.Answers.{Answers, FirstOf, IsFirstFault};
 ghost use Rattle.check_scope.specs.Context.{ContextFits};
 ghost use Rattle.check_scope.specs.walk.Place.{place_at};
 ghost use Rattle.check_scope.specs.walk.SeenContext.{context_of};
@@ -38,7 +38,7 @@ pub fn check_store(
     context: &BlockContext,
     pointer: Handle<tag::Expression>,
     value: Handle<tag::Expression>,
-    span: Span,
+    span: &Span,
 ) -> Result<(), Refused>
     requires context { ContextFits (context_of context.now) }
     requires roots { KnowsRoots (context_of context.now) roots.old }
@@ -51,7 +51,7 @@ pub fn check_store(
     if store_holds(scope, roots, context, pointer, value) {
         return Ok(());
     }
-    first_fault_of_store(scope, context, pointer, value, span)
+    Err(refused_store(scope, context, pointer, value, span))
 }
 
 /// Whether no point of a Store fails.
@@ -75,15 +75,36 @@ fn store_holds(
         && is_writable(context, pointer)
 }
 
-/// The list of a Store, with the fault of each point, where one fails.
+/// The refusal of a Store of which a point fails. What it answers is small, so that whoever asks has no room to clear
+/// while all is well.
 #[cold]
 #[inline(never)]
+fn refused_store(
+    scope: &ScopeColumn,
+    context: &BlockContext,
+    pointer: Handle<tag::Expression>,
+    value: Handle<tag::Expression>,
+    span: &Span,
+) -> Refused
+    requires context { ContextFits (context_of context.now) }
+    requires fails { AllHold
+        (store_points (context_of context.now) (place_at (known scope.now)) pointer value) → ⊥ }
+    ensures { IsFirstFault
+        (store_points (context_of context.now) (place_at (known scope.now)) pointer value) result }
+{
+    match first_fault_of_store(scope, context, pointer, value, span) {
+        Err(refused) => refused,
+        Ok(()) => unreachable!(),
+    }
+}
+
+/// The list of a Store, with the fault of each point.
 fn first_fault_of_store(
     scope: &ScopeColumn,
     context: &BlockContext,
     pointer: Handle<tag::Expression>,
     value: Handle<tag::Expression>,
-    span: Span,
+    span: &Span,
 ) -> Result<(), Refused>
     requires { ContextFits (context_of context.now) }
     ensures fault { Answers (FirstOf (store_points (context_of context.now) (place_at (known scope.now)) pointer
@@ -95,22 +116,22 @@ fn first_fault_of_store(
     let root = root_of(context, pointer);
     if !is_variable(context.expression(root)) {
         let fault = FunctionError::InvalidStorePointer(root);
-        return Err(Refused::placed(alloc, fault, span));
+        return Err(Refused::placed(alloc, fault, *span));
     }
     if !scope.may_use(value) {
-        return Err(not_in_scope(alloc, value, span));
+        return Err(not_in_scope(alloc, value, *span));
     }
     let stored = context.type_inner(value);
     if is_texture(stored) {
-        return Err(invalid_store_texture(alloc, value, stored, span));
+        return Err(invalid_store_texture(alloc, value, stored, *span));
     }
     if !is_stored_at(context, value, pointer) {
         let fault = FunctionError::InvalidStoreTypes { pointer, value };
-        return Err(Refused::placed(alloc, fault, span));
+        return Err(Refused::placed(alloc, fault, *span));
     }
     if !is_writable(context, pointer) {
         let fault = FunctionError::InvalidStorePointer(pointer);
-        return Err(Refused::placed(alloc, fault, span));
+        return Err(Refused::placed(alloc, fault, *span));
     }
     Ok(())
 }

@@ -57,7 +57,8 @@ pub fn validate_own(
     ensures table { OnOk result (IsTableOf (context_of context.now) table.new) }
     ensures all { IfOk result (λ all. all ≡ is_whole located.now.statement) }
 {
-    let span = located.span;
+    // (lent and not copied: it is read where a fault is made, and lies in another line of the cache than the rest)
+    let span = &located.span;
     match &located.statement {
         Statement::Emit(range) => {
             control::validate_emit(&mut table.scope, &mut table.operands, context, *range, span)?;
@@ -106,15 +107,12 @@ pub fn validate_own(
             state.stages = state.stages.intersection(ShaderStages::FRAGMENT);
             Ok(true)
         }
-        _ => {
-            validate_rarer(table, state, context, abilities, located)?;
-            Ok(false)
-        }
+        _ => validate_rarer(table, state, context, abilities, located),
     }
 }
 
-/// The same of a statement of any other kind. It stands apart from these, so that nothing is set up for it where one
-/// of them is judged.
+/// The same of a statement of any other kind, which is never all of it. It stands apart from these, so that nothing is
+/// set up for it where one of them is judged.
 #[inline(never)]
 fn validate_rarer(
     table: &mut Table,
@@ -122,7 +120,7 @@ fn validate_rarer(
     context: &BlockContext,
     abilities: &Abilities,
     located: &Located,
-) -> Result<(), Refused>
+) -> Result<bool, Refused>
     requires context { ContextFits (context_of context.now) }
     requires statement { IsStatementReady (context_of context.now) (tree_of (context_of context.now) located.now) }
     requires kind { is_frequent located.now.statement ≡ false }
@@ -136,10 +134,11 @@ fn validate_rarer(
         ≡ with_statement (context_of context.now) (kept table.old.filled state.old)
         (tree_of (context_of context.now) located.now)) }
     ensures table { OnOk result (IsTableOf (context_of context.now) table.new) }
+    ensures all { IfOk result (λ all. all ≡ false) }
 {
     validate_points(table, state, context, abilities, located)?;
     advance(&mut table.filled, state, context, located);
-    Ok(())
+    Ok(false)
 }
 
 /// The check list of a statement of such a kind. What it emits is in scope afterwards.
@@ -185,7 +184,7 @@ pub fn check_break_if(
     scope: &ScopeColumn,
     context: &BlockContext,
     break_if: Option<Handle<tag::Expression>>,
-    span: Span,
+    span: &Span,
 ) -> Result<(), Refused>
     ensures fault { Answers (FirstOf (break_if_points (context_of context.now) (place_at (known scope.now))
         break_if)) result }
