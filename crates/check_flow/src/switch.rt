@@ -1,6 +1,6 @@
 //! The check list of Switch.
 
-ghost use Rattle.std.specs.Prelude.{◌≡◌, [], None, IsTrue, IfOk};
+ghost use Rattle.std.specs.Prelude.{◌≡◌, [], None, true, IsTrue, IfOk};
 ghost use Rattle.std.specs.List.{list_any};
 ghost use Rattle.ir_arena.specs.Points.{first_fault};
 ghost use Rattle.ir_statements.specs.declared.statements.SwitchCase.{out-SwitchCase};
@@ -242,7 +242,21 @@ fn check_cases(cases: &[SwitchCase]) -> Result<(), FunctionError>
 fn has_default(cases: &[SwitchCase]) -> bool
     ensures { result ≡ list_any (λ case. is_default (out-SwitchCase case).value) cases.now }
 {
+    // (it mostly stands last)
+    if ends_in_default(cases) {
+        return true;
+    }
     cases.iter().any(|case| is_default(case.value))
+}
+
+/// Whether the last case is the default.
+fn ends_in_default(cases: &[SwitchCase]) -> bool
+    ensures { IsTrue result → list_any (λ case. is_default (out-SwitchCase case).value) cases.now ≡ true }
+{
+    match cases.last() {
+        Some(case) => is_default(case.value),
+        None => false,
+    }
 }
 
 fn is_default(value: SwitchValue) -> bool
