@@ -10,7 +10,7 @@ use crate::function::{body_fits, locals_fit};
 use crate::globals::check_globals_fit;
 use crate::naming::is_below_if_any;
 use crate::signature::signature_fits;
-use crate::types::{constants_fit, counts_fit, name_earlier_types, overrides_fit};
+use crate::types::check_types_fit;
 use ir_facts::valid::info::ModuleInfo;
 use ir_module::functions::Function;
 use ir_module::module::{EntryPoint, Module};
@@ -22,12 +22,7 @@ use ir_module::module::{EntryPoint, Module};
 pub fn fits_types(module: &Module) -> bool
     ensures { IsTrue result ↔ FitsTypes «module».now }
 {
-    let types = module.types.as_slice();
-    name_earlier_types(types)
-        && counts_fit(types)
-        && is_below_if_any(module.special_types.ray_desc, types.len())
-        && constants_fit(module.constants.as_slice(), types.len())
-        && overrides_fit(module.overrides.as_slice(), types.len())
+    check_types_fit(module).is_ok()
 }
 
 /// Whether the globals fit the module.

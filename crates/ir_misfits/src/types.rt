@@ -1,108 +1,20 @@
-//! Whether the types of a module fit, and what doesn't fit of them.
+//! What doesn't fit of the types of a module.
 
-ghost use Rattle.std.specs.Prelude.{◌≡◌, ◌<◌, ◌↔◌, IsTrue, All};
+ghost use Rattle.std.specs.Prelude.{◌≡◌};
 ghost use Rattle.std.specs.Result.{result_err};
 ghost use Rattle.ir_arena.specs.Points.{first_fault, points_of_each};
-ghost use Rattle.ir_types.specs.Types.{NamesTypesBelow};
-ghost use Rattle.ir_facts.specs.Each.{EachAt};
-ghost use Rattle.ir_facts.specs.Fits.{MemberCountFits};
 ghost use Rattle.ir_misfits.specs.OfTypes.{member_points, inner_points, earlier_points, member_count_points, count_points, constant_points, override_points, types_points};
 
-use crate::fits::fits_types;
 use crate::misfit::{HandleOf, Misfit, Place, TypeField, TypeOwner};
 use ir_module::module::{Constant, Module, Override};
 use ir_types::types::{StructMember, Type, TypeInner};
-
-/// Whether the types of members have handles below `below`.
-fn are_below(members: &[StructMember], below: usize) -> bool
-    ensures { IsTrue result ↔ All (λ m. m.ty < below) members.now }
-{
-    members.iter().all(|member| member.ty.index() < below)
-}
-
-/// Whether each type that this one names has a handle below `below`.
-fn names_below(inner: &TypeInner, below: usize) -> bool
-    ensures { IsTrue result ↔ NamesTypesBelow below inner.now }
-{
-    match inner {
-        TypeInner::Pointer { base, .. }
-        | TypeInner::Array { base, .. }
-        | TypeInner::BindingArray { base, .. } => base.index() < below,
-        TypeInner::Struct { members, .. } => are_below(members.as_slice(), below),
-        TypeInner::Scalar(_)
-        | TypeInner::Vector { .. }
-        | TypeInner::Matrix { .. }
-        | TypeInner::CooperativeMatrix { .. }
-        | TypeInner::Atomic(_)
-        | TypeInner::ValuePointer { .. }
-        | TypeInner::Image { .. }
-        | TypeInner::Sampler { .. }
-        | TypeInner::AccelerationStructure { .. }
-        | TypeInner::RayQuery { .. } => true,
-    }
-}
-
-/// Whether each type names only earlier ones.
-pub(crate) fn name_earlier_types(types: &[Type]) -> bool
-    ensures { IsTrue result ↔ EachAt (λ k t. NamesTypesBelow k t.inner) types.now }
-{
-    for (place, ty) in types.iter().enumerate() {
-        if !names_below(&ty.inner, place) {
-            return false;
-        }
-    }
-    true
-}
-
-/// Whether 32 bits count the members of the type, if it is a struct.
-fn count_fits(inner: &TypeInner) -> bool
-    ensures { IsTrue result ↔ MemberCountFits inner.now }
-{
-    match inner {
-        TypeInner::Struct { members, .. } => members.len() <= u32::MAX as usize,
-        _ => true,
-    }
-}
-
-/// Whether they count those of each type.
-pub(crate) fn counts_fit(types: &[Type]) -> bool
-    ensures { IsTrue result ↔ All (λ t. MemberCountFits t.inner) types.now }
-{
-    types.iter().all(|ty| count_fits(&ty.inner))
-}
-
-/// Of so many types: whether that of each constant is there.
-pub(crate) fn constants_fit(constants: &[Constant], types: usize) -> bool
-    ensures { IsTrue result ↔ All (λ c. c.ty < types) constants.now }
-{
-    constants.iter().all(|constant| constant.ty.index() < types)
-}
-
-/// And whether that of each override is.
-pub(crate) fn overrides_fit(overrides: &[Override], types: usize) -> bool
-    ensures { IsTrue result ↔ All (λ o. o.ty < types) overrides.now }
-{
-    overrides.iter().all(|item| item.ty.index() < types)
-}
 
 /// The first misfit of the types of a module: Ok exactly where `fits_types` is true.
 ///
 /// In this order: a type that names itself or a later one; a struct of more members than 32 bits count; the type of ray
 /// descriptors, of a constant, of an override, which isn't there.
-pub fn check_types_fit(module: &Module) -> Result<(), Misfit>
-    ensures { result_err result ≡ first_fault (types_points «module».now) }
-{
-    // (asked first for its time: room for a misfit costs more than to see that there is none)
-    if fits_types(module) {
-        return Ok(());
-    }
-    first_misfit_of_types(module)
-}
-
-#[cold]
-#[inline(never)]
 #[tactic(auto, using(ir_arena::proofs::Points::first_of_both))]
-fn first_misfit_of_types(module: &Module) -> Result<(), Misfit>
+pub fn check_types_fit(module: &Module) -> Result<(), Misfit>
     ensures { result_err result ≡ first_fault (types_points «module».now) }
 {
     let types = module.types.as_slice();
