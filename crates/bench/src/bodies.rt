@@ -9,7 +9,7 @@ use std::alloc::{AllocError, Global};
 
 /// What holds the list of the next level.
 #[derive(Clone, Copy)]
-pub enum Holder {
+pub(crate) enum Holder {
     Block,
     If,
     Loop,
@@ -19,7 +19,7 @@ pub enum Holder {
 
 /// What a body is made of.
 #[derive(Clone, Copy)]
-pub enum Shape {
+pub(crate) enum Shape {
     /// So many Emits of one Load each.
     Emits(u32),
     /// So many Stores.
@@ -53,7 +53,7 @@ pub enum Shape {
 }
 
 /// A function of a shape, with a local of `u32`; a whole one has sixteen such locals and arguments, and returns a `u32`.
-pub fn function(alloc: Global, shape: Shape) -> Result<Function, AllocError> {
+pub(crate) fn function(alloc: Global, shape: Shape) -> Result<Function, AllocError> {
     let mut maker = Maker::new(alloc);
     maker.append(literal(Scalar::BOOL));
     maker.append(literal(Scalar::U32));
@@ -279,7 +279,7 @@ fn put_switch(maker: &mut Maker, count: u32, factor: u32) {
 }
 
 /// The function that is called: it returns a `u32`.
-pub fn callee(alloc: Global) -> Result<Function, AllocError> {
+pub(crate) fn callee(alloc: Global) -> Result<Function, AllocError> {
     let mut maker = Maker::new(alloc);
     maker.append(literal(Scalar::U32));
     maker.set_result();

@@ -5,7 +5,7 @@ use crate::bodies::{Holder, Shape};
 
 /// What is judged.
 #[derive(Clone, Copy)]
-pub enum Workload {
+pub(crate) enum Workload {
     /// A function of a shape.
     Body(Shape),
     /// The same, by a validator that judged one of a million expressions before.
@@ -24,7 +24,7 @@ pub enum Workload {
 
 /// A case. A Switch's statements are those of its cases and its own, and an entry point counts as one.
 #[derive(Clone, Copy)]
-pub struct Case {
+pub(crate) struct Case {
     pub name: &'static str,
     pub statements: usize,
     pub workload: Workload,
@@ -49,7 +49,7 @@ macro_rules! nest {
 }
 
 /// The cases of bodies.
-pub static BODIES: [Case; 50] = [
+pub(crate) static BODIES: [Case; 50] = [
     body!("a emit 1000", 1000, Shape::Emits(1000)),
     body!("a emit 10000", 10000, Shape::Emits(10000)),
     body!("a emit 100000", 100000, Shape::Emits(100000)),

@@ -9,7 +9,7 @@ use std::mem;
 
 /// A function that is being made. A part that there is no memory for is left out, and then there is no function in the end.
 #[derive(Drop)]
-pub struct Maker {
+pub(crate) struct Maker {
     pub alloc: Global,
     fun: Function,
     is_short: bool,

@@ -11,7 +11,7 @@ use std::alloc::{AllocError, Global};
 
 /// A module, and the infos of those of its functions that were judged.
 #[derive(Drop)]
-pub struct Program {
+pub(crate) struct Program {
     pub module: Module,
     pub infos: ModuleInfo,
 }
@@ -53,7 +53,7 @@ fn append(functions: &mut Arena<Function>, function: Function) -> Result<(), All
 }
 
 /// Gives a module the types, the function that is called and, after it, so many functions of a shape.
-pub fn fill_module(
+pub(crate) fn fill_module(
     alloc: Global,
     module: &mut Module,
     shape: Shape,
@@ -120,7 +120,7 @@ fn put_globals(globals: &mut Arena<GlobalVariable>, count: u32) -> Result<(), Al
 
 /// Gives a module the types, so many private globals, and a fragment shader that takes in so many varyings, from a location on,
 /// and uses all globals.
-pub fn fill_entry(
+pub(crate) fn fill_entry(
     alloc: Global,
     module: &mut Module,
     first: u32,

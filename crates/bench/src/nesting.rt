@@ -11,7 +11,7 @@ use naga_valid::Validator;
 use std::io;
 
 /// The holder with this name.
-pub fn holder_of(word: &str) -> Option<Holder> {
+pub(crate) fn holder_of(word: &str) -> Option<Holder> {
     match word {
         "block" => Some(Holder::Block),
         "if" => Some(Holder::If),
@@ -60,7 +60,7 @@ fn tell(
 }
 
 /// Goes through the steps with a body whose lists hold each other so deep. Without a judgement it is dropped as it was made.
-pub fn run(
+pub(crate) fn run(
     rt: &HostRuntime,
     validator: &mut Validator<Plain>,
     holder: Holder,

@@ -24,7 +24,7 @@ const ALL_CHECKS: ValidationFlags = ValidationFlags::ALL;
 
 /// A validator over the plain layer, with all flags, capabilities and subgroup settings, and an info for each of so many
 /// types.
-pub fn validator(alloc: Global, types: usize) -> Result<Validator<Plain>, AllocError> {
+pub(crate) fn validator(alloc: Global, types: usize) -> Result<Validator<Plain>, AllocError> {
     let infos = vec![in alloc; INFO; types]?;
     let below = Plain::without_mesh_shaders();
     let validator = Validator::new(below, ALL_CHECKS, Capabilities::ALL);
@@ -36,7 +36,7 @@ pub fn validator(alloc: Global, types: usize) -> Result<Validator<Plain>, AllocE
 
 /// Why a case has no times.
 #[derive(Drop)]
-pub enum Stop {
+pub(crate) enum Stop {
     /// Something is refused, or something that is named isn't there.
     Refused,
     /// The clock failed, or there was no memory.
@@ -57,7 +57,7 @@ impl From<AllocError> for Stop {
 
 /// Times in nanoseconds.
 #[derive(Clone, Copy)]
-pub struct Times {
+pub(crate) struct Times {
     pub whole: u64,
     pub lower: u64,
     pub conditions: u64,
@@ -106,7 +106,7 @@ fn nanos(duration: Duration) -> u64 {
 
 /// A function that is timed, its module, and the infos of the functions before it.
 #[derive(Clone, Copy)]
-pub struct Timed<'a> {
+pub(crate) struct Timed<'a> {
     pub fun: &'a Function,
     pub module: &'a Module,
     pub infos: &'a ModuleInfo,
@@ -142,7 +142,7 @@ fn fits(validator: &Validator<Plain>, timed: Timed) -> bool {
 }
 
 /// The lower layer alone, after a test of the conditions.
-pub fn lower_after_conditions(
+pub(crate) fn lower_after_conditions(
     rt: &HostRuntime,
     validator: &Validator<Plain>,
     timed: Timed,
@@ -201,7 +201,7 @@ fn judgement(
 }
 
 /// A function's times, each the fastest of so many in a row: so each finds in the caches what it left there itself.
-pub fn function(
+pub(crate) fn function(
     rt: &HostRuntime,
     validator: &mut Validator<Plain>,
     timed: Timed,
@@ -221,7 +221,7 @@ pub fn function(
 }
 
 /// One judgement of an entry point.
-pub fn entry_point(
+pub(crate) fn entry_point(
     rt: &HostRuntime,
     validator: &mut Validator<Plain>,
     ep: &EntryPoint,

@@ -4,7 +4,7 @@ use crate::bodies::Shape;
 use crate::cases::{Case, Workload};
 
 /// The cases of whole functions, entry points and modules.
-pub static WHOLES: [Case; 8] = [
+pub(crate) static WHOLES: [Case; 8] = [
     Case {
         name: "d whole function",
         statements: 1001,

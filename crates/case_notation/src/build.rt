@@ -19,14 +19,14 @@ use std::alloc::{AllocError, Global};
 
 /// The expression of a bench at this index.
 #[inline(always)]
-pub fn expression(index: u8) -> Handle<tag::Expression>
+pub(crate) fn expression(index: u8) -> Handle<tag::Expression>
     ensures { result ≡ index }
 {
     Handle::new(index as u32)
 }
 
 /// Adds a statement after the others.
-pub fn push(list: &mut Sequence<Located>, statement: Statement) -> Result<(), AllocError>
+pub(crate) fn push(list: &mut Sequence<Located>, statement: Statement) -> Result<(), AllocError>
     ensures { OnOk result (list.new ≡ list.old ++ placed statement ∷ []) }
 {
     let span = Span::UNDEFINED;
@@ -37,7 +37,7 @@ pub fn push(list: &mut Sequence<Located>, statement: Statement) -> Result<(), Al
 /// A block of these statements.
 #[inline(always)]
 #[tactic(auto, unfolding(crate::specs::CaseBlocks::block_from))]
-pub fn block_of(list: Sequence<Located>) -> Block
+pub(crate) fn block_of(list: Sequence<Located>) -> Block
     ensures { result ≡ block_from list }
 {
     Block { list }
@@ -45,7 +45,7 @@ pub fn block_of(list: Sequence<Located>) -> Block
 
 /// An Emit of the expressions from `first` to `last`, both included.
 #[inline(always)]
-pub fn emission(first: u8, last: u8) -> Statement
+pub(crate) fn emission(first: u8, last: u8) -> Statement
     ensures { result ≡ emitting first last }
 {
     Statement::Emit(Range {
@@ -56,7 +56,7 @@ pub fn emission(first: u8, last: u8) -> Statement
 
 /// A store of a value where a pointer points.
 #[inline(always)]
-pub fn storing(pointer: u8, value: u8) -> Statement
+pub(crate) fn storing(pointer: u8, value: u8) -> Statement
     ensures { result ≡ store_of pointer value }
 {
     Statement::Store {
@@ -67,7 +67,7 @@ pub fn storing(pointer: u8, value: u8) -> Statement
 
 /// The control barrier that names no memory.
 #[inline(always)]
-pub fn waiting() -> Statement
+pub(crate) fn waiting() -> Statement
     ensures { result ≡ control_barrier }
 {
     Statement::ControlBarrier(Barrier::empty())
@@ -75,7 +75,7 @@ pub fn waiting() -> Statement
 
 /// A call of `f` with this result.
 #[inline(always)]
-pub fn calling(alloc: Global, answer: Option<u8>) -> Statement
+pub(crate) fn calling(alloc: Global, answer: Option<u8>) -> Statement
     ensures { result ≡ call_of answer }
 {
     Statement::Call {
@@ -90,7 +90,7 @@ pub fn calling(alloc: Global, answer: Option<u8>) -> Statement
 
 /// A case of a Switch.
 #[inline(always)]
-pub fn case_of(value: SwitchValue, body: Block, fall_through: bool) -> SwitchCase
+pub(crate) fn case_of(value: SwitchValue, body: Block, fall_through: bool) -> SwitchCase
     ensures { result ≡ SwitchCase' value body fall_through }
 {
     SwitchCase {
@@ -102,7 +102,7 @@ pub fn case_of(value: SwitchValue, body: Block, fall_through: bool) -> SwitchCas
 
 /// A choice between two blocks.
 #[inline(always)]
-pub fn choice(condition: u8, accept: Block, reject: Block) -> Statement
+pub(crate) fn choice(condition: u8, accept: Block, reject: Block) -> Statement
     ensures { result ≡ ir.If condition accept reject }
 {
     Statement::If {
@@ -114,7 +114,7 @@ pub fn choice(condition: u8, accept: Block, reject: Block) -> Statement
 
 /// A loop over two blocks, left where `break_if` holds, if it names an expression.
 #[inline(always)]
-pub fn repetition(body: Block, continuing: Block, break_if: Option<u8>) -> Statement
+pub(crate) fn repetition(body: Block, continuing: Block, break_if: Option<u8>) -> Statement
     ensures { result ≡ ir.Loop body continuing break_if }
 {
     let break_if = match break_if {
@@ -130,7 +130,7 @@ pub fn repetition(body: Block, continuing: Block, break_if: Option<u8>) -> State
 
 /// A choice among cases.
 #[inline(always)]
-pub fn switch(selector: u8, cases: Sequence<SwitchCase>) -> Statement
+pub(crate) fn switch(selector: u8, cases: Sequence<SwitchCase>) -> Statement
     ensures { result ≡ ir.Switch selector cases }
 {
     Statement::Switch {

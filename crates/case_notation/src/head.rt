@@ -8,7 +8,7 @@ use crate::words::first_word;
 
 /// Which flags the options leave on.
 #[derive(Clone, Copy, PartialEq, Eq, Debug)]
-pub struct OptionFlags {
+pub(crate) struct OptionFlags {
     pub expressions: bool,
     pub blocks: bool,
 }
@@ -45,7 +45,7 @@ fn take_option(flags: OptionFlags, option: &[u8]) -> Option<OptionFlags>
 }
 
 /// The flags that the options at the front of a text leave on, and what follows the `:` that ends them.
-pub fn options_of(text: &[u8]) -> Option<(OptionFlags, &[u8])>
+pub(crate) fn options_of(text: &[u8]) -> Option<(OptionFlags, &[u8])>
     ensures { MatchOption result (options_of true true (words_of text.now) ≡ None)
         (λ o. (options_of true true (words_of text.now) ≡ Some (o.0.expressions, o.0.blocks, words_of o.1.now))
         × (IsPrintable o.1.now → IsPrintable text.now)) }

@@ -26,11 +26,11 @@ use ir_statements::statements::{Block, Located, Statement};
 use std::alloc::Global;
 
 /// How many braces may be open at once.
-pub const MOST_OPEN: usize = 256;
+pub(crate) const MOST_OPEN: usize = 256;
 
 /// What has been read so far. After an `Err` it isn't used again, and may hold anything.
 #[derive(Drop)]
-pub struct Reader {
+pub(crate) struct Reader {
     pub alloc: Global,
     /// The open parts, the newest last.
     pub opened: Vec<Frame>,
@@ -274,7 +274,7 @@ fn body_of_text(alloc: Global, bench: Bench, text: &[u8]) -> Result<Block, ReadE
 }
 
 /// The body that the words of a text say.
-pub fn read_body(alloc: Global, bench: Bench, text: &[u8]) -> Result<Block, ReadError>
+pub(crate) fn read_body(alloc: Global, bench: Bench, text: &[u8]) -> Result<Block, ReadError>
     ensures found { IfOk result (λ b. SayBody bench (words_of text.now) (body_of no_operands b)) }
     ensures printable { IfOk result (λ _. IsPrintable text.now) }
     ensures made { IfOk result (λ b. b ≡ block_of (body_of no_operands b)) }

@@ -13,7 +13,7 @@ use ir_statements::operations::SwitchValue;
 
 /// What a word after the options means.
 #[derive(Clone, Copy, PartialEq, Eq, Debug)]
-pub enum Token {
+pub(crate) enum Token {
     Emit,
     /// `..`, between the two ends of a range.
     To,
@@ -178,7 +178,7 @@ fn call_meaning_of(word: &[u8]) -> Option<Token>
 
 /// What a word means in a case of the bench.
 #[inline]
-pub fn token_of(bench: Bench, word: &[u8]) -> Option<Token>
+pub(crate) fn token_of(bench: Bench, word: &[u8]) -> Option<Token>
     ensures found { IfSome result (λ t. IsTextOf bench t word.now) }
     ensures none { IfNone result ((t : declared.Token) → IsTextOf bench t word.now → ⊥) }
 {

@@ -78,7 +78,7 @@ fn signed_of(text: &[u8]) -> Option<i32>
 }
 
 /// The value that this is the text of.
-pub fn value_of(text: &[u8]) -> Option<SwitchValue>
+pub(crate) fn value_of(text: &[u8]) -> Option<SwitchValue>
     ensures found { IfSome result (λ v. IsValueText v text.now) }
     ensures none { IfNone result ((v : value.SwitchValue) → IsValueText v text.now → ⊥) }
 {

@@ -42,7 +42,7 @@ fn cut_at_space(text: &[u8]) -> (&[u8], &[u8])
 
 /// The first word, and what comes after it and the white space that ends it.
 #[inline(always)]
-pub fn first_word(text: &[u8]) -> Option<(&[u8], &[u8])>
+pub(crate) fn first_word(text: &[u8]) -> Option<(&[u8], &[u8])>
     ensures { MatchOption result (NoWord text.now) (λ p. FirstWord text.now p.0.now p.1.now) }
 {
     let (_, text) = text.split_at(space_in_front(text));

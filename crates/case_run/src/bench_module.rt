@@ -167,7 +167,7 @@ fn bench_functions(alloc: Global, bench: Bench, body: Block) -> Result<Arena<Fun
 }
 
 /// The bench's module, with a body in its last function.
-pub fn bench_module(alloc: Global, bench: Bench, body: Block) -> Result<Module, AllocError>
+pub(crate) fn bench_module(alloc: Global, bench: Bench, body: Block) -> Result<Module, AllocError>
     ensures { IfOk result (λ m. m ≡ bench_module bench body) }
 {
     let mut made = Module::new(alloc);

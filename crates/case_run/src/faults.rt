@@ -10,7 +10,7 @@ use ir_errors::function::{AtomicError, CallError, FunctionError, SubgroupError};
 
 /// The name of what is wrong with a call.
 #[tactic(auto, unfolding(crate::specs::FaultNames::call_name))]
-pub fn call_name(error: CallError) -> &'static str
+pub(crate) fn call_name(error: CallError) -> &'static str
     ensures { result.now ≡ call_name error }
 {
     match error {
@@ -77,7 +77,7 @@ fn subgroup_handle(error: SubgroupError) -> Option<Handle<tag::Expression>>
 }
 
 /// The expression that a fault is about, if it is about one.
-pub fn fault_handle(fault: &FunctionError) -> Option<Handle<tag::Expression>>
+pub(crate) fn fault_handle(fault: &FunctionError) -> Option<Handle<tag::Expression>>
     ensures { result ≡ fault_handle fault.now }
 {
     match fault {

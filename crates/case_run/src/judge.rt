@@ -38,7 +38,7 @@ fn flags_of(expressions: bool, blocks: bool) -> ValidationFlags
 
 /// The settings of a case: its flags, for a target with every capability, and with subgroup operations of all groups in all
 /// stages.
-pub fn settings_of(case: &Case) -> Settings
+pub(crate) fn settings_of(case: &Case) -> Settings
     ensures { result ≡ settings_of (case_of case.now) }
 {
     Settings {
@@ -58,7 +58,7 @@ const GOOD: TypeInfo = TypeInfo {
 };
 
 /// What is known of a bench: its types are good, and it has no global expressions.
-pub fn given(alloc: Global) -> Result<Given, AllocError>
+pub(crate) fn given(alloc: Global) -> Result<Given, AllocError>
     ensures { IfOk result (λ g. (g.types.items ≡ bench_infos) × (g.global_types.items ≡ [])) }
 {
     Ok(Given {
@@ -90,7 +90,7 @@ fn judge(alloc: Global, case: Case) -> Result<ModuleInfo, ModuleFault>
 
 /// The stages that the last function may run in.
 #[tactic(auto, using(crate::proofs::Cases::last_stages))]
-pub fn stages_of_last(infos: &[FunctionInfo]) -> ShaderStages
+pub(crate) fn stages_of_last(infos: &[FunctionInfo]) -> ShaderStages
     ensures { result ≡ stages_of_last infos.now }
 {
     match infos.last() {
@@ -101,7 +101,7 @@ pub fn stages_of_last(infos: &[FunctionInfo]) -> ShaderStages
 
 /// The reply to an input.
 #[tactic(auto, using(crate::proofs::Cases::replying))]
-pub fn reply_to(alloc: Global, input: &[u8]) -> Reply
+pub(crate) fn reply_to(alloc: Global, input: &[u8]) -> Reply
     ensures { Replies input.now result }
 {
     let case = match read_case(alloc, input) {

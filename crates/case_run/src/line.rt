@@ -16,7 +16,7 @@ use std::io::Write;
 
 /// What the program answers to an input.
 #[derive(PartialEq, Debug, Drop)]
-pub enum Reply {
+pub(crate) enum Reply {
     /// The body is accepted, and may run in these stages.
     Accepted(ShaderStages),
     /// The first fault of the body.

@@ -77,7 +77,7 @@ fn check_values(
 
 /// What the values so far have shown where their numbers rise: the last of these, and whether there was a default.
 #[derive(Clone, Copy)]
-pub struct Rising {
+pub(crate) struct Rising {
     last: i64,
     has_default: bool,
 }

@@ -41,7 +41,7 @@ pub struct AtomicOperation {
 
 /// The atomic that a pointer points to: its scalar, and where it lies.
 #[derive(Clone, Copy)]
-pub struct Atomic {
+pub(crate) struct Atomic {
     scalar: Scalar,
     space: AddressSpace,
 }

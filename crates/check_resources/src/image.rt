@@ -25,7 +25,7 @@ use ir_types::types::TypeInner;
 
 /// The statement that uses an image.
 #[derive(Clone, Copy)]
-pub enum ImageStatement {
+pub(crate) enum ImageStatement {
     Store,
     Atomic,
 }
@@ -39,7 +39,7 @@ pub struct Texel {
 
 /// What an image asks of the texel: its dimension, and whether it has layers.
 #[derive(Clone, Copy)]
-pub struct ImageShape {
+pub(crate) struct ImageShape {
     pub dim: ImageDimension,
     pub arrayed: bool,
 }
@@ -86,7 +86,7 @@ fn global_type(context: &BlockContext, handle: Handle<tag::Expression>) -> Optio
 }
 
 /// What a binding array has.
-pub fn element_of(inner: Option<&TypeInner>) -> Option<Handle<tag::Type>>
+pub(crate) fn element_of(inner: Option<&TypeInner>) -> Option<Handle<tag::Type>>
     ensures { result ≡ element_of (option_copied inner.entry) }
 {
     match inner {

@@ -24,7 +24,7 @@ pub fn is_to_fill(expression: Option<&Expression>) -> bool
 }
 
 /// Whether an expression is a result that nothing filled so far.
-pub fn is_unfilled(
+pub(crate) fn is_unfilled(
     filled: &FilledColumn,
     context: &BlockContext,
     handle: Handle<tag::Expression>,

@@ -14,7 +14,7 @@ use std::alloc::{AllocError, Global};
 
 /// Whether what a scope put may be used.
 #[derive(Clone, Copy, PartialEq, Eq, Debug)]
-pub enum ScopeState {
+pub(crate) enum ScopeState {
     /// It is left, or no scope has this number.
     Closed,
     /// It is entered, and not left yet.
@@ -41,7 +41,7 @@ pub struct ScopeColumn {
 
 /// What is known of an expression as a result of a Call or an Atomic.
 #[derive(Clone, Copy, PartialEq, Eq, Debug)]
-pub enum ResultState {
+pub(crate) enum ResultState {
     /// It is none.
     NoResult,
     /// It is one, and nothing filled it so far.

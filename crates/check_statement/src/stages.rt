@@ -12,7 +12,7 @@ use ir_flags::valid::ShaderStages;
 use ir_statements::statements::{Located, Statement};
 
 /// The stages that a statement may run in.
-pub fn stages_of(context: &BlockContext, located: &Located) -> ShaderStages
+pub(crate) fn stages_of(context: &BlockContext, located: &Located) -> ShaderStages
     ensures { result ≡ stages_in (context_of context.now) (tree_of (context_of context.now) located.now) }
 {
     match &located.statement {
@@ -43,7 +43,7 @@ pub fn stages_of(context: &BlockContext, located: &Located) -> ShaderStages
 }
 
 /// The stages that an earlier function may run in.
-pub fn callee_stages(context: &BlockContext, function: Handle<tag::Function>) -> ShaderStages
+pub(crate) fn callee_stages(context: &BlockContext, function: Handle<tag::Function>) -> ShaderStages
     ensures { result ≡ callee_stages (context_of context.now).earlier function }
 {
     match context.earlier.functions.as_slice().get(function.index()) {

@@ -54,7 +54,7 @@ pub(crate) fn fill_named(filled: &mut FilledColumn, named: &Option<Handle<tag::E
 }
 
 /// What a statement leaves where none of its checks fails.
-pub fn advance(
+pub(crate) fn advance(
     filled: &mut FilledColumn,
     state: &mut BodyOutcome,
     context: &BlockContext,

@@ -41,7 +41,7 @@ pub(crate) fn check_operations(
 }
 
 /// Subgroups, which the target has at all.
-pub fn check_subgroups(settings: &Settings) -> Result<(), FunctionError>
+pub(crate) fn check_subgroups(settings: &Settings) -> Result<(), FunctionError>
     ensures { Finds (FirstOf (subgroups_point settings.now ∷ [])) result }
 {
     let needed = Capabilities::SUBGROUP;

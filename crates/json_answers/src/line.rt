@@ -17,7 +17,7 @@ use naga_below::{FunctionInfo, ModuleInfo, Span};
 use std::alloc::{AllocError, Global};
 
 /// The verdict as JSON, on one line, without white space and without a newline at the end. An Err is out of memory.
-pub fn json_line(alloc: Global, examined: &Examined) -> Result<String, AllocError>
+pub(crate) fn json_line(alloc: Global, examined: &Examined) -> Result<String, AllocError>
     ensures { IfOk result (λ text. IsJsonOf examined.now.verdict examined.now.misfit (string_bytes text)) }
 {
     let mut out = JsonWriter::new(alloc);
@@ -26,7 +26,7 @@ pub fn json_line(alloc: Global, examined: &Examined) -> Result<String, AllocErro
 }
 
 /// Writes the verdict as a JSON value. An Err is out of memory.
-pub fn write_verdict(
+pub(crate) fn write_verdict(
     alloc: Global,
     out: &mut JsonWriter,
     examined: &Examined,

@@ -8,7 +8,7 @@ use std::alloc::{AllocError, Global};
 
 /// Appends a slash, and the step.
 #[tactic(auto, unfolding(crate::specs::VerdictJson::step_text))]
-pub fn push_step(text: &mut String, step: Step) -> Result<(), AllocError>
+pub(crate) fn push_step(text: &mut String, step: Step) -> Result<(), AllocError>
     ensures { OnOk result (string_bytes text.new ≡ string_bytes text.old ++ step_text step) }
 {
     text.push_str("/")?;
@@ -22,7 +22,7 @@ pub fn push_step(text: &mut String, step: Step) -> Result<(), AllocError>
 }
 
 /// The pointer of these steps, of which the last comes first. An Err is out of memory.
-pub fn pointer_text(alloc: Global, steps: &[Step]) -> Result<String, AllocError>
+pub(crate) fn pointer_text(alloc: Global, steps: &[Step]) -> Result<String, AllocError>
     ensures { IfOk result (λ text. string_bytes text ≡ pointer_text steps.now) }
 {
     let mut text = String::new(alloc);

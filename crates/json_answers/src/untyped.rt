@@ -11,7 +11,7 @@ use std::fmt;
 /// Says on a line of its own why an expression has no type, if that is the fault and the types were computed.
 ///
 /// An Err is that of the writer, or out of memory.
-pub fn tell_untyped<W: fmt::Write>(
+pub(crate) fn tell_untyped<W: fmt::Write>(
     alloc: Global,
     out: &mut W,
     fault: &ModuleFault,

@@ -1,4 +1,4 @@
-//! Reads a JSON text as a document: settings, a module and the facts about it ([`read_document`]), each value where it lies.
+//! Reads a JSON text as a document: settings, a module and the facts about it ([`read_text`]), each value where it lies.
 //! Part of `naga_judge`; no promise to users.
 #![tactic(auto)]
 
@@ -14,5 +14,5 @@ mod types;
 
 pub use crate::document::{Document, Known};
 pub use crate::id::Id;
-pub use crate::text::{MOST_BYTES, Reading, read_document, read_text};
+pub use crate::text::{MOST_BYTES, Reading, read_text};
 pub use json_values::{ReadError, Unreadable};

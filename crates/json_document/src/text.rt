@@ -76,10 +76,3 @@ pub fn read_text(alloc: Global, text: &[u8]) -> Reading
         },
     }
 }
-
-/// Reads a text as a document, as [`read_text`] does.
-pub fn read_document(alloc: Global, text: &[u8]) -> Result<Document, ReadError>
-    ensures { ReadsDocument text.now result }
-{
-    read_text(alloc, text).document
-}

@@ -32,7 +32,7 @@ fn two_items<A: ToJson, B: ToJson>(out: &mut JsonWriter, a: &A, b: &B) -> Result
 
 /// A variant that holds two values: `{"NAME":[A,B]}`.
 #[tactic(auto, unfolding(crate::specs::Form::holding))]
-pub fn holding_pair<A: ToJson, B: ToJson>(
+pub(crate) fn holding_pair<A: ToJson, B: ToJson>(
     out: &mut JsonWriter,
     name: &str,
     a: &A,
@@ -64,7 +64,7 @@ fn three_items<A: ToJson, B: ToJson, C: ToJson>(
 
 /// A variant that holds three values: `{"NAME":[A,B,C]}`.
 #[tactic(auto, unfolding(crate::specs::Form::holding))]
-pub fn holding_triple<A: ToJson, B: ToJson, C: ToJson>(
+pub(crate) fn holding_triple<A: ToJson, B: ToJson, C: ToJson>(
     out: &mut JsonWriter,
     name: &str,
     a: &A,
@@ -114,7 +114,7 @@ pub fn two_fields<A: ToJson, B: ToJson>(
 
 /// An object with three fields.
 #[tactic(auto, unfolding(crate::specs::Form::three_fields))]
-pub fn three_fields<A: ToJson, B: ToJson, C: ToJson>(
+pub(crate) fn three_fields<A: ToJson, B: ToJson, C: ToJson>(
     out: &mut JsonWriter,
     names: &(&str, &str, &str),
     a: &A,
@@ -174,7 +174,7 @@ fn five_fields<A: ToJson, B: ToJson, C: ToJson, D: ToJson, E: ToJson>(
 
 /// A variant with one field: `{"NAME":{"FIELD":VALUE}}`. The variant's name stands first, here and below.
 #[tactic(auto, unfolding(crate::specs::Form::holding))]
-pub fn holding_field<A: ToJson>(
+pub(crate) fn holding_field<A: ToJson>(
     out: &mut JsonWriter,
     names: &(&str, &str),
     a: &A,
@@ -203,7 +203,7 @@ pub fn holding_two<A: ToJson, B: ToJson>(
 
 /// A variant with three fields.
 #[tactic(auto, unfolding(crate::specs::Form::holding))]
-pub fn holding_three<A: ToJson, B: ToJson, C: ToJson>(
+pub(crate) fn holding_three<A: ToJson, B: ToJson, C: ToJson>(
     out: &mut JsonWriter,
     names: &(&str, &str, &str, &str),
     a: &A,
@@ -219,7 +219,7 @@ pub fn holding_three<A: ToJson, B: ToJson, C: ToJson>(
 
 /// A variant with five fields.
 #[tactic(auto, unfolding(crate::specs::Form::holding))]
-pub fn holding_five<A: ToJson, B: ToJson, C: ToJson, D: ToJson, E: ToJson>(
+pub(crate) fn holding_five<A: ToJson, B: ToJson, C: ToJson, D: ToJson, E: ToJson>(
     out: &mut JsonWriter,
     names: &(&str, &str, &str, &str, &str, &str),
     a: &A,

@@ -15,7 +15,7 @@ const AROUND: usize = 10;
 
 /// Which statements of a body are written.
 #[derive(Drop)]
-pub struct Shown {
+pub(crate) struct Shown {
     is_shown: Vec<bool>,
 }
 
@@ -99,7 +99,7 @@ fn digits(number: usize) -> usize {
 
 /// Writes the statements that are shown, each with its number, and a mark at the one that has the fault, whose place stands at
 /// the head. Lists stand under what they are called, and an empty list is left out.
-pub fn write_body<W: fmt::Write>(
+pub(crate) fn write_body<W: fmt::Write>(
     out: &mut W,
     nodes: &[Node<'_>],
     shown: &Shown,

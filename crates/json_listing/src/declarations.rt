@@ -25,7 +25,7 @@ fn write_binding<W: fmt::Write>(out: &mut W, binding: &Option<Binding>) -> fmt::
 }
 
 /// Writes the arguments, the result and the locals of a function.
-pub fn write_declarations<W: fmt::Write>(
+pub(crate) fn write_declarations<W: fmt::Write>(
     out: &mut W,
     module: &Module,
     function: &Function,
@@ -220,7 +220,7 @@ fn write_field<W: fmt::Write, T: fmt::Debug>(
 }
 
 /// Writes the stage of an entry point and what else it declares beside its function.
-pub fn write_entry<W: fmt::Write>(
+pub(crate) fn write_entry<W: fmt::Write>(
     out: &mut W,
     module: &Module,
     ep: &EntryPoint,
@@ -267,7 +267,7 @@ const MOST_EXPRESSIONS: usize = 100;
 
 /// Writes expressions, if there are some: all that the shown statements name, or where these are too many those that the fault
 /// is about, and how many are left out.
-pub fn write_expressions<W: fmt::Write>(
+pub(crate) fn write_expressions<W: fmt::Write>(
     out: &mut W,
     function: &Function,
     marks: &Marks,
@@ -342,7 +342,7 @@ fn write_variable_name<W: fmt::Write>(
 }
 
 /// Writes a global.
-pub fn write_global<W: fmt::Write>(
+pub(crate) fn write_global<W: fmt::Write>(
     out: &mut W,
     module: &Module,
     handle: Handle<tag::GlobalVariable>,

@@ -11,14 +11,14 @@ const HANDFUL: usize = 5;
 
 /// A statement that stores a value, and the local that it is stored in.
 #[derive(Clone, Copy)]
-pub struct Stored {
+pub(crate) struct Stored {
     pub number: usize,
     pub local: Handle<tag::LocalVariable>,
 }
 
 /// What is done with a value between its emission and the end of the list.
 #[derive(Drop)]
-pub struct Kept {
+pub(crate) struct Kept {
     /// The first statements that name it.
     pub named: Vec<usize>,
     /// The first one that stores it in a local.
@@ -29,7 +29,7 @@ pub struct Kept {
 
 /// What is done with a value that this statement emits, until the list of that statement ends. `ended_loop` is the outermost
 /// Loop around it that has ended. An Err is out of memory.
-pub fn kept_of(
+pub(crate) fn kept_of(
     alloc: Global,
     function: &Function,
     nodes: &[Node<'_>],

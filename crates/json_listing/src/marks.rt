@@ -11,7 +11,7 @@ const SHORT_RANGE: u32 = 20;
 
 /// A mark for each expression of a function.
 #[derive(Drop)]
-pub struct Marks {
+pub(crate) struct Marks {
     marked: Vec<bool>,
 }
 
@@ -298,7 +298,7 @@ impl Marks {
 }
 
 /// The first expression of a range that is made from another one, in one step.
-pub fn user_in(
+pub(crate) fn user_in(
     function: &Function,
     start: u32,
     end: u32,

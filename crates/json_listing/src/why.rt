@@ -14,7 +14,7 @@ use std::fmt;
 
 /// What an earlier statement has to do with a fault.
 #[derive(Clone, Copy)]
-pub enum Earlier {
+pub(crate) enum Earlier {
     /// It emits the expression, which is in scope still.
     Emits(usize),
     /// It has the same result.
@@ -28,7 +28,7 @@ pub enum Earlier {
 }
 
 /// What an earlier statement has to do with a fault. An Err is out of memory.
-pub fn earlier_of(
+pub(crate) fn earlier_of(
     alloc: Global,
     function: &Function,
     nodes: &[Node<'_>],
@@ -86,7 +86,7 @@ fn write_position<W: fmt::Write>(out: &mut W, position: Position) -> fmt::Result
 }
 
 /// Writes why an expression isn't in scope at a position, and what to do. Where its list has ended, [`write_cures`] says that.
-pub fn write_reason<W: fmt::Write>(
+pub(crate) fn write_reason<W: fmt::Write>(
     out: &mut W,
     position: Position,
     handle: Handle<tag::Expression>,
@@ -175,7 +175,7 @@ fn write_cure_of_skipped<W: fmt::Write>(
 }
 
 /// Writes the two cures of a value whose list has ended. One that a Loop makes anew in each turn is kept in a local first.
-pub fn write_cures<W: fmt::Write>(
+pub(crate) fn write_cures<W: fmt::Write>(
     out: &mut W,
     function: &Function,
     position: Position,
@@ -242,7 +242,7 @@ fn write_list_name<W: fmt::Write>(out: &mut W, list: Inside) -> fmt::Result {
 }
 
 /// Writes what an earlier statement has to do with a fault.
-pub fn write_earlier<W: fmt::Write>(out: &mut W, earlier: Earlier) -> fmt::Result {
+pub(crate) fn write_earlier<W: fmt::Write>(out: &mut W, earlier: Earlier) -> fmt::Result {
     match earlier {
         Earlier::Emits(number) => write_number(
             out,
@@ -267,7 +267,7 @@ pub fn write_earlier<W: fmt::Write>(out: &mut W, earlier: Earlier) -> fmt::Resul
 }
 
 /// Writes which cases of a Switch have one value.
-pub fn write_cases<W: fmt::Write>(
+pub(crate) fn write_cases<W: fmt::Write>(
     out: &mut W,
     statement: &Statement,
     fault: &FunctionError,
@@ -308,7 +308,7 @@ fn two_cases(cases: &[SwitchCase], value: SwitchValue) -> Option<(usize, usize)>
 }
 
 /// Writes what else has the binding, the location or the built-in of a fault of an entry point.
-pub fn write_twin<W: fmt::Write>(
+pub(crate) fn write_twin<W: fmt::Write>(
     alloc: Global,
     out: &mut W,
     module: &Module,

@@ -6,7 +6,7 @@ use naga_below::{Expression, Handle, Module, Name, Range, Statement, SwitchCase,
 use std::fmt;
 
 /// Writes spaces.
-pub fn write_spaces<W: fmt::Write>(out: &mut W, count: usize) -> fmt::Result {
+pub(crate) fn write_spaces<W: fmt::Write>(out: &mut W, count: usize) -> fmt::Result {
     for _ in 0..count {
         out.write_char(' ')?;
     }
@@ -14,7 +14,7 @@ pub fn write_spaces<W: fmt::Write>(out: &mut W, count: usize) -> fmt::Result {
 }
 
 /// Writes a number between two texts.
-pub fn write_number<W: fmt::Write>(
+pub(crate) fn write_number<W: fmt::Write>(
     out: &mut W,
     before: &str,
     number: usize,
@@ -26,7 +26,7 @@ pub fn write_number<W: fmt::Write>(
 }
 
 /// Writes a name, if there is one.
-pub fn write_name<W: fmt::Write>(out: &mut W, name: &Option<Name>) -> fmt::Result {
+pub(crate) fn write_name<W: fmt::Write>(out: &mut W, name: &Option<Name>) -> fmt::Result {
     match name {
         Some(name) => write!(out, " {name:?}"),
         None => Ok(()),
@@ -34,7 +34,7 @@ pub fn write_name<W: fmt::Write>(out: &mut W, name: &Option<Name>) -> fmt::Resul
 }
 
 /// Writes two numbers, with texts before, between and after them.
-pub fn write_two<W: fmt::Write>(
+pub(crate) fn write_two<W: fmt::Write>(
     out: &mut W,
     before: &str,
     first: usize,
@@ -47,7 +47,7 @@ pub fn write_two<W: fmt::Write>(
 }
 
 /// Writes a statement without those that it holds.
-pub fn write_statement<W: fmt::Write>(out: &mut W, statement: &Statement) -> fmt::Result {
+pub(crate) fn write_statement<W: fmt::Write>(out: &mut W, statement: &Statement) -> fmt::Result {
     match statement {
         Statement::Emit(range) => write_emit(out, range),
         Statement::Block(_) => out.write_str("Block"),
@@ -82,7 +82,7 @@ fn write_emit<W: fmt::Write>(out: &mut W, range: &Range) -> fmt::Result {
 }
 
 /// Writes an expression: an operator or a function by its name, all others as the IR has them.
-pub fn write_expression<W: fmt::Write>(out: &mut W, expression: &Expression) -> fmt::Result {
+pub(crate) fn write_expression<W: fmt::Write>(out: &mut W, expression: &Expression) -> fmt::Result {
     let name = name_of(expression);
     match expression {
         Expression::Unary { operands, .. }
@@ -120,7 +120,11 @@ fn is_kind(name: &str) -> bool {
 }
 
 /// Writes what a part of a statement is called.
-pub fn write_part<W: fmt::Write>(out: &mut W, statement: &Statement, part: Part) -> fmt::Result {
+pub(crate) fn write_part<W: fmt::Write>(
+    out: &mut W,
+    statement: &Statement,
+    part: Part,
+) -> fmt::Result {
     match part {
         Part::Block => out.write_str("the list"),
         Part::Accept => out.write_str("accept"),
@@ -149,7 +153,7 @@ fn write_case<W: fmt::Write>(out: &mut W, index: usize, case: &SwitchCase) -> fm
 }
 
 /// Writes the handle of a type, and the type.
-pub fn write_type<W: fmt::Write>(
+pub(crate) fn write_type<W: fmt::Write>(
     out: &mut W,
     module: &Module,
     handle: Handle<tag::Type>,

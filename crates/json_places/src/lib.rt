@@ -16,5 +16,5 @@ pub use crate::found::{Found, unseen};
 pub use crate::misfits::locate_misfit;
 pub use crate::nodes::{Inside, Node, Part, Position, nodes_of};
 pub use crate::place::Place;
-pub use crate::scope::{Reason, reason_of};
+pub use crate::scope::Reason;
 pub use crate::spot::{EntryField, MeshField, Spot};

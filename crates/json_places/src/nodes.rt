@@ -125,7 +125,7 @@ fn list_of(number: usize, part: Part) -> Option<Inside> {
 }
 
 /// The parts that hold a statement, the outermost first. An Err is out of memory.
-pub fn parts_around(
+pub(crate) fn parts_around(
     alloc: Global,
     nodes: &[Node<'_>],
     number: usize,
@@ -168,7 +168,7 @@ fn inside_of(nodes: &[Node<'_>], number: usize) -> Option<Inside> {
 }
 
 /// The part of a Loop that a statement stands in, at any depth within it: that of the innermost Loop.
-pub fn loop_part(nodes: &[Node<'_>], number: usize) -> Option<Inside> {
+pub(crate) fn loop_part(nodes: &[Node<'_>], number: usize) -> Option<Inside> {
     let mut at = number;
     for _ in 0..nodes.len() {
         match inside_of(nodes, at) {
@@ -201,7 +201,7 @@ pub fn result_of(statement: &Statement) -> Option<Handle<tag::Expression>> {
 }
 
 /// Whether a statement brings an expression into scope.
-pub fn emits(statement: &Statement, handle: Handle<tag::Expression>) -> bool {
+pub(crate) fn emits(statement: &Statement, handle: Handle<tag::Expression>) -> bool {
     match statement {
         Statement::Emit(range) => {
             let index = handle.index();

@@ -142,7 +142,7 @@ pub fn first_of(bounds: &[Bound], fault: &VaryingError) -> Option<Spot> {
 }
 
 /// The second that has the location or the built-in of a fault.
-pub fn second_of(bounds: &[Bound], fault: &VaryingError) -> Option<Spot> {
+pub(crate) fn second_of(bounds: &[Bound], fault: &VaryingError) -> Option<Spot> {
     let mut is_second = false;
     for bound in bounds {
         if is_named(fault, &bound.binding) {

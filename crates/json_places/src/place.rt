@@ -64,7 +64,7 @@ pub(crate) fn add_field(
 }
 
 /// The place of what has a fault. `nodes` are the statements of the function's body. An Err is out of memory.
-pub fn place_of(
+pub(crate) fn place_of(
     alloc: Global,
     subject: Subject,
     spot: Spot,

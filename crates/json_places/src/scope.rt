@@ -34,7 +34,7 @@ pub enum Reason {
 ///
 /// Of several statements that emit it, one that a Continue may skip counts most, then the last whose list has ended.
 /// An Err is out of memory.
-pub fn reason_of(
+pub(crate) fn reason_of(
     alloc: Global,
     nodes: &[Node<'_>],
     position: Position,

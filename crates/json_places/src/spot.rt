@@ -82,7 +82,7 @@ pub enum Spot {
 }
 
 /// What of a function has a fault. `number` is that of the statement that has it, where one has.
-pub fn spot_in_function(
+pub(crate) fn spot_in_function(
     function: &Function,
     nodes: &[Node<'_>],
     fault: &FunctionError,
@@ -146,7 +146,7 @@ fn bound_argument(function: &Function) -> Spot {
 }
 
 /// What of an entry point has a fault that its function doesn't have. An Err is out of memory.
-pub fn spot_in_entry(
+pub(crate) fn spot_in_entry(
     alloc: Global,
     module: &Module,
     ep: &EntryPoint,

@@ -16,7 +16,7 @@ use json_values::{FromJson, Held, ReadError, Variant, elements, fitted, has_fiel
 use std::alloc::Global;
 
 /// How deep blocks may nest at most. The brackets of a document nest no deeper.
-pub const MOST_LEVELS: usize = 127;
+pub(crate) const MOST_LEVELS: usize = 127;
 
 /// Who reads statements, and what they hold.
 #[derive(Clone, Copy)]

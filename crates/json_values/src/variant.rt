@@ -45,7 +45,7 @@ pub fn read_name<T: Copy>(
 
 /// A variant before its name is looked up.
 #[derive(Drop)]
-pub enum Tagged<'v> {
+pub(crate) enum Tagged<'v> {
     Plain(&'v str),
     Holding(&'v str, Node<'v>),
 }

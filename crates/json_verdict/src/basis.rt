@@ -16,7 +16,7 @@ use std::alloc::{AllocError, Global};
 
 /// What a module is judged over. It is lent, so that a refused module can be judged again.
 #[derive(Drop)]
-pub struct Basis {
+pub(crate) struct Basis {
     pub given: Given,
     /// The layer that answers the facts, if there are any.
     pub layer: Option<Recorded>,

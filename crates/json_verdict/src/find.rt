@@ -16,7 +16,7 @@ use std::alloc::Global;
 ///
 /// The module is judged once more, over the same basis, with spans that number its statements: so its own spans need not
 /// distinguish them.
-pub fn locate(
+pub(crate) fn locate(
     alloc: Global,
     basis: &Basis,
     settings: Settings,

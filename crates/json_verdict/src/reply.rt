@@ -52,7 +52,7 @@ fn reply<W: Write>(alloc: Global, writer: &mut W, examined: &Examined, form: For
 }
 
 /// Judges a text, writes its verdict, and answers the exit status.
-pub fn reply_to<W: Write>(
+pub(crate) fn reply_to<W: Write>(
     alloc: Global,
     writer: &mut W,
     bytes: &Bytes,

@@ -32,7 +32,7 @@ fn cut<'b>(bytes: &'b [u8]) -> Option<(&'b [u8], &'b [u8])>
 
 /// A stream of lines: the line that is being read, whether it has a byte, and the greatest exit status so far.
 #[derive(Drop)]
-pub struct Stream {
+pub(crate) struct Stream {
     bytes: Bytes,
     is_begun: bool,
     status: u8,

@@ -14,7 +14,7 @@ use std::alloc::Global;
 
 /// A text as its bytes come in. Of one that is too long one byte more is kept than a document may have.
 #[derive(Drop)]
-pub struct Bytes {
+pub(crate) struct Bytes {
     kept: Vec<u8>,
     is_lost: bool,
 }

@@ -87,7 +87,7 @@ fn is_index(inner: &TypeInner) -> bool
 }
 
 /// The type of an `Access`.
-pub fn access_type(
+pub(crate) fn access_type(
     types: &[Type],
     base: Option<&TypeInner>,
     index: Option<&TypeInner>,
@@ -176,7 +176,7 @@ fn member_of(types: &[Type], inner: &TypeInner, index: u32) -> Option<TypeResolu
 }
 
 /// The type of an `AccessIndex`.
-pub fn access_index_type(
+pub(crate) fn access_index_type(
     types: &[Type],
     base: Option<&TypeInner>,
     index: u32,
@@ -230,7 +230,7 @@ fn loaded_at(ty: Handle<tag::Type>, inner: &TypeInner) -> Option<TypeResolution>
 }
 
 /// The type of what a pointer points to, where it can be loaded.
-pub fn loaded(types: &[Type], pointer: &TypeInner) -> Option<TypeResolution>
+pub(crate) fn loaded(types: &[Type], pointer: &TypeInner) -> Option<TypeResolution>
     ensures { result ≡ loaded types.now pointer.now }
 {
     match pointer {

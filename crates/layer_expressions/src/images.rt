@@ -14,14 +14,14 @@ use ir_types::types::{ImageClass, TypeInner};
 
 /// An image, as its type has it.
 #[derive(Clone, Copy)]
-pub struct Image {
+pub(crate) struct Image {
     pub dim: ImageDimension,
     pub arrayed: bool,
     pub class: ImageClass,
 }
 
 /// The image that a type is.
-pub fn image_of(inner: Option<&TypeInner>) -> Option<Image>
+pub(crate) fn image_of(inner: Option<&TypeInner>) -> Option<Image>
     ensures { result ≡ image_of (option_copied inner.entry) }
 {
     match inner {
@@ -41,7 +41,7 @@ pub fn image_of(inner: Option<&TypeInner>) -> Option<Image>
 }
 
 /// Whether the sampler that a type is compares.
-pub fn comparison_of(inner: Option<&TypeInner>) -> Option<bool>
+pub(crate) fn comparison_of(inner: Option<&TypeInner>) -> Option<bool>
     ensures { result ≡ comparison_of (option_copied inner.entry) }
 {
     match inner {
@@ -81,7 +81,7 @@ fn base_of(expression: &Expression) -> Option<Handle<tag::Expression>>
 }
 
 /// Whether an expression is where an image or a sampler comes from: a global, an argument, or an item of one.
-pub fn is_resource(expressions: &[Expression], handle: Handle<tag::Expression>) -> bool
+pub(crate) fn is_resource(expressions: &[Expression], handle: Handle<tag::Expression>) -> bool
     ensures { result ≡ is_resource expressions.now handle }
 {
     match expressions.get(handle.index()) {
@@ -114,7 +114,7 @@ fn has_dimension(dim: ImageDimension, shape: Shape) -> bool
 }
 
 /// Whether it is a coordinate of floats of this dimension.
-pub fn is_float_coordinate(dim: ImageDimension, shape: Option<Shape>) -> bool
+pub(crate) fn is_float_coordinate(dim: ImageDimension, shape: Option<Shape>) -> bool
     ensures { result ≡ is_float_coordinate dim shape }
 {
     match shape {
@@ -134,7 +134,7 @@ fn is_f32(shape: Shape) -> bool
 }
 
 /// Whether it is a float of 4 bytes.
-pub fn is_f32_scalar(shape: Option<Shape>) -> bool
+pub(crate) fn is_f32_scalar(shape: Option<Shape>) -> bool
     ensures { result ≡ is_f32_scalar shape }
 {
     match shape {
@@ -144,7 +144,7 @@ pub fn is_f32_scalar(shape: Option<Shape>) -> bool
 }
 
 /// Whether it is a coordinate of integers of this dimension, which isn't a cube.
-pub fn is_integer_coordinate(dim: ImageDimension, shape: Option<Shape>) -> bool
+pub(crate) fn is_integer_coordinate(dim: ImageDimension, shape: Option<Shape>) -> bool
     ensures { result ≡ is_integer_coordinate dim shape }
 {
     match dim {
@@ -157,7 +157,7 @@ pub fn is_integer_coordinate(dim: ImageDimension, shape: Option<Shape>) -> bool
 }
 
 /// Whether it is an offset of this dimension, which isn't a cube: of signed integers of 4 bytes.
-pub fn is_offset(dim: ImageDimension, shape: Option<Shape>) -> bool
+pub(crate) fn is_offset(dim: ImageDimension, shape: Option<Shape>) -> bool
     ensures { result ≡ is_offset dim shape }
 {
     match dim {
@@ -180,7 +180,7 @@ fn is_i32(shape: Shape) -> bool
 }
 
 /// Whether it is an integer scalar.
-pub fn is_integer_scalar(shape: Option<Shape>) -> bool
+pub(crate) fn is_integer_scalar(shape: Option<Shape>) -> bool
     ensures { result ≡ is_integer_scalar shape }
 {
     match shape {
@@ -190,7 +190,7 @@ pub fn is_integer_scalar(shape: Option<Shape>) -> bool
 }
 
 /// Whether images of a class have levels of detail.
-pub fn has_levels(class: ImageClass) -> bool
+pub(crate) fn has_levels(class: ImageClass) -> bool
     ensures { result ≡ has_levels class }
 {
     match class {
@@ -200,7 +200,7 @@ pub fn has_levels(class: ImageClass) -> bool
 }
 
 /// Whether images of a class are multisampled.
-pub fn is_multisampled(class: ImageClass) -> bool
+pub(crate) fn is_multisampled(class: ImageClass) -> bool
     ensures { result ≡ is_multisampled class }
 {
     match class {

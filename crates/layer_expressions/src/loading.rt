@@ -22,7 +22,7 @@ use layer_forms::{ImageQuery, Loading};
 
 /// What is known of the operands of an image load behind the image.
 #[derive(Clone, Copy)]
-pub struct Loaded {
+pub(crate) struct Loaded {
     pub coordinate: Option<Shape>,
     pub array_index: Option<Shape>,
     pub sample: Option<Shape>,
@@ -115,7 +115,7 @@ fn is_resource_first(expressions: &[Expression], operands: &[Handle<tag::Express
 }
 
 /// The type of an `ImageLoad`.
-pub fn load_type(
+pub(crate) fn load_type(
     types: &[Type],
     expressions: &[Expression],
     earlier: &[TypeResolution],
@@ -217,7 +217,7 @@ fn is_size(query: ImageQuery) -> bool
 }
 
 /// The type of an `ImageQuery`.
-pub fn query_type(
+pub(crate) fn query_type(
     types: &[Type],
     expressions: &[Expression],
     earlier: &[TypeResolution],

@@ -291,7 +291,7 @@ fn unpacked(size: VectorSize, kind: ScalarKind, arguments: Arguments) -> Option<
 }
 
 /// What a function of this class gives.
-pub fn math_of(class: MathClass, arguments: Arguments) -> Option<Shape>
+pub(crate) fn math_of(class: MathClass, arguments: Arguments) -> Option<Shape>
     ensures { result ≡ math_of class arguments }
 {
     match class {

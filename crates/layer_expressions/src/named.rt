@@ -26,7 +26,7 @@ pub fn type_at(count: usize, ty: Handle<tag::Type>) -> Option<TypeResolution>
 }
 
 /// A pointer to the type with a handle, where the module has so many types.
-pub fn pointer_to(
+pub(crate) fn pointer_to(
     count: usize,
     base: Handle<tag::Type>,
     space: AddressSpace,
@@ -51,7 +51,7 @@ fn global_type(count: usize, global: GlobalVariable) -> Option<TypeResolution>
 }
 
 /// The type of a function's result, or the rule that is broken.
-pub fn callee_type(count: usize, callee: Option<&Function>) -> Result<TypeResolution, Rule>
+pub(crate) fn callee_type(count: usize, callee: Option<&Function>) -> Result<TypeResolution, Rule>
     ensures { result ≡ callee_type count (option_copied callee.entry) }
 {
     let Some(callee) = callee else {

@@ -13,7 +13,7 @@ use layer_types::sizes::inner_at;
 
 /// The shapes of one to four operands, in order.
 #[derive(Clone, Copy)]
-pub enum Arguments {
+pub(crate) enum Arguments {
     One(Shape),
     Two(Shape, Shape),
     Three(Shape, Shape, Shape),
@@ -21,7 +21,7 @@ pub enum Arguments {
 }
 
 /// The type of an operand, which is an earlier expression.
-pub fn type_of_operand<'a>(
+pub(crate) fn type_of_operand<'a>(
     types: &'a [Type],
     earlier: &'a [TypeResolution],
     operand: Handle<tag::Expression>,
@@ -35,7 +35,7 @@ pub fn type_of_operand<'a>(
 }
 
 /// The shape of an operand.
-pub fn shape_of_operand(
+pub(crate) fn shape_of_operand(
     types: &[Type],
     earlier: &[TypeResolution],
     operand: Handle<tag::Expression>,
@@ -49,7 +49,7 @@ pub fn shape_of_operand(
 }
 
 /// The shapes of all operands, where each has one.
-pub fn arguments_of(
+pub(crate) fn arguments_of(
     types: &[Type],
     earlier: &[TypeResolution],
     operands: &[Handle<tag::Expression>],

@@ -12,7 +12,7 @@ use layer_forms::{
 use layer_types::leaves::{is_known, is_number};
 
 /// A splat of this size.
-pub fn splat_of(size: VectorSize, arguments: Arguments) -> Option<Shape>
+pub(crate) fn splat_of(size: VectorSize, arguments: Arguments) -> Option<Shape>
     ensures { result ≡ splat_of size arguments }
 {
     match arguments {
@@ -53,7 +53,7 @@ fn covers(size: VectorSize, swizzle: Swizzle) -> bool
 }
 
 /// A swizzle.
-pub fn swizzled(swizzle: Swizzle, arguments: Arguments) -> Option<Shape>
+pub(crate) fn swizzled(swizzle: Swizzle, arguments: Arguments) -> Option<Shape>
     ensures { result ≡ swizzled swizzle arguments }
 {
     match arguments {
@@ -81,7 +81,7 @@ fn unary_takes(operator: UnaryOperator, operand: Shape) -> bool
 }
 
 /// An operator of one operand.
-pub fn unary_of(operator: UnaryOperator, arguments: Arguments) -> Option<Shape>
+pub(crate) fn unary_of(operator: UnaryOperator, arguments: Arguments) -> Option<Shape>
     ensures { result ≡ unary_of operator arguments }
 {
     match arguments {
@@ -120,7 +120,7 @@ fn mixed(left: Shape, right: Shape) -> Option<Shape>
 }
 
 /// This shape, where it fits.
-pub fn own_of(shape: Shape, fits: bool) -> Option<Shape>
+pub(crate) fn own_of(shape: Shape, fits: bool) -> Option<Shape>
     ensures { result ≡ own_of shape fits }
 {
     if fits { Some(shape) } else { None }
@@ -151,7 +151,7 @@ fn sum_of(left: Shape, right: Shape) -> Option<Shape>
 }
 
 /// Whether both sizes are the same.
-pub fn is_same_size(first: VectorSize, second: VectorSize) -> bool
+pub(crate) fn is_same_size(first: VectorSize, second: VectorSize) -> bool
     ensures { result ≡ is_same_size first second }
 {
     first == second
@@ -316,7 +316,7 @@ fn binary_shape(operator: BinaryOperator, left: Shape, right: Shape) -> Option<S
 }
 
 /// An operator of two operands.
-pub fn binary_of(operator: BinaryOperator, arguments: Arguments) -> Option<Shape>
+pub(crate) fn binary_of(operator: BinaryOperator, arguments: Arguments) -> Option<Shape>
     ensures { result ≡ binary_of operator arguments }
 {
     match arguments {
@@ -333,7 +333,7 @@ fn selects(condition: Shape, value: Shape) -> bool
 }
 
 /// A select.
-pub fn selected(arguments: Arguments) -> Option<Shape>
+pub(crate) fn selected(arguments: Arguments) -> Option<Shape>
     ensures { result ≡ selected arguments }
 {
     match arguments {
@@ -348,7 +348,7 @@ pub fn selected(arguments: Arguments) -> Option<Shape>
 }
 
 /// A derivative.
-pub fn derived(arguments: Arguments) -> Option<Shape>
+pub(crate) fn derived(arguments: Arguments) -> Option<Shape>
     ensures { result ≡ derived arguments }
 {
     match arguments {
@@ -361,7 +361,7 @@ pub fn derived(arguments: Arguments) -> Option<Shape>
 }
 
 /// A relational function.
-pub fn related(function: RelationalFunction, arguments: Arguments) -> Option<Shape>
+pub(crate) fn related(function: RelationalFunction, arguments: Arguments) -> Option<Shape>
     ensures { result ≡ related function arguments }
 {
     match arguments {
@@ -408,7 +408,7 @@ fn is_cast(cast: Cast, from: Shape) -> bool
 }
 
 /// A conversion or bitcast.
-pub fn cast_of(cast: Cast, arguments: Arguments) -> Option<Shape>
+pub(crate) fn cast_of(cast: Cast, arguments: Arguments) -> Option<Shape>
     ensures { result ≡ cast_of cast arguments }
 {
     match arguments {

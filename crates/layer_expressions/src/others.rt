@@ -40,7 +40,7 @@ fn has_length(types: &[Type], inner: Option<&TypeInner>) -> bool
 }
 
 /// The type of an `ArrayLength`.
-pub fn length_type(
+pub(crate) fn length_type(
     types: &[Type],
     earlier: &[TypeResolution],
     operands: &[Handle<tag::Expression>],
@@ -90,7 +90,7 @@ fn scalar_alone(inner: &TypeInner) -> Option<Scalar>
 }
 
 /// The type of a `CooperativeLoad`.
-pub fn cooperative_load(
+pub(crate) fn cooperative_load(
     types: &[Type],
     earlier: &[TypeResolution],
     operands: &[Handle<tag::Expression>],
@@ -126,7 +126,7 @@ fn cooperative_of(inner: Option<&TypeInner>) -> Option<TypeResolution>
 }
 
 /// The type of a `CooperativeMultiplyAdd`.
-pub fn multiply_add(
+pub(crate) fn multiply_add(
     types: &[Type],
     earlier: &[TypeResolution],
     operands: &[Handle<tag::Expression>],

@@ -22,7 +22,7 @@ use layer_forms::{LevelKind, Sampling};
 
 /// What is known of the operands of an image sample behind the image.
 #[derive(Clone, Copy)]
-pub struct Sampled {
+pub(crate) struct Sampled {
     pub comparison: Option<bool>,
     pub coordinate: Option<Shape>,
     pub array_index: Option<Shape>,
@@ -34,7 +34,7 @@ pub struct Sampled {
 }
 
 /// 1 where it is there, else 0.
-pub fn ones(is_there: bool) -> usize
+pub(crate) fn ones(is_there: bool) -> usize
     ensures value { result ≡ ones is_there }
     ensures small { result ≤ 1 }
 {
@@ -74,7 +74,7 @@ fn before_depth(form: Sampling) -> usize
 }
 
 /// The shape of the operand at a place, where it is there.
-pub fn shape_if(
+pub(crate) fn shape_if(
     types: &[Type],
     earlier: &[TypeResolution],
     operands: &[Handle<tag::Expression>],
@@ -274,7 +274,7 @@ fn takes_sampler(form: Sampling, comparison: Option<bool>) -> bool
 }
 
 /// Whether an operand is there exactly where it is asked for, an integer scalar: an array index, a sample, a level.
-pub fn takes_integer(is_asked: bool, is_there: bool, operand: Option<Shape>) -> bool
+pub(crate) fn takes_integer(is_asked: bool, is_there: bool, operand: Option<Shape>) -> bool
     ensures { result ≡ takes_integer is_asked is_there operand }
 {
     if is_asked {
@@ -313,7 +313,7 @@ fn sample_fault(form: Sampling, image: &Image, sampled: &Sampled) -> Option<Rule
 }
 
 /// Four of a kind, of 4 bytes.
-pub fn four_of(kind: ScalarKind) -> Shape
+pub(crate) fn four_of(kind: ScalarKind) -> Shape
     ensures { result ≡ four_of kind }
 {
     Shape::Vector(VectorSize::Quad, four_bytes(kind))
@@ -348,7 +348,7 @@ fn are_resources(expressions: &[Expression], operands: &[Handle<tag::Expression>
 }
 
 /// The image among the operands.
-pub fn image_among(
+pub(crate) fn image_among(
     types: &[Type],
     earlier: &[TypeResolution],
     operands: &[Handle<tag::Expression>],
@@ -362,7 +362,7 @@ pub fn image_among(
 }
 
 /// The type of an `ImageSample`.
-pub fn sample_type(
+pub(crate) fn sample_type(
     types: &[Type],
     expressions: &[Expression],
     earlier: &[TypeResolution],

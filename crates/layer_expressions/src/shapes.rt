@@ -87,7 +87,7 @@ impl Shape {
 }
 
 /// The scalar of a kind, of 4 bytes.
-pub fn four_bytes(kind: ScalarKind) -> Scalar
+pub(crate) fn four_bytes(kind: ScalarKind) -> Scalar
     ensures { result ≡ four_bytes kind }
 {
     Scalar { kind, width: 4 }
@@ -111,7 +111,7 @@ pub fn is_integer(kind: ScalarKind) -> bool
 }
 
 /// Whether it is that of numbers with a sign.
-pub fn is_signed(kind: ScalarKind) -> bool
+pub(crate) fn is_signed(kind: ScalarKind) -> bool
     ensures { result ≡ is_signed kind }
 {
     match kind {
@@ -121,7 +121,7 @@ pub fn is_signed(kind: ScalarKind) -> bool
 }
 
 /// Whether it is that of floats.
-pub fn is_float(kind: ScalarKind) -> bool
+pub(crate) fn is_float(kind: ScalarKind) -> bool
     ensures { result ≡ is_float kind }
 {
     match kind {
@@ -131,7 +131,7 @@ pub fn is_float(kind: ScalarKind) -> bool
 }
 
 /// Whether it is that of bools.
-pub fn is_bool(kind: ScalarKind) -> bool
+pub(crate) fn is_bool(kind: ScalarKind) -> bool
     ensures { result ≡ is_bool kind }
 {
     match kind {

@@ -14,4 +14,4 @@ pub use crate::operators::{
     BinaryOperator, Derivative, DerivativeAxis, DerivativeControl, RelationalFunction,
     UnaryOperator,
 };
-pub use crate::vectors::{Swizzle, SwizzleComponent, component_from, size_from};
+pub use crate::vectors::{Swizzle, SwizzleComponent, size_from};

@@ -41,7 +41,7 @@ pub fn size_from(detail: u32) -> Option<VectorSize>
 }
 
 /// The component that a number stands for.
-pub fn component_from(number: u32) -> Option<SwizzleComponent>
+pub(crate) fn component_from(number: u32) -> Option<SwizzleComponent>
     ensures { result ≡ slice_get components number }
 {
     COMPONENTS.get(number as usize).copied()

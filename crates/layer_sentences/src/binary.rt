@@ -115,7 +115,7 @@ fn write_side<W: fmt::Write>(
 
 /// Writes why an operator with this name doesn't take these two types: which side it doesn't take, or how they differ, as
 /// `left and right of Add have different types: vec3<f32> and vec2<f32>`. An Err is that of the writer.
-pub fn write_binary<W: fmt::Write>(
+pub(crate) fn write_binary<W: fmt::Write>(
     writer: &mut W,
     types: &UniqueArena<Type>,
     name: &str,

@@ -7,5 +7,4 @@ pub mod rules;
 pub mod types;
 pub mod untyped;
 
-pub use crate::rules::sentence_of;
 pub use crate::untyped::write_untyped;

@@ -2,7 +2,7 @@
 
 /// What is wrong with an expression that breaks the rule with this number, the n of `Lower(n)`; `None` where there is no such
 /// rule.
-pub fn sentence_of(number: u32) -> Option<&'static str> {
+pub(crate) fn sentence_of(number: u32) -> Option<&'static str> {
     let sentence = match number {
         1 =>
             "the type, constant, override, argument, variable or function that it names isn't there",

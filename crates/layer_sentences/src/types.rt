@@ -119,7 +119,7 @@ fn write_value_pointer<W: fmt::Write>(
 /// Writes a type, as `vec3<f32>`, or `a pointer to f32`. What a pointer or an array has in it stands by its name or its kind.
 ///
 /// An Err is that of the writer.
-pub fn write_type<W: fmt::Write>(
+pub(crate) fn write_type<W: fmt::Write>(
     writer: &mut W,
     types: &UniqueArena<Type>,
     inner: &TypeInner,

@@ -71,7 +71,7 @@ fn uniform_array(
 }
 
 /// The info of an array; `None` where it isn't well formed.
-pub fn array_info(
+pub(crate) fn array_info(
     own: Handle<tag::Type>,
     part: &Part,
     size: &ArraySize,

@@ -68,7 +68,7 @@ fn value_flags(kind: ScalarKind) -> TypeFlags
 }
 
 /// What a pointer into a space can be used for.
-pub fn pointer_flags(space: AddressSpace, base_is_sized: bool) -> TypeFlags
+pub(crate) fn pointer_flags(space: AddressSpace, base_is_sized: bool) -> TypeFlags
     ensures { result ≡ pointer_flags space base_is_sized }
 {
     match space {
@@ -85,7 +85,7 @@ pub fn pointer_flags(space: AddressSpace, base_is_sized: bool) -> TypeFlags
 }
 
 /// The info of a type of these flags and this alignment, which fits every buffer.
-pub fn info(flags: TypeFlags, alignment: u32) -> TypeInfo
+pub(crate) fn info(flags: TypeFlags, alignment: u32) -> TypeInfo
     ensures { result ≡ info flags alignment }
 {
     TypeInfo {
@@ -147,7 +147,7 @@ fn image_info(class: ImageClass) -> Option<TypeInfo>
 }
 
 /// The info of a type that has no parts; `None` where it isn't well formed, or has parts.
-pub fn leaf_info(inner: &TypeInner) -> Option<TypeInfo>
+pub(crate) fn leaf_info(inner: &TypeInner) -> Option<TypeInfo>
     ensures { result ≡ leaf_info inner.now }
 {
     match inner {

@@ -9,4 +9,4 @@ pub mod sizes;
 pub mod structs;
 
 pub use crate::infos::type_infos;
-pub use crate::sizes::{inner_size, size_of};
+pub use crate::sizes::size_of;

@@ -12,17 +12,17 @@ use ir_types::type_info::{Disalignment, TypeInfo};
 use ir_types::types::{Type, TypeInner};
 
 /// The type isn't well formed.
-pub const NOT_WELL_FORMED: Disalignment = Disalignment(0);
+pub(crate) const NOT_WELL_FORMED: Disalignment = Disalignment(0);
 /// In a uniform buffer: the stride of an array is no multiple of 16.
-pub const BAD_STRIDE: Disalignment = Disalignment(1);
+pub(crate) const BAD_STRIDE: Disalignment = Disalignment(1);
 /// In a uniform buffer: a member of the struct isn't aligned.
-pub const BAD_OFFSET: Disalignment = Disalignment(2);
+pub(crate) const BAD_OFFSET: Disalignment = Disalignment(2);
 /// In a uniform buffer: a member of the struct follows another struct too closely.
-pub const TOO_CLOSE: Disalignment = Disalignment(3);
+pub(crate) const TOO_CLOSE: Disalignment = Disalignment(3);
 
 /// A type of data that an array or a struct holds.
 #[derive(Clone, Copy)]
-pub struct Part {
+pub(crate) struct Part {
     pub info: TypeInfo,
     /// In bytes.
     pub alignment: u32,
@@ -32,7 +32,7 @@ pub struct Part {
 }
 
 /// The type with a handle, where it is one of data that stands before and is well formed.
-pub fn part_at(types: &[Type], earlier: &[TypeInfo], ty: Handle<tag::Type>) -> Option<Part>
+pub(crate) fn part_at(types: &[Type], earlier: &[TypeInfo], ty: Handle<tag::Type>) -> Option<Part>
     ensures { result ≡ part_of (slice_get earlier.now ty) (inner_at types.now ty) }
 {
     let inner = inner_at(types, ty)?;

@@ -31,7 +31,7 @@ pub fn size_of(types: &[Type], ty: Handle<tag::Type>) -> Option<u32>
 }
 
 /// The size of a type, in bytes. It is read off the type alone: a struct has its span, an array its stride.
-pub fn inner_size(inner: &TypeInner) -> Option<u32>
+pub(crate) fn inner_size(inner: &TypeInner) -> Option<u32>
     ensures { result ≡ size_of inner.now }
 {
     match inner {
@@ -65,7 +65,7 @@ pub fn components_of(size: VectorSize) -> u32
 }
 
 /// For how many components a vector has room where it is aligned.
-pub fn aligned_components_of(size: VectorSize) -> u32
+pub(crate) fn aligned_components_of(size: VectorSize) -> u32
     ensures { result ≡ aligned_components_of size }
 {
     match size {
@@ -75,7 +75,7 @@ pub fn aligned_components_of(size: VectorSize) -> u32
 }
 
 /// Whether something of this alignment can lie at this many bytes.
-pub fn is_aligned(alignment: u32, bytes: u32) -> bool
+pub(crate) fn is_aligned(alignment: u32, bytes: u32) -> bool
     ensures { result ≡ is_aligned alignment bytes }
 {
     alignment != 0 && bytes % alignment == 0

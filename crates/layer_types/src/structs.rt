@@ -15,7 +15,7 @@ use ir_types::types::{StructMember, Type};
 
 /// What is known of a struct after some of its members.
 #[derive(Clone, Copy)]
-pub struct Laid {
+pub(crate) struct Laid {
     /// Where the last member ends, in bytes.
     pub end: u64,
     /// Where the next one may begin in a uniform buffer.
@@ -230,7 +230,7 @@ fn shared_as(are_sources: bool, info: TypeInfo) -> TypeInfo
 }
 
 /// The info of a struct; `None` where it isn't well formed.
-pub fn struct_info(
+pub(crate) fn struct_info(
     types: &[Type],
     earlier: &[TypeInfo],
     own: Handle<tag::Type>,

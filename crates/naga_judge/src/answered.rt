@@ -11,7 +11,7 @@ use std::fmt;
 /// refused. There is no newline at the end.
 ///
 /// An Err is that of the writer, or out of memory.
-pub fn write_answered<W: fmt::Write>(
+pub(crate) fn write_answered<W: fmt::Write>(
     alloc: Global,
     out: &mut W,
     examined: &Examined,

@@ -15,14 +15,14 @@ use std::rt::Files;
 use std::{fmt, fs, io};
 
 /// The exit status of out of memory.
-pub const MEMORY: u8 = 3;
+pub(crate) const MEMORY: u8 = 3;
 
 /// The exit status of a read or a write that failed.
-pub const FAILED: u8 = 4;
+pub(crate) const FAILED: u8 = 4;
 
 /// What is written of a text.
 #[derive(Clone, Copy, PartialEq, Eq, Debug)]
-pub enum Output {
+pub(crate) enum Output {
     /// Its verdict for a person.
     Verdict,
     /// The same, and a listing of what is refused.
@@ -38,7 +38,7 @@ pub enum Output {
 /// Of several files each verdict has its file before it. As JSON it is an object of the two, but with
 /// [`Output::JsonLines`], where the verdicts of one file follow those of another. What can't be read or written is
 /// reported, with the status 4, or 3 out of memory, and the next file is judged all the same.
-pub fn run_files<R: Files + Input + Eprint + AllocGlobal, W: Write>(
+pub(crate) fn run_files<R: Files + Input + Eprint + AllocGlobal, W: Write>(
     rt: &R,
     writer: &mut W,
     output: Output,
@@ -64,7 +64,7 @@ fn report<R: Eprint>(rt: &R, path: &str, error: &io::Error) -> u8 {
 }
 
 /// The exit status of an error of the reader or the writer.
-pub fn failure(error: &io::Error) -> u8 {
+pub(crate) fn failure(error: &io::Error) -> u8 {
     if error.kind() == io::ErrorKind::OutOfMemory {
         MEMORY
     } else {
@@ -90,7 +90,7 @@ fn run_file<R: Files + Input + AllocGlobal, W: Write>(
 /// Judges what a reader gives, and answers the exit status. `name` is written before the verdict.
 ///
 /// An Err is that of the reader or the writer.
-pub fn run_reader<R: Read, W: Write>(
+pub(crate) fn run_reader<R: Read, W: Write>(
     alloc: Global,
     reader: &mut R,
     writer: &mut W,

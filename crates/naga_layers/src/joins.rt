@@ -17,7 +17,7 @@ fn join_at(uses: &mut Vec<GlobalUse>, place: usize, more: GlobalUse)
 }
 
 /// Joins a use to those of the global that a root is.
-pub fn join(uses: &mut Vec<GlobalUse>, root: Root, more: GlobalUse)
+pub(crate) fn join(uses: &mut Vec<GlobalUse>, root: Root, more: GlobalUse)
     ensures { uses.new.items ≡ with_use uses.old.items root more }
 {
     if let Some(global) = root {
@@ -27,7 +27,7 @@ pub fn join(uses: &mut Vec<GlobalUse>, root: Root, more: GlobalUse)
 
 /// Joins to the use of each global the one at the same place.
 #[tactic(auto, unfolding(crate::specs::Joins::joined_from))]
-pub fn join_all(uses: &mut Vec<GlobalUse>, more: &[GlobalUse])
+pub(crate) fn join_all(uses: &mut Vec<GlobalUse>, more: &[GlobalUse])
     ensures { uses.new.items ≡ all_joined uses.old.items more.now }
 {
     let mut place = 0;

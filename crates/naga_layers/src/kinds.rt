@@ -13,7 +13,7 @@ use std::alloc::{AllocError, Global};
 
 /// The kind of each expression.
 #[tactic(auto, unfolding(crate::specs::Kinds::kinds_from))]
-pub fn kinds_of(
+pub(crate) fn kinds_of(
     alloc: Global,
     expressions: &Arena<Expression>,
 ) -> Result<ExpressionKindTracker, AllocError>

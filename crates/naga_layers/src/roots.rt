@@ -10,10 +10,10 @@ use ir_module::expressions::Expression;
 use std::alloc::{AllocError, Global};
 
 /// The global that an expression is or is an item of, where it is one.
-pub type Root = Option<Handle<tag::GlobalVariable>>;
+pub(crate) type Root = Option<Handle<tag::GlobalVariable>>;
 
 /// The root of an expression; `None` where it isn't among these.
-pub fn root_at(roots: &[Root], handle: Handle<tag::Expression>) -> Root
+pub(crate) fn root_at(roots: &[Root], handle: Handle<tag::Expression>) -> Root
     ensures { result ≡ root_at roots.now handle }
 {
     match roots.get(handle.index()) {
@@ -67,7 +67,10 @@ fn root_of(earlier: &[Root], expression: &Expression) -> Root
 
 /// The root of each expression.
 #[tactic(auto, unfolding(crate::specs::Roots::roots_from))]
-pub fn roots_of(alloc: Global, expressions: &[Expression]) -> Result<Sequence<Root>, AllocError>
+pub(crate) fn roots_of(
+    alloc: Global,
+    expressions: &[Expression],
+) -> Result<Sequence<Root>, AllocError>
     ensures { IfOk result (λ roots. roots ≡ roots_from [] expressions.now) }
 {
     let mut roots = Sequence::new(alloc);

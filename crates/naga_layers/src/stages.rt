@@ -36,7 +36,7 @@ fn callee_stages(info: Option<&FunctionInfo>) -> Result<ShaderStages, Expression
 }
 
 /// The stages that an expression may run in, by itself.
-pub fn stages_of(
+pub(crate) fn stages_of(
     settings: Settings,
     infos: &ModuleInfo,
     expression: Option<&Expression>,

@@ -82,7 +82,7 @@ fn use_expression(roots: &[Root], uses: &mut Vec<GlobalUse>, expression: &Expres
 /// One use for each global of the module: what the expressions and statements of the function do with it, and the functions
 /// that it calls.
 #[tactic(auto, unfolding(crate::specs::Uses::all_expression_uses))]
-pub fn uses_of(
+pub(crate) fn uses_of(
     alloc: Global,
     module: &Module,
     fun: &Function,

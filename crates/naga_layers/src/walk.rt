@@ -127,7 +127,7 @@ fn use_pipeline(roots: &[Root], uses: &mut Vec<GlobalUse>, fun: &RayPipelineFunc
 
 /// Those of a block, at any depth.
 #[cycle(uses)]
-pub fn use_block(
+pub(crate) fn use_block(
     globals: &[GlobalVariable],
     infos: &ModuleInfo,
     roots: &[Root],

@@ -6,7 +6,7 @@ use std::marker::Model;
 
 /// The info of an accepted function, and what ray traces leave to later functions.
 #[derive(Drop)]
-pub struct FunctionOutcome {
+pub(crate) struct FunctionOutcome {
     pub info: FunctionInfo,
     pub trace: TraceState,
 }

@@ -12,7 +12,7 @@ use naga_module::{Facts, Given, ModuleFault, Recorded, check_module};
 use std::alloc::Global;
 
 /// Judges a module over recorded facts.
-pub fn judge(
+pub(crate) fn judge(
     alloc: Global,
     facts: Facts,
     settings: Settings,

@@ -6,7 +6,7 @@ use ir_statements::statements::{Block, Located, SwitchCase};
 
 /// What the newest statement may still get.
 #[derive(Clone, Copy)]
-pub enum Tail {
+pub(crate) enum Tail {
     Nothing,
     /// `..` and the last name of the range that begins here.
     Emit(u8),
@@ -20,7 +20,7 @@ pub enum Tail {
 
 /// What a name stands for.
 #[derive(Clone, Copy)]
-pub enum Naming {
+pub(crate) enum Naming {
     /// The first emitted expression.
     First,
     /// The last emitted expression, after this first one.
@@ -38,7 +38,7 @@ pub enum Naming {
 
 /// What a brace opens.
 #[derive(Clone, Copy)]
-pub enum Brace {
+pub(crate) enum Brace {
     Block,
     /// The first list of an If with this condition.
     Accept(u8),
@@ -54,7 +54,7 @@ pub enum Brace {
 
 /// Which token is wanted next.
 #[derive(Clone, Copy)]
-pub enum Wants {
+pub(crate) enum Wants {
     /// The tail of the newest statement, a new statement, or the end of the list.
     Statement(Tail),
     Name(Naming),
@@ -72,7 +72,7 @@ pub enum Wants {
 
 /// Which part is open, with what was read of its statement.
 #[derive(Drop)]
-pub enum Kind {
+pub(crate) enum Kind {
     Block,
     /// The first list of an If.
     Accept(u8),
@@ -99,7 +99,7 @@ pub enum Kind {
 
 /// A part that is open, and the statements before its own.
 #[derive(Drop)]
-pub struct Frame {
+pub(crate) struct Frame {
     pub kind: Kind,
     pub outer: Sequence<Located>,
 }

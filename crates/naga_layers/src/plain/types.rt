@@ -23,7 +23,7 @@ use std::alloc::{AllocError, Global};
 
 /// The type of each expression of a function, or the first expression that has none here.
 #[tactic(auto, unfolding(crate::specs::Plain::Types::types_from))]
-pub fn types_of(
+pub(crate) fn types_of(
     alloc: Global,
     module: &Module,
     fun: &Function,

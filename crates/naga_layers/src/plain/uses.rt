@@ -13,7 +13,7 @@ use std::alloc::{AllocError, Global};
 
 /// One use for each global of the module: that it is read, where an expression of the function names it.
 #[tactic(auto, unfolding(crate::specs::Plain::Uses::with_all_named))]
-pub fn uses_of(
+pub(crate) fn uses_of(
     alloc: Global,
     module: &Module,
     fun: &Function,

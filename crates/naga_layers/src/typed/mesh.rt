@@ -21,7 +21,7 @@ use std::alloc::Global;
 
 /// What a member of the output variable's struct is.
 #[derive(Clone, Copy)]
-pub enum Role {
+pub(crate) enum Role {
     VertexCount,
     PrimitiveCount,
     Vertices,
@@ -30,7 +30,7 @@ pub enum Role {
 
 /// An array of vertices or of primitives: of this type, and at most so many; an override stands in for the number.
 #[derive(Clone, Copy)]
-pub struct Items {
+pub(crate) struct Items {
     pub base: Handle<tag::Type>,
     pub max: u32,
     pub max_override: Option<Handle<tag::Override>>,
@@ -38,7 +38,7 @@ pub struct Items {
 
 /// What is found among the members.
 #[derive(Clone, Copy)]
-pub struct Outputs {
+pub(crate) struct Outputs {
     pub has_vertex_count: bool,
     pub has_primitive_count: bool,
     pub vertices: Option<Items>,
@@ -357,7 +357,7 @@ fn type_of_global(module: &Module, output: Handle<tag::GlobalVariable>) -> Optio
 }
 
 /// What the type of a global implies as the output variable of a mesh shader.
-pub fn mesh_analysis(
+pub(crate) fn mesh_analysis(
     alloc: Global,
     module: &Module,
     output: Handle<tag::GlobalVariable>,

@@ -12,13 +12,13 @@ use naga_below::{
 use std::process::Abort;
 
 // The types of the module.
-pub const U32: u32 = 0;
+pub(crate) const U32: u32 = 0;
 
 /// A vector of three u32.
 const COUNTS: u32 = 1;
 
 /// A vector of four f32, which ray descriptors are.
-pub const COLOR: u32 = 2;
+pub(crate) const COLOR: u32 = 2;
 
 /// Acceleration structures that return vertices, and that don't.
 const RETURNING: u32 = 3;
@@ -30,39 +30,39 @@ const VERTEX: u32 = 5;
 
 const FACE: u32 = 6;
 
-pub const TYPES: usize = 7;
+pub(crate) const TYPES: usize = 7;
 
 // Its globals.
 /// A u32 in the memory of a work group.
 const OUTPUT: u32 = 0;
 
 /// A task payload of four bytes.
-pub const PAYLOAD: u32 = 1;
+pub(crate) const PAYLOAD: u32 = 1;
 
-pub const IMMEDIATE: u32 = 2;
+pub(crate) const IMMEDIATE: u32 = 2;
 
-pub const OTHER_IMMEDIATE: u32 = 3;
+pub(crate) const OTHER_IMMEDIATE: u32 = 3;
 
 /// Two uniforms with one binding.
-pub const UNIFORM: u32 = 4;
+pub(crate) const UNIFORM: u32 = 4;
 
-pub const TWIN: u32 = 5;
+pub(crate) const TWIN: u32 = 5;
 
-pub const STRUCTURE: u32 = 6;
+pub(crate) const STRUCTURE: u32 = 6;
 
-pub const SILENT_STRUCTURE: u32 = 7;
+pub(crate) const SILENT_STRUCTURE: u32 = 7;
 
 /// Ray payloads of u32 and of four f32.
-pub const RAY_PAYLOAD: u32 = 8;
+pub(crate) const RAY_PAYLOAD: u32 = 8;
 
-pub const OTHER_RAY_PAYLOAD: u32 = 9;
+pub(crate) const OTHER_RAY_PAYLOAD: u32 = 9;
 
-pub const GLOBALS: usize = 10;
+pub(crate) const GLOBALS: usize = 10;
 
 // Its functions: one whose body is a Kill, and one whose body is empty.
-pub const KILLS: u32 = 0;
+pub(crate) const KILLS: u32 = 0;
 
-pub const RESTS: u32 = 1;
+pub(crate) const RESTS: u32 = 1;
 
 /// The space, the type and the binding of each global.
 static VARIABLES: [(AddressSpace, u32, Option<u32>); GLOBALS] = [
@@ -118,7 +118,7 @@ fn types_of(rt: &(impl Abort + AllocGlobal)) -> UniqueArena<Type> {
 }
 
 /// A global in a space, of a type, with a binding in group 0 or none.
-pub fn global(space: AddressSpace, ty: u32, binding: Option<u32>) -> GlobalVariable {
+pub(crate) fn global(space: AddressSpace, ty: u32, binding: Option<u32>) -> GlobalVariable {
     GlobalVariable {
         space,
         binding: match binding {
@@ -153,7 +153,10 @@ fn functions_of(rt: &(impl Abort + AllocGlobal)) -> Arena<Function> {
 }
 
 /// The module, with these entry points.
-pub fn module(rt: &(impl Abort + AllocGlobal), entry_points: Sequence<EntryPoint>) -> Module {
+pub(crate) fn module(
+    rt: &(impl Abort + AllocGlobal),
+    entry_points: Sequence<EntryPoint>,
+) -> Module {
     let alloc = rt.alloc();
     Module {
         types: types_of(rt),
@@ -170,7 +173,7 @@ pub fn module(rt: &(impl Abort + AllocGlobal), entry_points: Sequence<EntryPoint
 }
 
 /// The infos of the functions, which may run at these stages.
-pub fn infos_of(rt: &(impl Abort + AllocGlobal), stages: [ShaderStages; 2]) -> ModuleInfo {
+pub(crate) fn infos_of(rt: &(impl Abort + AllocGlobal), stages: [ShaderStages; 2]) -> ModuleInfo {
     let mut infos = ModuleInfo::new(rt.alloc());
     for available_stages in stages {
         let info = FunctionInfo {
@@ -186,19 +189,19 @@ pub fn infos_of(rt: &(impl Abort + AllocGlobal), stages: [ShaderStages; 2]) -> M
 
 /// The module and the infos of its functions, with the stages with which these are judged.
 #[derive(Drop)]
-pub struct Bench {
+pub(crate) struct Bench {
     pub module: Module,
     pub infos: ModuleInfo,
 }
 
 /// Drops a bench, as [`drop_module`] does a module.
-pub fn drop_bench(bench: Bench) {
+pub(crate) fn drop_bench(bench: Bench) {
     let Bench { module, infos } = bench;
     drop_module(module);
     drop(infos);
 }
 
-pub fn make_bench(rt: &(impl Abort + AllocGlobal)) -> Bench {
+pub(crate) fn make_bench(rt: &(impl Abort + AllocGlobal)) -> Bench {
     Bench {
         module: module(rt, Sequence::new(rt.alloc())),
         infos: infos_of(rt, [ShaderStages::FRAGMENT, ShaderStages::ALL]),
@@ -206,12 +209,12 @@ pub fn make_bench(rt: &(impl Abort + AllocGlobal)) -> Bench {
 }
 
 /// An info for each type of the module.
-pub fn infos_of_types(rt: &(impl Abort + AllocGlobal), info: TypeInfo) -> Vec<TypeInfo> {
+pub(crate) fn infos_of_types(rt: &(impl Abort + AllocGlobal), info: TypeInfo) -> Vec<TypeInfo> {
     made(rt, vec![in rt.alloc(); info; TYPES])
 }
 
 /// Triangles of three vertices, which is what the type of their output implies too.
-pub fn triangles() -> MeshStageInfo {
+pub(crate) fn triangles() -> MeshStageInfo {
     MeshStageInfo {
         topology: MeshOutputTopology::Triangles,
         max_vertices: 3,

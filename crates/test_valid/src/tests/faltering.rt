@@ -12,7 +12,7 @@ use std::cell::Cell;
 
 /// The plain layer, but for one call, which finds no memory.
 #[derive(Drop)]
-pub struct Faltering<'a> {
+pub(crate) struct Faltering<'a> {
     pub plain: Plain,
     /// How many calls have been made that may find no memory, of all layers that count here.
     pub calls: &'a Cell<u32>,

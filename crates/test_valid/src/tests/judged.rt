@@ -16,14 +16,14 @@ use std::process::Abort;
 
 /// Accepted, out of memory, or refused with what is reported of it.
 #[derive(Drop)]
-pub enum Answer {
+pub(crate) enum Answer {
     Accepted,
     Memory,
     Told(String),
 }
 
 /// The plain layer, by which triangles are put out, and no override is a largest value.
-pub fn layer() -> Plain {
+pub(crate) fn layer() -> Plain {
     Plain::new(MeshAnalysis {
         implied: triangles(),
         overrides: [None, None],
@@ -32,7 +32,10 @@ pub fn layer() -> Plain {
 }
 
 /// A validator of the module of `bench` over a lower layer.
-pub fn validator_over<B: Below + Drop>(rt: &(impl Abort + AllocGlobal), below: B) -> Validator<B> {
+pub(crate) fn validator_over<B: Below + Drop>(
+    rt: &(impl Abort + AllocGlobal),
+    below: B,
+) -> Validator<B> {
     let infos = infos_of_types(rt, known());
     let mut validator = Validator::new(below, SETTINGS.flags, SETTINGS.capabilities).with_types(
         infos,
@@ -43,7 +46,7 @@ pub fn validator_over<B: Below + Drop>(rt: &(impl Abort + AllocGlobal), below: B
 }
 
 /// The text of a refusal.
-pub fn text_of<E: Explain>(
+pub(crate) fn text_of<E: Explain>(
     rt: &(impl Abort + AllocGlobal),
     subject: Subject,
     refusal: &Refusal<E>,
@@ -128,7 +131,7 @@ fn expect(rt: &impl Abort, row: &Row, answer: &Answer) {
 
 /// A validator gives a row its own answer, and this is what ray traces leave it then. Where memory is refused it stays as it
 /// was, and is asked again. Whether it was.
-pub fn expect_own<B: Below>(
+pub(crate) fn expect_own<B: Below>(
     rt: &(impl Abort + AllocGlobal),
     validator: &mut Validator<B>,
     bench: &Bench,
@@ -165,7 +168,7 @@ fn told_of(rt: &(impl Abort + AllocGlobal), answer: &Result<ModuleInfo, ModuleFa
 }
 
 /// What `check_module` answers of a module of these types.
-pub fn ask_module<B: Below + Drop>(
+pub(crate) fn ask_module<B: Below + Drop>(
     rt: &(impl Abort + AllocGlobal),
     below: B,
     module: &Module,
@@ -181,14 +184,14 @@ pub fn ask_module<B: Below + Drop>(
 }
 
 /// The module of `bench` with the entry point of a row.
-pub fn module_of(rt: &(impl Abort + AllocGlobal), row: &Row) -> Module {
+pub(crate) fn module_of(rt: &(impl Abort + AllocGlobal), row: &Row) -> Module {
     let mut entry_points = Sequence::new(rt.alloc());
     made(rt, entry_points.push(entry_point(rt, row)));
     module(rt, entry_points)
 }
 
 /// The module with the entry point of a row has this row's own answer, or is answered out of memory: whether that is so.
-pub fn module_falters<B: Below + Drop>(
+pub(crate) fn module_falters<B: Below + Drop>(
     rt: &(impl Abort + AllocGlobal),
     below: B,
     module: &Module,

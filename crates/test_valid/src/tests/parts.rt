@@ -7,13 +7,13 @@ use naga_below::{
 use std::process::Abort;
 
 /// Where nothing is.
-pub const NOWHERE: Span = Span::UNDEFINED;
+pub(crate) const NOWHERE: Span = Span::UNDEFINED;
 
 /// Where something is.
-pub const HERE: Span = Span { start: 3, end: 7 };
+pub(crate) const HERE: Span = Span { start: 3, end: 7 };
 
 /// Every check, for a target with everything.
-pub const SETTINGS: Settings = Settings {
+pub(crate) const SETTINGS: Settings = Settings {
     flags: ValidationFlags::ALL,
     capabilities: Capabilities::ALL,
     subgroup_stages: ShaderStages::ALL,
@@ -21,7 +21,7 @@ pub const SETTINGS: Settings = Settings {
 };
 
 /// What is known of a type that can be used for everything but between stages, and whose layouts are good.
-pub fn known() -> TypeInfo {
+pub(crate) fn known() -> TypeInfo {
     TypeInfo {
         flags: TypeFlags(TypeFlags::ALL.0 & !TypeFlags::IO_SHAREABLE.0),
         storage_layout: Ok(4),
@@ -31,7 +31,7 @@ pub fn known() -> TypeInfo {
 }
 
 /// What there was memory for.
-pub fn made<T, E>(rt: &impl Abort, answer: Result<T, E>) -> T {
+pub(crate) fn made<T, E>(rt: &impl Abort, answer: Result<T, E>) -> T {
     match answer {
         Ok(value) => value,
         Err(_) => panic!(rt; "no memory"),
@@ -39,17 +39,17 @@ pub fn made<T, E>(rt: &impl Abort, answer: Result<T, E>) -> T {
 }
 
 /// Drops a module: by a call of its own, since a function that drops one itself takes seconds to prove.
-pub fn drop_module(module: Module) {
+pub(crate) fn drop_module(module: Module) {
     drop(module);
 }
 
 /// Puts a type without a name last.
-pub fn add_type(rt: &impl Abort, types: &mut UniqueArena<Type>, inner: TypeInner) {
+pub(crate) fn add_type(rt: &impl Abort, types: &mut UniqueArena<Type>, inner: TypeInner) {
     holds!(rt; !types.is_full());
     made(rt, types.insert(Type { name: None, inner }, NOWHERE));
 }
 
 /// Two texts are the same.
-pub fn expect_text(rt: &impl Abort, found: &str, expected: &str) {
+pub(crate) fn expect_text(rt: &impl Abort, found: &str, expected: &str) {
     assert!(rt; found == expected, "{found}");
 }

@@ -16,7 +16,7 @@ use std::process::Abort;
 
 /// A statement of a function's body.
 #[derive(Clone, Copy)]
-pub enum Step {
+pub(crate) enum Step {
     /// A break, which no loop is there for.
     Break,
     Kill,
@@ -30,7 +30,7 @@ pub enum Step {
 /// What is judged. Its function names globals, which are its first expressions, and after them is a ray descriptor, as which
 /// its local begins.
 #[derive(Clone, Copy)]
-pub struct Row {
+pub(crate) struct Row {
     /// Whether it is the function alone, as one of the module.
     pub is_alone: bool,
     pub stage: ShaderStage,
@@ -67,7 +67,7 @@ const AT_FRAGMENT: Row = Row {
 };
 
 /// An entry point that does nothing, in groups of one invocation.
-pub const AT_COMPUTE: Row = Row {
+pub(crate) const AT_COMPUTE: Row = Row {
     stage: ShaderStage::Compute,
     workgroup_size: [1, 1, 1],
     ..AT_FRAGMENT
@@ -82,7 +82,7 @@ const AT_MESH: Row = Row {
 };
 
 /// An entry point that traces a ray, with three expressions.
-pub const TRACING: Row = Row {
+pub(crate) const TRACING: Row = Row {
     stage: ShaderStage::RayGeneration,
     names: &[STRUCTURE, RAY_PAYLOAD],
     steps: &[Step::Ray(0, 2, 1), Step::Call(RESTS)],
@@ -98,12 +98,12 @@ const TRACING_ALONE: Row = Row {
 };
 
 /// The functions of the module.
-pub const KILLING: Row = Row {
+pub(crate) const KILLING: Row = Row {
     steps: &[Step::Kill],
     ..AT_FRAGMENT
 };
 
-pub const RESTING: Row = AT_FRAGMENT;
+pub(crate) const RESTING: Row = AT_FRAGMENT;
 
 /// A function whose second ray goes through a structure that returns no vertices.
 const SILENCED: Row = Row {
@@ -114,7 +114,7 @@ const SILENCED: Row = Row {
 };
 
 /// A function with a barrier of the subgroup, on a target that has none.
-pub const WITH_BARRIER: Row = Row {
+pub(crate) const WITH_BARRIER: Row = Row {
     is_alone: true,
     steps: &[Step::Barrier],
     told: "function [2]: 3..7: InvalidSubgroup(UnsupportedOperation(SubgroupOperationSet(BASIC))): a subgroup operation or a subgroup barrier is invalid: the target doesn't support these subgroup operations",
@@ -122,19 +122,19 @@ pub const WITH_BARRIER: Row = Row {
 };
 
 /// The entry points of the tests of whole modules.
-pub const CALLING_KILL: Row = Row {
+pub(crate) const CALLING_KILL: Row = Row {
     steps: &[Step::Call(KILLS)],
     ..AT_FRAGMENT
 };
 
-pub const FORBIDDEN: Row = Row {
+pub(crate) const FORBIDDEN: Row = Row {
     steps: &[Step::Call(KILLS)],
     told: "entry point 0: ForbiddenStageOperations: the function, or one that it calls, does what this stage doesn't allow",
     ..AT_COMPUTE
 };
 
 /// The entry point that traces a ray, with a payload.
-pub const REFUSED_TRACING: Row = Row {
+pub(crate) const REFUSED_TRACING: Row = Row {
     payload: Some(PAYLOAD),
     told: "entry point 0: UnexpectedTaskPayload: an entry point at this stage can't have a task payload",
     leaves: None,
@@ -142,7 +142,7 @@ pub const REFUSED_TRACING: Row = Row {
 };
 
 /// A ray whose payload is its descriptor too.
-pub const MISLED: Row = Row {
+pub(crate) const MISLED: Row = Row {
     steps: &[Step::Ray(0, 1, 1)],
     told: "function [2]: 3..7: InvalidRayDescriptor([1]): the expression is not of the module's ray descriptor type",
     leaves: None,
@@ -150,7 +150,7 @@ pub const MISLED: Row = Row {
 };
 
 /// All rows.
-pub fn rows() -> &'static [Row] {
+pub(crate) fn rows() -> &'static [Row] {
     &ROWS
 }
 
@@ -217,13 +217,13 @@ fn place_of(number: u32) -> Span {
 }
 
 /// What no ray leaves.
-pub const NOTHING: TraceState = TraceState {
+pub(crate) const NOTHING: TraceState = TraceState {
     payload: None,
     vertex_return: TraceRayVertexReturnState::NoTraceRays,
 };
 
 /// What the ray traces of a row leave. Of three rays the second is the one that returns no vertices.
-pub fn left_by(row: &Row) -> TraceState {
+pub(crate) fn left_by(row: &Row) -> TraceState {
     let Some(payload) = row.leaves else {
         return NOTHING;
     };
@@ -317,7 +317,7 @@ fn arguments_of(rt: &(impl Abort + AllocGlobal), takes: Option<u32>) -> Sequence
 }
 
 /// The function of a row.
-pub fn function(rt: &(impl Abort + AllocGlobal), row: &Row) -> Function {
+pub(crate) fn function(rt: &(impl Abort + AllocGlobal), row: &Row) -> Function {
     let count = row.names.len();
     holds!(rt; count < 4);
     Function {
@@ -330,7 +330,7 @@ pub fn function(rt: &(impl Abort + AllocGlobal), row: &Row) -> Function {
 }
 
 /// The entry point of a row.
-pub fn entry_point(rt: &(impl Abort + AllocGlobal), row: &Row) -> EntryPoint {
+pub(crate) fn entry_point(rt: &(impl Abort + AllocGlobal), row: &Row) -> EntryPoint {
     let mesh_info = if row.is_mesh { Some(triangles()) } else { None };
     let task_payload = match row.payload {
         Some(payload) => Some(Handle::new(payload)),

@@ -22,7 +22,7 @@ use std::alloc::{AllocError, Global};
 use std::process::Abort;
 
 /// No check, and a target that can do nothing.
-pub fn settings() -> Settings {
+pub(crate) fn settings() -> Settings {
     Settings {
         flags: ValidationFlags::empty(),
         capabilities: Capabilities::empty(),

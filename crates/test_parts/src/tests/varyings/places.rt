@@ -72,7 +72,7 @@ fn built_in(index: u32) -> BuiltIn {
     }
 }
 
-pub static STAGES: [ShaderStage; 9] = [
+pub(crate) static STAGES: [ShaderStage; 9] = [
     ShaderStage::Vertex,
     ShaderStage::Fragment,
     ShaderStage::Compute,
@@ -86,7 +86,7 @@ pub static STAGES: [ShaderStage; 9] = [
 
 /// A place where bindings are checked, on a target with every capability, of an entry point without a task payload and with
 /// one invocation.
-pub fn at(stage: ShaderStage, output: bool) -> VaryingPlace {
+pub(crate) fn at(stage: ShaderStage, output: bool) -> VaryingPlace {
     VaryingPlace {
         stage,
         output,
