@@ -1,6 +1,5 @@
 -- The benches: modules that are the same for each input, into whose last function the body is put.
 use Rattle.std.specs.Prelude.{Bool, true, false, List, [], ◌∷◌, ◌++◌, ℕ, codes, Option, Some, None, if◌then◌else◌}
-use Rattle.std.specs.List.{position_from}
 use Rattle.std.specs.Str.{bytes_eq}
 use Rattle.case_notation.specs.declared.bench.Bench.{Bench}
 use Rattle.case_notation.specs.declared.bench.Bench.TheVariants.{P, C, D}
@@ -39,7 +38,3 @@ bench_of word =
     else if bytes_eq word (bench_word C) then Some C
     else if bytes_eq word (bench_word D) then Some D
     else None
-
--- the place of a name among those of the bench
-abbrev pub index_of : Bench → List ℕ → Option ℕ
-index_of bench name = position_from (λ n. bytes_eq name n) 0 (names_of bench)

@@ -1,7 +1,7 @@
 //! The benches: fixed modules, into whose last function the body of a case is put; and the words for their expressions.
 
 ghost use Rattle.std.specs.Prelude.{◌≡◌};
-ghost use Rattle.case_notation.specs.Bench.{bench_of, has_callee, index_of};
+ghost use Rattle.case_notation.specs.Bench.{bench_of};
 
 /// A bench.
 #[derive(Clone, Copy, PartialEq, Eq, Debug)]
@@ -26,41 +26,6 @@ impl Bench {
             Some(Bench::C)
         } else if word == b"D".as_slice() {
             Some(Bench::D)
-        } else {
-            None
-        }
-    }
-
-    /// Whether there is a function to call.
-    pub fn has_callee(self) -> bool
-        ensures { result ≡ has_callee self }
-    {
-        match self {
-            Bench::P | Bench::D => false,
-            Bench::C => true,
-        }
-    }
-
-    /// The index of the expression that has this name.
-    pub fn index_of(self, name: &[u8]) -> Option<u8>
-        ensures { result ≡ index_of self name.now }
-    {
-        if name == b"t".as_slice() {
-            Some(0)
-        } else if name == b"u".as_slice() {
-            Some(1)
-        } else if name == b"i".as_slice() {
-            Some(2)
-        } else if name == b"e1".as_slice() {
-            Some(3)
-        } else if name == b"v".as_slice() {
-            Some(4)
-        } else if name == b"x1".as_slice() {
-            Some(5)
-        } else if self == Bench::C && name == b"r1".as_slice() {
-            Some(6)
-        } else if self == Bench::D && name == b"e2".as_slice() {
-            Some(6)
         } else {
             None
         }

@@ -41,7 +41,7 @@ pub(crate) struct Reader {
 
 impl Reader {
     ghost use Rattle.case_notation.specs.Feeding.{Steps};
-    ghost use Rattle.case_notation.specs.Reading.{State, begun, step, go_on, settle, begin, begin_at, put_alone, take_name, put_named, finish};
+    ghost use Rattle.case_notation.specs.Reading.{begun, step, go_on, settle, begin, begin_at, put_alone, take_name, put_named, finish};
     ghost use Rattle.case_notation.specs.Views.{Moves, state_of};
 
     /// A reader that has read nothing.
@@ -64,7 +64,6 @@ impl Reader {
         ensures { Steps (step (state_of self.old) token) result (state_of self.new) }
     {
         match self.wants {
-            Wants::Statement(Tail::Nothing) => self.begin(token),
             Wants::Statement(tail) => self.go_on(tail, token),
             Wants::Name(naming) => match token {
                 Token::Name(name) => self.take_name(naming, name),

@@ -1,4 +1,4 @@
--- How a fault is said in a line: its name, and the expression that it is about.
+-- How a fault is said in a line: what is wrong inside, and the expression that it is about.
 use Rattle.std.specs.Prelude.{ℕ, List, [], ◌++◌, Option, None, Some, codes}
 use Rattle.ir_errors.specs.declared.expression.ExpressionError.{ExpressionError}
 use Rattle.ir_errors.specs.declared.expression.ExpressionError.TheVariants as expression
@@ -10,21 +10,12 @@ use Rattle.ir_errors.specs.declared.function.FunctionError.{FunctionError}
 use Rattle.ir_errors.specs.declared.function.FunctionError.TheVariants.{Expression, ExpressionAlreadyInScope, InvalidReturnType, InvalidIfType, InvalidSwitchType, InvalidStorePointer, InvalidStoreTexture, InvalidStoreValue, InvalidStoreTypes, InvalidImageStore, InvalidImageAtomic, InvalidImageAtomicValue, InvalidCall, InvalidAtomic, InvalidRayQueryExpression, InvalidAccelerationStructure, MissingAccelerationStructureVertexReturn, MissingRayQueryVertexReturn, InvalidRayDescriptor, InvalidHitDistanceType, NonUniformControlFlow, WorkgroupUniformLoadExpressionMismatch, WorkgroupUniformLoadInvalidPointer, InvalidSubgroup, InvalidCooperativeStoreTarget, InvalidCooperativeDataPointer, EmitResult, UnvisitedExpression, InvalidMeshFunctionCall, ConflictingMeshOutputTypes, ConflictingTaskPayloadVariables, InvalidMeshShaderOutputType}
 use Rattle.ir_errors.specs.declared.function.SubgroupError.{SubgroupError}
 use Rattle.ir_errors.specs.declared.function.SubgroupError.TheVariants as subgroup
-use Rattle.ir_errors.specs.Names.{expression_error_name}
-
--- the name of what is wrong with a call
-unfoldable pub call_name : CallError → List ℕ
-call_name (call.Argument k source) = codes "Argument"
-call_name (call.ResultAlreadyInScope h) = codes "ResultAlreadyInScope"
-call_name (call.ResultAlreadyPopulated h) = codes "ResultAlreadyPopulated"
-call_name (call.ArgumentCount required seen) = codes "ArgumentCount"
-call_name (call.ArgumentType k required h) = codes "ArgumentType"
-call_name (call.ExpressionMismatch h) = codes "ExpressionMismatch"
+use Rattle.ir_errors.specs.Names.{call_error_name, expression_error_name}
 
 -- a slash and the name of what is wrong inside, for faults of expressions and of calls
 unfoldable pub inner_text : FunctionError → List ℕ
 inner_text (Expression h source) = codes "/" ++ expression_error_name source
-inner_text (InvalidCall f error) = codes "/" ++ call_name error
+inner_text (InvalidCall f error) = codes "/" ++ call_error_name error
 inner_text _ = []
 
 -- the expression that an error of these kinds is about, if it is about one

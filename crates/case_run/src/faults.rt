@@ -1,27 +1,12 @@
-//! How a fault is said in a line: its name, and the expression that it is about. Nothing here takes memory.
+//! The expression that a fault is about. Nothing here takes memory.
 
 ghost use Rattle.std.specs.Prelude.{◌≡◌};
-ghost use Rattle.case_run.specs.FaultNames.{call_name, expression_handle, call_handle, atomic_handle, subgroup_handle, fault_handle};
+ghost use Rattle.case_run.specs.FaultNames.{expression_handle, call_handle, atomic_handle, subgroup_handle, fault_handle};
 
 use ir_arena::handle::Handle;
 use ir_arena::tag;
 use ir_errors::expression::ExpressionError;
 use ir_errors::function::{AtomicError, CallError, FunctionError, SubgroupError};
-
-/// The name of what is wrong with a call.
-#[tactic(auto, unfolding(crate::specs::FaultNames::call_name))]
-pub(crate) fn call_name(error: CallError) -> &'static str
-    ensures { result.now ≡ call_name error }
-{
-    match error {
-        CallError::Argument { .. } => "Argument",
-        CallError::ResultAlreadyInScope(_) => "ResultAlreadyInScope",
-        CallError::ResultAlreadyPopulated(_) => "ResultAlreadyPopulated",
-        CallError::ArgumentCount { .. } => "ArgumentCount",
-        CallError::ArgumentType { .. } => "ArgumentType",
-        CallError::ExpressionMismatch(_) => "ExpressionMismatch",
-    }
-}
 
 fn expression_handle(error: ExpressionError) -> Option<Handle<tag::Expression>>
     ensures { result ≡ expression_handle error }

@@ -5,7 +5,7 @@ ghost use Rattle.std.specs.Io.KnownBytes.{Appends};
 ghost use Rattle.case_run.specs.FaultNames.{inner_text};
 ghost use Rattle.case_run.specs.Line.{accepted_line, fault_line, handle_text, hex_digit};
 
-use crate::faults::{call_name, fault_handle};
+use crate::faults::fault_handle;
 use bitflags::Flags;
 use ir_arena::handle::Handle;
 use ir_arena::tag;
@@ -96,7 +96,7 @@ fn write_inner<W: Write>(fault: &FunctionError, writer: &mut W) -> io::Result<()
 {
     let name = match fault {
         FunctionError::Expression { source, .. } => source.name(),
-        FunctionError::InvalidCall { error, .. } => call_name(*error),
+        FunctionError::InvalidCall { error, .. } => error.name(),
         _ => return Ok(()),
     };
     writer.write_all(b"/")?;

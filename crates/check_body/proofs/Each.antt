@@ -1,8 +1,8 @@
 -- What an answer says of the points of each item of a list, item by item.
-use Rattle.std.proofs.Common.{◌≡◌, ℕ, ◌<◌, ◌≤◌, ◌+◌, ◌++◌, List, Option, None, Ok, Err, Result, length, drop, get_or, sym, ap, ◌∙◌}
+use Rattle.std.proofs.Common.{◌≡◌, ℕ, ◌<◌, ◌+◌, ◌++◌, List, Option, None, Ok, Err, Result, length, drop, get_or, sym, ap, ◌∙◌}
 use Rattle.std.specs.Option.{option_or}
 use Rattle.std.specs.Prelude.{IsErr}
-use Rattle.ir_arena.proofs.Points.{first_turn, first_end, first_of_both}
+use Rattle.ir_arena.proofs.Points.{first_turn, first_of_both}
 use Rattle.ir_arena.specs.Points.{first_fault, points_from}
 use Rattle.ir_arena.specs.declared.span.Refusal.{Refusal}
 use Rattle.ir_arena.specs.declared.span.Refusal.TheVariants as refusal
@@ -26,11 +26,6 @@ module _ {A : Type 0} (points : ℕ → A → Points) (xs : List A) (i : ℕ) wh
       first_fault (points i x) ≡ None → first_fault (points_from points (i + 1) (drop (i + 1) xs)) ≡ first_fault (points_from points 0 xs)
   each_passes x lt is left h =
       sym (first_turn points xs i x lt is ∙ ap (λ o. option_or o (first_fault (points_from points (i + 1) (drop (i + 1) xs)))) h) ∙ left
-
-  -- behind the last there is none
-  pub each_ends : length xs ≤ i → first_fault (points_from points i (drop i xs)) ≡ first_fault (points_from points 0 xs) →
-      first_fault (points_from points 0 xs) ≡ None
-  each_ends le left = sym left ∙ first_end points xs i le
 
 -- what the third of three lists of points says, where the first two have no fault
 pub third_decides : (a b c : Points) (o : Option FunctionError) → first_fault a ≡ None → first_fault b ≡ None → first_fault c ≡ o → first_fault (a ++ (b ++ c)) ≡ o

@@ -1,11 +1,11 @@
 -- The table of a function's expressions, as scopes are entered and left.
-use Rattle.std.proofs.Common.{◌≡◌, ◌≤◌, ℕ, Bool, true, false, Option, Some, None, subst, sym, ap, ◌∙◌, arith}
+use Rattle.std.proofs.Common.{◌≡◌, ℕ, Bool, true, false, Option, Some, None, subst, sym, ◌∙◌, arith}
 use Rattle.std.specs.Prelude.{◌≢◌, IfSome}
 use Rattle.check_scope.specs.Context.{Context}
 use Rattle.check_scope.specs.declared.table.ScopeColumn.{ScopeColumn}
 use Rattle.check_scope.specs.declared.table.ScopeState.TheVariants.{Open}
 use Rattle.check_scope.specs.declared.table.Table.{Table}
-use Rattle.check_scope.specs.walk.Table.{Shown, Divides, HasEntered, IsLast, IsTableOf, closing_if, count, left, scopes, shown, skipped}
+use Rattle.check_scope.specs.walk.Table.{Divides, HasEntered, IsLast, IsTableOf, closing_if, count, left, scopes, shown, skipped}
 use Rattle.check_scope.proofs.Operands.{entered_operands, left_operands, skipped_operands}
 
 abbrev after : Table → ScopeColumn → Table

@@ -18,7 +18,7 @@ use Rattle.naga_runs.specs.Handles.{Handles, with_handle}
 use Rattle.naga_runs.specs.Must.{with_sure, holds_continue, body_holds_continue, cases_hold_continue}
 use Rattle.naga_runs.specs.PutsAndUses.{with_acts, with_body, acts_of, puts_of}
 use Rattle.ir_arena.specs.Points.{first_fault, answer, and_then}
-use Rattle.naga_runs.specs.ByTree.{past, in_continuing, at_break_if, judge_visits, judge_body, judge_stmt, judge_parts, judge_cases, judge_break_if, case_abilities, loop_abilities, continuing_abilities}
+use Rattle.naga_runs.specs.ByTree.{past, in_continuing, at_break_if, judge_visits, judge_body, judge_stmt, judge_parts, judge_break_if, case_abilities, loop_abilities, continuing_abilities}
 use Rattle.naga_runs.proofs.Judgements.{judge_done, judge_more, judge_own, judge_block, judge_branch, judge_switch, judge_loop, judge_no_case, judge_one_case}
 use Rattle.ir_facts.specs.Answers.{IsFirstFault, Answers, Exactly, leaving}
 use Rattle.check_scope.specs.BodyTrees.{emitted_operands, tree_of, block_of, list_of, cases_of}
@@ -199,9 +199,6 @@ module _ (context : Context) (xs : List Located) (i : ℕ) where
       at_drop_more (λ l. body_holds_continue (list_of context l)) xs i x lt
       ∙ ap (λ z. body_holds_continue (list_of context (z ∷ drop (i + 1) xs))) (sym e)
 
-  pub holds_end : length xs ≤ i → body_holds_continue (list_of context (drop i xs)) ≡ false
-  holds_end le = at_drop_all (λ l. body_holds_continue (list_of context l)) xs i le
-
   pub rest_turn : (x : Located) → i < length xs → x ≡ get_or xs i x → list_of context (drop i xs) ≡ Then (tree_of context x) (list_of context (drop (i + 1) xs))
   rest_turn x lt e =
       at_drop_more (list_of context) xs i x lt ∙ ap (λ z. list_of context (z ∷ drop (i + 1) xs)) (sym e)
@@ -215,9 +212,6 @@ module _ (context : Context) (cs : List SwitchCase) (i : ℕ) where
   cases_hold_turn c lt e =
       at_drop_more (λ l. cases_hold_continue (cases_of context l)) cs i c lt
       ∙ ap (λ z. cases_hold_continue (cases_of context (z ∷ drop (i + 1) cs))) (sym e)
-
-  pub cases_hold_end : length cs ≤ i → cases_hold_continue (cases_of context (drop i cs)) ≡ false
-  cases_hold_end le = at_drop_all (λ l. cases_hold_continue (cases_of context l)) cs i le
 
   pub cases_turn : (k : State) (a : Abilities) (s : Sets) (c : SwitchCase) → i < length cs → c ≡ get_or cs i c →
       cases_answer context k a s (cases_of context (drop i cs)) ≡ and_then (body_answer context k a s (block_of context (out-SwitchCase c).body)) (λ l. cases_answer context l a s (cases_of context (drop (i + 1) cs)))

@@ -1,8 +1,8 @@
 -- What an answer says of an entry point's points that stand one behind another.
-use Rattle.std.proofs.Common.{◌≡◌, ℕ, ◌+◌, ◌<◌, ◌≤◌, List, None, Some, Ok, Err, Result, ◌++◌, length, drop, get_or, sym, ap, ◌∙◌}
+use Rattle.std.proofs.Common.{◌≡◌, ℕ, ◌+◌, ◌<◌, List, None, Some, Ok, Err, Result, ◌++◌, length, drop, get_or, sym, ap, ◌∙◌}
 use Rattle.std.specs.Prelude.{IsErr}
 use Rattle.std.specs.Option.{option_map, option_or}
-use Rattle.ir_arena.proofs.Points.{first_of_both, first_within, first_turn, first_end}
+use Rattle.ir_arena.proofs.Points.{first_of_both, first_within, first_turn}
 use Rattle.ir_arena.specs.Points.{Point, first_fault, points_from, within}
 use Rattle.ir_arena.specs.declared.span.Refusal.{Refusal}
 use Rattle.ir_arena.specs.declared.span.Refusal.TheVariants as refusal
@@ -54,8 +54,6 @@ judges_second (Ok t) first second e h = first_of_both first second ∙ ap (λ o.
 judges_second (Err (refusal.Fault f)) first second e h = first_of_both first second ∙ ap (λ o. option_or o (first_fault second)) e ∙ h
 judges_second (Err refusal.Memory) first second e h = tt
 
-pub ruleset judging = (judges_first, judges_second)
-
 -- points of which none fails
 pub both_pass : {Fault : Type 0} (ps qs : List (Point Fault)) → first_fault ps ≡ None → first_fault qs ≡ None → first_fault (ps ++ qs) ≡ None
 both_pass ps qs e f = first_of_both ps qs ∙ ap (λ o. option_or o (first_fault qs)) e ∙ f
@@ -86,11 +84,6 @@ module _ {A : Type 0} (points : ℕ → A → EntryPoints) (xs : List A) (i : �
       first_fault (points i x) ≡ None → first_fault (points_from points (i + 1) (drop (i + 1) xs)) ≡ first_fault (points_from points 0 xs)
   each_goes_on x lt is left h =
       sym (first_turn points xs i x lt is ∙ ap (λ o. option_or o (first_fault (points_from points (i + 1) (drop (i + 1) xs)))) h) ∙ left
-
-  -- behind the last there is none
-  pub each_has_ended : length xs ≤ i → first_fault (points_from points i (drop i xs)) ≡ first_fault (points_from points 0 xs) →
-      first_fault (points_from points 0 xs) ≡ None
-  each_has_ended le left = sym left ∙ first_end points xs i le
 
 -- a fault of an input or an output, as one of the entry point
 pub argument_fault : (index : ℕ) (points : List (Point VaryingFault)) (error : VaryingError) → first_fault points ≡ Some (varying_fault_of error) →

@@ -1,16 +1,15 @@
 -- The globals that are used, where no point of them fails.
-use Rattle.std.proofs.Common.{◌≡◌, ◌≤◌, ℕ, ◌==◌, Bool, true, false, List, [], None, Some, length, slice_get, sym, ap, ◌∙◌, arith}
-use Rattle.std.specs.Prelude.{nat_le, if◌then◌else◌}
-use Rattle.ir_arena.specs.Points.{first_fault, points_of_each}
+use Rattle.std.proofs.Common.{◌≡◌, ◌≤◌, ℕ, ◌==◌, Bool, true, false, List, [], None, Some, slice_get, ap, ◌∙◌, arith}
+use Rattle.std.specs.Prelude.{if◌then◌else◌}
+use Rattle.ir_arena.specs.Points.{first_fault}
 use Rattle.ir_module.specs.declared.module.EntryPoint.{EntryPoint}
 use Rattle.ir_module.specs.declared.module.GlobalVariable.{GlobalVariable}
 use Rattle.ir_module.specs.declared.module.Module.{Module}
 use Rattle.ir_flags.specs.declared.valid.GlobalUse.{GlobalUse}
 use Rattle.ir_flags.specs.declared.valid.ValidationFlags.{ValidationFlags}
 use Rattle.ir_facts.specs.Meaning.{Meaning}
-use Rattle.check_entry.specs.UsedGlobals.{binding_points, global_points, globals_points, immediate_points, points_if_used, use_points, used_global_points, used_immediates}
+use Rattle.check_entry.specs.UsedGlobals.{binding_points, global_points, points_if_used, use_points, used_global_points}
 use Rattle.check_entry.proofs.EntrySteps.{both_pass}
-use Rattle.check_faults.specs.declared.entry.EntryPointError.TheVariants as fault
 
 module _ (below : Meaning) (flags : ValidationFlags) (program : Module) (ep : EntryPoint) (uses : List GlobalUse) where
   -- a global without uses, with none of them, and one that is used
@@ -30,14 +29,6 @@ module _ (below : Meaning) (flags : ValidationFlags) (program : Module) (ep : En
       ap (λ o. first_fault (points_if_used below flags program ep uses h g o)) is
       ∙ ap (λ b. first_fault (if b then [] else used_global_points below flags program ep uses h g given)) some
       ∙ both_pass (use_points below flags program ep uses h g given) (binding_points flags uses program.global_variables h g.binding) allowed bound
-
-  -- all of them
-  pub all_hold : (immediates : ℕ) → immediates ≡ used_immediates uses program.global_variables (length program.global_variables) → nat_le immediates 1 ≡ true →
-      first_fault (points_of_each (global_points below flags program ep uses) program.global_variables) ≡ None →
-      first_fault (globals_points below flags program ep uses) ≡ None
-  all_hold immediates is le each =
-      both_pass (immediate_points uses program.global_variables) (points_of_each (global_points below flags program ep uses) program.global_variables)
-      (ap (λ b. if b then None else Some fault.MoreThanOneImmediateUsed) (ap (λ n. nat_le n 1) (sym is) ∙ le)) each
 
 pub ruleset holding = (not_there, unused, used_holds)
 

@@ -1,4 +1,4 @@
-//! The steps of an entry point but for its function: naga 30.0.1's `validate_entry_point`.
+//! The checks of an entry point but for its body: stage, inputs, outputs, used globals, mesh (naga's `validate_entry_point`).
 //! Part of the validator; no promise to users.
 #![tactic(auto)]
 

@@ -12,8 +12,6 @@ use Rattle.ir_statements.specs.declared.operations.AtomicFunction.TheVariants.{A
 use Rattle.ir_types.specs.declared.types.AddressSpace.{AddressSpace}
 use Rattle.ir_types.specs.declared.types.AddressSpace.TheVariants as space
 use Rattle.ir_leaves.specs.declared.scalars.Scalar.{Scalar}
-use Rattle.ir_leaves.specs.declared.scalars.ScalarKind.{ScalarKind}
-use Rattle.ir_leaves.specs.declared.scalars.ScalarKind.TheVariants as kind
 use Rattle.ir_types.specs.declared.types.Type.{«Type» as IrType}
 use Rattle.ir_types.specs.declared.types.TypeInner.{TypeInner}
 use Rattle.ir_types.specs.declared.types.TypeInner.TheVariants as inner

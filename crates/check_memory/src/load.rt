@@ -1,7 +1,6 @@
 //! The check list of WorkGroupUniformLoad.
 
 ghost use Rattle.std.specs.Prelude.{◌≡◌, ◌<◌, ◌∷◌, [], OnOk, IfSome, length};
-ghost use Rattle.std.specs.Option.{option_copied};
 ghost use Rattle.check_scope.specs.walk.Findings.{RefusesFaultsAlone};
 ghost use Rattle.ir_facts.specs.Answers.{Answers, Finds, FirstOf};
 ghost use Rattle.check_scope.specs.Context.{ContextFits};

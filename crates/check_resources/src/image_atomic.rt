@@ -1,6 +1,6 @@
 //! The check list of ImageAtomic.
 
-ghost use Rattle.std.specs.Prelude.{◌≡◌, ◌++◌};
+ghost use Rattle.std.specs.Prelude.{◌≡◌};
 ghost use Rattle.std.specs.Option.{option_copied};
 ghost use Rattle.ir_types.specs.Types.{inner_at};
 ghost use Rattle.check_scope.specs.walk.Findings.{RefusesFaultsAlone};

@@ -1,6 +1,6 @@
 //! The check list of ImageStore.
 
-ghost use Rattle.std.specs.Prelude.{◌≡◌, ◌++◌, IfOk, IfSome, IsOk};
+ghost use Rattle.std.specs.Prelude.{◌≡◌, IfOk, IfSome, IsOk};
 ghost use Rattle.std.specs.Option.{option_copied};
 ghost use Rattle.ir_types.specs.Members.{HasNoMembers};
 ghost use Rattle.check_scope.specs.walk.Findings.{RefusesFaultsAlone};

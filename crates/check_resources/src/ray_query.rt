@@ -1,6 +1,6 @@
 //! The check list of RayQuery.
 
-ghost use Rattle.std.specs.Prelude.{◌≡◌, ◌∷◌, [], OnOk};
+ghost use Rattle.std.specs.Prelude.{◌≡◌, OnOk};
 ghost use Rattle.std.specs.Option.{option_copied};
 ghost use Rattle.ir_facts.specs.FitsBody.{QueryFits};
 ghost use Rattle.ir_statements.specs.View.{query_acts};

@@ -7,7 +7,7 @@ use Rattle.std.specs.Prelude.{if◌then◌else◌}
 use Rattle.naga_runs.specs.Handles.{Handles, no_handles, with_handle}
 use Rattle.check_scope.specs.walk.ScopeNumbers.{number_at, state_at, IsSound}
 use Rattle.check_scope.specs.walk.Place.{Sets, no_sets}
-use Rattle.check_scope.specs.walk.Table.{Shown, where_kept, is_open, put_open, shown, known, known_in, count, unless_by, closing, left, skipped, with_all, with_puts, scopes, HasPut, HasEntered, IsLast, IsTableOf}
+use Rattle.check_scope.specs.walk.Table.{Shown, where_kept, is_open, put_open, shown, known, known_in, count, unless_by, closing, left, skipped, with_all, with_puts, scopes, HasPut, IsTableOf}
 use Rattle.check_scope.specs.declared.table.Table.{Table}
 use Rattle.check_scope.specs.Context.{Context}
 use Rattle.check_scope.specs.declared.table.ScopeColumn.{ScopeColumn}

@@ -1,8 +1,7 @@
 //! What the checks of a body read.
 
-ghost use Rattle.std.specs.Prelude.{◌≡◌, ◌↔◌, IsTrue, length};
+ghost use Rattle.std.specs.Prelude.{◌≡◌};
 ghost use Rattle.std.specs.Option.{option_copied};
-ghost use Rattle.ir_types.specs.Types.{NameEachOther, ResolutionFits};
 
 use crate::trace::TraceState;
 use ir_arena::handle::Handle;

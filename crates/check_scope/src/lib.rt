@@ -1,4 +1,4 @@
-//! The scope of expressions, the results that are filled, and what else every check list of a body reads.
+//! The table of expressions in scope and of filled results, and what else every check list of a body reads.
 //! Part of the validator; no promise to users.
 #![tactic(auto)]
 

@@ -147,14 +147,16 @@ pub(crate) fn validate_rarer_leaf(
             };
             validate_collective(scope, context, &collective, span)
         }
-        Statement::Emit(_) | Statement::Store { .. } | Statement::Call { .. } => unreachable!(),
-        Statement::Block(_)
+        Statement::Emit(_)
+        | Statement::Store { .. }
+        | Statement::Call { .. }
         | Statement::If { .. }
-        | Statement::Switch { .. }
+        | Statement::Block(_)
         | Statement::Loop { .. }
+        | Statement::Kill => unreachable!(),
+        Statement::Switch { .. }
         | Statement::Break
         | Statement::Continue
-        | Statement::Return { .. }
-        | Statement::Kill => Ok(()),
+        | Statement::Return { .. } => Ok(()),
     }
 }

@@ -1,6 +1,6 @@
 //! Results of calls and of atomic operations.
 
-ghost use Rattle.std.specs.Prelude.{◌≡◌, length};
+ghost use Rattle.std.specs.Prelude.{length};
 ghost use Rattle.check_scope.specs.Results.{filled_points_from, filled_points};
 ghost use Rattle.check_scope.specs.walk.SeenContext.{context_of};
 ghost use Rattle.check_scope.specs.walk.Table.{KnowsResults, count, filled_in};

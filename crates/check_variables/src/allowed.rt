@@ -1,7 +1,7 @@
 //! How a global may be used: naga 30.0.1's `storage_usage`, and the allowed usages of its `validate_entry_point`.
 
 ghost use Rattle.std.specs.Prelude.{◌≡◌};
-ghost use Rattle.check_variables.specs.AllowedUses.{join, allowed_by, storage_use, resource_use, memory_use, payload_use, hands_payload, takes_payload, allowed_use};
+ghost use Rattle.check_variables.specs.AllowedUses.{storage_use, resource_use, memory_use, payload_use, hands_payload, takes_payload, allowed_use};
 
 use bitflags::Flags;
 use ir_flags::ir::StorageAccess;

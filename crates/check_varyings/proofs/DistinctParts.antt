@@ -1,15 +1,15 @@
 -- Of an accepted group, no location and no built-in stands twice.
-use Rattle.std.proofs.Common.{◌≡◌, ℕ, suc, Bool, true, false, not, ◌||◌, List, [], ◌∷◌, ◌++◌, Option, None, Some, refl, sym, ap, ◌∙◌, arith}
+use Rattle.std.proofs.Common.{◌≡◌, ℕ, Bool, true, false, not, ◌||◌, List, [], ◌∷◌, ◌++◌, Option, None, Some, refl, sym, ap, ◌∙◌, arith}
 use Rattle.std.specs.Prelude.{codes, is_none, unwrap_or}
 use Rattle.ir_flags.specs.Bits.{IO_SHAREABLE}
 use Rattle.ir_flags.specs.Capabilities.{MESH_SHADER, NO_CAPABILITY, has_capability}
 use Rattle.ir_leaves.specs.declared.stage.ShaderStage.TheVariants.{Fragment}
 use Rattle.ir_types.specs.TypeInfos.{type_has}
 use Rattle.ir_errors.specs.declared.interface.VaryingError.TheVariants.{BindingCollision, BlendSrcNotOnStructMember, DuplicateBuiltIn, InvalidBuiltInStage, InvalidBuiltInType, InvalidMultiDimensionalSubgroupBuiltIn, InvalidPerPrimitive, MissingPerPrimitive, NotIOShareableType, UnsupportedCapability}
-use Rattle.std.specs.Option.{option_map, option_or}
+use Rattle.std.specs.Option.{option_map}
 use Rattle.std.proofs.lemmas.Bool.Decides.{nat_tests}
 use Rattle.std.proofs.lemmas.List.{append_assoc, append-nil}
-use Rattle.ir_arena.proofs.Points.{both_hold, first_holds, first_of_both, first_within, not_holds}
+use Rattle.ir_arena.proofs.Points.{both_hold, first_holds, first_within, not_holds}
 use Rattle.ir_leaves.specs.EqualBuiltIns.{built_in_same}
 use Rattle.ir_arena.specs.Points.{Point, first_fault, within}
 use Rattle.ir_types.specs.Types.{inner_at}
@@ -24,7 +24,7 @@ use Rattle.check_varyings.specs.Locations.{carried_type, interpolation_points, i
 use Rattle.ir_facts.specs.WhatIsChecked.{checks_bindings}
 use Rattle.check_varyings.specs.Seen.{Seen}
 use Rattle.check_varyings.specs.VaryingFaults.{InvalidAttribute, InvalidInputAttribute, Itself, VaryingFault}
-use Rattle.check_varyings.specs.Varyings.{Part, Bound, UnboundMember, Unbound, BlendSources, Item, Placed, bound_points, built_in_points, group_parts, group_points_from, has_built_in_type, has_one_dimension, has_required, is_at, is_built_in, is_of_one_dimension, part_points, placed_parts, placed_points, seen_at}
+use Rattle.check_varyings.specs.Varyings.{Part, Bound, UnboundMember, Unbound, BlendSources, Placed, bound_points, built_in_points, has_built_in_type, has_one_dimension, has_required, is_at, is_built_in, is_of_one_dimension, part_points, placed_points, seen_at}
 use Rattle.ir_errors.specs.declared.interface.VaryingError.{VaryingError}
 use Rattle.check_varyings.specs.declared.varying.VaryingPlace.{VaryingPlace}
 
@@ -108,20 +108,6 @@ module _ (types : List IrType) (infos : List TypeInfo) where
       let here = part_points p.place types infos (seen_at p.place earlier) p.part in
       ap (λ l. here ++ l) (placed_points-append (earlier ++ p ∷ []) ps qs ∙ ap (λ l. placed_points types infos (earlier ++ p ∷ []) ps ++ placed_points types infos l qs) (append_assoc earlier (p ∷ []) ps))
       ∙ sym (append_assoc here (placed_points types infos (earlier ++ p ∷ []) ps) (placed_points types infos (earlier ++ (p ∷ ps)) qs))
-
-  none_of_both : (ps qs : List (Point VaryingFault)) → first_fault ps ≡ None → first_fault qs ≡ None → first_fault (ps ++ qs) ≡ None
-  none_of_both ps qs e f = first_of_both ps qs ∙ ap (λ o. option_or o (first_fault qs)) e ∙ f
-
-  -- the parts of an accepted group are accepted, one behind the other
-  pub none_of_group : {Fault : Type 0} (fault : ℕ → VaryingFault → Fault) (earlier : List Placed) (k : ℕ) (items : List Item) →
-      first_fault (group_points_from types infos fault earlier k items) ≡ None → first_fault (placed_points types infos earlier (group_parts types infos items)) ≡ None
-  none_of_group fault earlier k [] e = refl
-  none_of_group fault earlier k (item ∷ items) e =
-      let parts = placed_parts types infos item in
-      let both = both_hold (within (fault k) (placed_points types infos earlier parts)) (group_points_from types infos fault (earlier ++ parts) (suc k) items) e in
-      let here = none_within (fault k) (placed_points types infos earlier parts) both.0 in
-      let rest = none_of_group fault (earlier ++ parts) (suc k) items both.1 in
-      ap first_fault (placed_points-append earlier parts (group_parts types infos items)) ∙ none_of_both (placed_points types infos earlier parts) (placed_points types infos (earlier ++ parts) (group_parts types infos items)) here rest
 
   none_at : (before behind : List Placed) (p : Placed) (parts : List Placed) → parts ≡ before ++ p ∷ behind →
       first_fault (placed_points types infos [] parts) ≡ None → first_fault (part_points p.place types infos (seen_at p.place before) p.part) ≡ None

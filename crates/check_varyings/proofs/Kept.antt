@@ -1,5 +1,5 @@
 -- What a state has seen, as the code changes it.
-use Rattle.std.proofs.Common.{◌≡◌, ℕ, ◌+◌, ◌<◌, ◌≤◌, Bool, true, false, not, ◌&&◌, ◌||◌, ◌==◌, List, [], ◌∷◌, ◌++◌, Option, None, Some, Result, Ok, Err, length, take, get_or, refl, sym, ap, ◌∙◌, arith, inl, inr}
+use Rattle.std.proofs.Common.{◌≡◌, ℕ, ◌+◌, ◌<◌, ◌≤◌, Bool, true, false, not, ◌&&◌, ◌||◌, ◌==◌, List, [], ◌∷◌, ◌++◌, None, Some, Result, Ok, Err, length, take, get_or, refl, sym, ap, ◌∙◌, arith, inl, inr}
 use Rattle.std.proofs.Math.Bool.{or_assoc}
 use Rattle.std.proofs.lemmas.Bool.{cases_lt, cond_both, cond-true, cond-false, lt-ltb, le-ltb, ne_eqb, eqb-true}
 use Rattle.std.proofs.lemmas.List.{take_more}
@@ -14,7 +14,7 @@ use Rattle.check_varyings.specs.BuiltInNumbers.{number_of}
 use Rattle.check_varyings.specs.CodeVaryings.{far_less, far_location, location_of, seen_more, with_location}
 use Rattle.check_varyings.specs.Seen.{Seen}
 use Rattle.check_varyings.specs.SmallSets.{has_number}
-use Rattle.check_varyings.specs.Varyings.{Part, Bound, BlendSources, is_at, is_bound_at, is_bound_to, is_built_in, nothing_seen, seen_by, seen_with, without_built_ins}
+use Rattle.check_varyings.specs.Varyings.{Part, Bound, is_at, is_built_in, nothing_seen, seen_by, seen_with, without_built_ins}
 use Rattle.check_varyings.specs.declared.small_set.SmallSet.{SmallSet}
 use Rattle.check_varyings.specs.declared.varying.Near.{Near}
 use Rattle.check_varyings.proofs.BuiltInNumbers.{same_number}
@@ -119,9 +119,6 @@ seen_with-append s ps qs =
 
 pub more_is : (s : Seen) (ty : ℕ) (given : Binding) → seen_more s given ≡ seen_with s (Bound ty given ∷ [])
 more_is s ty given = seen_same _ _ (λ l. ap (λ b. s.locations l || b) (sym (or_false _))) (λ b. ap (λ x. s.built_ins b || x) (sym (or_false _)))
-
-pub location_is : (s : Seen) → with_location s 0 ≡ seen_with s (BlendSources ∷ [])
-location_is s = seen_same _ _ (λ l. ap (λ b. s.locations l || b) (sym (or_false _))) (λ b. sym (or_false _))
 
 far_at : (k l : ℕ) → (if nat_lt k 64 then None else Some k) ≡ Some l → (k ≡ l) × (64 ≤ l)
 far_at k l e =

@@ -2,7 +2,7 @@
 use Rattle.std.proofs.Common.{◌≡◌, ℕ, suc, ◌+◌, ◌<◌, ◌≤◌, List, [], ◌∷◌, ◌++◌, Option, None, Result, Ok, Err, length, take, drop, get_or, sym, ap, ◌∙◌, arith}
 use Rattle.std.specs.Prelude.{IsErr}
 use Rattle.std.specs.Option.{option_or}
-use Rattle.std.proofs.lemmas.List.{append-nil, at_drop_all, at_drop_more, length-take-le, take_more}
+use Rattle.std.proofs.lemmas.List.{append-nil, at_drop_more, length-take-le, take_more}
 use Rattle.ir_arena.proofs.Points.{first_of_both}
 use Rattle.ir_arena.specs.Points.{Point, first_fault}
 use Rattle.ir_types.specs.declared.types.StructMember.{StructMember}
@@ -73,11 +73,6 @@ refused_at (Err Memory) ps whole o err e h = tt
 
 pub passed_at : (ps : List (Point VaryingFault)) (whole o : Option VaryingFault) → whole ≡ option_or (first_fault ps) o → first_fault ps ≡ None → o ≡ whole
 passed_at ps whole o e h = sym (e ∙ ap (λ z. option_or z o) h)
-
--- behind all members
-pub rest_ends : (place : VaryingPlace) (types : List IrType) (infos : List TypeInfo) (s : Seen) (done : List Part) (ms : List StructMember) (i : ℕ) → length ms ≤ i →
-    first_fault (points_behind place types infos s done (member_parts i (drop i ms))) ≡ None
-rest_ends place types infos s done ms i le = at_drop_all (λ l. first_fault (points_behind place types infos s done (member_parts i l))) ms i le
 
 -- of one part alone
 pub one_part : (place : VaryingPlace) (types : List IrType) (infos : List TypeInfo) (s : Seen) (p : Part) →

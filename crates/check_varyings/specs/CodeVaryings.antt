@@ -3,14 +3,8 @@ use Rattle.std.specs.Prelude.{ℕ, Bool, not, ◌==◌, ◌&&◌, ◌||◌, nat_
 use Rattle.std.specs.List.{list_any}
 use Rattle.ir_leaves.specs.declared.bindings.Binding.{Binding}
 use Rattle.ir_leaves.specs.declared.bindings.Binding.TheVariants as binding
-use Rattle.check_varyings.specs.BuiltIns.{canonical}
 use Rattle.check_varyings.specs.Seen.{Seen}
 use Rattle.check_varyings.specs.Varyings.{is_bound_at, is_bound_to}
-
--- what is bound is there
-abbrev pub is_taken : Seen → Binding → Bool
-is_taken seen (binding.BuiltIn b) = seen.built_ins (canonical b)
-is_taken seen (binding.Location location interpolation sampling blend_src per_primitive) = seen.locations location
 
 -- with a location
 abbrev pub with_location : Seen → ℕ → Seen

@@ -1,11 +1,10 @@
 //! The check list of a location.
 
-ghost use Rattle.std.specs.Prelude.{◌≡◌, ◌<◌, ◌||◌, ◌++◌, not, Some, length};
+ghost use Rattle.std.specs.Prelude.{◌≡◌, ◌<◌, ◌||◌, ◌++◌, Some, length};
 ghost use Rattle.std.specs.Result.{result_err};
 ghost use Rattle.ir_arena.specs.Points.{first_fault};
-ghost use Rattle.ir_types.specs.Types.{NameEachOther, inner_at};
-ghost use Rattle.check_varyings.specs.Locations.{carried_type, combination_points, go_together, interpolation_points, is_array_of_three, is_fragment_input, is_interpolated, kind_points, location_points, may_take, per_vertex_points, sharing_points};
-ghost use Rattle.ir_facts.specs.WhatIsChecked.{checks_bindings};
+ghost use Rattle.ir_types.specs.Types.{NameEachOther};
+ghost use Rattle.check_varyings.specs.Locations.{carried_type, go_together, interpolation_points, is_array_of_three, is_fragment_input, is_interpolated, kind_points, location_points, may_take, per_vertex_points, sharing_points};
 ghost use Rattle.check_varyings.specs.Varyings.{seen_in};
 
 use crate::built_in::has_mesh_shader;

@@ -3,7 +3,7 @@
 ghost use Rattle.std.specs.Prelude.{◌≡◌, ◌<◌, ◌≤◌, ◌||◌, ◌&&◌, ◌==◌, not, ℕ, None, OnOk, OnErr};
 ghost use Rattle.std.specs.BTreeSet.{contains as set_contains};
 ghost use Rattle.check_varyings.specs.BuiltIns.{canonical};
-ghost use Rattle.check_varyings.specs.CodeVaryings.{far_less, far_location, is_taken, seen_more, with_location};
+ghost use Rattle.check_varyings.specs.CodeVaryings.{far_less, far_location, seen_more, with_location};
 ghost use Rattle.check_varyings.specs.Varyings.{far_in, nothing_seen, seen_by, seen_in, without_built_ins};
 
 use crate::built_in_number::number_of;
@@ -121,16 +121,6 @@ impl VaryingState {
         ensures far_err { OnErr result ((l : ℕ) → far_in self.new l ≡ far_in self.old l) }
     {
         insert(&mut self.far, location)
-    }
-
-    /// Whether what is bound is there.
-    pub(crate) fn has(&self, binding: Binding) -> bool
-        ensures { result ≡ is_taken (seen_in self.now) binding }
-    {
-        match binding {
-            Binding::BuiltIn(built_in) => self.has_built_in(canonical(built_in)),
-            Binding::Location { location, .. } => self.has_location(location),
-        }
     }
 
     /// Puts in what is bound, which takes no memory.

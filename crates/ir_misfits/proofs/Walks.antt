@@ -25,6 +25,10 @@ pub stops_in : (c : Bool) (f : Misfit) (ps rest : Points) (told : Misfit) → No
 stops_in true f ps rest told h e = ap (λ o. option_or o (first_fault rest)) e ∙ sym (first_of_both ps rest)
 stops_in false f ps rest told h e = cc
 
+-- points hold, and others behind them decide
+pub passes_in : (ps rest : Points) (o : Option Misfit) → None ≡ first_fault ps → o ≡ first_fault rest → o ≡ first_fault (ps ++ rest)
+passes_in ps rest o h e = e ∙ ap (λ x. option_or x (first_fault rest)) h ∙ sym (first_of_both ps rest)
+
 module _ (m : Module) (n earlier : ℕ) (of : Owner) where
   module _ (xs : List Located) (i : ℕ) (x : Located) (lt : i < length xs) (is : x ≡ get_or xs i x) where
     abbrev Here : Stmt

@@ -8,7 +8,7 @@ ghost use Rattle.ir_facts.specs.FitsBody.{StatementFits, BodyFits, CasesFit};
 ghost use Rattle.ir_misfits.specs.OfBodies.{next, after_statement, after_body, after_cases, statement_points, body_points, cases_points};
 
 use crate::leaf::{Asked, check_leaf, leaf_fits};
-use crate::misfit::{Misfit, StatementField};
+use crate::misfit::{Misfit, Owner, StatementField};
 use crate::numbered::Numbered;
 use ir_statements::statements::{Block, Located, Statement, SwitchCase};
 
@@ -118,38 +118,48 @@ fn next(number: usize) -> usize
 
 /// The statements of a block, of which the first has this number. Ok has the number of the one after it.
 #[cycle(check)]
-pub(crate) fn check_block(asked: &Asked, number: usize, block: &Block) -> Result<usize, Misfit>
+pub(crate) fn check_block(
+    asked: &Asked,
+    owner: Owner,
+    number: usize,
+    block: &Block,
+) -> Result<usize, Misfit>
     ensures first { result_err result ≡ first_fault (body_points asked.now.module.now asked.now.expressions
-        asked.now.earlier asked.now.owner number (body_of no_operands block.now)) }
+        asked.now.earlier owner number (body_of no_operands block.now)) }
     ensures after { IfOk result (λ after. after ≡ after_body number (body_of no_operands block.now)) }
 {
-    check_list(asked, number, block.list.as_slice())
+    check_list(asked, owner, number, block.list.as_slice())
 }
 
 #[cycle(check)]
 #[tactic(auto, using(ir_arena::proofs::Points::first_of_both))]
-fn check_list(asked: &Asked, number: usize, list: &[Located]) -> Result<usize, Misfit>
+fn check_list(asked: &Asked, owner: Owner, number: usize, list: &[Located]) -> Result<usize, Misfit>
     ensures first { result_err result ≡ first_fault (body_points asked.now.module.now asked.now.expressions
-        asked.now.earlier asked.now.owner number (list_body no_operands list.now)) }
+        asked.now.earlier owner number (list_body no_operands list.now)) }
     ensures after { IfOk result (λ after. after ≡ after_body number (list_body no_operands list.now)) }
 {
     let mut after = number;
     for located in list {
-        after = check_statement(asked, after, located)?;
+        after = check_statement(asked, owner, after, located)?;
     }
     Ok(after)
 }
 
 #[cycle(check)]
 #[tactic(auto, using(ir_arena::proofs::Points::first_of_both))]
-fn check_cases(asked: &Asked, number: usize, cases: &[SwitchCase]) -> Result<usize, Misfit>
+fn check_cases(
+    asked: &Asked,
+    owner: Owner,
+    number: usize,
+    cases: &[SwitchCase],
+) -> Result<usize, Misfit>
     ensures first { result_err result ≡ first_fault (cases_points asked.now.module.now asked.now.expressions
-        asked.now.earlier asked.now.owner number (list_cases no_operands cases.now)) }
+        asked.now.earlier owner number (list_cases no_operands cases.now)) }
     ensures after { IfOk result (λ after. after ≡ after_cases number (list_cases no_operands cases.now)) }
 {
     let mut after = number;
     for case in cases {
-        after = check_block(asked, after, &case.body)?;
+        after = check_block(asked, owner, after, &case.body)?;
     }
     Ok(after)
 }
@@ -157,42 +167,47 @@ fn check_cases(asked: &Asked, number: usize, cases: &[SwitchCase]) -> Result<usi
 /// The statement with this number, and those that it holds.
 #[cycle(check)]
 #[tactic(auto, using(ir_arena::proofs::Points::first_of_both))]
-fn check_statement(asked: &Asked, number: usize, located: &Located) -> Result<usize, Misfit>
+fn check_statement(
+    asked: &Asked,
+    owner: Owner,
+    number: usize,
+    located: &Located,
+) -> Result<usize, Misfit>
     ensures first { result_err result ≡ first_fault (statement_points asked.now.module.now asked.now.expressions
-        asked.now.earlier asked.now.owner number
+        asked.now.earlier owner number
         (tree_of no_operands located.now.statement located.now.span)) }
     ensures after { IfOk result (λ after. after
         ≡ after_statement number (tree_of no_operands located.now.statement located.now.span)) }
 {
     let this = Numbered {
-        owner: asked.owner,
+        owner,
         number,
         expressions: asked.expressions,
     };
     let inside = next(number);
     let statement = &located.statement;
     match statement {
-        Statement::Block(block) => check_block(asked, inside, block),
+        Statement::Block(block) => check_block(asked, owner, inside, block),
         Statement::If {
             condition,
             accept,
             reject,
         } => {
             this.names(StatementField::Condition, *condition)?;
-            let after = check_block(asked, inside, accept)?;
-            check_block(asked, after, reject)
+            let after = check_block(asked, owner, inside, accept)?;
+            check_block(asked, owner, after, reject)
         }
         Statement::Switch { selector, cases } => {
             this.names(StatementField::Selector, *selector)?;
-            check_cases(asked, inside, cases.as_slice())
+            check_cases(asked, owner, inside, cases.as_slice())
         }
         Statement::Loop {
             body,
             continuing,
             break_if,
         } => {
-            let after = check_block(asked, inside, body)?;
-            let after = check_block(asked, after, continuing)?;
+            let after = check_block(asked, owner, inside, body)?;
+            let after = check_block(asked, owner, after, continuing)?;
             this.names_if_any(StatementField::BreakIf, *break_if)?;
             Ok(after)
         }
@@ -216,7 +231,7 @@ fn check_statement(asked: &Asked, number: usize, located: &Located) -> Result<us
         | Statement::SubgroupGather { .. }
         | Statement::CooperativeStore { .. }
         | Statement::RayPipelineFunction(_) => {
-            check_leaf(asked, number, statement)?;
+            check_leaf(asked, owner, number, statement)?;
             Ok(inside)
         }
     }

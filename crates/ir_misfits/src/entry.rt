@@ -1,11 +1,11 @@
 //! Whether an entry point fits besides its function, and what doesn't fit of it.
 
-ghost use Rattle.std.specs.Prelude.{◌≡◌, ◌≢◌, ◌++◌, ◌↔◌, IsTrue, All};
+ghost use Rattle.std.specs.Prelude.{◌≡◌, ◌≢◌, ◌↔◌, IsTrue, All};
 ghost use Rattle.std.specs.Result.{result_err};
 ghost use Rattle.ir_arena.specs.Points.{first_fault, points_of_each};
 ghost use Rattle.ir_types.specs.declared.types.AddressSpace.TheVariants as space;
 ghost use Rattle.ir_facts.specs.Fits.{MeshFits};
-ghost use Rattle.ir_misfits.specs.OfEntries.{mesh_points, mesh_points_if, is_of_module, space_points, entry_points};
+ghost use Rattle.ir_misfits.specs.OfEntries.{mesh_points, mesh_points_if, space_points, entry_points};
 
 use crate::fits::fits_entry;
 use crate::misfit::{EntryField, HandleOf, Misfit, Place, Problem, VariableField};

@@ -39,8 +39,6 @@ pub(crate) fn body_fits(fun: &Function, module: &Module, earlier: usize) -> bool
         (body_of no_operands fun.now.body) }
 {
     let asked = Asked {
-        // (whose function it is isn't asked)
-        owner: Owner::Function(0),
         module,
         expressions: fun.expressions.len(),
         earlier,
@@ -130,11 +128,10 @@ fn check_body(owner: Owner, fun: &Function, module: &Module, earlier: usize) -> 
         (body_of no_operands fun.now.body)) }
 {
     let asked = Asked {
-        owner,
         module,
         expressions: fun.expressions.len(),
         earlier,
     };
-    check_block(&asked, 0, &fun.body)?;
+    check_block(&asked, owner, 0, &fun.body)?;
     Ok(())
 }

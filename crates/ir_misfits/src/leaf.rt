@@ -15,10 +15,9 @@ use ir_arena::tag;
 use ir_module::module::Module;
 use ir_statements::statements::Statement;
 
-/// Whose body it is, in which module, how many expressions there are, and how many functions calls may name.
+/// In which module a body is, how many expressions there are, and how many functions calls may name.
 #[derive(Drop)]
 pub(crate) struct Asked<'a> {
-    pub owner: Owner,
     pub module: &'a Module,
     pub expressions: usize,
     pub earlier: usize,
@@ -67,17 +66,18 @@ impl Asked<'_> {
 #[tactic(auto, using(ir_arena::proofs::Points::first_of_both))]
 fn check_call(
     asked: &Asked,
+    owner: Owner,
     number: usize,
     function: Handle<tag::Function>,
     arguments: &[Handle<tag::Expression>],
     answer: Option<Handle<tag::Expression>>,
 ) -> Result<(), Misfit>
     ensures { result_err result ≡ first_fault (call_points asked.now.module.now asked.now.expressions
-        asked.now.earlier asked.now.owner number function arguments.now answer) }
+        asked.now.earlier owner number function arguments.now answer) }
 {
-    let place = Place::InStatement(asked.owner, number, StatementField::Function);
+    let place = Place::InStatement(owner, number, StatementField::Function);
     let statement = Numbered {
-        owner: asked.owner,
+        owner,
         number,
         expressions: asked.expressions,
     };
@@ -89,12 +89,17 @@ fn check_call(
 
 /// A statement that is neither a jump nor holds others; nothing of any other.
 #[tactic(auto, using(ir_arena::proofs::Points::first_of_both))]
-pub(crate) fn check_leaf(asked: &Asked, number: usize, statement: &Statement) -> Result<(), Misfit>
+pub(crate) fn check_leaf(
+    asked: &Asked,
+    owner: Owner,
+    number: usize,
+    statement: &Statement,
+) -> Result<(), Misfit>
     ensures { result_err result ≡ first_fault (leaf_points asked.now.module.now asked.now.expressions
-        asked.now.earlier asked.now.owner number statement.now) }
+        asked.now.earlier owner number statement.now) }
 {
     let this = Numbered {
-        owner: asked.owner,
+        owner,
         number,
         expressions: asked.expressions,
     };
@@ -128,7 +133,14 @@ pub(crate) fn check_leaf(asked: &Asked, number: usize, statement: &Statement) ->
             function,
             arguments,
             result: answer,
-        } => check_call(asked, number, *function, arguments.as_slice(), *answer),
+        } => check_call(
+            asked,
+            owner,
+            number,
+            *function,
+            arguments.as_slice(),
+            *answer,
+        ),
         Statement::RayQuery { query, fun } => this.check_ray_query(*query, *fun),
         Statement::SubgroupBallot {
             result: answer,
@@ -166,6 +178,6 @@ pub(crate) fn check_leaf(asked: &Asked, number: usize, statement: &Statement) ->
 pub(crate) fn leaf_fits(asked: &Asked, statement: &Statement) -> bool
     ensures { IsTrue result ↔ LeafFits asked.now.module.now asked.now.expressions asked.now.earlier statement.now }
 {
-    // (that doesn't depend on its number)
-    check_leaf(asked, 0, statement).is_ok()
+    // (that doesn't depend on whose it is, nor on its number)
+    check_leaf(asked, Owner::Module, 0, statement).is_ok()
 }

@@ -1,4 +1,4 @@
-//! The tests of conditions, and what doesn't fit: the first thing that fails one, by its place and what is wrong there; and which
+//! The tests of conditions: whether all that a module names exists (handles in range), the first thing that doesn't, and which
 //! recorded facts are short. Nothing allocates. Users import the tests from `naga_below`, and the rest from `naga_module`.
 #![tactic(auto)]
 

@@ -1,6 +1,6 @@
 //! Whether a handle that stands at a place names something there.
 
-ghost use Rattle.std.specs.Prelude.{◌≡◌, ◌<◌, ◌↔◌, nat_lt, nat_le, true, false, IsTrue, IfErr, IfSome, OnOk, [], ◌∷◌};
+ghost use Rattle.std.specs.Prelude.{◌≡◌, ◌<◌, ◌↔◌, IsTrue, IfSome, [], ◌∷◌};
 ghost use Rattle.std.specs.Result.{result_err};
 ghost use Rattle.ir_arena.specs.Points.{first_fault};
 ghost use Rattle.ir_misfits.specs.Points.{named, named_if, counted};

@@ -63,11 +63,6 @@ number_kept = by_kind (λ j d. option_and_then number_of (find.as_number j) ≡ 
 pub array_kept : (j : json.Json) (d : Data) → of_json j ≡ Some d → option_and_then of_items (find.as_array j) ≡ as_array d
 array_kept = by_kind (λ j d. option_and_then of_items (find.as_array j) ≡ as_array d) refl (λ b. refl) (λ s n e. refl) (λ s. refl) (λ js ds e. e) (λ ms ds e. refl)
 
-pub object_kept : (j : json.Json) (d : Data) → of_json j ≡ Some d → option_and_then (λ ms. of_members ms no_members) (find.as_object j) ≡ as_object d
-object_kept =
-    by_kind (λ j d. option_and_then (λ ms. of_members ms no_members) (find.as_object j) ≡ as_object d)
-    refl (λ b. refl) (λ s n e. refl) (λ s. refl) (λ js ds e. refl) (λ ms ds e. e)
-
 -- an object is one
 pub is_object_kept : (j : json.Json) (d : Data) → of_json j ≡ Some d → is_some (find.as_object j) ≡ is_some (as_object d)
 is_object_kept = by_kind (λ j d. is_some (find.as_object j) ≡ is_some (as_object d)) refl (λ b. refl) (λ s n e. refl) (λ s. refl) (λ js ds e. refl) (λ ms ds e. refl)

@@ -1,4 +1,4 @@
-//! Reads a JSON text as a tree whose values are read where they lie.
+//! Reads a JSON text as a flat list of nodes, whose values are read where they lie.
 //! Part of `naga_judge`; no promise to users.
 #![tactic(auto)]
 

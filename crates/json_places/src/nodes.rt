@@ -101,7 +101,25 @@ fn add_parts<'a>(
             add_block(nodes, list_of(number, Part::Body), depth, body)?;
             add_block(nodes, list_of(number, Part::Continuing), depth, continuing)
         }
-        _ => Ok(()),
+        Statement::Emit(_)
+        | Statement::Break
+        | Statement::Continue
+        | Statement::Return { .. }
+        | Statement::Kill
+        | Statement::ControlBarrier(_)
+        | Statement::MemoryBarrier(_)
+        | Statement::Store { .. }
+        | Statement::ImageStore { .. }
+        | Statement::Atomic { .. }
+        | Statement::ImageAtomic { .. }
+        | Statement::WorkGroupUniformLoad { .. }
+        | Statement::Call { .. }
+        | Statement::RayQuery { .. }
+        | Statement::SubgroupBallot { .. }
+        | Statement::SubgroupCollectiveOperation { .. }
+        | Statement::SubgroupGather { .. }
+        | Statement::CooperativeStore { .. }
+        | Statement::RayPipelineFunction(_) => Ok(()),
     }
 }
 
@@ -191,12 +209,35 @@ pub fn result_of(statement: &Statement) -> Option<Handle<tag::Expression>> {
         Statement::WorkGroupUniformLoad { result: answer, .. }
         | Statement::SubgroupBallot { result: answer, .. }
         | Statement::SubgroupCollectiveOperation { result: answer, .. }
-        | Statement::SubgroupGather { result: answer, .. }
-        | Statement::RayQuery {
-            fun: RayQueryFunction::Proceed { result: answer },
-            ..
-        } => Some(*answer),
-        _ => None,
+        | Statement::SubgroupGather { result: answer, .. } => Some(*answer),
+        Statement::RayQuery { fun, .. } => query_result(fun),
+        Statement::Emit(_)
+        | Statement::Block(_)
+        | Statement::If { .. }
+        | Statement::Switch { .. }
+        | Statement::Loop { .. }
+        | Statement::Break
+        | Statement::Continue
+        | Statement::Return { .. }
+        | Statement::Kill
+        | Statement::ControlBarrier(_)
+        | Statement::MemoryBarrier(_)
+        | Statement::Store { .. }
+        | Statement::ImageStore { .. }
+        | Statement::ImageAtomic { .. }
+        | Statement::CooperativeStore { .. }
+        | Statement::RayPipelineFunction(_) => None,
+    }
+}
+
+/// The result of an operation on a ray query, if it has one.
+fn query_result(fun: &RayQueryFunction) -> Option<Handle<tag::Expression>> {
+    match fun {
+        RayQueryFunction::Proceed { result: answer } => Some(*answer),
+        RayQueryFunction::Initialize { .. }
+        | RayQueryFunction::GenerateIntersection { .. }
+        | RayQueryFunction::ConfirmIntersection
+        | RayQueryFunction::Terminate => None,
     }
 }
 

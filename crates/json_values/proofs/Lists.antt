@@ -22,10 +22,6 @@ module _ {T : Type 0} (f : Data → Option T) where
   one_more : (done : List T) (d : Data) (ds : Items) (x : T) → f d ≡ Some x → each_behind f done (item d ds) ≡ each_behind f (done ++ x ∷ []) ds
   one_more done d ds x h = rw h (moved done x (each_of f ds))
 
-  -- one item stands for nothing
-  refused : (done : List T) (d : Data) (ds : Items) → f d ≡ None → each_behind f done (item d ds) ≡ None
-  refused done d ds h = rw h refl
-
   -- none is read yet
   pub begun : (done : List T) (ds : Items) (o : Option Items) → done ≡ [] → o ≡ Some ds → each_behind f done ds ≡ option_and_then (each_of f) o
   begun done ds o none is = ap (λ xs. each_behind f xs ds) none ∙ unmoved (each_of f ds) ∙ sym (ap (option_and_then (each_of f)) is)
@@ -35,10 +31,6 @@ module _ {T : Type 0} (f : Data → Option T) where
       → ds ≡ item d es → f d ≡ Some x → new ≡ done ++ x ∷ []
       → each_behind f done ds ≡ r → each_behind f new es ≡ r
   read_on done new ds es d x r is read more rest = rw more (sym (one_more done d es x read) ∙ sym (ap (each_behind f done) is) ∙ rest)
-
-  -- the next item stands for nothing
-  pub stopped : (done : List T) (ds es : Items) (d : Data) (r : Option (List T)) → ds ≡ item d es → f d ≡ None → each_behind f done ds ≡ r → r ≡ None
-  stopped done ds es d r is none rest = sym rest ∙ ap (each_behind f done) is ∙ refused done d es none
 
   -- all are read
   pub ended : (done : List T) (ds : Items) (r : Option (List T)) → ds ≡ no_items → each_behind f done ds ≡ r → r ≡ Some done

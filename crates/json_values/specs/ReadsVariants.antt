@@ -2,15 +2,15 @@
 use Rattle.std.specs.Prelude.{◌≡◌, Option, Some, None, Result, Ok, Err}
 use Rattle.json_nodes.specs.Nodes.{data_of}
 use Rattle.json_values.specs.declared.error.ReadError.{ReadError}
-use Rattle.json_values.specs.declared.variant.Tagged as tagged
-use Rattle.json_values.specs.declared.variant.Tagged.TheVariants as tag
+use Rattle.json_values.specs.declared.variant.VariantForm as tagged
+use Rattle.json_values.specs.declared.variant.VariantForm.TheVariants as tag
 use Rattle.json_values.specs.declared.variant.Variant as variant
 use Rattle.json_values.specs.declared.variant.Variant.TheVariants as v
 use Rattle.json_values.specs.Failures.{IsUnreadable}
 use Rattle.json_values.specs.Form as form
 use Rattle.json_values.specs.Variants.{Variant, plain, holding}
 
-abbrev pub tag_of : tagged.Tagged → form.Tagged
+abbrev pub tag_of : tagged.VariantForm → form.Tagged
 tag_of (tag.Plain name) = form.plain name.now
 tag_of (tag.Holding name node) = form.holding name.now (data_of node)
 

@@ -4,7 +4,7 @@ ghost use Rattle.std.specs.Prelude.{◌≡◌, option_map};
 ghost use Rattle.serde_json.specs.Find.{as_array};
 ghost use Rattle.json_nodes.specs.Nodes.{data_of, items_of};
 ghost use Rattle.json_values.specs.Form.{list_of, optional, pair_in, triple_in, two_of, three_of};
-ghost use Rattle.json_values.specs.Reads.{ReadsMeaning, ReadsAs};
+ghost use Rattle.json_values.specs.Reads.{ReadsAs};
 ghost use Rattle.json_values.specs.ReadsFields.{ReadsTwo, ReadsThree};
 
 use crate::error::ReadError;

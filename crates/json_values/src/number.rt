@@ -10,7 +10,6 @@ use crate::from_json::{FromJson, Held};
 use ir_arena::Handle;
 use ir_leaves::Name;
 use json_nodes::Node;
-use std::alloc::Global;
 use std::num::NonZeroU32;
 
 /// The integer of 8 bits that a value is.

@@ -45,20 +45,20 @@ pub fn read_name<T: Copy>(
 
 /// A variant before its name is looked up.
 #[derive(Drop)]
-pub(crate) enum Tagged<'v> {
+pub(crate) enum VariantForm<'v> {
     Plain(&'v str),
     Holding(&'v str, Node<'v>),
 }
 
 /// The variant that a value is, if it can be one.
-fn tag<'v>(value: &Node<'v>) -> Option<Tagged<'v>>
+fn tag<'v>(value: &Node<'v>) -> Option<VariantForm<'v>>
     ensures { option_map tag_of result ≡ tagged_of (data_of value.now) }
 {
     if let Some(name) = value.as_str() {
-        return Some(Tagged::Plain(name));
+        return Some(VariantForm::Plain(name));
     }
     match value.only_field() {
-        Some((name, inner)) => Some(Tagged::Holding(name, inner)),
+        Some((name, inner)) => Some(VariantForm::Holding(name, inner)),
         None => None,
     }
 }
@@ -81,12 +81,12 @@ pub fn read_variant<'v, P: Copy, H: Copy>(
     ensures { ReadsVariant (variant_of (rows_of plain.now) (rows_of holding.now) (data_of value.now)) result }
 {
     match tag(value) {
-        Some(Tagged::Plain(name)) => {
+        Some(VariantForm::Plain(name)) => {
             if let Some((_, found)) = look_up(plain, name) {
                 return Ok(Variant::Plain(found));
             }
         }
-        Some(Tagged::Holding(name, inner)) => {
+        Some(VariantForm::Holding(name, inner)) => {
             if let Some((name, found)) = look_up(holding, name) {
                 return Ok(Variant::Holding(found, name, inner));
             }
@@ -140,7 +140,7 @@ pub fn read_holding<E: Holding<N, R>, N: Copy, R: Copy>(
 ) -> Result<E, ReadError>
     ensures { ReadsMeaning (given (variant_of [] (rows_of holding.now) (data_of outer.entry.value.now)) (either E.held_of)) result }
 {
-    if let Some(Tagged::Holding(name, inner)) = tag(outer.value) {
+    if let Some(VariantForm::Holding(name, inner)) = tag(outer.value) {
         if let Some((name, found)) = look_up(holding, name) {
             let held = Held {
                 alloc: outer.alloc,

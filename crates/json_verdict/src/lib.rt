@@ -1,4 +1,4 @@
-//! Judges documents and writes their verdicts, as JSON or for a person: the library of the program `naga_judge`.
+//! For users: judges JSON documents and writes their verdicts, as JSON or for a person; `naga_judge` is the program over it.
 //! The verdict of a document is what `check_module` answers for its module, over its facts, with its settings.
 #![tactic(auto)]
 

@@ -93,6 +93,11 @@ is_computed (e.Math d hs) = true
 is_computed (e.As d hs) = true
 is_computed _ = false
 
+-- the rules of these
+abbrev pub is_computing : Rule → Bool
+is_computing rule.Named = false
+is_computing _ = true
+
 -- these, and those that name something
 abbrev pub plain_type : Module → List FunctionArgument → List LocalVariable → List TypeResolution → Expression →
     Result TypeResolution Rule

@@ -46,7 +46,15 @@ fn global_type(count: usize, global: GlobalVariable) -> Option<TypeResolution>
 {
     match global.space {
         AddressSpace::Handle => type_at(count, global.ty),
-        space => pointer_to(count, global.ty, space),
+        AddressSpace::Function
+        | AddressSpace::Private
+        | AddressSpace::WorkGroup
+        | AddressSpace::Uniform
+        | AddressSpace::Storage { .. }
+        | AddressSpace::Immediate
+        | AddressSpace::TaskPayload
+        | AddressSpace::RayPayload
+        | AddressSpace::IncomingRayPayload => pointer_to(count, global.ty, global.space),
     }
 }
 
@@ -112,6 +120,26 @@ pub fn named_type(
             size: VectorSize::Quad,
             scalar: Scalar::U32,
         })),
-        _ => None,
+        Expression::Access { .. }
+        | Expression::AccessIndex { .. }
+        | Expression::Load { .. }
+        | Expression::CallResult(_)
+        | Expression::Splat { .. }
+        | Expression::Swizzle { .. }
+        | Expression::ImageSample { .. }
+        | Expression::ImageLoad { .. }
+        | Expression::ImageQuery { .. }
+        | Expression::Unary { .. }
+        | Expression::Binary { .. }
+        | Expression::Select { .. }
+        | Expression::Derivative { .. }
+        | Expression::Relational { .. }
+        | Expression::Math { .. }
+        | Expression::As { .. }
+        | Expression::ArrayLength { .. }
+        | Expression::RayQueryGetIntersection { .. }
+        | Expression::RayQueryVertexPositions { .. }
+        | Expression::CooperativeLoad { .. }
+        | Expression::CooperativeMultiplyAdd { .. } => None,
     }
 }

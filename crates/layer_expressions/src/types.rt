@@ -2,7 +2,7 @@
 
 ghost use Rattle.std.specs.Prelude.{◌≡◌, IfOk};
 ghost use Rattle.std.specs.Option.{option_copied};
-ghost use Rattle.layer_expressions.specs.Types.{computed, rule_of, computed_type, shape_value, load_value, named, plain_type, is_computed, type_of, types_of, global_types};
+ghost use Rattle.layer_expressions.specs.Types.{computed, rule_of, computed_type, shape_value, load_value, named, plain_type, is_computed, is_computing, type_of, types_of, global_types};
 
 use crate::access::{access_index_type, access_type, loaded};
 use crate::loading::{load_type, query_type};
@@ -77,13 +77,38 @@ fn computed(expression: &Expression, arguments: Arguments) -> Result<Option<Shap
             Some(cast) => Ok(cast_of(cast, arguments)),
             None => Err(Rule::Detail),
         },
-        _ => Ok(None),
+        Expression::Literal(_)
+        | Expression::Constant(_)
+        | Expression::Override(_)
+        | Expression::ZeroValue(_)
+        | Expression::Compose { .. }
+        | Expression::Access { .. }
+        | Expression::AccessIndex { .. }
+        | Expression::FunctionArgument(_)
+        | Expression::GlobalVariable(_)
+        | Expression::LocalVariable(_)
+        | Expression::Load { .. }
+        | Expression::CallResult(_)
+        | Expression::AtomicResult { .. }
+        | Expression::WorkGroupUniformLoadResult { .. }
+        | Expression::RayQueryProceedResult
+        | Expression::SubgroupBallotResult
+        | Expression::SubgroupOperationResult { .. }
+        | Expression::ImageSample { .. }
+        | Expression::ImageLoad { .. }
+        | Expression::ImageQuery { .. }
+        | Expression::ArrayLength { .. }
+        | Expression::RayQueryGetIntersection { .. }
+        | Expression::RayQueryVertexPositions { .. }
+        | Expression::CooperativeLoad { .. }
+        | Expression::CooperativeMultiplyAdd { .. } => Ok(None),
     }
 }
 
-/// The rule of each kind of expression.
+/// The rule of each kind of expression: `Named` of those that don't compute with the shapes of their operands.
 fn rule_of(expression: &Expression) -> Rule
-    ensures { result ≡ rule_of expression.now }
+    ensures rule { result ≡ rule_of expression.now }
+    ensures computes { is_computing result ≡ is_computed expression.now }
 {
     match expression {
         Expression::Splat { .. } => Rule::Splat,
@@ -95,7 +120,31 @@ fn rule_of(expression: &Expression) -> Rule
         Expression::Relational { .. } => Rule::Relational,
         Expression::Math { .. } => Rule::Math,
         Expression::As { .. } => Rule::As,
-        _ => Rule::Named,
+        Expression::Literal(_)
+        | Expression::Constant(_)
+        | Expression::Override(_)
+        | Expression::ZeroValue(_)
+        | Expression::Compose { .. }
+        | Expression::Access { .. }
+        | Expression::AccessIndex { .. }
+        | Expression::FunctionArgument(_)
+        | Expression::GlobalVariable(_)
+        | Expression::LocalVariable(_)
+        | Expression::Load { .. }
+        | Expression::CallResult(_)
+        | Expression::AtomicResult { .. }
+        | Expression::WorkGroupUniformLoadResult { .. }
+        | Expression::RayQueryProceedResult
+        | Expression::SubgroupBallotResult
+        | Expression::SubgroupOperationResult { .. }
+        | Expression::ImageSample { .. }
+        | Expression::ImageLoad { .. }
+        | Expression::ImageQuery { .. }
+        | Expression::ArrayLength { .. }
+        | Expression::RayQueryGetIntersection { .. }
+        | Expression::RayQueryVertexPositions { .. }
+        | Expression::CooperativeLoad { .. }
+        | Expression::CooperativeMultiplyAdd { .. } => Rule::Named,
     }
 }
 
@@ -179,17 +228,9 @@ fn plain_type(
 fn is_computed(expression: &Expression) -> bool
     ensures { result ≡ is_computed expression.now }
 {
-    match expression {
-        Expression::Splat { .. }
-        | Expression::Swizzle { .. }
-        | Expression::Unary { .. }
-        | Expression::Binary { .. }
-        | Expression::Select { .. }
-        | Expression::Derivative { .. }
-        | Expression::Relational { .. }
-        | Expression::Math { .. }
-        | Expression::As { .. } => true,
-        _ => false,
+    match rule_of(expression) {
+        Rule::Named => false,
+        _ => true,
     }
 }
 
@@ -245,7 +286,28 @@ fn type_of(
         Expression::CooperativeMultiplyAdd { operands, .. } => {
             multiply_add(types, earlier, operands.as_slice())
         }
-        _ => plain_type(module, arguments, locals, earlier, expression),
+        Expression::Literal(_)
+        | Expression::Constant(_)
+        | Expression::Override(_)
+        | Expression::ZeroValue(_)
+        | Expression::Compose { .. }
+        | Expression::FunctionArgument(_)
+        | Expression::GlobalVariable(_)
+        | Expression::LocalVariable(_)
+        | Expression::AtomicResult { .. }
+        | Expression::WorkGroupUniformLoadResult { .. }
+        | Expression::RayQueryProceedResult
+        | Expression::SubgroupBallotResult
+        | Expression::SubgroupOperationResult { .. }
+        | Expression::Splat { .. }
+        | Expression::Swizzle { .. }
+        | Expression::Unary { .. }
+        | Expression::Binary { .. }
+        | Expression::Select { .. }
+        | Expression::Derivative { .. }
+        | Expression::Relational { .. }
+        | Expression::Math { .. }
+        | Expression::As { .. } => { plain_type(module, arguments, locals, earlier, expression) }
     }
 }
 

@@ -119,21 +119,6 @@ fn name_at(names: &[&'static str], place: u32, none: &'static str) -> &'static s
 /// What an expression is called: by its operator or function, where it has one, else by its kind.
 pub fn name_of(expression: &Expression) -> &'static str {
     match expression {
-        Expression::Unary { detail, .. } => name_at(&UNARY_OPERATORS, *detail, "Unary"),
-        Expression::Binary { detail, .. } => name_at(&BINARY_OPERATORS, *detail, "Binary"),
-        Expression::Relational { detail, .. } => name_at(
-            &RELATIONAL_FUNCTIONS,
-            *detail,
-            "Relational",
-        ),
-        Expression::Math { detail, .. } => name_at(&MATH_FUNCTIONS, *detail, "Math"),
-        _ => kind_of(expression),
-    }
-}
-
-/// The name of the kind of an expression.
-fn kind_of(expression: &Expression) -> &'static str {
-    match expression {
         Expression::Literal(_) => "Literal",
         Expression::Constant(_) => "Constant",
         Expression::Override(_) => "Override",
@@ -156,12 +141,16 @@ fn kind_of(expression: &Expression) -> &'static str {
         Expression::ImageSample { .. } => "ImageSample",
         Expression::ImageLoad { .. } => "ImageLoad",
         Expression::ImageQuery { .. } => "ImageQuery",
-        Expression::Unary { .. } => "Unary",
-        Expression::Binary { .. } => "Binary",
+        Expression::Unary { detail, .. } => name_at(&UNARY_OPERATORS, *detail, "Unary"),
+        Expression::Binary { detail, .. } => name_at(&BINARY_OPERATORS, *detail, "Binary"),
         Expression::Select { .. } => "Select",
         Expression::Derivative { .. } => "Derivative",
-        Expression::Relational { .. } => "Relational",
-        Expression::Math { .. } => "Math",
+        Expression::Relational { detail, .. } => name_at(
+            &RELATIONAL_FUNCTIONS,
+            *detail,
+            "Relational",
+        ),
+        Expression::Math { detail, .. } => name_at(&MATH_FUNCTIONS, *detail, "Math"),
         Expression::As { .. } => "As",
         Expression::ArrayLength { .. } => "ArrayLength",
         Expression::RayQueryGetIntersection { .. } => "RayQueryGetIntersection",

@@ -11,13 +11,10 @@ use ir_module::module::Module;
 use ir_module::operands::{operand, operand_count};
 use ir_types::types::TypeInner;
 use ir_types::typifier::TypeResolution;
-use layer_expressions::types_of;
+use layer_expressions::{Rule, types_of};
 use layer_forms::BinaryOperator;
 use std::alloc::{AllocError, Global};
 use std::fmt;
-
-/// The number of the rule of Binary.
-const BINARY: u32 = 11;
 
 /// The expressions before the one at an index.
 fn earlier(alloc: Global, fun: &Function, index: usize) -> Result<Arena<Expression>, AllocError> {
@@ -171,7 +168,7 @@ fn write_over_types<W: fmt::Write>(
     expression: &Expression,
     rule: u32,
 ) -> fmt::Result {
-    if rule == BINARY && write_operator(writer, module, types, expression)? {
+    if rule == Rule::Binary.number() && write_operator(writer, module, types, expression)? {
         return Ok(());
     }
     writer.write_str(name_of(expression))?;

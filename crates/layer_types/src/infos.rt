@@ -1,7 +1,6 @@
 //! Infos of a module's types.
 
-ghost use Rattle.std.specs.Prelude.{◌≡◌, [], IfOk, slice_get};
-ghost use Rattle.ir_types.specs.Types.{inner_at};
+ghost use Rattle.std.specs.Prelude.{◌≡◌, [], IfOk};
 ghost use Rattle.layer_types.specs.Infos.{ill_formed, pointer_info, binding_info, own_info, info_of, infos_from};
 
 use crate::arrays::array_info;

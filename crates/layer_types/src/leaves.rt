@@ -80,7 +80,13 @@ pub(crate) fn pointer_flags(space: AddressSpace, base_is_sized: bool) -> TypeFla
                 POINTER
             }
         }
-        _ => POINTER,
+        AddressSpace::Uniform
+        | AddressSpace::Storage { .. }
+        | AddressSpace::Handle
+        | AddressSpace::Immediate
+        | AddressSpace::TaskPayload
+        | AddressSpace::RayPayload
+        | AddressSpace::IncomingRayPayload => POINTER,
     }
 }
 

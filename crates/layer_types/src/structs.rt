@@ -1,6 +1,6 @@
 //! Infos of structs.
 
-ghost use Rattle.std.specs.Prelude.{◌≡◌, Some, option_and_then};
+ghost use Rattle.std.specs.Prelude.{◌≡◌, Some};
 ghost use Rattle.layer_types.specs.Structs.{are_sources, begun, is_source, shared_as, has_extent, fits_behind, uniform_member, first_error, uniform_end, with_member, laid_with, laid_from, laid_info, struct_info};
 
 use crate::parts::{BAD_OFFSET, Part, TOO_CLOSE, part_at};

@@ -1,4 +1,4 @@
-//! For users: the shader IR, what is known of it, questions about types, and the tests of conditions.
+//! For users: the shader IR, what is known of it, questions about types, and tests that handles are in range (`fits_function`).
 //! It holds no code: it passes on the `ir_` crates.
 #![tactic(auto)]
 

@@ -109,7 +109,7 @@ fn later_of(kind: ExpressionKind, other: ExpressionKind) -> ExpressionKind
         ExpressionKind::Const => other,
         ExpressionKind::Override => match other {
             ExpressionKind::Const => ExpressionKind::Override,
-            _ => other,
+            ExpressionKind::Override | ExpressionKind::Runtime => other,
         },
         ExpressionKind::Runtime => ExpressionKind::Runtime,
     }

@@ -4,10 +4,9 @@ ghost use Rattle.std.specs.Prelude.{◌≡◌, IfOk};
 ghost use Rattle.std.specs.List.{list_all};
 ghost use Rattle.std.specs.Option.{option_copied};
 ghost use Rattle.ir_facts.specs.Answers.{Answers, Exactly};
-ghost use Rattle.ir_facts.specs.Facts.{fault_of};
 ghost use Rattle.ir_facts.specs.Facts.{info_of, unknown_analysis, analysis_at};
 ghost use Rattle.naga_layers.specs.Recorded.Asked.{fact_asked};
-ghost use Rattle.naga_layers.specs.Recorded.Infos.{is_lawful_type, is_lawful_info, expression_said, USELESS, recorded_info, recorded_stages};
+ghost use Rattle.naga_layers.specs.Recorded.Infos.{is_lawful_type, is_lawful_info, USELESS, recorded_info, recorded_stages};
 
 use crate::kinds::kinds_of;
 use ir_arena::arena::Arena;

@@ -1,7 +1,6 @@
 //! The lower layer that computes what it answers from the module alone.
 
-ghost use Rattle.std.specs.Prelude.{◌≡◌, IfOk};
-ghost use Rattle.std.specs.Option.{option_copied};
+ghost use Rattle.std.specs.Prelude.{◌≡◌};
 ghost use Rattle.ir_facts.specs.Answers.{Answers, Exactly};
 ghost use Rattle.ir_arena.specs.declared.span.Refusal.TheVariants.{Fault};
 ghost use Rattle.naga_layers.specs.Typed.Meaning.{fault_of, computed_info, stages_at};

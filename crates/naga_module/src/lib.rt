@@ -1,4 +1,4 @@
-//! For users: `check_module`, which judges a whole module, its law, `find_misfit`, and the messages of refusals.
+//! For users: `check_module`, which judges a module, `find_misfit`, which says why it is `NotFit`, and the messages of faults.
 //! It passes on the lower layers of `naga_layers`.
 #![tactic(auto)]
 

@@ -30,15 +30,6 @@ module _ {State Fault : Type 0} where
   then_assoc (Ok st) f g = refl
   then_assoc (Err e) f g = refl
 
-  -- what a caller of the next one knows of the first
-  pub then_ok : (r : Result State Fault) (st : State) (f : State → Result State Fault) → r ≡ Ok st →
-      and_then r f ≡ f st
-  then_ok r st f e = ap (λ z. and_then z f) e
-
-  pub then_err : (r : Result State Fault) (fault : Fault) (f : State → Result State Fault) → r ≡ Err fault →
-      and_then r f ≡ Err fault
-  then_err r fault f e = ap (λ z. and_then z f) e
-
   -- points in a row
   answer-append : (ps qs : List (Point Fault)) (st next : State) →
       and_then (answer (first_fault ps) st) (λ s. answer (first_fault qs) next) ≡ answer
@@ -280,26 +271,6 @@ followed_agrees R S view f st pre b =
     judgement_is_visits S (view st) pre b
     ∙ visits_follow R S view f st (visits_of pre b)
     ∙ ap (viewed view) (sym (judgement_is_visits R st pre b))
-
--- the judgement along the tree
-pub ruleset by_tree_equations = (
-  judge_leaf,
-  judge_break,
-  judge_continue,
-  judge_return,
-  judge_kill,
-  judge_done,
-  judge_more,
-  judge_own,
-  judge_block,
-  judge_branch,
-  judge_switch,
-  judge_loop,
-  judge_no_case,
-  judge_one_case,
-  judge_no_break_if,
-  judge_at_break_if,
-)
 
 module _ {Fault : Type 0} (points : List Visit → Visit → List (Point Fault)) where
   earlier-append : (earlier vs : List Visit) → state_after (by_earlier points) earlier vs ≡ earlier ++ vs

@@ -31,11 +31,6 @@ module _ (P : Arrival → Type 0) where
   found_right [] u f = f
   found_right (a ∷ t) u f = inr (found_right t u f)
 
-  pub found_map : (R : Arrival → Type 0) (t : List Arrival) → ((a : Arrival) → P a → R a) → Found P t → Found R t
-  found_map R [] g f = absurd f
-  found_map R (a ∷ t) g (inl p) = inl (g a p)
-  found_map R (a ∷ t) g (inr f) = inr (found_map R t g f)
-
   found_next_left : (t : List Arrival) (r : Run) (rest : Handles → List ℕ → List Arrival) → Found P t →
       Found P (where_next t r rest)
   found_next_left t (Ran es Next i live cs) rest f = found_left t (rest live cs) f

@@ -236,10 +236,7 @@ close_gives cut r h p cuts live l rest again g =
       is = ap (λ r. then_close cut r (Some h) p cuts live again) g.is;
     }
 
--- the bodies of a Loop that stands there, and its turns, of which so many may begin
-abbrev pub body_run : Body → ℕ → Position → List (Option ℕ) → Handles → List ℕ → Run
-body_run b n p cuts live cs = run_body b n LoopBody 0 p cuts live cs
-
+-- the continuing part of a Loop that stands there, and its turns, of which so many may begin
 abbrev pub continuing_run : Body → ℕ → Position → List (Option ℕ) → Option ℕ → Handles → List ℕ → Run
 continuing_run c n p cuts cut l cs = run_body c n Continuing 0 p (cuts ++ cut ∷ []) l cs
 

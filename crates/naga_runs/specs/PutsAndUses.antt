@@ -27,12 +27,6 @@ puts_of [] = []
 puts_of (Use h ∷ acts) = puts_of acts
 puts_of (Put h ∷ acts) = h ∷ puts_of acts
 
--- the handles that acts use, in order
-abbrev pub uses_of : List Act → List ℕ
-uses_of [] = []
-uses_of (Use h ∷ acts) = h ∷ uses_of acts
-uses_of (Put h ∷ acts) = uses_of acts
-
 -- the puts of all statements of a list; those in their parts don't count
 abbrev pub body_puts : Body → List ℕ
 body_puts Done = []

@@ -1,4 +1,4 @@
-//! For users: the positions and the scope of a body, the machine that runs it, and the laws between them.
+//! For users: definitions of the positions, the scope and the runs of a body, and the laws between them.
 //!
 //! These are definitions and laws. The laws compute nothing: a crate that judges bodies calls them to cite them. What
 //! computes here is `Abilities`: which jumps the parts of a body allow.

@@ -6,7 +6,6 @@ use Rattle.std.proofs.lemmas.Bool.{le-leb}
 use Rattle.ir_statements.specs.declared.operations.SwitchValue.{SwitchValue}
 use Rattle.ir_statements.specs.declared.statements.Block as b
 use Rattle.ir_statements.specs.declared.statements.Located.{Located}
-use Rattle.ir_statements.specs.declared.statements.Statement.{Statement}
 use Rattle.ir_statements.specs.declared.statements.Statement as ir
 use Rattle.ir_statements.specs.declared.statements.SwitchCase.{SwitchCase, SwitchCase'}
 use Rattle.ir_statements.specs.Tree.{Stmt, Leaf, Block, Branch, Switch, Loop, Break, Continue, Return, Kill, Body, Done, Then, Cases, NoCase, OneCase}

@@ -20,13 +20,6 @@ pub record Fed (bench : Bench) (text : List ℕ) (s : State) (rest : List ℕ) :
   pub on : (ts : List Token) → AreTextsOf bench ts (words_of text) → (us : List Token) × AreTextsOf bench us (words_of rest) × (feeds step (Some begun) ts ≡ feeds step (Some s) us)
   pub printable : IsPrintable rest → IsPrintable text
 
-pub fed_none : (bench : Bench) (text : List ℕ) → Fed bench text begun text
-fed_none bench text = record {
-  back = λ us are. (us, are, refl);
-  on = λ ts are. (ts, are, refl);
-  printable = λ h. h;
-}
-
 -- the token of the first word is the first token
 first_token : (bench : Bench) (us : List Token) (word : List ℕ) (words : List (List ℕ)) (t : Token) → IsTextOf bench t word → AreTextsOf bench us (word ∷ words) → (more : List Token) × (us ≡ t ∷ more) × AreTextsOf bench more words
 first_token bench [] word words t is are = absurd are

@@ -1,6 +1,6 @@
 -- What the notation says is sayable: each leaf is an Emit of the bench's expressions, and each handle one of them.
 use Rattle.std.proofs.Common.{◌≡◌, ◌<◌, ◌≤◌, ◌+◌, ℕ, zero, suc, List, [], ◌∷◌, ◌++◌, Bool, true, false, Option, Some, None, refl, arith, length, inl, inr, slice_get, append-nil}
-use Rattle.std.specs.Prelude.{IfOk, Result, Ok, Err, ◌&&◌, nat_le}
+use Rattle.std.specs.Prelude.{◌&&◌, nat_le}
 use Rattle.std.proofs.lemmas.Bool.{le-leb, lt-ltb}
 use Rattle.ir_arena.specs.declared.span.Span.{Span}
 use Rattle.ir_statements.specs.declared.statements.Statement.{Statement}
@@ -12,10 +12,8 @@ use Rattle.case_notation.specs.declared.bench.Bench.TheVariants.{P, C, D}
 use Rattle.case_notation.specs.declared.token.Token.{Token}
 use Rattle.case_notation.specs.declared.token.Token.TheVariants as token
 use Rattle.case_notation.specs.Bench.{names_of, has_callee, callees_of}
-use Rattle.case_notation.specs.Case.{Case, Say, Reads, case_of}
+use Rattle.case_notation.specs.Case.{Case, Say, Reads}
 use Rattle.case_notation.specs.Words.{words_of}
-use Rattle.case_notation.specs.declared.case.Case as declared
-use Rattle.case_notation.specs.declared.case.ReadError.{ReadError}
 use Rattle.case_notation.specs.Grammar.{Spells, SpellsStatement, SpellsCases, SpellsEmit, emission, calling, storing, waiting, arrow_if_any, in_braces, name_if_any, break_if_any, fall_if}
 use Rattle.case_notation.specs.Sayable.{is_sayable, is_sayable_statement, are_sayable_cases, is_below_if_any, is_sayable_leaf}
 use Rattle.case_notation.specs.Text.{AreTextsOf}
@@ -26,11 +24,6 @@ NamesBelow n callees [] = Unit {0}
 NamesBelow n callees (token.Name h ∷ ts) = (h < n) × NamesBelow n callees ts
 NamesBelow n callees (token.Call ∷ ts) = (0 < callees) × NamesBelow n callees ts
 NamesBelow n callees (t ∷ ts) = NamesBelow n callees ts
-
-rest_below : (n callees : ℕ) (t : Token) (ts : List Token) → NamesBelow n callees (t ∷ ts) → NamesBelow n callees ts
-rest_below n callees (token.Name h) ts k = k.1
-rest_below n callees token.Call ts k = k.1
-rest_below n callees t ts k = k
 
 names_append : (n callees : ℕ) (ts us : List Token) → NamesBelow n callees (ts ++ us) → NamesBelow n callees ts × NamesBelow n callees us
 names_append n callees [] us k = (tt, k)
@@ -164,8 +157,3 @@ said_is_sayable ws c said =
 
 pub read_is_sayable : (input : List ℕ) (c : Case) → Reads input c → is_sayable (length (names_of c.bench)) (callees_of c.bench) c.body ≡ true
 read_is_sayable input c reads = said_is_sayable (words_of input) c reads.said
-
--- the same of what was read
-pub found_is_sayable : (ws : List (List ℕ)) (r : Result declared.Case ReadError) → IfOk r (λ c. Say ws (case_of c)) → IfOk r (λ c. is_sayable (length (names_of c.bench)) (callees_of c.bench) (case_of c).body ≡ true)
-found_is_sayable ws (Ok c) said = said_is_sayable ws (case_of c) said
-found_is_sayable ws (Err e) u = tt

@@ -17,7 +17,7 @@ use Rattle.case_notation.specs.Head.{AreOptions}
 use Rattle.case_notation.specs.Lookup.{options_of, take_option}
 use Rattle.case_notation.specs.Reading.{reading_of}
 use Rattle.case_notation.specs.Text.{AreTextsOf}
-use Rattle.case_notation.specs.Scanning.{FirstWord, NoWord, SayBody}
+use Rattle.case_notation.specs.Scanning.{FirstWord, SayBody}
 use Rattle.case_notation.specs.Words.{is_visible, IsPrintable, words_of}
 use Rattle.case_notation.proofs.Reading.Complete.{reads_complete}
 use Rattle.case_notation.proofs.Reading.Trees.{body_of, same_tree}
@@ -165,9 +165,6 @@ say_options ws first others at c said =
     let same : others ≡ said.options ++ codes ":" ∷ said.rest = cc in
     ap (options_of true true) same ∙ options_is c.expressions c.blocks said.options said.rest said.are_options
 
-pub say_some : (ws : List (List ℕ)) → ws ≡ [] → (c : Case) → Say ws c → ⊥
-say_some ws e c said = let both = sym e ∙ said.in_order in cc
-
 -- the head that words tell is one
 pub say_head : (ws : List (List ℕ)) (first : List ℕ) (others : List (List ℕ)) (b : Bench) (e k : Bool) (rest : List (List ℕ)) → ws ≡ first ∷ others → bench_of first ≡ Some b → options_of true true others ≡ Some (e, k, rest) → (c : Case) → (said : Say ws c) → (c.bench ≡ b) × (c.expressions ≡ e) × (c.blocks ≡ k) × (said.rest ≡ rest)
 say_head ws first others b e k rest at is taken c said =
@@ -176,10 +173,6 @@ say_head ws first others b e k rest at is taken c said =
 
 -- what was read says the case that the parts of its text say, and a text whose parts say none reads as none
 module _ (input word behind : List ℕ) (cut : FirstWord input word behind) where
-  pub no_bench : bench_of word ≡ None → (c : Case) → Reads input c → ⊥
-  no_bench none c reads =
-      none_some _ (sym none ∙ say_bench (words_of input) word (words_of behind) cut.first c reads.said)
-
   pub no_options : options_of true true (words_of behind) ≡ None → (c : Case) → Reads input c → ⊥
   no_options none c reads =
       none_some _ (sym none ∙ say_options (words_of input) word (words_of behind) cut.first c reads.said)
@@ -202,9 +195,6 @@ module _ (input word behind : List ℕ) (cut : FirstWord input word behind) wher
           spelled = reads.said.spelled;
           shallow = reads.said.shallow;
         })
-
-pub no_word : (input : List ℕ) → NoWord input → (c : Case) → Reads input c → ⊥
-no_word input end c reads = say_some (words_of input) end.none c reads.said
 
 -- words say one case
 one_case : (ws : List (List ℕ)) (a c : Case) → Say ws a → Say ws c → a ≡ c

@@ -9,9 +9,8 @@ use ir_statements::statements::{Statement, SwitchCase};
 use std::mem;
 
 impl Reader {
-    ghost use Rattle.case_notation.specs.Feeding.{Steps};
-    ghost use Rattle.case_notation.specs.Reading.{State, close, close_block, close_accept, close_if, close_case, close_turn, add_case, close_switch, end_loop};
-    ghost use Rattle.case_notation.specs.Views.{Moves, state_of};
+    ghost use Rattle.case_notation.specs.Reading.{close, close_block, close_accept, close_if, close_case, close_turn, add_case, close_switch, end_loop};
+    ghost use Rattle.case_notation.specs.Views.{Moves};
 
     /// Closes the list at hand.
     #[inline(always)]

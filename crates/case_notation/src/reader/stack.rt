@@ -52,8 +52,7 @@ fn behind_brace(brace: Brace) -> Wants
 impl Reader {
     ghost use Rattle.std.specs.Prelude.{◌≡◌, ◌++◌, ◌∷◌, []};
     ghost use Rattle.case_notation.specs.CaseBlocks.{placed};
-    ghost use Rattle.case_notation.specs.Feeding.{Steps};
-    ghost use Rattle.case_notation.specs.Reading.{State, behind_brace, enter, open_brace, ready, wanting};
+    ghost use Rattle.case_notation.specs.Reading.{behind_brace, open_brace, ready, wanting};
     ghost use Rattle.case_notation.specs.Views.{Moves, state_of};
 
     /// Says what is wanted next.

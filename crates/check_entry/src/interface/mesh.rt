@@ -1,6 +1,5 @@
 //! The checks of a mesh that ask the lower layer for what the output variable implies.
 
-ghost use Rattle.std.specs.Prelude.{◌≡◌};
 ghost use Rattle.ir_arena.specs.Points.{within};
 ghost use Rattle.check_entry.specs.EntryFaults.{fault_of};
 ghost use Rattle.check_entry.specs.Mesh.{said_points};

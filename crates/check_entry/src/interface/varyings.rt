@@ -1,6 +1,6 @@
 //! The checks of what an entry point puts in and out: its arguments, its result and the outputs of a mesh.
 
-ghost use Rattle.std.specs.Prelude.{◌≡◌, ◌<◌, ◌∷◌, ◌++◌, [], None, OnOk, true, false, length};
+ghost use Rattle.std.specs.Prelude.{◌≡◌, ◌<◌, ◌∷◌, None, OnOk, true, false, length};
 ghost use Rattle.ir_facts.specs.Fits.{FitsTypes, FitsEntry};
 ghost use Rattle.ir_facts.specs.FitsBody.{SignatureFits};
 ghost use Rattle.ir_arena.specs.Points.{within};
@@ -11,7 +11,7 @@ ghost use Rattle.check_varyings.specs.Varyings.{nothing_seen, parts_of, placed_p
 ghost use Rattle.check_varyings.specs.declared.varying.MeshOutputType.TheVariants as which;
 ghost use Rattle.check_entry.specs.EntryFaults.{OfArgument, OfResult, Other, fault_of};
 ghost use Rattle.check_entry.specs.Mesh.{mesh_points};
-ghost use Rattle.check_entry.specs.EntryVaryings.{argument_points, declared_points, has_built_in, is_struct, output_item, output_points, outputs_points, place_of, primitive_points, result_parts, result_points, vertex_points};
+ghost use Rattle.check_entry.specs.EntryVaryings.{argument_points, declared_points, has_built_in, is_struct, output_item, outputs_points, place_of, primitive_points, result_parts, result_points, vertex_points};
 ghost use Rattle.check_entry.specs.TypeInfos.{AreInfosOf};
 ghost use Rattle.check_faults.specs.declared.entry.EntryPointError.TheVariants as fault;
 ghost use Rattle.ir_facts.specs.Answers.{Answers, FirstOf, read_by};
@@ -32,13 +32,14 @@ use ir_arena::tag;
 use ir_facts::below::Below;
 use ir_leaves::built_in::BuiltIn;
 use ir_module::functions::FunctionArgument;
-use ir_module::module::{EntryPoint, MeshStageInfo};
+use ir_module::module::MeshStageInfo;
 
 impl<'a, B: Below> InterfaceContext<'a, B> {
     /// Where an input or an output of an entry point stands.
-    fn place_of(&self, ep: &EntryPoint, output: bool, mesh_output: MeshOutputType) -> VaryingPlace
-        ensures { result ≡ place_of self.now.settings ep.now output mesh_output }
+    fn place_of(&self, output: bool, mesh_output: MeshOutputType) -> VaryingPlace
+        ensures { result ≡ place_of self.now.settings self.now.entry_point.now output mesh_output }
     {
+        let ep = self.entry_point;
         VaryingPlace {
             stage: ep.stage,
             output,
@@ -58,7 +59,7 @@ impl<'a, B: Below> InterfaceContext<'a, B> {
         ensures { Answers (FirstOf (argument_points self.now.settings self.now.program.now.types self.now.infos.now
             self.now.entry_point.now)) (read_by fault_of result) }
     {
-        let place = self.place_of(self.entry_point, false, MeshOutputType::Neither);
+        let place = self.place_of(false, MeshOutputType::Neither);
         let mut state = VaryingState::new(self.alloc);
         let arguments = self.entry_point.function.arguments.as_slice();
         for index in 0..arguments.len() {
@@ -148,7 +149,7 @@ impl<'a, B: Below> InterfaceContext<'a, B> {
         let Some(declared) = self.entry_point.function.result else {
             return Ok(());
         };
-        let place = self.place_of(self.entry_point, true, MeshOutputType::Neither);
+        let place = self.place_of(true, MeshOutputType::Neither);
         let types = &self.program.types;
         let infos = self.infos;
         match check_varying_item(
@@ -201,7 +202,7 @@ impl<'a, B: Below> InterfaceContext<'a, B> {
         if !is_struct(inner_at(self.program, ty)) {
             return Err(refusal(self.alloc, EntryPointError::InvalidMeshOutputType));
         }
-        let place = self.place_of(self.entry_point, true, mesh_output);
+        let place = self.place_of(true, mesh_output);
         let types = &self.program.types;
         let infos = self.infos;
         match check_varying_item(self.alloc, &place, state, types, infos, ty, None) {

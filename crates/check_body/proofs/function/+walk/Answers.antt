@@ -1,4 +1,4 @@
-use Rattle.std.proofs.Common.{rules, arith, ◌≡◌, Err, None, Some, ◌||◌, subst, append-nil, ◌++◌, ◌+◌, [], refl, sym, ap, ◌∙◌, drop, append_assoc}
+use Rattle.std.proofs.Common.{rules, arith, ◌≡◌, Err, None, Some, ◌||◌, subst, append-nil, ◌++◌, ◌+◌, [], sym, ap, ◌∙◌, drop, append_assoc}
 use Rattle.ir_statements.specs.declared.statements.Block.{the_lemmas}
 use Rattle.ir_statements.proofs.Rows.{body_of-list, tree_of-switch}
 use Rattle.ir_statements.specs.View as view

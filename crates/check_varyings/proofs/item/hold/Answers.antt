@@ -1,6 +1,5 @@
-use Rattle.std.proofs.Common.{sym, ap, ◌∙◌}
-use Rattle.check_varyings.specs.CodeVaryings.{far_less}
-use Rattle.check_varyings.specs.Varyings.{far_in, seen_in}
+use Rattle.std.proofs.Common.{sym, ◌∙◌}
+use Rattle.check_varyings.specs.Varyings.{seen_in}
 use Rattle.check_varyings.proofs.Kept.{far_is, is_far, more_is, on_ok}
 use Rattle.check_varyings.proofs.item.hold.Goals as goal
 

@@ -1,7 +1,5 @@
-use Rattle.std.proofs.Common.{rules, ◌≡◌, ◌≤◌, ℕ, length, arith}
-use Rattle.check_scope.specs.declared.table.ScopeState.TheVariants.{Open}
-use Rattle.check_scope.specs.walk.ScopeNumbers.{state_at}
-use Rattle.check_scope.specs.walk.Table.{known, shown, scopes}
+use Rattle.std.proofs.Common.{rules, ◌≡◌, length, arith}
+use Rattle.check_scope.specs.walk.Table.{known, shown}
 use Rattle.check_scope.proofs.Columns.{known_entered, entered, last_entered}
 use Rattle.check_scope.proofs.table.ScopeColumn.enter.Goals as goal
 

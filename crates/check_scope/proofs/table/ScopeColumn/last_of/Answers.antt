@@ -1,6 +1,6 @@
-use Rattle.std.proofs.Common.{◌≤◌, ◌<◌, ℕ, ◌≡◌, true, below_more, get_or, subst, sym, ap, ◌∙◌, arith}
+use Rattle.std.proofs.Common.{◌≡◌, get_or, ap, ◌∙◌, arith}
 use Rattle.std.proofs.lemmas.List.{get_or_default}
-use Rattle.check_scope.specs.walk.Table.{IsPutUpTo, known, scopes, shown}
+use Rattle.check_scope.specs.walk.Table.{scopes}
 use Rattle.check_scope.specs.walk.ScopeNumbers.{number_at}
 use Rattle.check_scope.proofs.Operands.{more_put}
 use Rattle.check_scope.proofs.table.ScopeColumn.last_of.Goals as goal

@@ -1,4 +1,4 @@
-use Rattle.std.proofs.Common.{◌≡◌, ℕ, Bool, refl, sym, ap, ◌∙◌, take_all}
+use Rattle.std.proofs.Common.{refl, sym, ap, ◌∙◌, take_all}
 use Rattle.check_varyings.specs.CodeVaryings.{far_less}
 use Rattle.check_varyings.specs.Varyings.{far_in, seen_by}
 use Rattle.check_varyings.specs.declared.varying.Near.{Near}

@@ -1,4 +1,3 @@
-use Rattle.std.specs.Prelude.{OnOk, OnErr}
 use Rattle.check_varyings.specs.Varyings.{far_in}
 use Rattle.check_varyings.proofs.Kept.{on_err, on_ok, same_far, with_far}
 use Rattle.check_varyings.proofs.varying.VaryingState.put_far.Goals as goal

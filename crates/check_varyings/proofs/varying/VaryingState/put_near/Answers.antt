@@ -1,4 +1,4 @@
-use Rattle.std.proofs.Common.{◌≡◌, None, sym, ap, subst, ◌∙◌}
+use Rattle.std.proofs.Common.{sym, ap, ◌∙◌}
 use Rattle.check_varyings.specs.CodeVaryings.{far_location, location_of}
 use Rattle.check_varyings.specs.Varyings.{far_in, seen_in}
 use Rattle.check_varyings.proofs.Kept.{is_near, low_is, with_built_in}
