@@ -2,7 +2,7 @@
 
 Each row is a document in crates/naga_judge/stdin, and the verdict that is expected of it stands at the same line of
 crates/naga_judge/stdout: what the row expects, with the place that tools/documents/places.py gives (and of NotFit the misfit that
-tools/documents/misfits.py gives); what the rows are called stands in tools/documents/rows (docs/MODULES.md has which tests repeat them).
+tools/documents/misfits.py gives); what the rows are called stands in tools/documents/rows (docs/lab/CASES.md has which tests repeat them).
 The documents of rows of naga_check and of examples/, with an unreadable one behind them, stand in front and stay as they are.
 Which rows change where a capability is taken away stands in tools/settings.expected. With --check nothing is written, and the
 status is 1 where a file isn't what would be written.
