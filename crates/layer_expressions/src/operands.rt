@@ -13,7 +13,7 @@ use layer_types::sizes::inner_at;
 
 /// The shapes of one to four operands, in order.
 #[derive(Clone, Copy)]
-pub(crate) enum Arguments {
+pub enum Arguments {
     One(Shape),
     Two(Shape, Shape),
     Three(Shape, Shape, Shape),
