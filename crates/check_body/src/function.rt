@@ -20,9 +20,10 @@ use check_scope::refuse::answer_of_function;
 use check_scope::refused::Refused;
 use check_scope::results::is_to_fill;
 use check_scope::table::{FilledColumn, ScopeColumn, Table};
+use check_statement::rarer::check_rarer;
 use check_statement::results::check_filled;
-use check_statement::state::BodyOutcome;
-use check_statement::statement::{check_break_if, validate_own};
+use check_statement::state::{BodyOutcome, advance};
+use check_statement::statement::{check_break_if, is_frequent, validate_frequent};
 use ir_arena::handle::Handle;
 use ir_statements::statements::{Block, Located, Statement, SwitchCase};
 use naga_runs::Abilities;
@@ -233,7 +234,12 @@ fn validate_statement(
     ensures scope { OnOk result (HasPut table.old.scope table.new.scope (puts (tree_of (context_of context.now) located.now))) }
     ensures held { IfOk result (λ held. held ≡ holds_continue (tree_of (context_of context.now) located.now)) }
 {
-    let whole = validate_own(table, state, context, abilities, located)?;
+    if !is_frequent(&located.statement) {
+        check_rarer(table, state, context, abilities, located)?;
+        advance(&mut table.filled, state, context, located);
+        return validate_nested(table, state, context, abilities, located);
+    }
+    let whole = validate_frequent(table, state, context, located)?;
     if whole {
         return Ok(false);
     }

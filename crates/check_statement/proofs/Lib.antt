@@ -1,3 +1,2 @@
 pub mod Fillings
-pub mod Own
 pub mod Parts

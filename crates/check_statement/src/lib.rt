@@ -2,7 +2,7 @@
 //! Part of the validator; no promise to users.
 #![tactic(auto)]
 
-pub mod leaf;
+pub mod rarer;
 pub mod results;
 pub mod stages;
 pub mod state;

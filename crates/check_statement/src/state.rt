@@ -73,8 +73,9 @@ pub(crate) fn fill_named(filled: &mut FilledColumn, named: &Option<Handle<tag::E
     }
 }
 
-/// What a statement leaves where none of its checks fails.
-pub(crate) fn advance(
+/// What a statement leaves where none of its checks fails. It stands apart, since only rarer kinds need all of it.
+#[inline(never)]
+pub fn advance(
     filled: &mut FilledColumn,
     state: &mut BodyOutcome,
     context: &BlockContext,

@@ -1,6 +1,7 @@
 //! A statement itself, without its parts; and a break condition.
 
-ghost use Rattle.std.specs.Prelude.{◌≡◌, false, IfOk, OnOk};
+ghost use Rattle.std.specs.Prelude.{◌≡◌, true, IfOk, OnOk};
+ghost use Rattle.naga_runs.specs.declared.Abilities.{Abilities};
 ghost use Rattle.check_scope.specs.walk.Findings.{RefusesFaultsAlone};
 ghost use Rattle.ir_facts.specs.Answers.{Answers, FirstOf};
 ghost use Rattle.check_scope.specs.BodyTrees.{tree_of};
@@ -16,12 +17,11 @@ ghost use Rattle.check_statement.specs.walk.Walk.{puts};
 ghost use Rattle.check_flow.specs.walk.Emitted.{place};
 ghost use Rattle.check_scope.specs.walk.Table.{HasPut, IsTableOf, known};
 
-use crate::leaf::validate_rarer_leaf;
 use crate::stages::callee_stages;
-use crate::state::{BodyOutcome, advance, fill_named};
+use crate::state::{BodyOutcome, fill_named};
 use bitflags::Flags;
 use check_flow::call::{CallSite, validate_call};
-use check_flow::{control, switch};
+use check_flow::control;
 use check_memory::store::check_store;
 use check_scope::context::BlockContext;
 use check_scope::refused::Refused;
@@ -31,24 +31,38 @@ use ir_arena::span::Span;
 use ir_arena::tag;
 use ir_flags::valid::ShaderStages;
 use ir_statements::statements::{Located, Statement};
-use naga_runs::Abilities;
 
-/// A statement itself: its check list, what it puts, which is in scope afterwards, and what it leaves; its parts are
-/// left out. Answers whether that is all of it: true for Emit, Store, Call and Kill, false for all others, whether
-/// they hold statements or not.
-pub fn validate_own(
+/// Whether a statement is of a kind that bodies have most, or of one of which nothing but its parts is checked.
+pub fn is_frequent(statement: &Statement) -> bool
+    ensures { result ≡ is_frequent statement.now }
+{
+    matches!(
+        statement,
+        Statement::Emit(_)
+            | Statement::Store { .. }
+            | Statement::Call { .. }
+            | Statement::If { .. }
+            | Statement::Block(_)
+            | Statement::Loop { .. }
+            | Statement::Kill
+    )
+}
+
+/// A statement of such a kind itself: its check list, what it puts, which is in scope afterwards, and what it leaves; its
+/// parts are left out. Answers whether that is all of it: true for Emit, Store, Call and Kill.
+pub fn validate_frequent(
     table: &mut Table,
     state: &mut BodyOutcome,
     context: &BlockContext,
-    abilities: &Abilities,
     located: &Located,
 ) -> Result<bool, Refused>
     requires context { ContextFits (context_of context.now) }
     requires statement { IsStatementReady (context_of context.now) (tree_of (context_of context.now) located.now) }
+    requires kind { is_frequent located.now.statement ≡ true }
     requires table { IsTableOf (context_of context.now) table.old }
-    ensures fault { Answers
+    ensures fault { (abilities : Abilities) → Answers
         (FirstOf (statement_points (context_of context.now) (seen (kept table.old.filled state.old))
-        (place abilities.now (known table.old.scope)) (tree_of (context_of context.now) located.now)))
+        (place abilities (known table.old.scope)) (tree_of (context_of context.now) located.now)))
         result }
     ensures scope { OnOk result (HasPut table.old.scope table.new.scope (puts (tree_of (context_of context.now) located.now))) }
     ensures state { OnOk result (kept table.new.filled state.new
@@ -107,75 +121,22 @@ pub fn validate_own(
             state.stages = state.stages.intersection(ShaderStages::FRAGMENT);
             Ok(true)
         }
-        _ => validate_rarer(table, state, context, abilities, located),
-    }
-}
-
-/// The same of a statement of any other kind, which is never all of it. It stands apart from these, so that nothing is
-/// set up for it where one of them is judged.
-#[inline(never)]
-fn validate_rarer(
-    table: &mut Table,
-    state: &mut BodyOutcome,
-    context: &BlockContext,
-    abilities: &Abilities,
-    located: &Located,
-) -> Result<bool, Refused>
-    requires context { ContextFits (context_of context.now) }
-    requires statement { IsStatementReady (context_of context.now) (tree_of (context_of context.now) located.now) }
-    requires kind { is_frequent located.now.statement ≡ false }
-    requires table { IsTableOf (context_of context.now) table.old }
-    ensures fault { Answers
-        (FirstOf (statement_points (context_of context.now) (seen (kept table.old.filled state.old))
-        (place abilities.now (known table.old.scope)) (tree_of (context_of context.now) located.now)))
-        result }
-    ensures scope { OnOk result (HasPut table.old.scope table.new.scope (puts (tree_of (context_of context.now) located.now))) }
-    ensures state { OnOk result (kept table.new.filled state.new
-        ≡ with_statement (context_of context.now) (kept table.old.filled state.old)
-        (tree_of (context_of context.now) located.now)) }
-    ensures table { OnOk result (IsTableOf (context_of context.now) table.new) }
-    ensures all { IfOk result (λ all. all ≡ false) }
-{
-    validate_points(table, state, context, abilities, located)?;
-    advance(&mut table.filled, state, context, located);
-    Ok(false)
-}
-
-/// The check list of a statement of such a kind. What it emits is in scope afterwards.
-fn validate_points(
-    table: &mut Table,
-    state: &BodyOutcome,
-    context: &BlockContext,
-    abilities: &Abilities,
-    located: &Located,
-) -> Result<(), Refused>
-    requires context { ContextFits (context_of context.now) }
-    requires statement { IsStatementReady (context_of context.now) (tree_of (context_of context.now) located.now) }
-    requires kind { is_frequent located.now.statement ≡ false }
-    requires table { IsTableOf (context_of context.now) table.old }
-    ensures fault { Answers
-        (FirstOf (statement_points (context_of context.now) (seen (kept table.old.filled state.now))
-        (place abilities.now (known table.old.scope)) (tree_of (context_of context.now) located.now)))
-        result }
-    ensures scope { OnOk result (HasPut table.old.scope table.new.scope (puts (tree_of (context_of context.now) located.now))) }
-    ensures filled { table.new.filled ≡ table.old.filled }
-    ensures operands { table.new.operands ≡ table.old.operands }
-    ensures roots { table.new.roots ≡ table.old.roots }
-{
-    let span = located.span;
-    let scope = &table.scope;
-    let alloc = scope.allocator();
-    match &located.statement {
-        Statement::Switch { selector, cases } => {
-            switch::check_switch(scope, context, *selector, cases.as_slice(), span)
-        }
-        Statement::Break => control::check_break(alloc, *abilities, span),
-        Statement::Continue => control::check_continue(alloc, *abilities, span),
-        Statement::Return { value } => {
-            control::check_return(scope, context, *abilities, value, span)
-        }
-        Statement::If { .. } => unreachable!(),
-        _ => validate_rarer_leaf(table, state, context, located),
+        Statement::Switch { .. }
+        | Statement::Break
+        | Statement::Continue
+        | Statement::Return { .. }
+        | Statement::ControlBarrier(_)
+        | Statement::MemoryBarrier(_)
+        | Statement::ImageStore { .. }
+        | Statement::Atomic { .. }
+        | Statement::ImageAtomic { .. }
+        | Statement::WorkGroupUniformLoad { .. }
+        | Statement::RayQuery { .. }
+        | Statement::SubgroupBallot { .. }
+        | Statement::SubgroupCollectiveOperation { .. }
+        | Statement::SubgroupGather { .. }
+        | Statement::CooperativeStore { .. }
+        | Statement::RayPipelineFunction(_) => unreachable!(),
     }
 }
 

@@ -1,6 +1,6 @@
 //! The text of a verdict in a form, and that of out of memory.
 
-ghost use Rattle.std.specs.Prelude.{None, IfSome, string_bytes};
+ghost use Rattle.std.specs.Prelude.{None, IfOk, string_bytes};
 ghost use Rattle.check_faults.specs.declared.module.ModuleFault.TheVariants as faults;
 ghost use Rattle.json_answers.specs.Texts.{IsTextOf};
 ghost use Rattle.json_answers.specs.declared.verdict.Verdict.TheVariants as verdicts;
@@ -8,8 +8,7 @@ ghost use Rattle.json_answers.specs.declared.verdict.Verdict.TheVariants as verd
 use crate::lines::write_examined;
 use crate::named::named_line;
 use crate::verdict::Examined;
-use std::alloc::Global;
-use std::fmt;
+use std::alloc::{AllocError, Global};
 
 /// How verdicts are written: lines for a person, or JSON.
 #[derive(Clone, Copy, PartialEq, Eq, Debug)]
@@ -18,20 +17,22 @@ pub enum Form {
     Json,
 }
 
-/// The verdict for a person.
-fn lines_text(alloc: Global, examined: &Examined) -> Result<String, fmt::Error> {
+/// The verdict for a person. A write to a text fails only out of memory.
+fn lines_text(alloc: Global, examined: &Examined) -> Result<String, AllocError> {
     let mut text = String::new(alloc);
-    write_examined(alloc, &mut text, examined)?;
-    Ok(text)
+    match write_examined(alloc, &mut text, examined) {
+        Ok(()) => Ok(text),
+        Err(_) => Err(AllocError),
+    }
 }
 
-/// The text of a verdict, without a newline at its end. None is out of memory.
-pub fn text_of(alloc: Global, examined: &Examined, form: Form) -> Option<String>
-    ensures { IfSome result (λ text. IsTextOf form examined.now.id examined.now.verdict examined.now.misfit (string_bytes text)) }
+/// The text of a verdict, without a newline at its end. An Err is out of memory.
+pub fn text_of(alloc: Global, examined: &Examined, form: Form) -> Result<String, AllocError>
+    ensures { IfOk result (λ text. IsTextOf form examined.now.id examined.now.verdict examined.now.misfit (string_bytes text)) }
 {
     match form {
-        Form::Json => named_line(alloc, examined).ok(),
-        Form::Lines => lines_text(alloc, examined).ok(),
+        Form::Json => named_line(alloc, examined),
+        Form::Lines => lines_text(alloc, examined),
     }
 }
 

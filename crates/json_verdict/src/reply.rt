@@ -1,6 +1,6 @@
 //! The reply to a text: its verdict, written in a form.
 
-ghost use Rattle.std.specs.Prelude.{ℕ, List, None, IfOk, IfSome, string_bytes};
+ghost use Rattle.std.specs.Prelude.{ℕ, List, None, IfOk, string_bytes};
 ghost use Rattle.check_faults.specs.declared.module.ModuleFault.TheVariants as faults;
 ghost use Rattle.json_answers.specs.declared.verdict.Verdict.TheVariants as verdicts;
 ghost use Rattle.json_verdict.specs.Runs.{IsLineOf, Replies};
@@ -10,19 +10,17 @@ use crate::text::Bytes;
 use json_answers::form::text_of;
 use json_answers::verdict::drop_examined;
 use json_answers::{Examined, Form};
-use std::alloc::Global;
+use std::alloc::{AllocError, Global};
 use std::io;
 use std::io::Write;
 
-/// The line of a verdict: its text, with a newline at the end. None is out of memory.
-fn line_of(alloc: Global, examined: &Examined, form: Form) -> Option<String>
-    ensures { IfSome result (λ line. IsLineOf form examined.now.id examined.now.verdict examined.now.misfit (string_bytes line)) }
+/// The line of a verdict: its text, with a newline at the end. An Err is out of memory.
+fn line_of(alloc: Global, examined: &Examined, form: Form) -> Result<String, AllocError>
+    ensures { IfOk result (λ line. IsLineOf form examined.now.id examined.now.verdict examined.now.misfit (string_bytes line)) }
 {
     let mut line = text_of(alloc, examined, form)?;
-    match line.push_str("\n") {
-        Ok(()) => Some(line),
-        Err(_) => None,
-    }
+    line.push_str("\n")?;
+    Ok(line)
 }
 
 /// The line of out of memory.
@@ -40,11 +38,11 @@ fn reply<W: Write>(alloc: Global, writer: &mut W, examined: &Examined, form: For
     ensures { IfOk result (λ status. Tells form examined.now.id examined.now.verdict examined.now.misfit (W.contents writer.old) (W.contents writer.new) status) }
 {
     match line_of(alloc, examined, form) {
-        Some(line) => {
+        Ok(line) => {
             writer.write_all(line.as_str().as_bytes())?;
             Ok(examined.verdict.status())
         }
-        None => {
+        Err(AllocError) => {
             writer.write_all(memory_line(form))?;
             Ok(3)
         }

@@ -7,7 +7,7 @@ use json_answers::form::{memory_text, text_of};
 use json_answers::verdict::drop_examined;
 use json_answers::{Examined, Form};
 use json_verdict::examine::examine;
-use std::alloc::Global;
+use std::alloc::{AllocError, Global};
 
 /// What a call answers.
 #[repr(C)]
@@ -45,8 +45,8 @@ fn tell(alloc: Global, examined: &Examined, out: &mut [u8], form: Form) -> Answe
     ensures { IsTold form examined.now.id examined.now.verdict examined.now.misfit result out.old out.new }
 {
     match text_of(alloc, examined, form) {
-        Some(text) => told(examined.verdict.status(), text.as_str().as_bytes(), out),
-        None => told(3, memory_text(form), out),
+        Ok(text) => told(examined.verdict.status(), text.as_str().as_bytes(), out),
+        Err(AllocError) => told(3, memory_text(form), out),
     }
 }
 

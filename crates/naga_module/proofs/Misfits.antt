@@ -1,10 +1,9 @@
 -- A module has no misfit exactly where all tests of conditions hold.
-use Rattle.std.proofs.Common.{◌≡◌, ◌↔◌, ◌<◌, ℕ, Bool, true, List, [], ◌∷◌, ◌++◌, not, ◌||◌, All, Option, Some, None, Result, Ok, Err, length, refl, sym, ◌∙◌, eqb-true, eq-eqb}
-use Rattle.std.specs.Prelude.{⊤, IfErr, IsSome, is_some}
+use Rattle.std.proofs.Common.{◌≡◌, ◌↔◌, ◌<◌, ℕ, true, List, ◌++◌, not, ◌||◌, All, Option, Some, None, Result, Ok, Err, length, refl, sym, ◌∙◌, eqb-true, eq-eqb}
+use Rattle.std.specs.Prelude.{IfErr, IsSome, is_some}
 use Rattle.ir_types.specs.declared.types.AddressSpace.{AddressSpace}
 use Rattle.ir_types.specs.declared.types.AddressSpace.TheVariants as space
 use Rattle.ir_types.specs.declared.typifier.TypeResolution.{TypeResolution}
-use Rattle.ir_module.specs.declared.functions.Function.{Function}
 use Rattle.ir_module.specs.declared.module.EntryPoint.{EntryPoint}
 use Rattle.ir_module.specs.declared.module.GlobalVariable.{GlobalVariable}
 use Rattle.ir_module.specs.declared.module.Module.{Module}

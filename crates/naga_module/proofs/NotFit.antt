@@ -25,7 +25,7 @@ use Rattle.check_scope.specs.declared.trace.TraceState.{TraceState}
 use Rattle.check_statement.specs.FunctionJudgement.{FunctionOutcome, function_judgement}
 use Rattle.check_statement.specs.ValidatorParts.{no_traces}
 use Rattle.naga_module.specs.Misfits.{AllFits}
-use Rattle.naga_module.specs.ModuleJudgement.{Answer, Step, with_entry, first_infos, IsOfFunction, IsOfEntryPoint, EntriesAnswer, FunctionsAnswer, Fits, IsJudgement, globals_step, points_of_global}
+use Rattle.naga_module.specs.ModuleJudgement.{Answer, Step, with_entry, first_infos, IsOfFunction, IsOfEntryPoint, EntriesAnswer, FunctionsAnswer, IsJudgement, points_of_global}
 use Rattle.check_faults.specs.declared.module.ModuleFault.{ModuleFault}
 use Rattle.check_faults.specs.declared.module.ModuleFault.TheVariants as fault
 

@@ -1,5 +1,5 @@
 -- The misfits of a module and of what is given beside it, in the order in which `check_module` tests; and what it is to fit.
-use Rattle.std.specs.Prelude.{◌≡◌, ℕ, Bool, true, false, not, ◌||◌, ◌==◌, is_some, List, [], ◌∷◌, ◌++◌, Option, Some, Result, Ok, Err, All, IsSome, length}
+use Rattle.std.specs.Prelude.{ℕ, Bool, true, false, not, ◌||◌, ◌==◌, is_some, List, [], ◌∷◌, ◌++◌, Result, Ok, Err, All, length}
 use Rattle.ir_types.specs.declared.types.AddressSpace.{AddressSpace}
 use Rattle.ir_types.specs.declared.types.AddressSpace.TheVariants.{TaskPayload}
 use Rattle.ir_types.specs.declared.typifier.TypeResolution.{TypeResolution}
@@ -7,12 +7,11 @@ use Rattle.ir_module.specs.declared.functions.Function.{Function}
 use Rattle.ir_module.specs.declared.module.EntryPoint.{EntryPoint}
 use Rattle.ir_module.specs.declared.module.GlobalVariable.{GlobalVariable}
 use Rattle.ir_module.specs.declared.module.Module.{Module}
-use Rattle.ir_facts.specs.declared.valid.settings.Settings.{Settings}
 use Rattle.ir_types.specs.declared.type_info.Disalignment.{Disalignment}
 use Rattle.ir_types.specs.declared.type_info.TypeInfo.{TypeInfo}
 use Rattle.ir_facts.specs.Each.{EachAt}
 use Rattle.ir_facts.specs.Fits.{FitsTypes, FitsGlobals, FitsFunction, FitsEntry}
-use Rattle.ir_arena.specs.Points.{Point, first_fault, points_of_each}
+use Rattle.ir_arena.specs.Points.{Point, points_of_each}
 use Rattle.ir_misfits.specs.declared.misfit.HandleOf.TheVariants.{Types}
 use Rattle.ir_misfits.specs.declared.misfit.Misfit.{Misfit}
 use Rattle.ir_misfits.specs.declared.misfit.Owner.TheVariants as owner

@@ -1,7 +1,7 @@
 //! The judgement of a whole module.
 
-ghost use Rattle.std.specs.Prelude.{◌≡◌, ◌↔◌, ◌⊎◌, [], Ok, Err, true, IsTrue, IfOk, OnOk, IfErr};
-ghost use Rattle.naga_module.specs.ModuleJudgement.{Fits, BehindTests, first_infos, IsJudgementOrMemory};
+ghost use Rattle.std.specs.Prelude.{◌≡◌, ◌↔◌, [], Err, true, IsTrue, IfOk, OnOk};
+ghost use Rattle.naga_module.specs.ModuleJudgement.{Fits, first_infos, IsJudgementOrMemory};
 ghost use Rattle.naga_module.specs.ModuleInfos.{ModuleIsJudged};
 ghost use Rattle.naga_module.specs.ModuleLaw.{ModuleHolds, ModuleFillsOnce, ModuleBindsApart};
 ghost use Rattle.check_faults.specs.declared.module.ModuleFault.TheVariants as fault;
@@ -79,34 +79,6 @@ fn fits<B: Below>(validator: &Validator<B>, module: &Module, infos: &ModuleInfo)
     validator.has_types_of(module) && fits_types(module) && fits_globals(module, infos)
 }
 
-/// Validates the parts of a module that fits: its globals, its functions, and, once the sizes of its task payloads are
-/// known, its entry points.
-fn validate_parts<B: Below>(
-    alloc: Global,
-    validator: &mut Validator<B>,
-    module: &Module,
-    infos: &mut ModuleInfo,
-) -> Result<(), ModuleFault>
-    requires infos { AreInfosOf «module».now validator.old.types }
-    requires types { FitsTypes «module».now }
-    requires globals { FitsGlobals «module».now infos.old }
-    requires functions { infos.old.functions ≡ [] }
-    requires entries { infos.old.entry_points ≡ [] }
-    ensures judged { OnOk result
-        (BehindTests (B.meaning validator.old.below) validator.old.settings validator.old.types «module».now
-        validator.old.trace infos.old (Ok infos.new)) }
-    ensures refused { IfErr result (λ told. (told ≡ fault.Memory)
-        ⊎ BehindTests (B.meaning validator.old.below) validator.old.settings validator.old.types «module».now
-        validator.old.trace infos.old (Err told)) }
-{
-    validate_globals(alloc, validator, module, infos)?;
-    validate_functions(alloc, validator, module, infos)?;
-    if !validator.has_payload_sizes(module) {
-        return Err(ModuleFault::NotFit);
-    }
-    validate_entry_points(alloc, validator, module, infos)
-}
-
 /// Judges a whole module over a lower layer, with these settings. Answers the infos of all functions and entry points.
 ///
 /// An Err is the first fault in this order, or out of memory:
@@ -169,6 +141,11 @@ pub fn check_module<B: Below + Drop>(
     if !fits(&validator, module, &infos) {
         return Err(ModuleFault::NotFit);
     }
-    validate_parts(alloc, &mut validator, module, &mut infos)?;
+    validate_globals(alloc, &validator, module, &infos)?;
+    validate_functions(alloc, &mut validator, module, &mut infos)?;
+    if !validator.has_payload_sizes(module) {
+        return Err(ModuleFault::NotFit);
+    }
+    validate_entry_points(alloc, &mut validator, module, &mut infos)?;
     Ok(infos)
 }

@@ -2,7 +2,6 @@
 #![tactic(auto)]
 
 pub mod laws;
-mod outcome;
 pub mod validator;
 
 pub use crate::laws::entry_law;

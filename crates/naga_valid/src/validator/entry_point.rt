@@ -22,7 +22,9 @@ ghost use Rattle.check_statement.specs.FunctionJudgement.{outcome_of};
 ghost use Rattle.check_entry.specs.EntryFaults.{fault_of};
 
 use crate::validator::Validator;
-use crate::validator::entry::EntryContext;
+use crate::validator::entry::refusal_of_function;
+use check_entry::answers::refusal_at_start;
+use check_entry::start::{check_start, start_holds};
 use check_faults::entry::EntryPointError;
 use ir_arena::span::Refusal;
 use ir_facts::below::Below;
@@ -114,14 +116,23 @@ impl<B: Below> Validator<B> {
         ensures kept { self.new ≡ record self.old { trace = self.new.trace } }
         ensures refused { OnErr result (self.new ≡ self.old) }
     {
-        let entry = EntryContext {
-            alloc,
-            program: module,
-            earlier: mod_info,
-            entry_point: ep,
+        if !start_holds(ep) {
+            if let Err(fault) = check_start(self.settings.capabilities, ep) {
+                return Err(refusal_at_start(alloc, fault));
+            }
+        }
+        let before = self.trace;
+        let mut info = match self.validate_function(alloc, &ep.function, module, mod_info, true) {
+            Ok(info) => info,
+            Err(refused) => return Err(refusal_of_function(refused)),
         };
-        let outcome = self.judge_entry_point(&entry)?;
-        self.trace = outcome.trace;
-        Ok(outcome.info)
+        match self.judge_interface(alloc, module, ep, &mut info) {
+            Ok(()) => Ok(info),
+            Err(refused) => {
+                drop(info);
+                self.trace = before;
+                Err(refused.into_refusal())
+            }
+        }
     }
 }

@@ -87,8 +87,19 @@ impl<B: Below> Validator<B> {
             fun,
             entry_point,
         };
-        let outcome = self.judge_function(alloc, &function)?;
-        self.trace = outcome.trace;
-        Ok(outcome.info)
+        let flags = self.settings.flags;
+        let capabilities = self.settings.capabilities;
+        let below = &self.below;
+        let mut info = below.process_function(alloc, fun, module, mod_info, flags, capabilities)?;
+        let kinds = below.kinds(alloc, &fun.expressions)?;
+        let judged = self.judge_known(alloc, &function, &kinds, &mut info);
+        drop(kinds);
+        match judged {
+            Ok(()) => Ok(info),
+            Err(refused) => {
+                drop(info);
+                Err(refused)
+            }
+        }
     }
 }

@@ -1,4 +1,4 @@
-use Rattle.std.proofs.Common.{rules, arith, ◌≡◌, Err, None, Some, ◌||◌, subst, append-nil, ◌++◌, ◌+◌, [], sym, ap, ◌∙◌, drop, append_assoc}
+use Rattle.std.proofs.Common.{rules, arith, ◌≡◌, ◌<◌, IfSome, Err, None, Some, ◌||◌, subst, append-nil, ◌++◌, ◌+◌, [], sym, ap, ◌∙◌, drop, append_assoc}
 use Rattle.ir_statements.specs.declared.statements.Block.{the_lemmas}
 use Rattle.ir_statements.proofs.Rows.{body_of-list, tree_of-switch}
 use Rattle.ir_statements.specs.View as view
@@ -7,14 +7,17 @@ use Rattle.ir_facts.specs.Answers.{Answers, Exactly}
 use Rattle.check_statement.specs.Ready.{IsStatementReady, IsBodyReady}
 use Rattle.check_scope.specs.walk.SeenContext.{context_of}
 use Rattle.check_statement.specs.walk.State.{kept, with_statement}
-use Rattle.check_scope.specs.walk.Table.{HasPut, known}
+use Rattle.check_scope.specs.Results.{result_of}
+use Rattle.check_scope.specs.walk.Table.{HasPut, KnowsOperands, KnowsResults, KnowsRoots, known, marked}
+use Rattle.check_scope.proofs.Operands.{put_operands}
+use Rattle.naga_runs.specs.Positions.{StatementNode}
 use Rattle.check_statement.specs.walk.Walk.{puts, body_puts, body_answer}
 use Rattle.check_scope.proofs.Columns.{both_put, put_nothing, same_known, stays_put, shows_before, may_leave}
 use Rattle.check_scope.proofs.Divided.{apart_still, loop_left, may_leave_loop}
 use Rattle.naga_runs.specs.Must.{body_holds_continue, cases_hold_continue}
 use Rattle.check_body.proofs.LoopBody.{PutsOfLoop, at_first, one_more, undivided, divided, may_part, last_parted}
 use Rattle.check_body.proofs.Tables.{entered_table, divided_table, left_table, skipped_table}
-use Rattle.check_statement.proofs.Parts.{in_block, in_branch, in_switch, in_lists, in_list, in_cases}
+use Rattle.check_statement.proofs.Parts.{in_block, in_branch, in_switch, in_lists, in_list, in_cases, in_result}
 use Rattle.check_scope.proofs.Refusals.{next_is, passes, stops_first, stops_next, answers_next}
 use Rattle.check_body.proofs.Walk.{holds_turn, rest_turn, rest_end, cases_hold_turn, leaving_err, whole_parts, whole_holds, or_assoc, own_passes, own_refuses, parts_later, parts_branch, parts_switch, stmt_more, body_turn, puts_turn, body_end, puts_end, cases_turn, cases_end}
 use Rattle.check_body.proofs.function.+walk.Goals as goal
@@ -44,7 +47,9 @@ validate_nested-returns-in-Switch-clause-fault t c =
 pub validate_statement-returns-in_err-whole-clause-fault :
     goal.validate_statement-returns-in_err-whole-clause-fault
 validate_statement-returns-in_err-whole-clause-fault t c =
-    rw (stmt_more (context_of c.args.context.now) (kept c.args.table.now.filled c.args.state.now) c.args.abilities.now (known c.args.table.now.scope) (tree_of (context_of c.args.context.now) c.args.located.now)) (search (rules, stops_first, own_refuses))
+    rw (stmt_more (context_of c.args.context.now) (kept c.args.table.now.filled c.args.state.now) c.args.abilities.now (known c.args.table.now.scope) (tree_of (context_of c.args.context.now) c.args.located.now)) (
+    let first = c.in_err-whole.ensures.fault c.args.abilities.now in search (rules, stops_first, own_refuses)
+    )
 
 pub validate_statement-returns-clause-fault : goal.validate_statement-returns-clause-fault
 validate_statement-returns-clause-fault t c =
@@ -54,9 +59,9 @@ validate_statement-returns-clause-fault t c =
     let x = tree_of context c.args.located.now in
     let next = sym c.in_ok-whole.ensures.state in
     let put = c.in_ok-whole.ensures.scope.inside in
-    let later = kept c.validate_own.new.table.filled c.validate_own.new.state in
+    let later = kept c.validate_frequent.new.table.filled c.validate_frequent.new.state in
     rw (stmt_more context k c.args.abilities.now s x) (
-    answers_next _ _ _ _ _ (own_passes context k c.args.abilities.now s x c.in_ok-whole.ensures.fault) (rw (next, ← parts_later context later c.args.abilities.now s x, ← put) c.validate_nested.ensures.fault)
+    answers_next _ _ _ _ _ (own_passes context k c.args.abilities.now s x (c.in_ok-whole.ensures.fault c.args.abilities.now)) (rw (next, ← parts_later context later c.args.abilities.now s x, ← put) c.validate_nested-2.ensures.fault)
     )
 
 pub validate_statement-returns-then-whole-clause-fault :
@@ -68,11 +73,11 @@ validate_statement-returns-then-whole-clause-fault t c =
     let x = tree_of context c.args.located.now in
     let next = sym c.in_ok-whole.ensures.state in
     let put = c.in_ok-whole.ensures.scope.inside in
-    let later = kept c.validate_own.new.table.filled c.validate_own.new.state in
+    let later = kept c.validate_frequent.new.table.filled c.validate_frequent.new.state in
     let whole = sym c.in_ok-whole.ensures.all ∙ c.if-whole.true in
-    let none = whole_parts context later c.args.abilities.now (known c.validate_own.new.table.scope) c.args.located.now.statement c.args.located.now.span whole in
+    let none = whole_parts context later c.args.abilities.now (known c.validate_frequent.new.table.scope) c.args.located.now.statement c.args.located.now.span whole in
     rw (stmt_more context k c.args.abilities.now s x) (
-    passes _ _ (with_statement context k x) later (own_passes context k c.args.abilities.now s x c.in_ok-whole.ensures.fault) (rw (next, ← parts_later context later c.args.abilities.now s x, ← put) none)
+    passes _ _ (with_statement context k x) later (own_passes context k c.args.abilities.now s x (c.in_ok-whole.ensures.fault c.args.abilities.now)) (rw (next, ← parts_later context later c.args.abilities.now s x, ← put) none)
     )
 
 pub validate_statement-returns-then-whole-clause-held :
@@ -131,7 +136,59 @@ validate_nested-returns-in_ok-check_break_if-in-Loop-clause-scope t c =
 
 pub validate_statement-returns-clause-scope : goal.validate_statement-returns-clause-scope
 validate_statement-returns-clause-scope t c =
-    stays_put (context_of c.args.context.now) _ _ _ _ c.validate_nested.result c.in_ok-whole.ensures.scope c.requires.table.scope c.validate_nested.ensures.table c.validate_nested.ensures.scope c.validate_nested.ensures.taken
+    stays_put (context_of c.args.context.now) _ _ _ _ c.validate_nested-2.result c.in_ok-whole.ensures.scope c.requires.table.scope c.validate_nested-2.ensures.table c.validate_nested-2.ensures.scope c.validate_nested-2.ensures.taken
+
+pub validate_statement-returns-in_err-check_rarer-clause-fault :
+    goal.validate_statement-returns-in_err-check_rarer-clause-fault
+validate_statement-returns-in_err-check_rarer-clause-fault t c =
+    rw (stmt_more (context_of c.args.context.now) (kept c.args.table.now.filled c.args.state.now) c.args.abilities.now (known c.args.table.now.scope) (tree_of (context_of c.args.context.now) c.args.located.now)) (search (rules, stops_first, own_refuses))
+
+pub validate_statement-advance-requires : goal.validate_statement-advance-requires
+validate_statement-advance-requires t c =
+    let x = tree_of (context_of c.args.context.now) c.args.located.now in
+    let marks = ap marked c.in_ok-check_rarer.ensures.filled ∙ c.requires.table.filled in
+    subst (λ n. IfSome (result_of (StatementNode x)) (λ r. r < n)) (sym marks) (in_result (context_of c.args.context.now) x c.requires.ready)
+
+pub validate_statement-validate_nested-requires :
+    goal.validate_statement-validate_nested-requires
+validate_statement-validate_nested-requires t c =
+    let context = context_of c.args.context.now in
+    let same = c.in_ok-check_rarer.ensures in
+    let scope = c.check_rarer.new.table.scope in (
+      search (rules, the_lemmas),
+      (
+        c.requires.context,
+        (
+          c.requires.ready,
+          record {
+            scope = same.scope.as_many ∙ c.requires.table.scope;
+            filled = c.advance.ensures.count ∙ ap marked same.filled ∙ c.requires.table.filled;
+            results = c.advance.ensures.results (subst (KnowsResults context) (sym same.filled) c.requires.table.results);
+            operands = subst (λ o. KnowsOperands (emitted_operands context.fun) o scope) (sym same.operands) (put_operands same.scope c.requires.table.operands);
+            roots = subst (KnowsRoots context) (sym same.roots) c.requires.table.roots;
+          },
+        ),
+      ),
+    )
+
+pub validate_statement-returns-then-not-is_frequent-clause-fault :
+    goal.validate_statement-returns-then-not-is_frequent-clause-fault
+validate_statement-returns-then-not-is_frequent-clause-fault t c =
+    let context = context_of c.args.context.now in
+    let k = kept c.args.table.now.filled c.args.state.now in
+    let s = known c.args.table.now.scope in
+    let x = tree_of context c.args.located.now in
+    let same = c.in_ok-check_rarer.ensures in
+    let later = kept c.advance.new.filled c.advance.new.state in
+    let next = sym (c.advance.ensures.state ∙ ap (λ f. with_statement context (kept f c.args.state.now) x) same.filled) in
+    rw (stmt_more context k c.args.abilities.now s x) (
+    answers_next _ _ _ _ _ (own_passes context k c.args.abilities.now s x same.fault) (rw (next, ← parts_later context later c.args.abilities.now s x, ← same.scope.inside) c.validate_nested.ensures.fault)
+    )
+
+pub validate_statement-returns-then-not-is_frequent-clause-scope :
+    goal.validate_statement-returns-then-not-is_frequent-clause-scope
+validate_statement-returns-then-not-is_frequent-clause-scope t c =
+    stays_put (context_of c.args.context.now) _ _ _ _ c.validate_nested.result c.in_ok-check_rarer.ensures.scope c.requires.table.scope c.validate_nested.ensures.table c.validate_nested.ensures.scope c.validate_nested.ensures.taken
 
 pub validate_statements-loop-located-init : goal.validate_statements-loop-located-init
 validate_statements-loop-located-init t c =

@@ -11,7 +11,7 @@ returns-in_err-check_payload-clause-fault g c =
     let below = g.B.Below.meaning c.args.self.now.below in
     let settings = c.args.self.now.settings in
     let infos = c.args.self.now.types in
-    let program = c.args.entry.now.program.now in
-    let ep = c.args.entry.now.entry_point.now in
+    let program = c.args.program.now in
+    let ep = c.args.entry_point.now in
     judges_first c.from_residual.result (within fault_of (payload_points program.global_variables ep.stage ep.task_payload))
     (used_points below settings infos program ep (with_own_uses ep c.args.info.now)) (search rules) (search (rules, c.check_payload.ensures))

@@ -1,4 +1,4 @@
-use Rattle.std.proofs.Common.{rules, ◌≡◌, true, false, Ok, Err, sym, subst}
+use Rattle.std.proofs.Common.{rules, ◌≡◌, true, false, Err, sym, subst}
 use Rattle.ir_facts.specs.Answers.{Answers, Exactly}
 use Rattle.ir_facts.specs.WhatIsChecked.{checks_blocks}
 use Rattle.check_scope.specs.Context.{ContextFits}
@@ -82,11 +82,11 @@ returns-clause-judged g c =
     elim c.if-contains.branch [
       | then-contains+in_ok-table+in-Ok w ↦
           let on : checks_blocks v.settings.flags ≡ true = rw (← c.self.view_is) (search (rules, w.if-contains.true)) in
-          rw (w.info-is, w.trace-is) (
+          rw (w.info-is, w.self-is) (
           body_passed below v.settings v.types v.trace f.program.now f.earlier.now f.fun.now f.entry_point c.args.info.now c.args.kinds.now lower of _ c.block_context-context.ensures none c.meet_expressions.new.info c.in_ok-meet_expressions.ensures.fault c.in_ok-meet_expressions.ensures.kept _ w.block_context-context-then-contains.ensures on w.in-Ok.left w.in-Ok.ensures
           )
       | else-contains w ↦
           let off : checks_blocks v.settings.flags ≡ false = rw (← c.self.view_is) (search (rules, w.if-contains.false)) in
           let left = body_unchecked below v.settings v.types v.trace f.program.now f.earlier.now f.fun.now f.entry_point c.args.info.now c.args.kinds.now lower of _ c.block_context-context.ensures none c.meet_expressions.new.info c.in_ok-meet_expressions.ensures.fault c.in_ok-meet_expressions.ensures.kept off in
-          rw (w.info-is, w.trace-is) (search (rules, left))
+          rw (w.info-is, w.self-is) (search (rules, left))
     ]

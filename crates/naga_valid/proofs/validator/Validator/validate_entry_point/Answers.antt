@@ -1,42 +1,117 @@
+use Rattle.std.proofs.Common.{rules, ◌≡◌, true, Option, Some, None, Result, Ok, Err, refl, ap, sym, subst, ◌∙◌}
+use Rattle.std.specs.Result.{result_err}
+use Rattle.ir_arena.specs.Points.{first_fault}
+use Rattle.ir_facts.specs.Answers.{Answers, FirstOf, refusal_read_by}
+use Rattle.ir_facts.specs.declared.valid.info.FunctionInfo.{FunctionInfo}
 use Rattle.check_body.proofs.Chains.{fits_calls_below}
-use Rattle.naga_valid.proofs.EntryBodies.{entry_fills_once, entry_is_of_all_stages, entry_has_no_return_in_continuing, entry_has_whole_switches}
+use Rattle.check_entry.specs.EntryFaults.{fault_of}
+use Rattle.check_entry.specs.EntryUses.{with_own_uses}
+use Rattle.check_entry.specs.EntryVaryings.{with_blending}
+use Rattle.check_entry.specs.InterfacePoints.{interface_points}
+use Rattle.check_entry.specs.Start.{start_points}
+use Rattle.check_statement.specs.FunctionJudgement.{FunctionOutcome, function_judgement}
+use Rattle.check_statement.specs.ValidatorParts.{Parts}
+use Rattle.naga_valid.specs.EntryJudgement.{AnswersAfter, entry_judgement, entry_outcome, of_function}
+use Rattle.naga_valid.proofs.EntryBodies.{entry_is_of_all_stages, entry_has_whole_switches}
 use Rattle.naga_valid.proofs.EntryBuiltIns.{accepted_built_ins}
-use Rattle.naga_valid.proofs.EntryChains.{entry_is_sound, entry_keeps_its_stage}
+use Rattle.naga_valid.proofs.EntryChains.{entry_keeps_its_stage}
 use Rattle.naga_valid.proofs.EntryGroups.{accepted_locations}
 use Rattle.naga_valid.proofs.EntryFacts.{accepted_bindings, accepted_position}
+use Rattle.naga_valid.proofs.EntryJudgement.{function_refuses, interface_decides, points_pass, points_refuse, start_refuses}
+use Rattle.naga_valid.proofs.EntryUses.{one_use_each}
+use Rattle.naga_valid.proofs.validator.Validator.validate_entry_point.Given as given
 use Rattle.naga_valid.proofs.validator.Validator.validate_entry_point.Goals as goal
+use Rattle.naga_valid.proofs.validator.Validator.validate_entry_point.Goals.{then-not-start_holds+in_default, else-not-start_holds}
 
-pub returns-clause-sound : goal.returns-clause-sound
-returns-clause-sound g c = entry_is_sound _ _ _ _ _ _ _ _ c.in_ok-outcome.ensures.judged
+-- a fault before the function
+pub returns-in-Err-clause-judged : goal.returns-in-Err-clause-judged
+returns-in-Err-clause-judged g c =
+    let ep = c.args.ep.now in
+    let found : Some c.in-Err.fault ≡ first_fault (start_points c.args.self.now.settings.capabilities ep) = search rules in
+    let v = c.args.self.now in
+    let right = entry_judgement (g.B.Below.meaning v.below) v.settings v.types v.trace c.args.module.now c.args.mod_info.now ep in
+    subst (λ x. AnswersAfter (start_points v.settings.capabilities ep) right (Err (refusal_read_by fault_of x))) (sym c.refusal_at_start.ensures)
+    (start_refuses (g.B.Below.meaning v.below) v.settings v.types v.trace c.args.module.now c.args.mod_info.now ep c.in-Err.fault found)
 
-pub returns-clause-filled : goal.returns-clause-filled
-returns-clause-filled g c = entry_fills_once _ _ _ _ _ _ _ _ c.in_ok-outcome.ensures.judged
+-- no fault before the function, where none was found
+none_found : {E : Type 0} (r : Result Unit E) (found : Option E) → ((e : E) → r ≡ Err e → ⊥) → result_err r ≡ found → found ≡ None
+none_found (Ok u) found not is = sym is
+none_found (Err e) found not is = absurd (not e refl)
 
-pub returns-clause-stages : goal.returns-clause-stages
-returns-clause-stages g c = λ on.
-    let of_all = entry_is_of_all_stages _ _ _ _ _ _ _ _ c.in_ok-outcome.ensures.judged on in rw (← c.outcome.view_is) at of_all
+pub returns-in-Err-validate_function-clause-judged : goal.returns-in-Err-validate_function-clause-judged
+returns-in-Err-validate_function-clause-judged g c =
+    let ep = c.args.ep.now in
+    let v = c.args.self.now in
+    let below = g.B.Below.meaning v.below in
+    let none : first_fault (start_points v.settings.capabilities ep) ≡ None = elim c.if-not-start_holds.branch [
+      | then-not-start_holds+in_default w ↦ rw (← c.self.view_is) (none_found w.check_start.result _ w.in_default.not-Err w.check_start.ensures)
+      | else-not-start_holds w ↦ search (rules, c.start_holds.ensures v.settings.capabilities)
+    ] in
+    let fun = function_judgement below v.settings v.types v.trace c.args.module.now c.args.mod_info.now ep.function true in
+    function_refuses below v.settings v.types v.trace c.args.module.now c.args.mod_info.now ep none c.refusal_of_function.result
+    (c.refusal_of_function.ensures fun c.in-Err-validate_function.ensures.judged)
 
-pub returns-clause-returns : goal.returns-clause-returns
-returns-clause-returns g c = entry_has_no_return_in_continuing _ _ _ _ _ _ _ _ c.in_ok-outcome.ensures.judged
+pub judge_interface-requires-clause-uses : goal.judge_interface-requires-clause-uses
+judge_interface-requires-clause-uses g c =
+    let v = c.args.self.now in
+    one_use_each (g.B.Below.meaning v.below) v.settings v.types v.trace c.args.module.now c.args.mod_info.now c.args.ep.now.function true _ (g.met.B.Below.one_use_each _) c.in-Ok.ensures.judged
 
-pub returns-clause-switches : goal.returns-clause-switches
-returns-clause-switches g c = λ on.
-    let whole = entry_has_whole_switches _ _ _ _ _ _ _ _ c.in_ok-outcome.ensures.judged on in rw (← c.outcome.view_is) at whole
+-- the judgement of an accepted entry point
+accepted : (g : given.Over) (c : goal.In-Ok-judge_interface g) → goal.the-asks-returns-in-Ok-judge_interface-clause-judged g.row.B g.B.laws g.B.Below g.B.Below-dict g.world g.met.B.Below c
+accepted g c =
+    let ep = c.args.ep.now in
+    let v = c.args.self.now in
+    let below = g.B.Below.meaning v.below in
+    let none : first_fault (start_points v.settings.capabilities ep) ≡ None = elim c.if-not-start_holds.branch [
+      | then-not-start_holds+in_default w ↦ rw (← c.self.view_is) (none_found w.check_start.result _ w.in_default.not-Err w.check_start.ensures)
+      | else-not-start_holds w ↦ search (rules, c.start_holds.ensures v.settings.capabilities)
+    ] in
+    let trace = c.validate_function.new.self.trace in
+    let program = c.args.module.now in
+    let function : FunctionOutcome = record { info = c.in-Ok.info; trace = trace } in
+    let held = subst (λ (w : Parts _). first_fault (interface_points (g.B.Below.meaning w.below) w.settings w.types program ep c.in-Ok.info) ≡ None) c.validate_function.ensures.kept c.in-Ok-judge_interface.ensures.fault in
+    let info = subst (λ (w : Parts _). c.judge_interface.new.info ≡ with_blending program.types w.types ep (with_own_uses ep c.in-Ok.info)) c.validate_function.ensures.kept c.in-Ok-judge_interface.ensures.info in
+    interface_decides below v.settings v.types v.trace program c.args.mod_info.now ep none function (Ok (record { info = c.judge_interface.new.info; trace = trace })) (ap of_function c.in-Ok.ensures.judged)
+    (points_pass (interface_points below v.settings v.types program ep c.in-Ok.info) (entry_outcome below v.settings v.types program ep function) held ∙ ap (λ (i : FunctionInfo). Ok (record { info = i; trace = trace })) (sym info))
 
-pub returns-clause-bindings : goal.returns-clause-bindings
-returns-clause-bindings g c = λ on.
-    let distinct = accepted_bindings _ _ _ _ _ _ _ _ c.in_ok-outcome.ensures.judged on in rw (← c.outcome.view_is) at distinct
+pub returns-in-Ok-judge_interface-clause-judged : goal.returns-in-Ok-judge_interface-clause-judged
+returns-in-Ok-judge_interface-clause-judged g c = accepted g c
 
-pub returns-clause-locations : goal.returns-clause-locations
-returns-clause-locations g c = accepted_locations _ _ _ _ _ _ _ _ c.in_ok-outcome.ensures.judged
+pub returns-in-Err-judge_interface-clause-judged : goal.returns-in-Err-judge_interface-clause-judged
+returns-in-Err-judge_interface-clause-judged g c =
+    let ep = c.args.ep.now in
+    let v = c.args.self.now in
+    let below = g.B.Below.meaning v.below in
+    let none : first_fault (start_points v.settings.capabilities ep) ≡ None = elim c.if-not-start_holds.branch [
+      | then-not-start_holds+in_default w ↦ rw (← c.self.view_is) (none_found w.check_start.result _ w.in_default.not-Err w.check_start.ensures)
+      | else-not-start_holds w ↦ search (rules, c.start_holds.ensures v.settings.capabilities)
+    ] in
+    let program = c.args.module.now in
+    let function : FunctionOutcome = record { info = c.in-Ok.info; trace = c.validate_function.new.self.trace } in
+    let points = interface_points below v.settings v.types program ep c.in-Ok.info in
+    let refused = subst (λ (w : Parts _). Answers {A = FunctionOutcome} (FirstOf (interface_points (g.B.Below.meaning w.below) w.settings w.types program ep c.in-Ok.info)) (Err (refusal_read_by fault_of c.into_refusal.result))) c.validate_function.ensures.kept (search (rules, c.in-Err-judge_interface.ensures.fault, c.into_refusal.ensures)) in
+    interface_decides below v.settings v.types v.trace program c.args.mod_info.now ep none function (Err c.into_refusal.result) (ap of_function c.in-Ok.ensures.judged)
+    (points_refuse points (entry_outcome below v.settings v.types program ep function) (Err c.into_refusal.result) (search rules) refused)
 
-pub returns-clause-position : goal.returns-clause-position
-returns-clause-position g c = accepted_position _ _ _ _ _ _ _ _ c.in_ok-outcome.ensures.judged
+pub returns-in-Ok-judge_interface-clause-stages : goal.returns-in-Ok-judge_interface-clause-stages
+returns-in-Ok-judge_interface-clause-stages g c = entry_is_of_all_stages _ _ _ _ _ _ _ _ (accepted g c)
 
-pub returns-clause-built_ins : goal.returns-clause-built_ins
-returns-clause-built_ins g c =
-    accepted_built_ins _ _ _ _ _ _ _ _ c.in_ok-outcome.ensures.judged c.requires.types c.requires.function.signature
+pub returns-in-Ok-judge_interface-clause-switches : goal.returns-in-Ok-judge_interface-clause-switches
+returns-in-Ok-judge_interface-clause-switches g c = entry_has_whole_switches _ _ _ _ _ _ _ _ (accepted g c)
 
-pub returns-clause-chains : goal.returns-clause-chains
-returns-clause-chains g c = λ on vetted.
-    entry_keeps_its_stage _ _ _ _ _ _ _ _ c.in_ok-outcome.ensures.judged on vetted (fits_calls_below _ _ _ c.requires.function)
+pub returns-in-Ok-judge_interface-clause-bindings : goal.returns-in-Ok-judge_interface-clause-bindings
+returns-in-Ok-judge_interface-clause-bindings g c = accepted_bindings _ _ _ _ _ _ _ _ (accepted g c)
+
+pub returns-in-Ok-judge_interface-clause-locations : goal.returns-in-Ok-judge_interface-clause-locations
+returns-in-Ok-judge_interface-clause-locations g c = accepted_locations _ _ _ _ _ _ _ _ (accepted g c)
+
+pub returns-in-Ok-judge_interface-clause-position : goal.returns-in-Ok-judge_interface-clause-position
+returns-in-Ok-judge_interface-clause-position g c = accepted_position _ _ _ _ _ _ _ _ (accepted g c)
+
+pub returns-in-Ok-judge_interface-clause-built_ins : goal.returns-in-Ok-judge_interface-clause-built_ins
+returns-in-Ok-judge_interface-clause-built_ins g c =
+    accepted_built_ins _ _ _ _ _ _ _ _ (accepted g c) c.requires.types c.requires.function.signature
+
+pub returns-in-Ok-judge_interface-clause-chains : goal.returns-in-Ok-judge_interface-clause-chains
+returns-in-Ok-judge_interface-clause-chains g c = λ on vetted.
+    entry_keeps_its_stage _ _ _ _ _ _ _ _ (accepted g c) on vetted (fits_calls_below _ _ _ c.requires.function)

@@ -1,12 +1,12 @@
-//! The check lists of the statements that neither jump nor hold others, but for the kinds that bodies have most.
+//! The check lists of the kinds of statements that bodies have less often.
 
 ghost use Rattle.std.specs.Prelude.{◌≡◌, false, OnOk};
 ghost use Rattle.ir_facts.specs.Answers.{Answers, FirstOf};
 ghost use Rattle.check_scope.specs.BodyTrees.{tree_of};
 ghost use Rattle.check_scope.specs.Context.{ContextFits};
 ghost use Rattle.check_statement.specs.Ready.{IsStatementReady};
-ghost use Rattle.check_statement.specs.Rules.{leaf_points};
-ghost use Rattle.check_scope.specs.walk.Place.{place_at};
+ghost use Rattle.check_statement.specs.Rules.{statement_points};
+ghost use Rattle.check_flow.specs.walk.Emitted.{place};
 ghost use Rattle.check_scope.specs.walk.SeenContext.{context_of};
 ghost use Rattle.check_statement.specs.walk.Frequent.{is_frequent};
 ghost use Rattle.check_statement.specs.walk.State.{kept, seen};
@@ -14,6 +14,7 @@ ghost use Rattle.check_statement.specs.walk.Walk.{puts};
 ghost use Rattle.check_scope.specs.walk.Table.{HasPut, IsTableOf, known};
 
 use crate::state::BodyOutcome;
+use check_flow::{control, switch};
 use check_memory::atomic::{AtomicOperation, validate_atomic};
 use check_memory::cooperative::check_cooperative_store;
 use check_memory::load::validate_load;
@@ -31,23 +32,27 @@ use check_subgroups::subgroup_collective::{Collective, validate_collective};
 use check_subgroups::subgroup_gather::validate_gather;
 use ir_statements::operations::RayPipelineFunction;
 use ir_statements::statements::{Located, Statement};
+use naga_runs::Abilities;
 
-/// The check list of a statement that is neither a jump nor holds others, of another kind than those that bodies have
-/// most; of jumps and of what holds others it is empty. What the statement emits is in scope afterwards. It stands
-/// apart from the frequent kinds, so that nothing is set up for it where one of them is judged.
+/// The check list of a statement of any kind that `is_frequent` doesn't name. What the statement emits is in scope
+/// afterwards; `advance` has what else it leaves. It stands apart from the frequent kinds, so that nothing is set up for it
+/// where one of them is judged.
 #[inline(never)]
-pub(crate) fn validate_rarer_leaf(
+pub fn check_rarer(
     table: &mut Table,
     state: &BodyOutcome,
     context: &BlockContext,
+    abilities: &Abilities,
     located: &Located,
 ) -> Result<(), Refused>
     requires context { ContextFits (context_of context.now) }
     requires statement { IsStatementReady (context_of context.now) (tree_of (context_of context.now) located.now) }
     requires kind { is_frequent located.now.statement ≡ false }
     requires table { IsTableOf (context_of context.now) table.old }
-    ensures fault { Answers (FirstOf (leaf_points (context_of context.now) (seen (kept table.old.filled state.now))
-        (place_at (known table.old.scope)) located.now.statement)) result }
+    ensures fault { Answers
+        (FirstOf (statement_points (context_of context.now) (seen (kept table.old.filled state.now))
+        (place abilities.now (known table.old.scope)) (tree_of (context_of context.now) located.now)))
+        result }
     ensures scope { OnOk result (HasPut table.old.scope table.new.scope (puts (tree_of (context_of context.now) located.now))) }
     ensures filled { table.new.filled ≡ table.old.filled }
     ensures operands { table.new.operands ≡ table.old.operands }
@@ -56,7 +61,16 @@ pub(crate) fn validate_rarer_leaf(
     let span = located.span;
     let scope = &mut table.scope;
     let filled = &table.filled;
+    let alloc = scope.allocator();
     match &located.statement {
+        Statement::Switch { selector, cases } => {
+            switch::check_switch(scope, context, *selector, cases.as_slice(), span)
+        }
+        Statement::Break => control::check_break(alloc, *abilities, span),
+        Statement::Continue => control::check_continue(alloc, *abilities, span),
+        Statement::Return { value } => {
+            control::check_return(scope, context, *abilities, value, span)
+        }
         Statement::ImageStore {
             image,
             coordinate,
@@ -108,7 +122,7 @@ pub(crate) fn validate_rarer_leaf(
             check_cooperative_store(scope, context, *target, source.pointer, span)
         }
         Statement::ControlBarrier(barrier) | Statement::MemoryBarrier(barrier) => {
-            check_barrier(scope.allocator(), &context.settings, *barrier, span)
+            check_barrier(alloc, &context.settings, *barrier, span)
         }
         Statement::RayQuery { query, fun } => validate_ray_query(scope, context, *query, fun, span),
         Statement::RayPipelineFunction(
@@ -154,9 +168,5 @@ pub(crate) fn validate_rarer_leaf(
         | Statement::Block(_)
         | Statement::Loop { .. }
         | Statement::Kill => unreachable!(),
-        Statement::Switch { .. }
-        | Statement::Break
-        | Statement::Continue
-        | Statement::Return { .. } => Ok(()),
     }
 }

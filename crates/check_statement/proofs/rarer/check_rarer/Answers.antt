@@ -1,9 +1,25 @@
-use Rattle.std.proofs.Common.{arith, ◌<◌, IfSome, subst, sym}
+use Rattle.std.proofs.Common.{arith, ◌<◌, IfSome, subst, sym, ap, ◌∙◌}
 use Rattle.ir_facts.specs.FitsBody.{QueryFits}
+use Rattle.ir_statements.proofs.Rows.{tree_of-switch}
+use Rattle.ir_statements.specs.View as view
+use Rattle.ir_statements.specs.View.{no_operands}
+use Rattle.check_scope.specs.BodyTrees.{emitted_operands}
 use Rattle.check_scope.specs.walk.SeenContext.{context_of}
+use Rattle.check_scope.specs.walk.Table.{known}
+use Rattle.check_flow.specs.walk.Emitted.{place}
+use Rattle.check_flow.proofs.Lists.{same_switch}
 use Rattle.check_memory.proofs.Atomics.{atomic_puts}
 use Rattle.check_statement.proofs.Parts.{in_leaf}
-use Rattle.check_statement.proofs.leaf.validate_rarer_leaf.Goals as goal
+use Rattle.check_statement.proofs.rarer.check_rarer.Goals as goal
+
+pub returns-in-Switch-clause-fault : goal.returns-in-Switch-clause-fault
+returns-in-Switch-clause-fault c =
+    let span = c.args.located.now.span in
+    let operands = emitted_operands (context_of c.args.context.now).fun in
+    let tree = ap (λ st. view.tree_of operands st span) c.in-Switch.is ∙ tree_of-switch operands c.in-Switch.selector c.in-Switch.cases span in
+    let context = context_of c.args.context.now in
+    let same = same_switch operands no_operands context (place c.args.abilities.now (known c.args.table.now.scope)) c.in-Switch.selector c.in-Switch.cases in
+    rw (tree, same, ← c.as_slice.ensures) c.check_switch.ensures
 
 pub validate_load-requires-clause-result : goal.validate_load-requires-clause-result
 validate_load-requires-clause-result c =

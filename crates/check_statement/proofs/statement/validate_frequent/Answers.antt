@@ -13,9 +13,8 @@ use Rattle.check_scope.specs.walk.Table.{filled_in, known}
 use Rattle.check_flow.specs.Call.{call_points}
 use Rattle.check_flow.proofs.Calls.{call_puts}
 use Rattle.check_flow.proofs.Emits.{emit_puts}
-use Rattle.check_statement.proofs.Own.{others}
 use Rattle.check_statement.proofs.Parts.{in_leaf}
-use Rattle.check_statement.proofs.statement.validate_own.Goals as goal
+use Rattle.check_statement.proofs.statement.validate_frequent.Goals as goal
 
 pub validate_emit-requires-clause-there : goal.validate_emit-requires-clause-there
 validate_emit-requires-clause-there c =
@@ -48,7 +47,7 @@ passed_on (Err e) given points err is first = subst (IsFirstFault points) (sym i
 
 pub returns-in_err-validate_call-in-Call-clause-fault :
     goal.returns-in_err-validate_call-in-Call-clause-fault
-returns-in_err-validate_call-in-Call-clause-fault c =
+returns-in_err-validate_call-in-Call-clause-fault c = λ abilities.
     let refused = c.from_residual-in_err-validate_call-in-Call in
     let points = call_points (context_of c.args.context.now) (filled_in c.args.table.now.filled) (place_at (known c.args.table.now.scope)) c.in-Call.function c.as_slice-arguments.result.now c.in-Call.result in
     rw (c.in-Call.is, ← c.as_slice-arguments.ensures) (passed_on refused.result c.in_err-validate_call-in-Call.field-0.0 points refused.ensures.0 refused.ensures.1 c.in_err-validate_call-in-Call.ensures.fault)
@@ -57,10 +56,6 @@ pub returns-in_ok-validate_call-in-Call-clause-scope :
     goal.returns-in_ok-validate_call-in-Call-clause-scope
 returns-in_ok-validate_call-in-Call-clause-scope c =
     rw (c.in-Call.is, call_puts c.in-Call.arguments (put_if c.in-Call.result)) c.in_ok-validate_call-in-Call.ensures.scope
-
-pub validate_rarer-requires-clause-kind : goal.validate_rarer-requires-clause-kind
-validate_rarer-requires-clause-kind c =
-    others c.args.located.now.statement c.in_default.not-Emit c.in_default.not-Store c.in_default.not-Call c.in_default.not-If c.in_default.not-Block c.in_default.not-Loop c.in_default.not-Kill
 
 pub returns-in_ok-validate_call-in-Call-clause-table :
     goal.returns-in_ok-validate_call-in-Call-clause-table
