@@ -19,8 +19,10 @@ fn line_of(alloc: Global, examined: &Examined, form: Form) -> Result<String, All
     ensures { IfOk result (λ line. IsLineOf form examined.now.id examined.now.verdict examined.now.misfit (string_bytes line)) }
 {
     let mut line = text_of(alloc, examined, form)?;
-    line.push_str("\n")?;
-    Ok(line)
+    match line.push_str("\n") {
+        Ok(()) => Ok(line),
+        Err(refused) => Err(refused),
+    }
 }
 
 /// The line of out of memory.
