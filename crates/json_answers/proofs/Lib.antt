@@ -1,3 +1,3 @@
 pub mod Memory
 pub mod Pointers
-pub mod Spliced
+pub mod Objects

@@ -8,6 +8,7 @@ use Rattle.ir_facts.specs.declared.valid.info.ModuleInfo.{ModuleInfo}
 use Rattle.ir_misfits.specs.declared.misfit.Misfit.{Misfit}
 use Rattle.check_faults.specs.declared.module.ModuleFault.{ModuleFault}
 use Rattle.check_faults.specs.declared.module.ModuleFault.TheVariants as faults
+use Rattle.json_document.specs.declared.id.Id.{Id}
 use Rattle.json_nodes.specs.declared.step.Step.{Step}
 use Rattle.json_nodes.specs.declared.step.Step.TheVariants as steps
 use Rattle.json_values.specs.declared.error.Unreadable.{Unreadable}
@@ -17,6 +18,7 @@ use Rattle.json_faults.specs.Infos.{info_form}
 use Rattle.json_faults.specs.Interfaces.{entry_error_form, global_error_form}
 use Rattle.json_faults.specs.Misfits.{misfit_form}
 use Rattle.json_faults.specs.Sets.{stages_form}
+use Rattle.json_answers.specs.Named.{maybe_with_id}
 use Rattle.json_answers.specs.declared.verdict.Verdict as judge
 use Rattle.json_answers.specs.declared.verdict.Verdict.TheVariants as verdict
 
@@ -79,20 +81,21 @@ verdict_form spans place misfit (verdict.Accepted m infos) = infos_form infos
 verdict_form spans place misfit (verdict.Refused fault) = refused_form spans place misfit fault
 verdict_form spans place misfit (verdict.Unreadable unreadable) = unreadable_form unreadable
 
--- The text is the JSON of the verdict, with this misfit. Contracts see neither the spans nor the place of a fault: there are
--- some with which it is.
-abbrev pub IsJsonOf : judge.Verdict → Option Misfit → List ℕ → Type 0
-IsJsonOf v misfit text =
-    (spans : List Span) × (place : Option (List ℕ)) × (text ≡ json_text (verdict_form spans place misfit v))
+-- The text is the JSON of the verdict, with this misfit, and with the id as its first field. Contracts see neither the spans nor the
+-- place of a fault: there are some with which it is.
+abbrev pub IsJsonOf : Option Id → judge.Verdict → Option Misfit → List ℕ → Type 0
+IsJsonOf id v misfit text =
+    (spans : List Span) × (place : Option (List ℕ)) × (text ≡ json_text (maybe_with_id id (verdict_form spans place misfit v)))
 
 -- the same as tokens that were written after others; or there was no memory
-abbrev pub WritesPlaced : {E : Type 0} → Result (Unit {0}) E → List Token → List Token → Json → Json → List Span → Type 0
-WritesPlaced r old new at fault spans = (place : Option (List ℕ)) × Writes r old new (fault_form at fault spans place)
+abbrev pub WritesPlaced : {E : Type 0} → Result (Unit {0}) E → List Token → List Token → Option Id → Json → Json → List Span → Type 0
+WritesPlaced r old new id at fault spans =
+    (place : Option (List ℕ)) × Writes r old new (maybe_with_id id (fault_form at fault spans place))
 
-abbrev pub WritesFault : {E : Type 0} → Result (Unit {0}) E → List Token → List Token → Option Misfit → ModuleFault → Type 0
-WritesFault r old new misfit fault =
-    (spans : List Span) × (place : Option (List ℕ)) × Writes r old new (refused_form spans place misfit fault)
+abbrev pub WritesFault : {E : Type 0} → Result (Unit {0}) E → List Token → List Token → Option Id → Option Misfit → ModuleFault → Type 0
+WritesFault r old new id misfit fault =
+    (spans : List Span) × (place : Option (List ℕ)) × Writes r old new (maybe_with_id id (refused_form spans place misfit fault))
 
-abbrev pub WritesVerdict : {E : Type 0} → Result (Unit {0}) E → List Token → List Token → judge.Verdict → Option Misfit → Type 0
-WritesVerdict r old new v misfit =
-    (spans : List Span) × (place : Option (List ℕ)) × Writes r old new (verdict_form spans place misfit v)
+abbrev pub WritesVerdict : {E : Type 0} → Result (Unit {0}) E → List Token → List Token → Option Id → judge.Verdict → Option Misfit → Type 0
+WritesVerdict r old new id v misfit =
+    (spans : List Span) × (place : Option (List ℕ)) × Writes r old new (maybe_with_id id (verdict_form spans place misfit v))

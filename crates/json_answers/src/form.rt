@@ -5,8 +5,8 @@ ghost use Rattle.check_faults.specs.declared.module.ModuleFault.TheVariants as f
 ghost use Rattle.json_answers.specs.Texts.{IsTextOf};
 ghost use Rattle.json_answers.specs.declared.verdict.Verdict.TheVariants as verdicts;
 
+use crate::line::json_line;
 use crate::lines::write_examined;
-use crate::named::named_line;
 use crate::verdict::Examined;
 use std::alloc::{AllocError, Global};
 
@@ -31,7 +31,7 @@ pub fn text_of(alloc: Global, examined: &Examined, form: Form) -> Result<String,
     ensures { IfOk result (λ text. IsTextOf form examined.now.id examined.now.verdict examined.now.misfit (string_bytes text)) }
 {
     match form {
-        Form::Json => named_line(alloc, examined),
+        Form::Json => json_line(alloc, examined),
         Form::Lines => lines_text(alloc, examined),
     }
 }

@@ -2,41 +2,45 @@
 
 ghost use Rattle.std.specs.Prelude.{IfOk, string_bytes};
 ghost use Rattle.json_faults.specs.Form.{Writes, list_form, span_form};
+ghost use Rattle.json_answers.specs.Named.{maybe_with_id};
 ghost use Rattle.json_answers.specs.VerdictJson.{IsJsonOf, WritesFault, WritesPlaced, WritesVerdict, function_form, infos_form, part_form, placed_form, unreadable_at, unreadable_form};
 
+use crate::named::open_named;
 use crate::pointer::{pointer_text, push_step};
 use crate::verdict::{Examined, Verdict};
 use check_faults::ModuleFault;
-use ir_misfits::Misfit;
-use json_document::Unreadable;
-use json_faults::parts::{four_fields, holding, holding_two, two_fields};
+use json_document::{Id, Unreadable};
+use json_faults::parts::{four_fields, holding, two_fields};
 use json_faults::to_json::{ToJson, write_list};
 use json_faults::writer::JsonWriter;
 use json_places::Found;
 use naga_below::{FunctionInfo, ModuleInfo, Span};
 use std::alloc::{AllocError, Global};
 
-/// The verdict as JSON, on one line, without white space and without a newline at the end. An Err is out of memory.
-pub(crate) fn json_line(alloc: Global, examined: &Examined) -> Result<String, AllocError>
-    ensures { IfOk result (λ text. IsJsonOf examined.now.verdict examined.now.misfit (string_bytes text)) }
+/// The verdict as JSON, on one line, without white space and without a newline at the end. The id of its document is the
+/// first field. An Err is out of memory.
+pub fn json_line(alloc: Global, examined: &Examined) -> Result<String, AllocError>
+    ensures { IfOk result (λ text. IsJsonOf examined.now.id examined.now.verdict examined.now.misfit (string_bytes text)) }
 {
     let mut out = JsonWriter::new(alloc);
     write_verdict(alloc, &mut out, examined)?;
     Ok(out.into_text())
 }
 
-/// Writes the verdict as a JSON value. An Err is out of memory.
-pub(crate) fn write_verdict(
+/// Writes the verdict as a JSON value, with the id of its document. An Err is out of memory.
+pub fn write_verdict(
     alloc: Global,
     out: &mut JsonWriter,
     examined: &Examined,
 ) -> Result<(), AllocError>
-    ensures { WritesVerdict result out.old out.new examined.now.verdict examined.now.misfit }
+    ensures { WritesVerdict result out.old out.new examined.now.id examined.now.verdict examined.now.misfit }
 {
     match &examined.verdict {
-        Verdict::Accepted { infos, .. } => write_infos(out, infos),
+        Verdict::Accepted { infos, .. } => write_infos(out, &examined.id, infos),
         Verdict::Refused(fault) => write_found(alloc, out, fault, examined),
-        Verdict::Unreadable(unreadable) => write_unreadable(alloc, out, unreadable),
+        Verdict::Unreadable(unreadable) => {
+            write_unreadable(alloc, out, &examined.id, unreadable)
+        }
     }
 }
 
@@ -47,10 +51,10 @@ fn write_found(
     fault: &ModuleFault,
     examined: &Examined,
 ) -> Result<(), AllocError>
-    ensures { WritesFault result out.old out.new examined.now.misfit fault.now }
+    ensures { WritesFault result out.old out.new examined.now.id examined.now.misfit fault.now }
 {
     match place_text(alloc, examined.found()) {
-        Ok(place) => write_refused(out, fault, &examined.misfit, &place),
+        Ok(place) => write_refused(out, fault, examined, &place),
         Err(error) => Err(error),
     }
 }
@@ -85,12 +89,12 @@ impl ToJson for Functions<'_> {
 }
 
 /// What is known of each function, and of each entry point.
-#[tactic(auto, unfolding(crate::specs::VerdictJson::infos_form, json_faults::specs::Form::holding))]
-fn write_infos(out: &mut JsonWriter, infos: &ModuleInfo) -> Result<(), AllocError>
-    ensures { Writes result out.old out.new (infos_form infos.now) }
+#[tactic(auto, unfolding(crate::specs::VerdictJson::infos_form))]
+fn write_infos(out: &mut JsonWriter, id: &Option<Id>, infos: &ModuleInfo) -> Result<(), AllocError>
+    ensures { Writes result out.old out.new (maybe_with_id id.now (infos_form infos.now)) }
 {
     let functions = Functions(infos.functions.as_slice());
-    out.open("ok")?;
+    open_named(out, id, "ok")?;
     two_fields(
         out,
         &("functions", "entry_points"),
@@ -129,17 +133,18 @@ impl ToJson for Spans<'_> {
 }
 
 /// What has the fault, the fault, its spans, and its place, which may be null.
-#[tactic(auto, unfolding(crate::specs::VerdictJson::placed_form, json_faults::specs::Form::holding))]
 fn write_placed<P: ToJson, F: ToJson, L: ToJson>(
     out: &mut JsonWriter,
+    id: &Option<Id>,
     at: &P,
     fault: &F,
     spans: &[Span],
     place: &L,
 ) -> Result<(), AllocError>
-    ensures { Writes result out.old out.new (placed_form (P.form at.now) (F.form fault.now) spans.now (L.form place.now)) }
+    ensures { Writes result out.old out.new (maybe_with_id id.now
+        (placed_form (P.form at.now) (F.form fault.now) spans.now (L.form place.now))) }
 {
-    out.open("refused")?;
+    open_named(out, id, "refused")?;
     four_fields(
         out,
         &("at", "fault", "spans", "place"),
@@ -154,63 +159,67 @@ fn write_placed<P: ToJson, F: ToJson, L: ToJson>(
 /// The same of a place that is known, or of none.
 fn write_fault<P: ToJson, F: ToJson>(
     out: &mut JsonWriter,
+    id: &Option<Id>,
     at: &P,
     fault: &F,
     spans: &[Span],
     place: &Option<String>,
 ) -> Result<(), AllocError>
-    ensures { WritesPlaced result out.old out.new (P.form at.now) (F.form fault.now) spans.now }
+    ensures { WritesPlaced result out.old out.new id.now (P.form at.now) (F.form fault.now) spans.now }
 {
     match place {
-        Some(text) => write_placed(out, at, fault, spans, &text.as_str()),
+        Some(text) => write_placed(out, id, at, fault, spans, &text.as_str()),
         None => {
             let nothing: Option<usize> = None;
-            write_placed(out, at, fault, spans, &nothing)
+            write_placed(out, id, at, fault, spans, &nothing)
         }
     }
 }
 
-/// A part of a module with this kind and index, its fault and its spans.
-fn write_part<F: ToJson>(
-    out: &mut JsonWriter,
-    kind: &'static str,
-    index: usize,
-    fault: &F,
-    spans: &[Span],
-    place: &Option<String>,
-) -> Result<(), AllocError>
-    ensures { WritesPlaced result out.old out.new (part_form kind.now index) (F.form fault.now) spans.now }
-{
-    write_fault(out, &Part { kind, index }, fault, spans, place)
-}
-
-/// The fault of a module, or out of memory.
+/// The fault of a module that was judged, or out of memory.
 #[tactic(auto, unfolding(crate::specs::VerdictJson::refused_form))]
 fn write_refused(
     out: &mut JsonWriter,
     fault: &ModuleFault,
-    misfit: &Option<Misfit>,
+    examined: &Examined,
     place: &Option<String>,
 ) -> Result<(), AllocError>
-    ensures { WritesFault result out.old out.new misfit.now fault.now }
+    ensures { WritesFault result out.old out.new examined.now.id examined.now.misfit fault.now }
 {
+    let id = &examined.id;
     match fault {
-        ModuleFault::NotFit => write_fault(out, &"NotFit", misfit, &[], place),
+        ModuleFault::NotFit => write_fault(out, id, &"NotFit", &examined.misfit, &[], place),
         ModuleFault::Global(global, error) => {
-            write_part(out, "Global", global.index(), error, &[], place)
+            write_fault(
+                out,
+                id,
+                &Part {
+                    kind: "Global",
+                    index: global.index(),
+                },
+                error,
+                &[],
+                place,
+            )
         }
-        ModuleFault::Function(function, error) => write_part(
+        ModuleFault::Function(function, error) => write_fault(
             out,
-            "Function",
-            function.index(),
+            id,
+            &Part {
+                kind: "Function",
+                index: function.index(),
+            },
             error.as_inner(),
             error.spans(),
             place,
         ),
-        ModuleFault::EntryPoint(index, error) => write_part(
+        ModuleFault::EntryPoint(index, error) => write_fault(
             out,
-            "EntryPoint",
-            *index,
+            id,
+            &Part {
+                kind: "EntryPoint",
+                index: *index,
+            },
             error.as_inner(),
             error.spans(),
             place,
@@ -223,27 +232,26 @@ fn write_refused(
 #[tactic(auto, unfolding(crate::specs::VerdictJson::unreadable_at))]
 fn write_unreadable_at(
     out: &mut JsonWriter,
+    id: &Option<Id>,
     pointer: &str,
     expected: &str,
 ) -> Result<(), AllocError>
-    ensures { Writes result out.old out.new (unreadable_at pointer.now expected.now) }
+    ensures { Writes result out.old out.new (maybe_with_id id.now (unreadable_at pointer.now expected.now)) }
 {
-    holding_two(
-        out,
-        &("unreadable", "pointer", "expected"),
-        &pointer,
-        &expected,
-    )
+    open_named(out, id, "unreadable")?;
+    two_fields(out, &("pointer", "expected"), &pointer, &expected)?;
+    out.end_object()
 }
 
 /// Where reading stopped, and what was expected there.
 fn write_unreadable(
     alloc: Global,
     out: &mut JsonWriter,
+    id: &Option<Id>,
     unreadable: &Unreadable,
 ) -> Result<(), AllocError>
-    ensures { Writes result out.old out.new (unreadable_form unreadable.now) }
+    ensures { Writes result out.old out.new (maybe_with_id id.now (unreadable_form unreadable.now)) }
 {
     let pointer = pointer_text(alloc, unreadable.steps.as_slice())?;
-    write_unreadable_at(out, pointer.as_str(), unreadable.expected.as_str())
+    write_unreadable_at(out, id, pointer.as_str(), unreadable.expected.as_str())
 }

@@ -188,7 +188,7 @@ pub(crate) fn holding_field<A: ToJson>(
 
 /// A variant with two fields.
 #[tactic(auto, unfolding(crate::specs::Form::holding))]
-pub fn holding_two<A: ToJson, B: ToJson>(
+pub(crate) fn holding_two<A: ToJson, B: ToJson>(
     out: &mut JsonWriter,
     names: &(&str, &str, &str),
     a: &A,

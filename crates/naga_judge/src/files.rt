@@ -2,7 +2,7 @@
 
 use crate::answered::write_answered;
 use check_faults::ModuleFault;
-use json_answers::named::named_line;
+use json_answers::line::{json_line, write_verdict};
 use json_answers::verdict::drop_examined;
 use json_answers::{Examined, Verdict, alone};
 use json_document::MOST_BYTES;
@@ -206,19 +206,17 @@ fn write_as_json(
 fn line_of(alloc: Global, name: Option<&str>, examined: &Examined) -> Result<String, AllocError> {
     match name {
         Some(name) => line_of_file(alloc, name, examined),
-        None => named_line(alloc, examined),
+        None => json_line(alloc, examined),
     }
 }
 
 /// A verdict as JSON, in an object after the name of its file.
 fn line_of_file(alloc: Global, name: &str, examined: &Examined) -> Result<String, AllocError> {
-    let line = named_line(alloc, examined)?;
     let mut out = JsonWriter::new(alloc);
     out.open("file")?;
     out.string(name)?;
-    let mut text = out.into_text();
-    text.push_str(",\"verdict\":")?;
-    text.push_str(line.as_str())?;
-    text.push_str("}")?;
-    Ok(text)
+    out.key("verdict")?;
+    write_verdict(alloc, &mut out, examined)?;
+    out.end_object()?;
+    Ok(out.into_text())
 }

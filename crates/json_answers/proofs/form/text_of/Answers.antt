@@ -13,4 +13,4 @@ returns-in-Lines c = rw c.in-Lines.is (any c.lines_text.result)
 
 pub returns-in-Json : goal.returns-in-Json
 unfolding IsTextOf
-returns-in-Json c = rw c.in-Json.is c.named_line.ensures
+returns-in-Json c = rw c.in-Json.is c.json_line.ensures

@@ -1,17 +1,21 @@
-use Rattle.std.proofs.Common.{Ok, Err, subst}
+use Rattle.std.proofs.Common.{subst, sym}
 use Rattle.json_document.specs.ReadsDocument.{ReadsDocument}
-use Rattle.json_values.specs.Failures.{IsUnreadable}
-use Rattle.json_verdict.proofs.Misfits.{refused_has, unreadable_judges}
+use Rattle.json_verdict.proofs.Misfits.{refused_has}
+use Rattle.json_verdict.specs.Judges.{Judges}
 use Rattle.json_verdict.proofs.examine.examine.Goals as goal
 
-pub returns-in-Err-Unreadable-clause-judged : goal.returns-in-Err-Unreadable-clause-judged
-returns-in-Err-Unreadable-clause-judged c =
-    let refused : IsUnreadable c.in-Err-Unreadable.field-0 = rw c.in-Err-Unreadable.field-0-is tt in
-    let read : ReadsDocument c.args.text.now (Err c.in-Err-Unreadable.field-0) = subst (ReadsDocument c.args.text.now) c.in-Err-Unreadable.is c.read_text-id.ensures.document in
-    unreadable_judges _ _ _ (read refused) c.alone.ensures.verdict
+pub returns-in-Err-clause-judged : goal.returns-in-Err-clause-judged
+returns-in-Err-clause-judged c =
+    let text = c.args.text.now in
+    subst (Judges text) (sym c.alone-in-Err.ensures.verdict)
+    (c.unread.ensures.judged text (subst (ReadsDocument text) c.in-Err.is c.read_text-id.ensures.document))
 
-pub returns-in-Err-judge-clause-misfit : goal.returns-in-Err-judge-clause-misfit
-returns-in-Err-judge-clause-misfit c =
-    let read : ReadsDocument c.args.text.now (Ok c.in-Ok.document) = subst (ReadsDocument c.args.text.now) c.in-Ok.is c.read_text-id.ensures.document in
-    refused_has c.args.text.now c.in-Ok.document c.in-Ok-new.basis c.refusal-examined.result.verdict c.in-Err-judge.fault c.refusal-examined.result.misfit
-    read c.in-Ok-new.ensures c.in-Err-judge.ensures c.refusal-examined.ensures.verdict c.refusal-examined.ensures.misfit
+pub returns-in-Err-clause-misfit : goal.returns-in-Err-clause-misfit
+returns-in-Err-clause-misfit c = rw (c.alone-in-Err.ensures.verdict, c.alone-in-Err.ensures.misfit) (c.unread.ensures.misfit c.args.text.now)
+
+pub returns-in-Err-judge_document-clause-misfit : goal.returns-in-Err-judge_document-clause-misfit
+returns-in-Err-judge_document-clause-misfit c =
+    let text = c.args.text.now in
+    let is = subst (ReadsDocument text) c.in-Ok.is c.read_text-id.ensures.document in
+    refused_has text c.in-Ok.document c.in-Err-judge_document.rejected c.refusal.result.verdict c.refusal.result.misfit is
+    c.in-Err-judge_document.ensures c.refusal.ensures.verdict c.refusal.ensures.misfit
