@@ -1,6 +1,6 @@
 //! Judges a text, and finds where its fault stands.
 
-ghost use Rattle.std.specs.Prelude.{◌≡◌};
+ghost use Rattle.std.specs.Prelude.{◌≡◌, None};
 ghost use Rattle.ir_arena.specs.Points.{first_fault};
 ghost use Rattle.naga_module.specs.Misfits.{module_points};
 ghost use Rattle.check_faults.specs.declared.module.ModuleFault.TheVariants as faults;
@@ -9,62 +9,110 @@ ghost use Rattle.json_verdict.specs.Judges.{HasMisfit, Judges};
 ghost use Rattle.json_answers.specs.Named.{HasItsId};
 ghost use Rattle.json_answers.specs.declared.verdict.Verdict.TheVariants as verdicts;
 
+use crate::basis::Basis;
 use crate::find::locate;
-use crate::judge::{Rejected, judge_document, unread};
+use ir_module::module::drop_module;
 use json_answers::{Examined, Refused, Verdict, alone};
-use json_document::{Id, Reading, read_text};
+use json_document::{Document, Id, ReadError, Reading, read_text};
 use json_places::{Found, locate_misfit};
+use naga_below::{Module, Settings};
 use naga_module::{Misfit, ModuleFault};
 use std::alloc::Global;
 
-/// The first thing that doesn't fit in a refused module, if that is its fault.
-fn misfit_of(rejected: &Rejected) -> Option<Misfit>
-    ensures { rejected.now.fault ≡ faults.NotFit → result ≡ first_fault (module_points (meaning_of rejected.now.basis.layer)
-        rejected.now.basis.given.types.items rejected.now.module rejected.now.basis.given.global_types.items) }
+/// The first thing that doesn't fit in a module, if that is the fault.
+fn misfit_of(module: &Module, basis: &Basis, fault: &ModuleFault) -> Option<Misfit>
+    ensures { fault.now ≡ faults.NotFit → result ≡ first_fault (module_points (meaning_of basis.now.layer)
+        basis.now.given.types.items «module».now basis.now.given.global_types.items) }
 {
-    match &rejected.fault {
-        ModuleFault::NotFit => rejected.basis.misfit(&rejected.module),
+    match fault {
+        ModuleFault::NotFit => basis.misfit(module),
         _ => None,
     }
 }
 
-/// Finds where the fault of a refused module stands. None out of memory too.
-fn find(alloc: Global, rejected: &Rejected, misfit: &Option<Misfit>) -> Option<Found> {
-    match misfit {
-        Some(misfit) => {
-            let has_facts = rejected.basis.layer.is_some();
-            locate_misfit(alloc, has_facts, &rejected.module, misfit)
-        }
-        None => locate(alloc, rejected),
+/// Finds where a fault stands. None out of memory too.
+fn find(
+    alloc: Global,
+    settings: Settings,
+    module: &Module,
+    basis: &Basis,
+    fault: &ModuleFault,
+    misfit: &Option<Misfit>,
+) -> Option<Found> {
+    if let Some(misfit) = misfit {
+        return locate_misfit(alloc, basis.layer.is_some(), module, misfit);
     }
+    locate(alloc, basis, settings, module, fault)
 }
 
-/// A module that is refused, with the place of its fault.
-fn refusal(alloc: Global, id: Option<Id>, rejected: Rejected) -> Examined
+/// A module that is refused with this fault.
+fn refusal(
+    alloc: Global,
+    id: Option<Id>,
+    settings: Settings,
+    module: Module,
+    basis: &Basis,
+    fault: ModuleFault,
+    is_located: bool,
+) -> Examined
     ensures id { result.id ≡ id }
-    ensures verdict { result.verdict ≡ verdicts.Refused rejected.fault }
-    ensures misfit { rejected.fault ≡ faults.NotFit → result.misfit ≡ first_fault (module_points (meaning_of rejected.basis.layer)
-        rejected.basis.given.types.items rejected.module rejected.basis.given.global_types.items) }
+    ensures verdict { result.verdict ≡ verdicts.Refused fault }
+    ensures misfit { fault ≡ faults.NotFit → result.misfit ≡ first_fault (module_points (meaning_of basis.now.layer)
+        basis.now.given.types.items «module» basis.now.given.global_types.items) }
 {
-    let misfit = misfit_of(&rejected);
-    let found = find(alloc, &rejected, &misfit);
-    let Rejected {
-        settings: _,
-        module,
-        basis,
-        fault,
-    } = rejected;
-    let is_computed = basis.layer.is_none();
-    drop(basis);
+    let misfit = misfit_of(&module, basis, &fault);
+    let found = if is_located {
+        find(alloc, settings, &module, basis, &fault, &misfit)
+    } else {
+        None
+    };
     Examined {
         id,
         verdict: Verdict::Refused(fault),
         misfit,
         refused: Some(Refused {
             module,
-            is_computed,
+            is_computed: basis.layer.is_none(),
             found,
         }),
+    }
+}
+
+/// Judges a text, and finds what doesn't fit, and if it is asked for, where the fault of a refused module stands.
+#[tactic(auto, using(crate::proofs::Misfits::accepted_judges, crate::proofs::Misfits::refused_judges, crate::proofs::Misfits::memory_judges, crate::proofs::Misfits::accepted_fits, crate::proofs::Misfits::refused_has, crate::proofs::Misfits::unreadable_fits, crate::proofs::Misfits::memory_fits))]
+pub(crate) fn examine_text(alloc: Global, text: &[u8], is_located: bool) -> Examined
+    ensures judged { Judges text.now result.verdict }
+    ensures misfit { HasMisfit text.now result.verdict result.misfit }
+    ensures id { HasItsId text.now result.verdict result.id }
+{
+    let Reading { id, document } = read_text(alloc, text);
+    let document = match document {
+        Ok(document) => document,
+        Err(ReadError::Unreadable(unreadable)) => return alone(id, Verdict::Unreadable(unreadable)),
+        Err(ReadError::Memory) => return alone(id, Verdict::Refused(ModuleFault::Memory)),
+    };
+    let Document {
+        settings,
+        module,
+        known,
+    } = document;
+    let basis = match Basis::new(alloc, &module, known) {
+        Ok(basis) => basis,
+        Err(_) => {
+            drop_module(module);
+            return alone(id, Verdict::Refused(ModuleFault::Memory));
+        }
+    };
+    match basis.judge(alloc, settings, &module) {
+        Ok(infos) => {
+            drop(basis);
+            alone(id, Verdict::Accepted { module, infos })
+        }
+        Err(fault) => {
+            let examined = refusal(alloc, id, settings, module, &basis, fault, is_located);
+            drop(basis);
+            examined
+        }
     }
 }
 
@@ -80,12 +128,5 @@ pub fn examine(alloc: Global, text: &[u8]) -> Examined
     // The id is the one that the text has.
     ensures id { HasItsId text.now result.verdict result.id }
 {
-    let Reading { id, document } = read_text(alloc, text);
-    match document {
-        Ok(document) => match judge_document(alloc, document) {
-            Ok(verdict) => alone(id, verdict),
-            Err(rejected) => refusal(alloc, id, rejected),
-        },
-        Err(error) => alone(id, unread(error)),
-    }
+    examine_text(alloc, text, true)
 }

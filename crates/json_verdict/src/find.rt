@@ -1,29 +1,33 @@
 //! Finds what has a fault, and where it stands.
 
 use crate::basis::Basis;
-use crate::judge::Rejected;
 use check_faults::module::drop_fault;
 use ir_module::module::drop_module;
 use json_places::Found;
 use json_places::located::found_in;
 use json_places::numbered::numbered_module;
 use json_places::spot::number_in;
-use naga_below::{Module, Span};
+use naga_below::{Module, Settings, Span};
 use naga_module::{Facts, ModuleFault};
 use std::alloc::Global;
 
-/// Finds where the fault of a refused module stands. None of `NotFit` and `Memory`, which name nothing, and out of memory.
+/// Finds where the fault of a module stands. None of `NotFit` and `Memory`, which name nothing, and out of memory.
 /// [`locate_misfit`](json_places::locate_misfit) is for what doesn't fit.
 ///
 /// The module is judged once more, over the same basis, with spans that number its statements: so its own spans need not
 /// distinguish them.
-pub(crate) fn locate(alloc: Global, rejected: &Rejected) -> Option<Found> {
-    let number = number_of(alloc, rejected);
-    if number.is_none() && !spans_of(&rejected.fault).is_empty() {
+pub(crate) fn locate(
+    alloc: Global,
+    basis: &Basis,
+    settings: Settings,
+    module: &Module,
+    fault: &ModuleFault,
+) -> Option<Found> {
+    let number = number_of(alloc, basis, settings, module, fault);
+    if number.is_none() && !spans_of(fault).is_empty() {
         return None;
     }
-    let facts = facts_of(&rejected.basis);
-    match found_in(alloc, facts, &rejected.module, &rejected.fault, number) {
+    match found_in(alloc, facts_of(basis), module, fault, number) {
         Ok(found) => found,
         Err(_) => None,
     }
@@ -46,14 +50,20 @@ fn spans_of(fault: &ModuleFault) -> &[Span] {
     }
 }
 
-/// The number of the statement that has the fault. None where no statement has it, and out of memory.
-fn number_of(alloc: Global, rejected: &Rejected) -> Option<usize> {
-    if spans_of(&rejected.fault).is_empty() {
+/// The number of the statement that has a fault. None where no statement has it, and out of memory.
+fn number_of(
+    alloc: Global,
+    basis: &Basis,
+    settings: Settings,
+    module: &Module,
+    fault: &ModuleFault,
+) -> Option<usize> {
+    if spans_of(fault).is_empty() {
         return None;
     }
-    match numbered_module(alloc, &rejected.module) {
+    match numbered_module(alloc, module) {
         Ok(numbered) => {
-            let number = number_again(alloc, rejected, &numbered);
+            let number = number_again(alloc, basis, settings, &numbered);
             drop_module(numbered);
             number
         }
@@ -61,9 +71,14 @@ fn number_of(alloc: Global, rejected: &Rejected) -> Option<usize> {
     }
 }
 
-/// The number of the statement that has the fault in the same module with numbers as spans.
-fn number_again(alloc: Global, rejected: &Rejected, numbered: &Module) -> Option<usize> {
-    match rejected.basis.judge(alloc, rejected.settings, numbered) {
+/// The number of the statement that has the fault of a module whose spans are numbers.
+fn number_again(
+    alloc: Global,
+    basis: &Basis,
+    settings: Settings,
+    numbered: &Module,
+) -> Option<usize> {
+    match basis.judge(alloc, settings, numbered) {
         Ok(infos) => {
             drop(infos);
             None
