@@ -8,5 +8,4 @@ pub mod Mesh
 pub mod InterfacePoints
 pub mod TypeInfos
 pub mod GlobalPoints
-pub mod TakenBindings
 pub use Rattle.check_entry.specs.InterfacePoints.{HasPayloadSizes}

@@ -1,5 +1,5 @@
 -- The steps of the globals that an entry point uses, where these are its uses of each global, its own joined in.
-use Rattle.std.specs.Prelude.{ℕ, zero, suc, ◌+◌, Bool, false, not, ◌&&◌, ◌||◌, ◌==◌, nat_le, List, [], ◌∷◌, ◌++◌, Option, None, Some, slice_get, length, option_and_then, unwrap_or, if◌then◌else◌}
+use Rattle.std.specs.Prelude.{ℕ, zero, suc, ◌+◌, Bool, false, not, ◌&&◌, ◌==◌, nat_le, List, [], ◌∷◌, ◌++◌, Option, None, Some, slice_get, length, unwrap_or, if◌then◌else◌}
 use Rattle.ir_flags.specs.Bits.{contains, NO_USE}
 use Rattle.ir_arena.specs.Points.{points_of_each}
 use Rattle.ir_types.specs.TypeTests.{is_handle}
@@ -19,20 +19,12 @@ use Rattle.ir_types.specs.declared.types.TypeInner.TheVariants as inner
 use Rattle.ir_flags.specs.declared.valid.GlobalUse.{GlobalUse}
 use Rattle.ir_flags.specs.declared.valid.ValidationFlags.{ValidationFlags}
 use Rattle.check_variables.specs.AllowedUses.{allowed_use, hands_payload, takes_payload}
+use Rattle.check_variables.specs.UsedBindings.{is_used, is_taken_before}
 use Rattle.ir_facts.specs.WhatIsChecked.{checks_bindings}
 use Rattle.ir_facts.specs.Meaning.{Meaning}
 use Rattle.check_entry.specs.EntryAnswers.{EntryPoints}
 use Rattle.check_entry.specs.EntryUses.{is_immediate}
 use Rattle.check_faults.specs.declared.entry.EntryPointError.TheVariants as fault
-
--- some use is made of a global
-abbrev pub is_some_use : Option GlobalUse → Bool
-is_some_use None = false
-is_some_use (Some uses) = not (uses.0 == NO_USE.0)
-
--- the global with this handle is used
-abbrev pub is_used : List GlobalUse → ℕ → Bool
-is_used uses h = is_some_use (slice_get uses h)
 
 -- Immediates.
 
@@ -52,22 +44,6 @@ abbrev pub immediate_points : List GlobalUse → List GlobalVariable → EntryPo
 immediate_points uses globals = (nat_le (used_immediates uses globals (length globals)) 1, fault.MoreThanOneImmediateUsed) ∷ []
 
 -- Bindings.
-
-abbrev pub is_same_binding : ResourceBinding → ResourceBinding → Bool
-is_same_binding a b = (a.group == b.group) && (a.binding == b.binding)
-
-abbrev pub is_bound_to : ResourceBinding → Option ResourceBinding → Bool
-is_bound_to b None = false
-is_bound_to b (Some given) = is_same_binding b given
-
-abbrev pub binding_at : List GlobalVariable → ℕ → Option ResourceBinding
-binding_at globals h = option_and_then (λ g. g.binding) (slice_get globals h)
-
--- a global before this handle is used and has this binding
-abbrev pub is_taken_before : List GlobalUse → List GlobalVariable → ResourceBinding → ℕ → Bool
-is_taken_before uses globals b zero = false
-is_taken_before uses globals b (suc h) =
-    is_taken_before uses globals b h || (is_used uses h && is_bound_to b (binding_at globals h))
 
 -- the binding of a global, if it has one: where bindings are looked at, no earlier global that is used has it
 abbrev pub binding_points : ValidationFlags → List GlobalUse → List GlobalVariable → ℕ → Option ResourceBinding → EntryPoints

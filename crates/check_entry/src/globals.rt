@@ -4,13 +4,14 @@ ghost use Rattle.std.specs.Prelude.{◌≡◌, ◌++◌, IsTrue, None, Option, �
 ghost use Rattle.ir_arena.specs.Points.{first_fault};
 ghost use Rattle.std.specs.Option.{option_copied};
 ghost use Rattle.ir_types.specs.Types.{inner_at};
-ghost use Rattle.check_entry.specs.UsedGlobals.{is_used, is_used_immediate, used_immediates, immediate_points, image_access, access_in, ray_points, is_within, allowed_points, used_payload_points};
+ghost use Rattle.check_entry.specs.UsedGlobals.{is_used_immediate, used_immediates, immediate_points, image_access, access_in, ray_points, is_within, allowed_points, used_payload_points};
 ghost use Rattle.check_variables.specs.Spaces.{is_task_payload};
 ghost use Rattle.ir_facts.specs.Answers.{Finds, FirstOf};
 
 use bitflags::Flags;
 use check_faults::entry::EntryPointError;
 use check_variables::allowed::{allowed_use, hands_payload, takes_payload};
+use check_variables::bindings::is_used;
 use ir_arena::handle::Handle;
 use ir_arena::tag;
 use ir_facts::valid::info::FunctionInfo;
@@ -25,16 +26,6 @@ pub(crate) fn uses_of(info: &FunctionInfo, index: usize) -> Option<GlobalUse>
     ensures { result ≡ slice_get info.now.global_uses index }
 {
     info.global_uses.as_slice().get(index).copied()
-}
-
-/// Whether a global is used.
-pub(crate) fn is_used(info: &FunctionInfo, index: usize) -> bool
-    ensures { result ≡ is_used info.now.global_uses index }
-{
-    match info.global_uses.as_slice().get(index) {
-        Some(uses) => !uses.is_empty(),
-        None => false,
-    }
 }
 
 /// Of immediates at most one is used.

@@ -1,2 +1,5 @@
 pub mod Fillings
 pub mod Parts
+pub mod Traces
+pub mod StatesLeft
+pub mod Judged

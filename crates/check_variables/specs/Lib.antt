@@ -1,5 +1,7 @@
 pub mod Locals
 pub mod AllowedUses
+pub mod UsedBindings
+pub mod TakenBindings
 pub mod Spaces
 pub mod Globals
 pub use Rattle.check_variables.specs.AllowedUses.{allowed_use}

@@ -1,8 +1,9 @@
-//! The checks of local and global variables, and the uses that a global may have at a stage.
+//! The checks of local and global variables, the uses that a global may have at a stage, and which bindings are taken.
 //! Users import these from `naga_rules`.
 #![tactic(auto)]
 
 pub mod allowed;
+pub mod bindings;
 pub mod global;
 pub mod local;
 

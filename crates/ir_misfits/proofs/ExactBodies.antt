@@ -1,9 +1,8 @@
--- What the points of a body, and of a function, ask for is that it fits.
-use Rattle.std.proofs.Common.{◌<◌, ◌≤◌, ℕ, List, [], ◌∷◌, ◌++◌, All, Option, length}
+-- What the points of a body ask for is that it fits.
+use Rattle.std.proofs.Common.{◌<◌, ◌≤◌, ℕ, List, [], ◌∷◌, ◌++◌, All, Option}
 use Rattle.std.proofs.lemmas.Bool.{leb-true, le-leb}
 use Rattle.std.specs.Prelude.{IfSome, nat_le}
 use Rattle.ir_arena.specs.declared.range.Range.{Range}
-use Rattle.ir_module.specs.declared.functions.Function.{Function}
 use Rattle.ir_module.specs.declared.module.Module.{Module}
 use Rattle.ir_statements.specs.declared.operations.AtomicFunction.{AtomicFunction}
 use Rattle.ir_statements.specs.declared.operations.AtomicFunction.TheVariants as atomic
@@ -16,9 +15,7 @@ use Rattle.ir_statements.specs.declared.operations.RayPipelineFunction.TheVarian
 use Rattle.ir_statements.specs.declared.statements.Statement.{Statement, Switch'}
 use Rattle.ir_statements.specs.declared.statements.Statement.TheVariants as s
 use Rattle.ir_statements.specs.Tree.{Stmt, Leaf, Block, Branch, Switch, Loop, Break, Continue, Return, Kill, Body, Done, Then, Cases, NoCase, OneCase}
-use Rattle.ir_statements.specs.View.{body_of, no_operands}
-use Rattle.ir_facts.specs.Fits.{FitsFunction, LocalFits, NameEarlierExpressions, ReferencesFit}
-use Rattle.ir_facts.specs.FitsBody.{SignatureFits, CalleeFits, AtomicFits, GatherFits, QueryFits, PipelineFits, LeafFits, StatementFits, BodyFits, CasesFit}
+use Rattle.ir_facts.specs.FitsBody.{CalleeFits, AtomicFits, GatherFits, QueryFits, PipelineFits, LeafFits, StatementFits, BodyFits, CasesFit}
 use Rattle.ir_arena.specs.Points.{points_of_each}
 use Rattle.ir_misfits.specs.declared.misfit.HandleOf.TheVariants as handle
 use Rattle.ir_misfits.specs.declared.misfit.Misfit.{Misfit}
@@ -28,12 +25,10 @@ use Rattle.ir_misfits.specs.declared.misfit.Problem.TheVariants as problem
 use Rattle.ir_misfits.specs.declared.misfit.StatementField.{StatementField}
 use Rattle.ir_misfits.specs.declared.misfit.StatementField.TheVariants as field
 use Rattle.ir_misfits.specs.Points.{Points}
-use Rattle.ir_misfits.specs.OfSignatures.{signature_points, callee_points}
-use Rattle.ir_misfits.specs.OfExpressions.{expressions_points, reference_points}
+use Rattle.ir_misfits.specs.OfSignatures.{callee_points}
 use Rattle.ir_misfits.specs.OfBodies.{next, after_statement, after_body, names, names_if, atomic_points, gather_points, query_points, pipeline_points, range_points, call_argument_points, call_points, leaf_points, statement_points, body_points, cases_points}
-use Rattle.ir_misfits.specs.OfFunctions.{local_points, function_points}
 use Rattle.ir_misfits.proofs.Exact.{Exact, nothing, said, point_then, point_alone, named_then, named_alone, named_if_alone, both, all_exact}
-use Rattle.ir_misfits.proofs.ExactParts.{signature_exact, callee_exact, expressions_exact, reference_exact, local_exact}
+use Rattle.ir_misfits.proofs.ExactParts.{callee_exact}
 
 -- of statement k, where a function has n expressions
 module _ (n : ℕ) (of : Owner) (k : ℕ) where
@@ -230,26 +225,3 @@ module _ (m : Module) (n earlier : ℕ) (of : Owner) where
         let after = after_body k b in
         both (body_points m n earlier of k b) (cases_points m n earlier of after rest) (BodyFits m n earlier b) (CasesFit m n earlier rest)
         (body_exact k b) (cases_exact after rest)
-
-pub function_exact : (of : Owner) (f : Function) (m : Module) (earlier : ℕ) → Exact (function_points of f m earlier) (FitsFunction f m earlier)
-function_exact of f m earlier =
-    let n = length f.expressions in
-    let P1 : Type 0 = SignatureFits m f in
-    let P2 : Type 0 = All (LocalFits m f) f.local_variables in
-    let P3 : Type 0 = NameEarlierExpressions f.expressions in
-    let P4 : Type 0 = All (ReferencesFit m f) f.expressions in
-    let P5 : Type 0 = BodyFits m n earlier (body_of no_operands f.body) in
-    let ps1 = signature_points m of f in
-    let ps2 = points_of_each (local_points m f of) f.local_variables in
-    let ps3 = expressions_points of f.expressions in
-    let ps4 = points_of_each (reference_points m f of) f.expressions in
-    let ps5 = body_points m n earlier of 0 (body_of no_operands f.body) in
-    let e2 = all_exact (LocalFits m f) (local_points m f of) (local_exact m f of) f.local_variables in
-    let e4 = all_exact (ReferencesFit m f) (reference_points m f of) (reference_exact m f of) f.expressions in
-    let e5 = body_exact m n earlier of 0 (body_of no_operands f.body) in
-    said
-    (λ h. record { signature = h.0; locals = h.1.0; operands = h.1.1.0; references = h.1.1.1.0; body = h.1.1.1.1 })
-    (λ x. (x.signature, (x.locals, (x.operands, (x.references, x.body)))))
-    (both ps1 (ps2 ++ (ps3 ++ (ps4 ++ ps5))) P1 (P2 × (P3 × (P4 × P5))) (signature_exact m of f)
-    (both ps2 (ps3 ++ (ps4 ++ ps5)) P2 (P3 × (P4 × P5)) e2
-    (both ps3 (ps4 ++ ps5) P3 (P4 × P5) (expressions_exact of f.expressions) (both ps4 ps5 P4 P5 e4 e5))))

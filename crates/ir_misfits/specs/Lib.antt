@@ -1,10 +1,5 @@
 pub mod Points
-pub mod OfTypes
 pub mod OfSignatures
 pub mod OfExpressions
-pub mod OfGlobals
 pub mod OfBodies
-pub mod OfFunctions
-pub mod OfEntries
-pub mod Laws
 pub mod ShortFacts

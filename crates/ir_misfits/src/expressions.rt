@@ -68,7 +68,7 @@ fn has_earlier_operands(place: usize, expression: &Expression) -> bool
 }
 
 /// Whether each operand of each expression is an earlier one.
-pub(crate) fn name_earlier_expressions(expressions: &[Expression]) -> bool
+pub fn name_earlier_expressions(expressions: &[Expression]) -> bool
     ensures { IsTrue result ↔ NameEarlierExpressions expressions.now }
 {
     for (place, expression) in expressions.iter().enumerate() {
@@ -90,7 +90,7 @@ fn check_operands(owner: Owner, place: usize, expression: &Expression) -> Result
 }
 
 /// Each operand of each expression is an earlier one.
-pub(crate) fn check_expressions(owner: Owner, expressions: &[Expression]) -> Result<(), Misfit>
+pub fn check_expressions(owner: Owner, expressions: &[Expression]) -> Result<(), Misfit>
     ensures { result_err result ≡ first_fault (expressions_points owner expressions.now) }
 {
     // (asked first for its time: room for a misfit costs more than to see that there is none)
@@ -155,7 +155,7 @@ fn has_reference(expression: &Expression, fun: &Function, module: &Module) -> bo
 }
 
 /// Whether what each expression of a function names besides its operands is there.
-pub(crate) fn references_fit(expressions: &[Expression], fun: &Function, module: &Module) -> bool
+pub fn references_fit(expressions: &[Expression], fun: &Function, module: &Module) -> bool
     ensures { IsTrue result ↔ All (ReferencesFit «module».now fun.now) expressions.now }
 {
     expressions
@@ -227,7 +227,7 @@ fn check_reference(
 }
 
 /// The same of each expression of a function.
-pub(crate) fn check_references(
+pub fn check_references(
     owner: Owner,
     expressions: &[Expression],
     fun: &Function,

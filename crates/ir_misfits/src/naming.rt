@@ -9,7 +9,7 @@ use crate::misfit::{HandleOf, Misfit, Place, Problem};
 use ir_arena::handle::Handle;
 
 /// Whether the handle, where one is given, is one of so many.
-pub(crate) fn is_below_if_any<T>(handle: Option<Handle<T>>, count: usize) -> bool
+pub fn is_below_if_any<T>(handle: Option<Handle<T>>, count: usize) -> bool
     ensures { IsTrue result ↔ IfSome handle (λ h. h < count) }
 {
     match handle {

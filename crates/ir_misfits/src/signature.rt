@@ -30,7 +30,7 @@ fn outcome_fits(outcome: Option<FunctionResult>, types: usize) -> bool
 }
 
 /// Whether the signature of a function fits.
-pub(crate) fn signature_fits(fun: &Function, module: &Module) -> bool
+pub fn signature_fits(fun: &Function, module: &Module) -> bool
     ensures { IsTrue result ↔ SignatureFits «module».now fun.now }
 {
     let types = module.types.len();
@@ -61,7 +61,7 @@ fn check_outcome(owner: Owner, outcome: Option<FunctionResult>, types: usize) ->
 
 /// 32 bits count the arguments; their types are there, and that of the result.
 #[tactic(auto, using(ir_arena::proofs::Points::first_of_both))]
-pub(crate) fn check_signature(owner: Owner, fun: &Function, module: &Module) -> Result<(), Misfit>
+pub fn check_signature(owner: Owner, fun: &Function, module: &Module) -> Result<(), Misfit>
     ensures { result_err result ≡ first_fault (signature_points «module».now owner fun.now) }
 {
     Place::Arguments(owner).counts(fun.arguments.len())?;

@@ -12,9 +12,9 @@ use Rattle.ir_types.specs.declared.types.TypeInner.{TypeInner}
 use Rattle.ir_types.specs.declared.types.TypeInner.TheVariants as inner
 use Rattle.ir_leaves.specs.declared.scalars.VectorSize.TheVariants.{Bi, Tri}
 use Rattle.layer_expressions.specs.declared.images.Image.{Image}
-use Rattle.layer_expressions.specs.declared.shapes.Shape.{Shape}
-use Rattle.layer_expressions.specs.declared.shapes.Shape.TheVariants as shape
-use Rattle.layer_expressions.specs.Shapes.{scalar_of, is_integer}
+use Rattle.layer_shapes.specs.declared.shapes.Shape.{Shape}
+use Rattle.layer_shapes.specs.declared.shapes.Shape.TheVariants as shape
+use Rattle.layer_shapes.specs.Shapes.{scalar_of, is_integer}
 
 -- the image that a type is
 abbrev pub image_of : Option TypeInner → Option Image

@@ -1,5 +1,4 @@
 pub mod Rules
-pub mod Shapes
 pub mod Operands
 pub mod Named
 pub mod Access

@@ -20,12 +20,12 @@ use Rattle.layer_expressions.specs.declared.images.Image.{Image}
 use Rattle.layer_expressions.specs.declared.loading.Loaded.{Loaded}
 use Rattle.layer_expressions.specs.declared.rules.Rule.{Rule}
 use Rattle.layer_expressions.specs.declared.rules.Rule.TheVariants as rule
-use Rattle.layer_expressions.specs.declared.shapes.Shape.{Shape}
-use Rattle.layer_expressions.specs.declared.shapes.Shape.TheVariants as shape
+use Rattle.layer_shapes.specs.declared.shapes.Shape.{Shape}
+use Rattle.layer_shapes.specs.declared.shapes.Shape.TheVariants as shape
 use Rattle.layer_expressions.specs.Images.{is_resource, is_integer_coordinate, is_integer_scalar, has_levels, is_multisampled}
 use Rattle.layer_expressions.specs.Rules.{or_broken}
 use Rattle.layer_expressions.specs.Sampling.{ones, shape_if, takes_integer, four_of, image_among}
-use Rattle.layer_expressions.specs.Shapes.{four_bytes}
+use Rattle.layer_shapes.specs.Shapes.{four_bytes}
 
 -- the operands of a load: image and coordinate; then array index, sample and level, where they are there
 abbrev pub before_level : Loading → ℕ

@@ -1,6 +1,5 @@
 -- The shapes that the functions of Math give, by what each takes; None where it doesn't take its arguments.
 use Rattle.std.specs.Prelude.{ℕ, Bool, true, false, not, ◌==◌, ◌&&◌, ◌||◌, Option, None, Some, if◌then◌else◌, option_and_then}
-use Rattle.ir_leaves.specs.declared.scalars.Scalar.{Scalar}
 use Rattle.ir_leaves.specs.declared.scalars.ScalarKind.{ScalarKind}
 use Rattle.ir_leaves.specs.declared.scalars.ScalarKind.TheVariants as kind
 use Rattle.ir_leaves.specs.declared.scalars.VectorSize.{VectorSize}
@@ -10,10 +9,10 @@ use Rattle.layer_forms.specs.declared.math.MathClass.TheVariants as class
 use Rattle.layer_types.specs.Leaves.{is_number}
 use Rattle.layer_expressions.specs.declared.operands.Arguments.{Arguments}
 use Rattle.layer_expressions.specs.declared.operands.Arguments.TheVariants.{One, Two, Three, Four}
-use Rattle.layer_expressions.specs.declared.shapes.Shape.{Shape}
-use Rattle.layer_expressions.specs.declared.shapes.Shape.TheVariants as shape
-use Rattle.layer_expressions.specs.Operators.{own_of, is_same_size}
-use Rattle.layer_expressions.specs.Shapes.{scalar_of, four_bytes, with_scalar, is_matrix, is_same, is_same_scalar, is_integer, is_signed, is_float}
+use Rattle.layer_shapes.specs.declared.shapes.Shape.{Shape}
+use Rattle.layer_shapes.specs.declared.shapes.Shape.TheVariants as shape
+use Rattle.layer_shapes.specs.Products.{own_of, is_same_size}
+use Rattle.layer_shapes.specs.Shapes.{scalar_of, four_bytes, with_scalar, is_matrix, is_same, is_same_scalar, is_integer, is_signed, is_float}
 
 -- so many of one type, which is given
 abbrev pub alike : ℕ → Arguments → Option Shape

@@ -1,5 +1,5 @@
 -- The types of expressions that name something which has one. The module has so many types.
-use Rattle.std.specs.Prelude.{ℕ, List, Option, None, Some, Result, Err, length, slice_get, nat_lt, if◌then◌else◌, option_and_then}
+use Rattle.std.specs.Prelude.{ℕ, List, Option, None, Some, Result, Err, length, slice_get, option_and_then}
 use Rattle.ir_module.specs.declared.expressions.Expression.{Expression}
 use Rattle.ir_module.specs.declared.expressions.Expression.TheVariants as e
 use Rattle.ir_module.specs.declared.functions.Function.{Function}
@@ -18,15 +18,8 @@ use Rattle.ir_types.specs.declared.typifier.TypeResolution.TheVariants.{Handle, 
 use Rattle.layer_expressions.specs.declared.rules.Rule.{Rule}
 use Rattle.layer_expressions.specs.declared.rules.Rule.TheVariants as rule
 use Rattle.layer_expressions.specs.Rules.{or_broken}
-use Rattle.layer_expressions.specs.Shapes.{four_bytes}
-
--- the type with this handle, where it is there
-abbrev pub type_at : ℕ → ℕ → Option TypeResolution
-type_at count t = if nat_lt t count then Some (Handle t) else None
-
--- a pointer to it
-abbrev pub pointer_to : ℕ → ℕ → AddressSpace → Option TypeResolution
-pointer_to count t p = if nat_lt t count then Some (Value (inner.Pointer t p)) else None
+use Rattle.layer_shapes.specs.Resolutions.{type_at, pointer_to}
+use Rattle.layer_shapes.specs.Shapes.{four_bytes}
 
 -- a global in Handle stands for itself, any other for a pointer to it
 abbrev pub global_type : ℕ → ℕ → AddressSpace → Option TypeResolution

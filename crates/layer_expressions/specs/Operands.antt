@@ -6,8 +6,8 @@ use Rattle.ir_types.specs.declared.types.TypeInner.{TypeInner}
 use Rattle.ir_types.specs.declared.typifier.TypeResolution.{TypeResolution}
 use Rattle.layer_expressions.specs.declared.operands.Arguments.{Arguments}
 use Rattle.layer_expressions.specs.declared.operands.Arguments.TheVariants.{One, Two, Three, Four}
-use Rattle.layer_expressions.specs.declared.shapes.Shape.{Shape}
-use Rattle.layer_expressions.specs.Shapes.{shape_of}
+use Rattle.layer_shapes.specs.declared.shapes.Shape.{Shape}
+use Rattle.layer_shapes.specs.Shapes.{shape_of}
 
 -- the type of an operand, which is an earlier expression
 abbrev pub type_of_operand : List IrType → List TypeResolution → ℕ → Option TypeInner

@@ -14,7 +14,7 @@ use Rattle.layer_expressions.specs.declared.rules.Rule.{Rule}
 use Rattle.layer_expressions.specs.declared.rules.Rule.TheVariants as rule
 use Rattle.layer_expressions.specs.Operands.{type_of_operand}
 use Rattle.layer_expressions.specs.Rules.{or_broken}
-use Rattle.layer_expressions.specs.Shapes.{four_bytes}
+use Rattle.layer_shapes.specs.Shapes.{four_bytes}
 
 abbrev pub is_dynamic_size : ArraySize → Bool
 is_dynamic_size size.Dynamic = true

@@ -19,11 +19,11 @@ use Rattle.layer_expressions.specs.declared.images.Image.{Image}
 use Rattle.layer_expressions.specs.declared.rules.Rule.{Rule}
 use Rattle.layer_expressions.specs.declared.rules.Rule.TheVariants as rule
 use Rattle.layer_expressions.specs.declared.sampling.Sampled.{Sampled}
-use Rattle.layer_expressions.specs.declared.shapes.Shape.{Shape}
-use Rattle.layer_expressions.specs.declared.shapes.Shape.TheVariants as shape
+use Rattle.layer_shapes.specs.declared.shapes.Shape.{Shape}
+use Rattle.layer_shapes.specs.declared.shapes.Shape.TheVariants as shape
 use Rattle.layer_expressions.specs.Images.{image_of, comparison_of, is_resource, is_float_coordinate, is_f32_scalar, is_offset, is_integer_scalar}
 use Rattle.layer_expressions.specs.Operands.{type_of_operand, shape_of_operand}
-use Rattle.layer_expressions.specs.Shapes.{four_bytes, is_float}
+use Rattle.layer_shapes.specs.Shapes.{four_bytes, is_float}
 
 -- how many operands there are: image, sampler and coordinate, then array index and offset where they are there, those of the
 -- level, and the depth reference where it is there

@@ -17,7 +17,7 @@ use Rattle.layer_forms.specs.Vectors.{sizes, swizzle_of}
 use Rattle.layer_expressions.specs.declared.operands.Arguments.{Arguments}
 use Rattle.layer_expressions.specs.declared.rules.Rule.{Rule}
 use Rattle.layer_expressions.specs.declared.rules.Rule.TheVariants as rule
-use Rattle.layer_expressions.specs.declared.shapes.Shape.{Shape}
+use Rattle.layer_shapes.specs.declared.shapes.Shape.{Shape}
 use Rattle.layer_expressions.specs.declared.types.Untyped.{Untyped}
 use Rattle.layer_expressions.specs.Access.{access_type, access_index_type, loaded}
 use Rattle.layer_expressions.specs.Loading.{load_type, query_type}
@@ -28,7 +28,7 @@ use Rattle.layer_expressions.specs.Operators.{binary_of, cast_of, derived, relat
 use Rattle.layer_expressions.specs.Others.{cooperative_load, length_type, multiply_add}
 use Rattle.layer_expressions.specs.Rules.{or_broken}
 use Rattle.layer_expressions.specs.Sampling.{sample_type}
-use Rattle.layer_expressions.specs.Shapes.{value_of}
+use Rattle.layer_shapes.specs.Shapes.{value_of}
 
 -- what a kind gives whose operands have these shapes: by what `detail` stands for
 abbrev pub computed : Expression → Arguments → Result (Option Shape) Rule

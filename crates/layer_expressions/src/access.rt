@@ -4,13 +4,13 @@ ghost use Rattle.std.specs.Prelude.{◌≡◌};
 ghost use Rattle.std.specs.Option.{option_copied};
 ghost use Rattle.layer_expressions.specs.Access.{value_item, pointer_item, item_of, is_index, access_type, item_count, count_behind, is_below, member_of, access_index_type, is_loadable, loaded_at, loaded};
 
-use crate::named::{pointer_to, type_at};
 use crate::rules::Rule;
-use crate::shapes::is_integer;
 use ir_arena::handle::Handle;
 use ir_arena::tag;
 use ir_types::types::{AddressSpace, ArraySize, Type, TypeInner};
 use ir_types::typifier::TypeResolution;
+use layer_shapes::resolutions::{pointer_to, type_at};
+use layer_shapes::shapes::is_integer;
 use layer_types::sizes::{components_of, inner_at};
 
 /// The type of the items of a value.

@@ -4,13 +4,13 @@ ghost use Rattle.std.specs.Prelude.{◌≡◌};
 ghost use Rattle.std.specs.Option.{option_copied};
 ghost use Rattle.layer_expressions.specs.Images.{image_of, comparison_of, is_source, is_source_at, base_of, is_resource, has_dimension, is_float_coordinate, is_f32, is_f32_scalar, is_integer_coordinate, is_offset, is_i32, is_integer_scalar, has_levels, is_multisampled};
 
-use crate::shapes::{Shape, is_integer};
 use ir_arena::handle::Handle;
 use ir_arena::tag;
 use ir_leaves::images::ImageDimension;
 use ir_leaves::scalars::{ScalarKind, VectorSize};
 use ir_module::expressions::Expression;
 use ir_types::types::{ImageClass, TypeInner};
+use layer_shapes::shapes::{Shape, is_integer};
 
 /// An image, as its type has it.
 #[derive(Clone, Copy)]

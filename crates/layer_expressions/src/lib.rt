@@ -11,7 +11,6 @@ pub mod operators;
 pub mod others;
 pub mod rules;
 pub mod sampling;
-pub mod shapes;
 pub mod types;
 
 pub use crate::rules::Rule;

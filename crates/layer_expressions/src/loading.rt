@@ -9,7 +9,6 @@ use crate::images::{
 };
 use crate::rules::Rule;
 use crate::sampling::{four_of, image_among, ones, shape_if, takes_integer};
-use crate::shapes::Shape;
 use ir_arena::handle::Handle;
 use ir_arena::tag;
 use ir_flags::ir::StorageAccess;
@@ -19,6 +18,7 @@ use ir_module::expressions::Expression;
 use ir_types::types::{ImageClass, Type};
 use ir_types::typifier::TypeResolution;
 use layer_forms::{ImageQuery, Loading};
+use layer_shapes::shapes::Shape;
 
 /// What is known of the operands of an image load behind the image.
 #[derive(Clone, Copy)]

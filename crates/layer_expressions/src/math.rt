@@ -4,10 +4,10 @@ ghost use Rattle.std.specs.Prelude.{◌≡◌};
 ghost use Rattle.layer_expressions.specs.Math.{alike, are_numbers, are_signed, are_floats, are_integers, is_vector, numbers_of, signed_of, floats_of, float_vectors_of, distance_of, dot_of, has_three, cross_of, refracted, mix_of, is_sint, ldexp_of, is_u32, packed_dot_of, transposed, determinant_of, quantized, integers_of, extracted, inserted, packed, unpacked, math_of};
 
 use crate::operands::Arguments;
-use crate::operators::{is_same_size, own_of};
-use crate::shapes::{Shape, four_bytes, is_float, is_integer, is_same_scalar, is_signed};
 use ir_leaves::scalars::{Scalar, ScalarKind, VectorSize};
 use layer_forms::MathClass;
+use layer_shapes::products::{is_same_size, own_of};
+use layer_shapes::shapes::{Shape, four_bytes, is_float, is_integer, is_same_scalar, is_signed};
 use layer_types::leaves::is_number;
 
 /// So many of one type.

@@ -2,7 +2,7 @@
 
 ghost use Rattle.std.specs.Prelude.{◌≡◌};
 ghost use Rattle.std.specs.Option.{option_copied};
-ghost use Rattle.layer_expressions.specs.Named.{type_at, pointer_to, global_type, callee_type, named_type};
+ghost use Rattle.layer_expressions.specs.Named.{global_type, callee_type, named_type};
 
 use crate::rules::Rule;
 use ir_arena::handle::Handle;
@@ -13,32 +13,7 @@ use ir_module::functions::{Function, FunctionArgument, LocalVariable};
 use ir_module::module::{GlobalVariable, Module};
 use ir_types::types::{AddressSpace, TypeInner};
 use ir_types::typifier::TypeResolution;
-
-/// The type with a handle, where the module has so many types.
-pub fn type_at(count: usize, ty: Handle<tag::Type>) -> Option<TypeResolution>
-    ensures { result ≡ type_at count ty }
-{
-    if ty.index() < count {
-        Some(TypeResolution::Handle(ty))
-    } else {
-        None
-    }
-}
-
-/// A pointer to the type with a handle, where the module has so many types.
-pub(crate) fn pointer_to(
-    count: usize,
-    base: Handle<tag::Type>,
-    space: AddressSpace,
-) -> Option<TypeResolution>
-    ensures { result ≡ pointer_to count base space }
-{
-    if base.index() < count {
-        Some(TypeResolution::Value(TypeInner::Pointer { base, space }))
-    } else {
-        None
-    }
-}
+use layer_shapes::resolutions::{pointer_to, type_at};
 
 /// What a global stands for: itself in Handle, elsewhere a pointer to it.
 fn global_type(count: usize, global: GlobalVariable) -> Option<TypeResolution>

@@ -4,11 +4,11 @@ ghost use Rattle.std.specs.Prelude.{◌≡◌};
 ghost use Rattle.std.specs.Option.{option_copied};
 ghost use Rattle.layer_expressions.specs.Operands.{type_of_operand, shape_of_operand, arguments_of};
 
-use crate::shapes::{Shape, shape_of};
 use ir_arena::handle::Handle;
 use ir_arena::tag;
 use ir_types::types::{Type, TypeInner};
 use ir_types::typifier::TypeResolution;
+use layer_shapes::shapes::{Shape, shape_of};
 use layer_types::sizes::inner_at;
 
 /// The shapes of one to four operands, in order.

@@ -1,14 +1,15 @@
 //! The shapes that operators give.
 
 ghost use Rattle.std.specs.Prelude.{◌≡◌};
-ghost use Rattle.layer_expressions.specs.Operators.{splat_of, has_component, covers, swizzled, unary_takes, unary_of, mixed, own_of, number_of_two, sum_of, is_same_size, matrix_product, product_by_matrix, product_of, bools_of, is_comparable, compared, has_bits, bits_of, logical_of, shifted, is_unsigned, binary_shape, binary_of, selects, selected, derived, related, cast_scalar, is_cast, cast_of};
+ghost use Rattle.layer_expressions.specs.Operators.{splat_of, has_component, covers, swizzled, unary_takes, unary_of, sum_of, bools_of, is_comparable, compared, has_bits, bits_of, logical_of, shifted, is_unsigned, binary_shape, binary_of, selects, selected, derived, related, cast_scalar, is_cast, cast_of};
 
 use crate::operands::Arguments;
-use crate::shapes::{Shape, is_bool, is_float, is_integer, is_same_scalar, is_signed};
 use ir_leaves::scalars::{Scalar, ScalarKind, VectorSize};
 use layer_forms::{
     BinaryOperator, Cast, RelationalFunction, Swizzle, SwizzleComponent, UnaryOperator,
 };
+use layer_shapes::products::{number_of_two, own_of, product_of};
+use layer_shapes::shapes::{Shape, is_bool, is_float, is_integer, is_same_scalar, is_signed};
 use layer_types::leaves::{is_known, is_number};
 
 /// A splat of this size.
@@ -96,49 +97,6 @@ pub(crate) fn unary_of(operator: UnaryOperator, arguments: Arguments) -> Option<
     }
 }
 
-/// A vector and its own scalar, either side: the vector.
-fn mixed(left: Shape, right: Shape) -> Option<Shape>
-    ensures { result ≡ mixed left right }
-{
-    match left {
-        Shape::Vector(size, scalar) => match right {
-            Shape::Scalar(other) => own_of(
-                Shape::Vector(size, scalar),
-                is_same_scalar(scalar, other),
-            ),
-            _ => None,
-        },
-        Shape::Scalar(scalar) => match right {
-            Shape::Vector(size, other) => own_of(
-                Shape::Vector(size, other),
-                is_same_scalar(other, scalar),
-            ),
-            _ => None,
-        },
-        _ => None,
-    }
-}
-
-/// This shape, where it fits.
-pub(crate) fn own_of(shape: Shape, fits: bool) -> Option<Shape>
-    ensures { result ≡ own_of shape fits }
-{
-    if fits { Some(shape) } else { None }
-}
-
-/// Two numbers of one type, no matrices, or a vector of numbers and its own scalar.
-fn number_of_two(left: Shape, right: Shape) -> Option<Shape>
-    ensures { result ≡ number_of_two left right }
-{
-    if !is_number(left.scalar().kind) {
-        return None;
-    }
-    if !left.is_matrix() && left.is_same(right) {
-        return Some(left);
-    }
-    mixed(left, right)
-}
-
 /// A sum or difference.
 fn sum_of(left: Shape, right: Shape) -> Option<Shape>
     ensures { result ≡ sum_of left right }
@@ -147,73 +105,6 @@ fn sum_of(left: Shape, right: Shape) -> Option<Shape>
         Some(left)
     } else {
         number_of_two(left, right)
-    }
-}
-
-/// Whether both sizes are the same.
-pub(crate) fn is_same_size(first: VectorSize, second: VectorSize) -> bool
-    ensures { result ≡ is_same_size first second }
-{
-    first == second
-}
-
-/// A product with a matrix on the left.
-fn matrix_product(
-    columns: VectorSize,
-    rows: VectorSize,
-    scalar: Scalar,
-    right: Shape,
-) -> Option<Shape>
-    ensures { result ≡ matrix_product columns rows scalar right }
-{
-    match right {
-        Shape::Scalar(other) => own_of(
-            Shape::Matrix(columns, rows, scalar),
-            is_same_scalar(scalar, other),
-        ),
-        Shape::Vector(size, other) => own_of(
-            Shape::Vector(rows, scalar),
-            is_same_size(size, columns) && is_same_scalar(scalar, other),
-        ),
-        Shape::Matrix(other_columns, other_rows, other) => own_of(
-            Shape::Matrix(other_columns, rows, scalar),
-            is_same_size(columns, other_rows) && is_same_scalar(scalar, other),
-        ),
-    }
-}
-
-/// A product of what is no matrix with a matrix.
-fn product_by_matrix(
-    left: Shape,
-    columns: VectorSize,
-    rows: VectorSize,
-    scalar: Scalar,
-) -> Option<Shape>
-    ensures { result ≡ product_by_matrix left columns rows scalar }
-{
-    match left {
-        Shape::Scalar(other) => own_of(
-            Shape::Matrix(columns, rows, scalar),
-            is_same_scalar(scalar, other),
-        ),
-        Shape::Vector(size, other) => own_of(
-            Shape::Vector(columns, scalar),
-            is_same_size(size, rows) && is_same_scalar(scalar, other),
-        ),
-        Shape::Matrix(_, _, _) => None,
-    }
-}
-
-/// A product.
-fn product_of(left: Shape, right: Shape) -> Option<Shape>
-    ensures { result ≡ product_of left right }
-{
-    match left {
-        Shape::Matrix(columns, rows, scalar) => matrix_product(columns, rows, scalar, right),
-        _ => match right {
-            Shape::Matrix(columns, rows, scalar) => product_by_matrix(left, columns, rows, scalar),
-            _ => number_of_two(left, right),
-        },
     }
 }
 

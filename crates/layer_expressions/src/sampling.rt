@@ -10,7 +10,6 @@ use crate::images::{
 };
 use crate::operands::{shape_of_operand, type_of_operand};
 use crate::rules::Rule;
-use crate::shapes::{Shape, four_bytes, is_float};
 use ir_arena::handle::Handle;
 use ir_arena::tag;
 use ir_leaves::images::ImageDimension;
@@ -19,6 +18,7 @@ use ir_module::expressions::Expression;
 use ir_types::types::{ImageClass, Type};
 use ir_types::typifier::TypeResolution;
 use layer_forms::{LevelKind, Sampling};
+use layer_shapes::shapes::{Shape, four_bytes, is_float};
 
 /// What is known of the operands of an image sample behind the image.
 #[derive(Clone, Copy)]

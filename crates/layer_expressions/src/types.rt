@@ -15,7 +15,6 @@ use crate::operators::{
 use crate::others::{cooperative_load, length_type, multiply_add};
 use crate::rules::Rule;
 use crate::sampling::sample_type;
-use crate::shapes::Shape;
 use ir_arena::arena::Arena;
 use ir_arena::handle::Handle;
 use ir_arena::sequence::Sequence;
@@ -30,6 +29,7 @@ use layer_forms::{
     BinaryOperator, Cast, Derivative, MathFunction, RelationalFunction, Swizzle, UnaryOperator,
     size_from,
 };
+use layer_shapes::shapes::Shape;
 use std::alloc::{AllocError, Global};
 
 /// An expression that has no type, and the rule that it breaks.

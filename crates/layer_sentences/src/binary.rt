@@ -4,8 +4,8 @@ use crate::types::write_type;
 use ir_leaves::scalars::ScalarKind;
 use ir_types::types::{Type, TypeInner};
 use ir_types::unique_arena::UniqueArena;
-use layer_expressions::shapes::{Shape, is_integer, shape_of};
 use layer_forms::BinaryOperator;
+use layer_shapes::shapes::{Shape, is_integer, shape_of};
 use layer_types::leaves::is_number;
 use std::fmt;
 

@@ -7,6 +7,7 @@ pub use ir_arena::{
 };
 pub use ir_errors::ExpressionError;
 pub use ir_facts::{ExpressionKind, ExpressionKindTracker, FunctionInfo, ModuleInfo, Settings};
+pub use ir_fits::{fits_entry, fits_function, fits_globals, fits_types};
 pub use ir_flags::{
     Barrier, Capabilities, GlobalUse, MemoryDecorations, ShaderStages, StorageAccess,
     SubgroupOperationSet, TypeFlags, ValidationFlags,
@@ -15,7 +16,6 @@ pub use ir_leaves::{
     Binding, BuiltIn, ImageDimension, Interpolation, Name, Sampling, Scalar, ScalarKind,
     ShaderStage, StorageFormat, VectorSize, clone_name,
 };
-pub use ir_misfits::{fits_entry, fits_function, fits_globals, fits_types};
 pub use ir_module::{
     Constant, EarlyDepthTest, EntryPoint, Expression, Function, FunctionArgument, FunctionResult,
     GlobalVariable, Literal, LocalVariable, MeshOutputTopology, MeshStageInfo, Module, Override,

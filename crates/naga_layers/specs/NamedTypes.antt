@@ -18,7 +18,8 @@ use Rattle.ir_module.specs.declared.module.GlobalVariable.{GlobalVariable}
 use Rattle.ir_module.specs.declared.module.Module.{Module}
 use Rattle.ir_module.specs.declared.module.Override.{Override}
 use Rattle.ir_facts.specs.Lawful.{IsNoStruct}
-use Rattle.layer_expressions.specs.Named.{type_at, pointer_to, global_type, named_type}
+use Rattle.layer_expressions.specs.Named.{global_type, named_type}
+use Rattle.layer_shapes.specs.Resolutions.{type_at, pointer_to}
 
 -- a type that the module has, and that is no struct as a value
 abbrev pub IsLawful : List IrType → TypeResolution → Type 0

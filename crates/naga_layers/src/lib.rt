@@ -2,16 +2,12 @@
 #![tactic(auto)]
 
 pub mod infos;
-pub mod joins;
 pub mod kinds;
 pub mod lent;
 pub mod plain;
 pub mod recorded;
-pub mod roots;
 pub mod stages;
 pub mod typed;
-pub mod uses;
-pub mod walk;
 
 pub use crate::infos::type_infos;
 pub use crate::lent::Lent;

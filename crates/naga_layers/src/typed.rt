@@ -10,7 +10,6 @@ mod mesh;
 use crate::kinds::kinds_of;
 use crate::stages::stages_of;
 use crate::typed::mesh::mesh_analysis;
-use crate::uses::uses_of;
 use ir_arena::arena::Arena;
 use ir_arena::handle::Handle;
 use ir_arena::span::{Refusal, WithSpan};
@@ -29,6 +28,7 @@ use ir_module::functions::Function;
 use ir_module::module::Module;
 use layer_expressions::types::{Untyped, types_of};
 use layer_types::size_of;
+use layer_uses::uses::uses_of;
 use std::alloc::{AllocError, Global};
 
 /// The lower layer that needs no facts: it computes types, uses, stages, kinds, sizes and the outputs of mesh shaders from the

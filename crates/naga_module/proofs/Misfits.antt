@@ -20,13 +20,15 @@ use Rattle.ir_misfits.specs.declared.misfit.Place.TheVariants as place
 use Rattle.ir_misfits.specs.declared.misfit.Problem.TheVariants.{UnknownSize}
 use Rattle.ir_misfits.specs.declared.misfit.VariableField.TheVariants.{Ty}
 use Rattle.ir_misfits.specs.Points.{Points}
-use Rattle.ir_misfits.specs.OfTypes.{types_points}
-use Rattle.ir_misfits.specs.OfGlobals.{globals_points}
-use Rattle.ir_misfits.specs.OfFunctions.{function_points}
-use Rattle.ir_misfits.specs.OfEntries.{entry_points}
+use Rattle.ir_fits.specs.OfTypes.{types_points}
+use Rattle.ir_fits.specs.OfGlobals.{globals_points}
+use Rattle.ir_fits.specs.OfFunctions.{function_points}
+use Rattle.ir_fits.specs.OfEntries.{entry_points}
 use Rattle.ir_misfits.proofs.Exact.{Exact, nothing, said, point_then, point_alone, named_alone, both, each_exact, all_exact}
-use Rattle.ir_misfits.proofs.ExactParts.{types_exact, globals_exact, entry_exact}
-use Rattle.ir_misfits.proofs.ExactBodies.{function_exact}
+use Rattle.ir_fits.proofs.ExactTypes.{types_exact}
+use Rattle.ir_fits.proofs.ExactGlobals.{globals_exact}
+use Rattle.ir_fits.proofs.ExactEntries.{entry_exact}
+use Rattle.ir_fits.proofs.ExactFunctions.{function_exact}
 use Rattle.ir_facts.specs.Meaning.{Meaning}
 use Rattle.check_entry.specs.InterfacePoints.{HasPayloadSizes}
 use Rattle.check_entry.specs.TypeInfos.{AreInfosOf, NamesTypes}

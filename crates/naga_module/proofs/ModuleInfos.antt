@@ -11,16 +11,16 @@ use Rattle.ir_facts.specs.declared.valid.info.ModuleInfo.{ModuleInfo}
 use Rattle.ir_facts.specs.declared.valid.settings.Settings.{Settings}
 use Rattle.ir_types.specs.declared.type_info.TypeInfo.{TypeInfo}
 use Rattle.ir_facts.specs.Meaning.{Meaning}
-use Rattle.check_body.proofs.Chains.{none_is_vetted, one_more_is_vetted}
-use Rattle.check_body.specs.Chains.{AreVetted}
+use Rattle.check_laws.proofs.Chains.{none_is_vetted, one_more_is_vetted}
+use Rattle.check_laws.specs.Chains.{AreVetted}
 use Rattle.check_entry.specs.InterfacePoints.{HasPayloadSizes}
-use Rattle.naga_valid.specs.EntryJudgement.{entry_judgement}
-use Rattle.check_body.specs.InOrder.{with_info}
+use Rattle.check_laws.specs.EntryJudgement.{entry_judgement}
+use Rattle.check_laws.specs.InOrder.{with_info}
 use Rattle.check_statement.specs.FunctionJudgement.{FunctionOutcome, function_judgement}
 use Rattle.check_statement.specs.ValidatorParts.{no_traces}
 use Rattle.check_scope.specs.declared.trace.TraceState.{TraceState}
-use Rattle.naga_valid.proofs.EntryBuiltIns.{accepted_built_ins}
-use Rattle.naga_valid.proofs.EntryFacts.{accepted_position}
+use Rattle.check_laws.proofs.EntryBuiltIns.{accepted_built_ins}
+use Rattle.check_laws.proofs.EntryFacts.{accepted_position}
 use Rattle.naga_module.specs.ModuleInfos.{infos_before, IsJudgedEntry}
 use Rattle.naga_module.specs.ModuleJudgement.{Answer, Tested, Step, with_entry, first_infos, IsOfFunction, IsOfEntryPoint, EntriesAnswer, BehindFunctions, FunctionsAnswer, Fits, globals_step}
 use Rattle.naga_module.specs.ModuleLaw.{AcceptedModuleIsJudged}

@@ -11,14 +11,14 @@ use Rattle.ir_facts.specs.declared.valid.settings.Settings.{Settings}
 use Rattle.ir_types.specs.declared.type_info.TypeInfo.{TypeInfo}
 use Rattle.ir_facts.specs.Meaning.{Meaning}
 use Rattle.ir_facts.specs.WhatIsChecked.{checks_blocks, checks_expressions, checks_bindings}
-use Rattle.check_body.proofs.Chains.{of_all_infos, of_other_entries, fits_calls_below}
-use Rattle.check_body.proofs.FunctionLaw.{is_sound, fills_once, is_of_all_stages, has_no_return_in_continuing, has_whole_switches}
-use Rattle.check_body.specs.Chains.{infos_below, IsVettedInfo}
+use Rattle.check_laws.proofs.Chains.{of_all_infos, of_other_entries, fits_calls_below}
+use Rattle.check_laws.proofs.FunctionLaw.{is_sound, fills_once, is_of_all_stages, has_no_return_in_continuing, has_whole_switches}
+use Rattle.check_laws.specs.Chains.{infos_below, IsVettedInfo}
 use Rattle.check_scope.specs.BodyTrees.{body_of}
-use Rattle.naga_valid.proofs.EntryBodies.{entry_fills_once, entry_is_of_all_stages, entry_has_no_return_in_continuing, entry_has_whole_switches}
-use Rattle.naga_valid.proofs.EntryChains.{entry_is_sound, entry_keeps_its_stage}
-use Rattle.naga_valid.proofs.EntryFacts.{accepted_bindings}
-use Rattle.naga_valid.proofs.EntryGroups.{accepted_locations}
+use Rattle.check_laws.proofs.EntryBodies.{entry_fills_once, entry_is_of_all_stages, entry_has_no_return_in_continuing, entry_has_whole_switches}
+use Rattle.check_laws.proofs.EntryChains.{entry_is_sound, entry_keeps_its_stage}
+use Rattle.check_laws.proofs.EntryFacts.{accepted_bindings}
+use Rattle.check_laws.proofs.EntryGroups.{accepted_locations}
 use Rattle.naga_module.specs.ModuleInfos.{infos_before, IsJudgedEntry, ModuleIsJudged}
 use Rattle.naga_module.specs.ModuleLaw.{ModuleHolds, ModuleFillsOnce, ModuleBindsApart, AcceptedModuleHolds, AcceptedModuleFillsOnce, AcceptedModuleBindsApart}
 use Rattle.naga_module.proofs.ModuleInfos.{module_is_judged}

@@ -16,8 +16,8 @@ use Rattle.ir_types.specs.declared.type_info.TypeInfo.{TypeInfo}
 use Rattle.ir_facts.specs.Meaning.{Meaning}
 use Rattle.ir_errors.specs.declared.function.FunctionError.{FunctionError}
 use Rattle.check_entry.specs.EntryFaults.{fault_of}
-use Rattle.naga_valid.specs.EntryJudgement.{entry_judgement}
-use Rattle.check_body.specs.InOrder.{with_info}
+use Rattle.check_laws.specs.EntryJudgement.{entry_judgement}
+use Rattle.check_laws.specs.InOrder.{with_info}
 use Rattle.check_statement.specs.FunctionJudgement.{FunctionOutcome, function_judgement}
 use Rattle.check_faults.specs.declared.entry.EntryPointError.{EntryPointError}
 use Rattle.check_scope.specs.declared.trace.TraceState.{TraceState}

@@ -15,9 +15,9 @@ use Rattle.ir_types.specs.declared.typifier.TypeResolution.{TypeResolution}
 use Rattle.ir_facts.specs.declared.valid.info.ModuleInfo.{ModuleInfo}
 use Rattle.ir_facts.specs.declared.valid.settings.Settings.{Settings}
 use Rattle.ir_types.specs.declared.type_info.TypeInfo.{TypeInfo}
-use Rattle.check_body.specs.InOrder.{with_info}
+use Rattle.check_laws.specs.InOrder.{with_info}
 use Rattle.check_entry.specs.InterfacePoints.{HasPayloadSizes}
-use Rattle.naga_valid.specs.EntryJudgement.{entry_judgement}
+use Rattle.check_laws.specs.EntryJudgement.{entry_judgement}
 use Rattle.check_entry.specs.GlobalPoints.{module_global_points}
 use Rattle.ir_facts.specs.Meaning.{Meaning}
 use Rattle.ir_errors.specs.declared.interface.GlobalVariableError.{GlobalVariableError}

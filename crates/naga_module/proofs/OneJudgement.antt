@@ -7,10 +7,10 @@ use Rattle.ir_module.specs.declared.module.Module.{Module}
 use Rattle.ir_facts.specs.declared.valid.info.ModuleInfo.{ModuleInfo}
 use Rattle.ir_facts.specs.declared.valid.settings.Settings.{Settings}
 use Rattle.ir_types.specs.declared.type_info.TypeInfo.{TypeInfo}
-use Rattle.check_body.specs.InOrder.{with_info}
+use Rattle.check_laws.specs.InOrder.{with_info}
 use Rattle.check_entry.specs.EntryFaults.{EntryFault}
 use Rattle.check_entry.specs.InterfacePoints.{HasPayloadSizes}
-use Rattle.naga_valid.specs.EntryJudgement.{entry_judgement}
+use Rattle.check_laws.specs.EntryJudgement.{entry_judgement}
 use Rattle.ir_facts.specs.Meaning.{Meaning}
 use Rattle.check_scope.specs.declared.trace.TraceState.{TraceState}
 use Rattle.check_statement.specs.FunctionJudgement.{FunctionOutcome, function_judgement}

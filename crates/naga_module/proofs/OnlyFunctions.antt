@@ -15,7 +15,7 @@ use Rattle.ir_facts.specs.declared.valid.settings.Settings.{Settings}
 use Rattle.ir_types.specs.declared.type_info.TypeInfo.{TypeInfo}
 use Rattle.ir_facts.specs.Meaning.{Meaning}
 use Rattle.ir_errors.specs.declared.function.FunctionError.{FunctionError}
-use Rattle.check_body.specs.InOrder.{with_info}
+use Rattle.check_laws.specs.InOrder.{with_info}
 use Rattle.check_statement.specs.FunctionJudgement.{FunctionOutcome, function_judgement}
 use Rattle.check_statement.specs.ValidatorParts.{no_traces}
 use Rattle.check_entry.specs.InterfacePoints.{HasPayloadSizes}

@@ -16,10 +16,10 @@ use Rattle.ir_facts.specs.declared.valid.info.FunctionInfo.{FunctionInfo}
 use Rattle.ir_errors.specs.declared.function.FunctionError.{FunctionError}
 use Rattle.naga_runs.specs.Judgement.{judgement, state_after}
 use Rattle.check_scope.specs.BodyTrees.{body_of, emitted_operands}
-use Rattle.check_body.specs.Chains.{Calls, Through, CallsBelow, infos_below, IsVettedInfo}
+use Rattle.check_laws.specs.Chains.{Calls, Through, CallsBelow, infos_below, IsVettedInfo}
 use Rattle.check_scope.specs.Context.{Context, pre_emitted}
 use Rattle.check_statement.specs.ExpressionStages.{stages_from}
-use Rattle.check_body.specs.InOrder.{called_by}
+use Rattle.check_laws.specs.InOrder.{called_by}
 use Rattle.check_statement.specs.FunctionJudgement.{FunctionOutcome, body_judgement, context_with, function_judgement, unfilled_points, outcome_left}
 use Rattle.check_statement.specs.ValidatorParts.{no_traces}
 use Rattle.check_statement.specs.Rules.{body_rules}

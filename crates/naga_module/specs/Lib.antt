@@ -13,12 +13,12 @@ pub use Rattle.ir_facts.specs.WhatIsChecked.{checks_blocks, checks_expressions, 
 pub use Rattle.check_statement.specs.FunctionJudgement.{FunctionOutcome}
 unfoldable pub use Rattle.check_statement.specs.FunctionJudgement.{function_judgement}
 pub use Rattle.check_entry.specs.TypeInfos.{AreInfosOf}
-pub use Rattle.check_body.specs.Accepted.{nodes_of, callees_filling, atomics_filling, AreFilledOnce, ResultsAreFilledOnce, StagesAreOfAll}
-pub use Rattle.check_body.specs.Shapes.{StandsAt, is_in_continuing, HasNoReturnInContinuing, HasWholeSwitches}
-pub use Rattle.check_body.specs.Chains.{Reaches, IsVettedInfo, AreVetted, ChainsKeepTo, infos_below}
-unfoldable pub use Rattle.naga_valid.specs.EntryJudgement.{entry_judgement}
+pub use Rattle.check_laws.specs.Accepted.{nodes_of, callees_filling, atomics_filling, AreFilledOnce, ResultsAreFilledOnce, StagesAreOfAll}
+pub use Rattle.check_laws.specs.Shapes.{StandsAt, is_in_continuing, HasNoReturnInContinuing, HasWholeSwitches}
+pub use Rattle.check_laws.specs.Chains.{Reaches, IsVettedInfo, AreVetted, ChainsKeepTo, infos_below}
+unfoldable pub use Rattle.check_laws.specs.EntryJudgement.{entry_judgement}
 pub use Rattle.check_entry.specs.EntryUses.{only}
-pub use Rattle.naga_valid.specs.EntryFacts.{IsUsedAt, BindingsAreDistinct, GroupsAreDistinct, BuiltInsAreDistinct, ReturnsPosition, argument_parts}
+pub use Rattle.check_laws.specs.EntryFacts.{IsUsedAt, BindingsAreDistinct, GroupsAreDistinct, BuiltInsAreDistinct, ReturnsPosition, argument_parts}
 pub use Rattle.naga_layers.specs.Plain.Meaning.{plain_meaning, plain_layer}
 pub use Rattle.naga_layers.specs.Recorded.Meaning.{recorded_meaning}
 pub use Rattle.naga_module.specs.ModuleInfos.{infos_before, OfFunctions, OfEntryPoints, IsJudgedEntry, ModuleIsJudged}

@@ -20,10 +20,10 @@ use Rattle.ir_misfits.specs.declared.misfit.Place.TheVariants as place
 use Rattle.ir_misfits.specs.declared.misfit.Problem.TheVariants.{Length, UnknownSize}
 use Rattle.ir_misfits.specs.declared.misfit.VariableField.TheVariants.{Ty}
 use Rattle.ir_misfits.specs.Points.{Points, named}
-use Rattle.ir_misfits.specs.OfTypes.{types_points}
-use Rattle.ir_misfits.specs.OfGlobals.{globals_points}
-use Rattle.ir_misfits.specs.OfFunctions.{function_points}
-use Rattle.ir_misfits.specs.OfEntries.{entry_points}
+use Rattle.ir_fits.specs.OfTypes.{types_points}
+use Rattle.ir_fits.specs.OfGlobals.{globals_points}
+use Rattle.ir_fits.specs.OfFunctions.{function_points}
+use Rattle.ir_fits.specs.OfEntries.{entry_points}
 use Rattle.ir_facts.specs.Meaning.{Meaning}
 use Rattle.check_entry.specs.InterfacePoints.{HasPayloadSizes}
 use Rattle.check_entry.specs.TypeInfos.{AreInfosOf}

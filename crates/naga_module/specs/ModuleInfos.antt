@@ -10,10 +10,10 @@ use Rattle.ir_facts.specs.declared.valid.info.ModuleInfo.{ModuleInfo}
 use Rattle.ir_facts.specs.declared.valid.settings.Settings.{Settings}
 use Rattle.ir_types.specs.declared.type_info.TypeInfo.{TypeInfo}
 use Rattle.ir_facts.specs.Meaning.{Meaning}
-use Rattle.check_body.specs.Chains.{IsVettedInfo, AreVetted}
-use Rattle.naga_valid.specs.EntryJudgement.{entry_judgement}
+use Rattle.check_laws.specs.Chains.{IsVettedInfo, AreVetted}
+use Rattle.check_laws.specs.EntryJudgement.{entry_judgement}
 use Rattle.check_scope.specs.declared.trace.TraceState.{TraceState}
-use Rattle.naga_valid.specs.EntryFacts.{argument_parts, BuiltInsAreDistinct, ReturnsPosition}
+use Rattle.check_laws.specs.EntryFacts.{argument_parts, BuiltInsAreDistinct, ReturnsPosition}
 
 -- the infos of a module as they were before entry point k was judged
 abbrev pub infos_before : ℕ → ModuleInfo → ModuleInfo

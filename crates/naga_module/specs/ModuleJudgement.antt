@@ -16,9 +16,9 @@ use Rattle.ir_types.specs.declared.type_info.TypeInfo.{TypeInfo}
 use Rattle.ir_facts.specs.Meaning.{Meaning}
 use Rattle.check_entry.specs.EntryFaults.{EntryFault, fault_of}
 use Rattle.check_entry.specs.InterfacePoints.{HasPayloadSizes}
-use Rattle.naga_valid.specs.EntryJudgement.{entry_judgement}
+use Rattle.check_laws.specs.EntryJudgement.{entry_judgement}
 use Rattle.check_entry.specs.GlobalPoints.{module_global_points}
-use Rattle.check_body.specs.InOrder.{with_info}
+use Rattle.check_laws.specs.InOrder.{with_info}
 use Rattle.check_statement.specs.FunctionJudgement.{function_judgement}
 use Rattle.check_entry.specs.TypeInfos.{AreInfosOf}
 use Rattle.check_statement.specs.ValidatorParts.{no_traces}

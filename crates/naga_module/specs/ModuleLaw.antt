@@ -12,13 +12,13 @@ use Rattle.ir_types.specs.declared.type_info.TypeInfo.{TypeInfo}
 use Rattle.ir_facts.specs.Meaning.{Meaning}
 use Rattle.naga_runs.specs.Soundness.{RunsAreSure}
 use Rattle.check_scope.specs.BodyTrees.{body_of}
-use Rattle.check_body.specs.Accepted.{ResultsAreFilledOnce, StagesAreOfAll}
-use Rattle.check_body.specs.Chains.{ChainsKeepTo}
-use Rattle.check_body.specs.Shapes.{HasNoReturnInContinuing, HasWholeSwitches}
+use Rattle.check_laws.specs.Accepted.{ResultsAreFilledOnce, StagesAreOfAll}
+use Rattle.check_laws.specs.Chains.{ChainsKeepTo}
+use Rattle.check_laws.specs.Shapes.{HasNoReturnInContinuing, HasWholeSwitches}
 use Rattle.check_scope.specs.Context.{pre_emitted_of}
 use Rattle.check_entry.specs.EntryUses.{only}
 use Rattle.ir_facts.specs.WhatIsChecked.{checks_blocks, checks_expressions, checks_bindings}
-use Rattle.naga_valid.specs.EntryFacts.{BindingsAreDistinct, GroupsAreDistinct}
+use Rattle.check_laws.specs.EntryFacts.{BindingsAreDistinct, GroupsAreDistinct}
 use Rattle.naga_module.specs.ModuleInfos.{infos_before, OfFunctions, OfEntryPoints, ModuleIsJudged}
 use Rattle.naga_module.specs.ModuleJudgement.{Fits, IsJudgement, IsJudgementOrMemory}
 use Rattle.check_faults.specs.declared.module.ModuleFault.{ModuleFault}

@@ -13,7 +13,7 @@ use Rattle.ir_facts.specs.declared.valid.info.FunctionInfo.{FunctionInfo}
 use Rattle.ir_facts.specs.declared.valid.info.ModuleInfo.{ModuleInfo}
 use Rattle.ir_facts.specs.declared.valid.settings.Settings.{Settings}
 use Rattle.check_scope.specs.BodyTrees.{body_of}
-use Rattle.check_body.specs.Chains.{Reaches, AreVetted}
+use Rattle.check_laws.specs.Chains.{Reaches, AreVetted}
 use Rattle.naga_layers.specs.Plain.Meaning.{plain_meaning, plain_layer}
 
 -- a statement without a span, and a body of it alone

@@ -27,7 +27,7 @@ use ir_errors::interface::GlobalVariableError;
 use ir_facts::below::Below;
 use ir_facts::valid::info::ModuleInfo;
 use ir_facts::valid::settings::Settings;
-use ir_misfits::fits::{fits_globals, fits_types};
+use ir_fits::fits::{fits_globals, fits_types};
 use ir_module::module::Module;
 use ir_types::type_info::TypeInfo;
 use ir_types::typifier::TypeResolution;

@@ -12,11 +12,11 @@ use crate::check::Given;
 use ir_arena::handle::Handle;
 use ir_arena::tag;
 use ir_facts::below::Below;
-use ir_misfits::entry::check_entry_fits;
-use ir_misfits::function::check_function_fits;
-use ir_misfits::globals::check_globals_fit;
+use ir_fits::entry::check_entry_fits;
+use ir_fits::function::check_function_fits;
+use ir_fits::globals::check_globals_fit;
+use ir_fits::types::check_types_fit;
 use ir_misfits::misfit::{HandleOf, Misfit, Owner, Place, Problem, VariableField};
-use ir_misfits::types::check_types_fit;
 use ir_module::functions::Function;
 use ir_module::module::{EntryPoint, GlobalVariable, Module};
 use ir_types::type_info::{Disalignment, TypeInfo};
@@ -27,7 +27,7 @@ use ir_types::typifier::TypeResolution;
 /// memory.
 ///
 /// The order is that of `check_module`: the infos of types, the types, the globals, each function, the sizes of task
-/// payloads, each entry point. Of each the misfit is the first in the order of its `check_.._fits` in `ir_misfits`. Where
+/// payloads, each entry point. Of each the misfit is the first in the order of its `check_.._fits` in `ir_fits`. Where
 /// `check_module` answers `NotFit`, this is why. It may also report a misfit after the fault that `check_module` answers.
 pub fn find_misfit<B: Below>(below: &B, given: &Given, module: &Module) -> Option<Misfit>
     // The answer is the first misfit, in the order of the tests.

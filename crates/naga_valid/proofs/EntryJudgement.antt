@@ -14,7 +14,7 @@ use Rattle.ir_types.specs.declared.type_info.TypeInfo.{TypeInfo}
 use Rattle.ir_facts.specs.Meaning.{Meaning}
 use Rattle.ir_errors.specs.declared.function.FunctionError.{FunctionError}
 use Rattle.check_entry.specs.EntryFaults.{EntryFault, fault_of}
-use Rattle.naga_valid.specs.EntryJudgement.{entry_judgement, of_function, interface_step, AnswersAfter}
+use Rattle.check_laws.specs.EntryJudgement.{entry_judgement, of_function, interface_step, AnswersAfter}
 use Rattle.check_entry.specs.Start.{start_points}
 use Rattle.check_statement.specs.FunctionJudgement.{FunctionOutcome, function_judgement}
 use Rattle.check_faults.specs.declared.entry.EntryPointError.{EntryPointError}

@@ -28,8 +28,8 @@ use Rattle.check_statement.specs.walk.AskedContext.{asked_context, known_behind}
 use Rattle.check_statement.specs.walk.State.{body_outcome, body_left}
 use Rattle.check_statement.specs.declared.state.BodyOutcome.{BodyOutcome}
 use Rattle.check_scope.specs.declared.trace.TraceState.{TraceState}
-use Rattle.check_body.proofs.Accepted.{with_blocks}
-use Rattle.check_body.proofs.Traces.{no_trace}
+use Rattle.check_laws.proofs.Accepted.{with_blocks}
+use Rattle.check_statement.proofs.Traces.{no_trace}
 
 -- what is known of a function whose body leaves this
 abbrev pub outcome_with : FunctionInfo → BodyOutcome → FunctionOutcome

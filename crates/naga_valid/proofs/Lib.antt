@@ -2,10 +2,4 @@ pub mod FunctionSteps
 pub mod ExpressionSteps
 pub mod EntryUses
 pub mod EntryJudgement
-pub mod EntryAccepted
 pub mod GlobalFits
-pub mod EntryChains
-pub mod EntryFacts
-pub mod EntryGroups
-pub mod EntryBuiltIns
-pub mod EntryBodies

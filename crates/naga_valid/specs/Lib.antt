@@ -1,29 +1,25 @@
-pub mod EntryJudgement
-pub mod EntryFacts
-pub mod EntryChains
-pub mod EntryBodies
 pub use Rattle.ir_facts.specs.Fits.{FitsTypes, FitsGlobals, FitsFunction, FitsEntry}
 pub use Rattle.ir_facts.specs.Answers.{Right, FirstOf, Exactly, Answers, read_by}
 pub use Rattle.ir_facts.specs.WhatIsChecked.{checks_bindings}
 pub use Rattle.ir_facts.specs.Meaning.{Meaning}
 pub use Rattle.naga_runs.specs.Soundness.{RunsAreSure}
-pub use Rattle.check_body.specs.Accepted.{ResultsAreFilledOnce, StagesAreOfAll}
+pub use Rattle.check_laws.specs.Accepted.{ResultsAreFilledOnce, StagesAreOfAll}
 pub use Rattle.check_scope.specs.BodyTrees.{body_of}
 pub use Rattle.check_scope.specs.Context.{pre_emitted_of}
-pub use Rattle.check_body.specs.FunctionLaw.{AcceptedIsSound, AcceptedFillsOnce, AcceptedIsOfAllStages, AcceptedHasNoReturnInContinuing, AcceptedHasWholeSwitches, AcceptedKeepsInfo, AcceptedHasEveryMask, AcceptedStagesAreMet}
-pub use Rattle.check_body.specs.Shapes.{HasNoReturnInContinuing, HasWholeSwitches}
-pub use Rattle.check_body.specs.Chains.{Reaches, AreVetted, ChainsKeepTo, ChainsAreKept}
+pub use Rattle.check_laws.specs.FunctionLaw.{AcceptedIsSound, AcceptedFillsOnce, AcceptedIsOfAllStages, AcceptedHasNoReturnInContinuing, AcceptedHasWholeSwitches, AcceptedKeepsInfo, AcceptedHasEveryMask, AcceptedStagesAreMet}
+pub use Rattle.check_laws.specs.Shapes.{HasNoReturnInContinuing, HasWholeSwitches}
+pub use Rattle.check_laws.specs.Chains.{Reaches, AreVetted, ChainsKeepTo, ChainsAreKept}
 pub use Rattle.check_statement.specs.FunctionJudgement.{FunctionOutcome, outcome_of}
 pub use Rattle.check_entry.specs.TypeInfos.{AreInfosOf}
 pub use Rattle.ir_facts.specs.WhatIsChecked.{checks_blocks, checks_expressions}
 unfoldable pub use Rattle.check_statement.specs.FunctionJudgement.{function_judgement}
-pub use Rattle.naga_valid.specs.EntryChains.{AcceptedEntryIsSound, AcceptedEntryKeepsItsStage}
-pub use Rattle.naga_valid.specs.EntryBodies.{AcceptedEntryFillsOnce, AcceptedEntryIsOfAllStages, AcceptedEntryHasNoReturnInContinuing, AcceptedEntryHasWholeSwitches}
-pub use Rattle.naga_valid.specs.EntryFacts.{AcceptedHasAcceptedFunction, AcceptedBindingsAreDistinct, AcceptedLocationsAreDistinct, AcceptedBuiltInsAreDistinct, AcceptedVertexHasPosition}
-pub use Rattle.naga_valid.specs.EntryFacts.{argument_parts, BindingsAreDistinct, BuiltInsAreDistinct, GroupsAreDistinct, ReturnsPosition}
+pub use Rattle.check_laws.specs.EntryChains.{AcceptedEntryIsSound, AcceptedEntryKeepsItsStage}
+pub use Rattle.check_laws.specs.EntryBodies.{AcceptedEntryFillsOnce, AcceptedEntryIsOfAllStages, AcceptedEntryHasNoReturnInContinuing, AcceptedEntryHasWholeSwitches}
+pub use Rattle.check_laws.specs.EntryFacts.{AcceptedHasAcceptedFunction, AcceptedBindingsAreDistinct, AcceptedLocationsAreDistinct, AcceptedBuiltInsAreDistinct, AcceptedVertexHasPosition}
+pub use Rattle.check_laws.specs.EntryFacts.{argument_parts, BindingsAreDistinct, BuiltInsAreDistinct, GroupsAreDistinct, ReturnsPosition}
 pub use Rattle.check_entry.specs.GlobalPoints.{module_global_points}
 pub use Rattle.check_entry.specs.Start.{start_points}
 pub use Rattle.check_entry.specs.EntryUses.{only}
 pub use Rattle.check_entry.specs.InterfacePoints.{HasPayloadSizes}
-pub use Rattle.naga_valid.specs.EntryJudgement.{AnswersAfter}
-unfoldable pub use Rattle.naga_valid.specs.EntryJudgement.{entry_judgement}
+pub use Rattle.check_laws.specs.EntryJudgement.{AnswersAfter}
+unfoldable pub use Rattle.check_laws.specs.EntryJudgement.{entry_judgement}

@@ -3,14 +3,14 @@
 ghost use Rattle.std.specs.Prelude.{◌≡◌, ◌<◌, ◌+◌, IfOk, IsTrue, IsSome, None, [], if◌then◌else◌};
 ghost use Rattle.ir_arena.specs.Points.{first_fault, points_of_each, within};
 ghost use Rattle.ir_types.specs.declared.types.AddressSpace.TheVariants as space;
-ghost use Rattle.check_entry.specs.TakenBindings.{AreTaken};
+ghost use Rattle.check_variables.specs.TakenBindings.{AreTaken};
 ghost use Rattle.check_entry.specs.UsedGlobals.{used_payload_points, use_points, global_points, globals_points};
 ghost use Rattle.check_entry.specs.InterfacePoints.{HasPayloadSizes};
 ghost use Rattle.check_entry.specs.EntryFaults.{fault_of};
 ghost use Rattle.ir_facts.specs.Answers.{Answers, Finds, FirstOf, read_by};
 
 use crate::answers::answer;
-use crate::bindings::{binding_holds, check_binding, take_binding};
+use crate::bindings::{binding_holds, check_binding};
 use crate::globals::{
     check_allowed, check_immediates, is_task_payload, is_used_immediate, use_holds, uses_of,
 };
@@ -18,6 +18,7 @@ use crate::interface::InterfaceContext;
 use bitflags::Flags;
 use check_faults::entry::EntryPointError;
 use check_faults::refused::RefusedEntry;
+use check_variables::bindings::take_binding;
 use ir_arena::handle::Handle;
 use ir_arena::tag;
 use ir_facts::below::Below;

@@ -23,7 +23,8 @@ use Rattle.ir_errors.specs.declared.function.FunctionError.{FunctionError}
 use Rattle.ir_errors.specs.declared.function.FunctionError.TheVariants.{Expression as InExpression}
 use Rattle.ir_errors.specs.declared.expression.ExpressionError.TheVariants.{Lower}
 use Rattle.naga_layers.specs.Plain.Infos.{plain_info, info_of_types, with_types}
-use Rattle.layer_expressions.specs.Named.{named_type, type_at}
+use Rattle.layer_expressions.specs.Named.{named_type}
+use Rattle.layer_shapes.specs.Resolutions.{type_at}
 use Rattle.naga_layers.specs.NamedTypes.{IsLawful, OfSome, named_type-lawful, type_at-lawful}
 use Rattle.naga_layers.specs.Plain.Types.{known_type, loaded_type, own_type, type_of, or_refuse, types_from}
 use Rattle.naga_layers.specs.Plain.Uses.{with_all_named}

@@ -19,7 +19,7 @@ use Rattle.layer_expressions.specs.declared.types.Untyped.{Untyped}
 use Rattle.layer_types.specs.Sizes.{size_at}
 use Rattle.naga_layers.specs.Kinds.{kinds_from}
 use Rattle.naga_layers.specs.Stages.{stages_of}
-use Rattle.naga_layers.specs.Uses.{uses_of}
+use Rattle.layer_uses.specs.Uses.{uses_of}
 use Rattle.naga_layers.specs.Typed.Mesh.{mesh_analysis}
 
 -- the fault of an expression that has no type: the number of the rule that it breaks

@@ -19,7 +19,7 @@ use Rattle.ir_types.specs.declared.types.TypeInner.TheVariants as inner
 use Rattle.ir_facts.specs.declared.proc.mesh.MeshAnalysis.{MeshAnalysis}
 use Rattle.ir_errors.specs.declared.mesh.MeshFault.{MeshFault}
 use Rattle.ir_errors.specs.declared.mesh.MeshFault.TheVariants.{OutputType, OutputField}
-use Rattle.layer_expressions.specs.Shapes.{four_bytes, is_same_scalar}
+use Rattle.layer_shapes.specs.Shapes.{four_bytes, is_same_scalar}
 use Rattle.naga_layers.specs.declared.typed.mesh.Items.{Items}
 use Rattle.naga_layers.specs.declared.typed.mesh.Outputs.{Outputs}
 use Rattle.naga_layers.specs.declared.typed.mesh.Role.{Role}

@@ -18,7 +18,8 @@ use ir_module::expressions::Expression;
 use ir_module::functions::Function;
 use ir_module::module::Module;
 use ir_types::typifier::TypeResolution;
-use layer_expressions::named::{named_type, type_at};
+use layer_expressions::named::named_type;
+use layer_shapes::resolutions::type_at;
 use std::alloc::{AllocError, Global};
 
 /// The type of each expression of a function, or the first expression that has none here.

@@ -15,7 +15,7 @@ use ir_leaves::built_in::BuiltIn;
 use ir_leaves::scalars::Scalar;
 use ir_module::module::{MeshOutputTopology, MeshStageInfo, Module};
 use ir_types::types::{ArraySize, StructMember, Type, TypeInner};
-use layer_expressions::shapes::is_same_scalar;
+use layer_shapes::shapes::is_same_scalar;
 use layer_types::sizes::inner_at;
 use std::alloc::Global;
 

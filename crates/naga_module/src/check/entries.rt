@@ -11,7 +11,7 @@ use check_faults::module::ModuleFault;
 use ir_arena::span::Refusal;
 use ir_facts::below::Below;
 use ir_facts::valid::info::ModuleInfo;
-use ir_misfits::fits::{fits_entry, fits_function};
+use ir_fits::fits::{fits_entry, fits_function};
 use ir_module::module::{EntryPoint, Module};
 use naga_valid::validator::Validator;
 use std::alloc::Global;

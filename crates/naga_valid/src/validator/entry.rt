@@ -5,7 +5,7 @@ ghost use Rattle.ir_errors.specs.declared.function.FunctionError.{FunctionError 
 ghost use Rattle.ir_facts.specs.Fits.{FitsTypes, FitsEntry};
 ghost use Rattle.ir_facts.specs.FitsBody.{SignatureFits};
 ghost use Rattle.check_entry.specs.InterfacePoints.{HasPayloadSizes, interface_points};
-ghost use Rattle.naga_valid.specs.EntryJudgement.{of_function};
+ghost use Rattle.check_laws.specs.EntryJudgement.{of_function};
 ghost use Rattle.check_entry.specs.EntryUses.{with_own_uses};
 ghost use Rattle.check_entry.specs.EntryVaryings.{with_blending};
 ghost use Rattle.check_entry.specs.TypeInfos.{AreInfosOf};

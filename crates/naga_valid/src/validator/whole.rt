@@ -3,13 +3,13 @@
 ghost use Rattle.std.specs.Prelude.{◌≡◌, true, OnOk, OnErr, IfOk, length};
 ghost use Rattle.ir_facts.specs.Fits.{FitsTypes, FitsFunction};
 ghost use Rattle.naga_runs.specs.Soundness.{RunsAreSure};
-ghost use Rattle.check_body.specs.Accepted.{ResultsAreFilledOnce, StagesAreOfAll};
+ghost use Rattle.check_laws.specs.Accepted.{ResultsAreFilledOnce, StagesAreOfAll};
 ghost use Rattle.check_scope.specs.BodyTrees.{body_of};
 ghost use Rattle.check_scope.specs.Context.{pre_emitted_of};
 ghost use Rattle.ir_facts.specs.WhatIsChecked.{checks_blocks, checks_expressions};
 ghost use Rattle.check_statement.specs.FunctionJudgement.{function_judgement, outcome_of};
 ghost use Rattle.check_entry.specs.TypeInfos.{AreInfosOf};
-ghost use Rattle.check_body.specs.Shapes.{HasNoReturnInContinuing, HasWholeSwitches};
+ghost use Rattle.check_laws.specs.Shapes.{HasNoReturnInContinuing, HasWholeSwitches};
 ghost use Rattle.ir_facts.specs.Answers.{Answers, Exactly};
 
 use crate::validator::Validator;

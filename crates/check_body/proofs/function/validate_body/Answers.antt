@@ -8,7 +8,7 @@ use Rattle.check_scope.proofs.Operands.{begun_operands}
 use Rattle.check_scope.specs.walk.SeenContext.{context_of}
 use Rattle.check_statement.specs.walk.State.{kept, state_left}
 use Rattle.naga_runs.specs.Judgement.{viewed}
-use Rattle.check_body.proofs.Judged.{judged, outcome_refuses, unfilled_refuses, all_filled}
+use Rattle.check_statement.proofs.Judged.{judged, outcome_refuses, unfilled_refuses, all_filled}
 use Rattle.check_body.proofs.function.validate_body.Goals as goal
 use Rattle.std.specs.Prelude.{Err}
 

@@ -1,6 +1,6 @@
 use Rattle.std.proofs.Common.{◌≡◌, drop}
 use Rattle.ir_arena.specs.Points.{first_fault, points_from}
-use Rattle.check_entry.specs.TakenBindings.{AreTaken}
+use Rattle.check_variables.specs.TakenBindings.{AreTaken}
 use Rattle.check_entry.specs.UsedGlobals.{global_points}
 use Rattle.check_entry.proofs.interface.InterfaceContext.check_each_used_global.Given as goal
 

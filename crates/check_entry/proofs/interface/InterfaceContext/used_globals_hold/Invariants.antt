@@ -1,6 +1,6 @@
 use Rattle.std.proofs.Common.{◌≡◌, ◌≤◌, drop}
 use Rattle.ir_arena.specs.Points.{first_fault, points_from}
-use Rattle.check_entry.specs.TakenBindings.{AreTaken}
+use Rattle.check_variables.specs.TakenBindings.{AreTaken}
 use Rattle.check_entry.specs.UsedGlobals.{global_points, used_immediates}
 use Rattle.check_entry.proofs.interface.InterfaceContext.used_globals_hold.Given as goal
 

@@ -5,7 +5,7 @@ use Rattle.ir_facts.specs.declared.valid.info.FunctionInfo.{FunctionInfo}
 use Rattle.ir_module.specs.declared.module.EntryPoint.{EntryPoint}
 use Rattle.check_entry.specs.EntryFaults.{fault_of}
 use Rattle.check_entry.specs.InterfacePoints.{HasPayloadSizes}
-use Rattle.naga_valid.specs.EntryJudgement.{entry_judgement}
+use Rattle.check_laws.specs.EntryJudgement.{entry_judgement}
 use Rattle.check_statement.specs.FunctionJudgement.{FunctionOutcome}
 use Rattle.check_statement.specs.ValidatorParts.{Parts}
 use Rattle.check_entry.specs.TypeInfos.{AreInfosOf}

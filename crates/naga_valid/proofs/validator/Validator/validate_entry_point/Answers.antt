@@ -3,7 +3,7 @@ use Rattle.std.specs.Result.{result_err}
 use Rattle.ir_arena.specs.Points.{first_fault}
 use Rattle.ir_facts.specs.Answers.{Answers, FirstOf, refusal_read_by}
 use Rattle.ir_facts.specs.declared.valid.info.FunctionInfo.{FunctionInfo}
-use Rattle.check_body.proofs.Chains.{fits_calls_below}
+use Rattle.check_laws.proofs.Chains.{fits_calls_below}
 use Rattle.check_entry.specs.EntryFaults.{fault_of}
 use Rattle.check_entry.specs.EntryUses.{with_own_uses}
 use Rattle.check_entry.specs.EntryVaryings.{with_blending}
@@ -11,12 +11,12 @@ use Rattle.check_entry.specs.InterfacePoints.{interface_points}
 use Rattle.check_entry.specs.Start.{start_points}
 use Rattle.check_statement.specs.FunctionJudgement.{FunctionOutcome, function_judgement}
 use Rattle.check_statement.specs.ValidatorParts.{Parts}
-use Rattle.naga_valid.specs.EntryJudgement.{AnswersAfter, entry_judgement, entry_outcome, of_function}
-use Rattle.naga_valid.proofs.EntryBodies.{entry_is_of_all_stages, entry_has_whole_switches}
-use Rattle.naga_valid.proofs.EntryBuiltIns.{accepted_built_ins}
-use Rattle.naga_valid.proofs.EntryChains.{entry_keeps_its_stage}
-use Rattle.naga_valid.proofs.EntryGroups.{accepted_locations}
-use Rattle.naga_valid.proofs.EntryFacts.{accepted_bindings, accepted_position}
+use Rattle.check_laws.specs.EntryJudgement.{AnswersAfter, entry_judgement, entry_outcome, of_function}
+use Rattle.check_laws.proofs.EntryBodies.{entry_is_of_all_stages, entry_has_whole_switches}
+use Rattle.check_laws.proofs.EntryBuiltIns.{accepted_built_ins}
+use Rattle.check_laws.proofs.EntryChains.{entry_keeps_its_stage}
+use Rattle.check_laws.proofs.EntryGroups.{accepted_locations}
+use Rattle.check_laws.proofs.EntryFacts.{accepted_bindings, accepted_position}
 use Rattle.naga_valid.proofs.EntryJudgement.{function_refuses, interface_decides, points_pass, points_refuse, start_refuses}
 use Rattle.naga_valid.proofs.EntryUses.{one_use_each}
 use Rattle.naga_valid.proofs.validator.Validator.validate_entry_point.Given as given

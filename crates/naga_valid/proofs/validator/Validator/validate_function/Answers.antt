@@ -2,7 +2,7 @@ use Rattle.std.proofs.Common.{rules, ◌≡◌, Result, Ok, Err}
 use Rattle.ir_arena.specs.declared.span.Refusal.{Refusal}
 use Rattle.ir_errors.specs.declared.function.FunctionError.{FunctionError}
 use Rattle.ir_facts.specs.Answers.{Answers, Exactly, leaving}
-use Rattle.check_body.proofs.FunctionLaw.{is_sound, fills_once, is_of_all_stages, has_no_return_in_continuing, has_whole_switches}
+use Rattle.check_laws.proofs.FunctionLaw.{is_sound, fills_once, is_of_all_stages, has_no_return_in_continuing, has_whole_switches}
 use Rattle.check_statement.specs.FunctionJudgement.{FunctionOutcome}
 use Rattle.naga_valid.proofs.FunctionSteps.{lower_refuses}
 use Rattle.naga_valid.proofs.validator.Validator.validate_function.Goals as goal

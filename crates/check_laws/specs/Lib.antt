@@ -1,0 +1,10 @@
+pub mod Accepted
+pub mod Shapes
+pub mod FunctionLaw
+pub mod FunctionRefusals
+pub mod InOrder
+pub mod Chains
+pub mod EntryJudgement
+pub mod EntryFacts
+pub mod EntryChains
+pub mod EntryBodies

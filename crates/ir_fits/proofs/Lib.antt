@@ -1,0 +1,4 @@
+pub mod ExactTypes
+pub mod ExactGlobals
+pub mod ExactEntries
+pub mod ExactFunctions

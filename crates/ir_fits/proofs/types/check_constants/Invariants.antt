@@ -1,0 +1,10 @@
+use Rattle.std.proofs.Common.{◌≡◌, drop}
+use Rattle.ir_arena.specs.Points.{first_fault, points_from, points_of_each}
+use Rattle.ir_fits.specs.OfTypes.{constant_points}
+use Rattle.ir_fits.proofs.types.check_constants.Given as goal
+
+-- what is left decides
+abbrev pub invariant-loop-place : goal.invariant-loop-place
+invariant-loop-place l =
+    first_fault (points_from (constant_points l.types) l.place (drop l.place l.constants))
+    ≡ first_fault (points_of_each (constant_points l.types) l.constants)

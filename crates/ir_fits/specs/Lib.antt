@@ -1,0 +1,5 @@
+pub mod OfTypes
+pub mod OfGlobals
+pub mod OfFunctions
+pub mod OfEntries
+pub mod Laws

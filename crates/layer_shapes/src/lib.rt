@@ -1,0 +1,8 @@
+//! Shapes: the scalars, vectors and matrices that operators compute with, the products of two, and types by their handles.
+#![tactic(auto)]
+
+pub mod products;
+pub mod resolutions;
+pub mod shapes;
+
+pub use crate::shapes::Shape;

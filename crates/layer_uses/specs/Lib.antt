@@ -1,0 +1,4 @@
+pub mod Joins
+pub mod Roots
+pub mod Walk
+pub mod Uses

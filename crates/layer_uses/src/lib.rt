@@ -1,0 +1,9 @@
+//! Which globals a function uses, and how: what its expressions and statements do with them, and the functions that it calls.
+#![tactic(auto)]
+
+mod joins;
+mod roots;
+pub mod uses;
+mod walk;
+
+pub use crate::uses::uses_of;
