@@ -1,6 +1,1 @@
-pub mod BenchModule
-pub mod CaseJudgement
-pub mod FaultNames
-pub mod Line
-pub mod WorkedLoop
-unfoldable pub use Rattle.case_run.specs.Line.{Replies, Writes}
+unfoldable pub use Rattle.case_reply.specs.Line.{Replies, Writes}

@@ -1,11 +1,11 @@
 //! Reads one case from a reader, and writes its line to a writer.
 
 ghost use Rattle.std.specs.Prelude.{◌≡◌, ◌≤◌, ◌+◌, length, take, IfOk, IfSome};
-ghost use Rattle.case_run.specs.Line.{Replies, Writes};
+ghost use Rattle.case_reply.specs.Line.{Replies, Writes};
 
-use crate::judge::reply_to;
-use crate::line::Reply;
 use case_notation::case::MOST_BYTES;
+use case_reply::judge::reply_to;
+use case_reply::line::Reply;
 use std::alloc::{AllocError, Global};
 use std::io;
 use std::io::{Read, Write};

@@ -1,8 +1,8 @@
 use Rattle.std.proofs.Common.{◌≡◌, Err, ap}
 use Rattle.case_notation.specs.Case.{case_of}
 use Rattle.case_notation.specs.declared.case.ReadError.TheVariants.{Unreadable}
-use Rattle.case_run.proofs.Cases.{replies_none, replies_accepted, replies_fault}
-use Rattle.case_run.proofs.judge.reply_to.Goals as goal
+use Rattle.case_reply.proofs.Cases.{replies_none, replies_accepted, replies_fault}
+use Rattle.case_reply.proofs.judge.reply_to.Goals as goal
 
 pub returns-in-Err-Unreadable : goal.returns-in-Err-Unreadable
 returns-in-Err-Unreadable c = replies_none _ (c.in-Err-Unreadable.ensures.none (let same : c.in-Err-Unreadable.field-0 ≡ Unreadable = cc in ap Err same))

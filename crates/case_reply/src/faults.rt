@@ -1,7 +1,7 @@
 //! The expression that a fault is about. Nothing here takes memory.
 
 ghost use Rattle.std.specs.Prelude.{◌≡◌};
-ghost use Rattle.case_run.specs.FaultNames.{expression_handle, call_handle, atomic_handle, subgroup_handle, fault_handle};
+ghost use Rattle.case_reply.specs.FaultNames.{expression_handle, call_handle, atomic_handle, subgroup_handle, fault_handle};
 
 use ir_arena::handle::Handle;
 use ir_arena::tag;

@@ -2,8 +2,8 @@
 
 ghost use Rattle.std.specs.Prelude.{◌≡◌, OnOk};
 ghost use Rattle.std.specs.Io.KnownBytes.{Appends};
-ghost use Rattle.case_run.specs.FaultNames.{inner_text};
-ghost use Rattle.case_run.specs.Line.{accepted_line, fault_line, handle_text, hex_digit};
+ghost use Rattle.case_reply.specs.FaultNames.{inner_text};
+ghost use Rattle.case_reply.specs.Line.{accepted_line, fault_line, handle_text, hex_digit};
 
 use crate::faults::fault_handle;
 use bitflags::Flags;
@@ -16,7 +16,7 @@ use std::io::Write;
 
 /// What the program answers to an input.
 #[derive(PartialEq, Debug, Drop)]
-pub(crate) enum Reply {
+pub enum Reply {
     /// The body is accepted, and may run in these stages.
     Accepted(ShaderStages),
     /// The first fault of the body.
@@ -28,7 +28,7 @@ pub(crate) enum Reply {
 }
 
 impl Reply {
-    ghost use Rattle.case_run.specs.Line.{reply_line, reply_status};
+    ghost use Rattle.case_reply.specs.Line.{reply_line, reply_status};
 
     /// Writes the line that says it.
     #[tactic(auto, unfolding(crate::specs::Line::reply_line))]

@@ -8,7 +8,7 @@ use Rattle.ir_flags.specs.declared.valid.ValidationFlags.{ValidationFlags}
 use Rattle.ir_facts.specs.declared.valid.info.FunctionInfo.{FunctionInfo}
 use Rattle.ir_facts.specs.declared.valid.settings.Settings.{Settings}
 use Rattle.ir_types.specs.declared.type_info.TypeInfo.{TypeInfo}
-use Rattle.case_run.specs.BenchModule.{bench_module}
+use Rattle.case_reply.specs.BenchModule.{bench_module}
 use Rattle.case_notation.specs.CaseBlocks.{block_of}
 use Rattle.case_notation.specs.Case.{Case}
 use Rattle.naga_module.specs.ModuleJudgement.{Answer, IsJudgement, IsJudgementOrMemory}

@@ -22,11 +22,11 @@ use Rattle.ir_statements.specs.declared.statements.Statement.{Statement}
 use Rattle.ir_statements.specs.declared.statements.Statement as statement
 use Rattle.ir_types.specs.declared.types.Type.{«Type» as IrType}
 use Rattle.case_notation.specs.Bench.{names_of, callees_of}
-use Rattle.case_run.specs.BenchModule.{bench_types, shared_expressions, bench_expressions, bench_locals, bench_function, bench_functions, bench_module, callee_block, callee_function}
+use Rattle.case_reply.specs.BenchModule.{bench_types, shared_expressions, bench_expressions, bench_locals, bench_function, bench_functions, bench_module, callee_block, callee_function}
 use Rattle.case_notation.specs.CaseBlocks.{list_of}
 use Rattle.check_entry.specs.TypeInfos.{NamesTypes, AreInfosOf}
 use Rattle.ir_facts.specs.declared.valid.settings.Settings.{Settings}
-use Rattle.case_run.specs.CaseJudgement.{bench_infos, IsPlainAnswer}
+use Rattle.case_reply.specs.CaseJudgement.{bench_infos, IsPlainAnswer}
 use Rattle.naga_module.specs.ModuleJudgement.{Answer, Fits, first_infos}
 use Rattle.naga_module.specs.ModuleLaw.{IsToldOfFunctions, FunctionsAloneAreTold}
 use Rattle.naga_layers.specs.Plain.Meaning.{plain_meaning, plain_layer}

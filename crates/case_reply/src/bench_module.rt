@@ -1,7 +1,7 @@
 //! The modules of the benches.
 
 ghost use Rattle.std.specs.Prelude.{◌≡◌, [], ◌∷◌, IfOk};
-ghost use Rattle.case_run.specs.BenchModule.{bench_types, bench_locals, shared_expressions, bench_expressions, type_of, bench_function, callee_block, callee_function, bench_functions, bench_module};
+ghost use Rattle.case_reply.specs.BenchModule.{bench_types, bench_locals, shared_expressions, bench_expressions, type_of, bench_function, callee_block, callee_function, bench_functions, bench_module};
 ghost use Rattle.ir_module.specs.declared.expressions.Expression.TheVariants.{Literal as LiteralOf, Unary};
 
 use case_notation::bench::Bench;

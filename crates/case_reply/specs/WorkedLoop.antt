@@ -7,7 +7,7 @@ use Rattle.check_scope.specs.Context.{pre_emitted_of}
 use Rattle.naga_runs.specs.Samples.{given, skipping_loop, sure_loop}
 use Rattle.case_notation.specs.CaseBlocks.{block_of}
 use Rattle.case_notation.specs.declared.bench.Bench.TheVariants.{P}
-use Rattle.case_run.specs.BenchModule.{bench_function}
+use Rattle.case_reply.specs.BenchModule.{bench_function}
 
 -- the tree of the body of bench P's function, where the block is that of this tree
 abbrev pub tree_in_bench : Body → Body

@@ -5,13 +5,13 @@ use Rattle.std.specs.Io.KnownBytes.{Appends}
 use Rattle.ir_flags.specs.declared.valid.ShaderStages.{ShaderStages}
 use Rattle.ir_errors.specs.declared.function.FunctionError.{FunctionError}
 use Rattle.ir_errors.specs.Names.{function_error_name}
-use Rattle.case_run.specs.FaultNames.{inner_text, fault_handle}
-use Rattle.case_run.specs.CaseJudgement.{IsJudgementOf, stages_of_last}
+use Rattle.case_reply.specs.FaultNames.{inner_text, fault_handle}
+use Rattle.case_reply.specs.CaseJudgement.{IsJudgementOf, stages_of_last}
 use Rattle.case_notation.specs.Case.{Case, Reads}
 use Rattle.naga_module.specs.ModuleJudgement.{Answer}
 use Rattle.check_faults.specs.declared.module.ModuleFault.TheVariants as told
-use Rattle.case_run.specs.declared.line.Reply.{Reply}
-use Rattle.case_run.specs.declared.line.Reply.TheVariants.{Accepted, Fault, Unreadable, Memory}
+use Rattle.case_reply.specs.declared.line.Reply.{Reply}
+use Rattle.case_reply.specs.declared.line.Reply.TheVariants.{Accepted, Fault, Unreadable, Memory}
 
 abbrev pub hex_digit : ℕ → ℕ
 hex_digit n = digit_glyph false (n % 16)

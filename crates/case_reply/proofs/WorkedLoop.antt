@@ -12,8 +12,8 @@ use Rattle.check_scope.specs.Context.{pre_emitted_of}
 use Rattle.naga_runs.specs.Samples.{given, one, emit_3, may_continue_here, skipping_loop, sure_loop}
 use Rattle.case_notation.specs.CaseBlocks.{block_from, block_of, list_of}
 use Rattle.case_notation.specs.declared.bench.Bench.TheVariants.{P}
-use Rattle.case_run.specs.BenchModule.{bench_function}
-use Rattle.case_run.specs.WorkedLoop.{tree_in_bench, LoopRows}
+use Rattle.case_reply.specs.BenchModule.{bench_function}
+use Rattle.case_reply.specs.WorkedLoop.{tree_in_bench, LoopRows}
 
 -- the operands of what the Emits of bench P emit
 abbrev operands : ℕ → List ℕ

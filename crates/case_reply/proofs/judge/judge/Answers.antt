@@ -1,8 +1,8 @@
-use Rattle.case_run.specs.CaseJudgement.{settings_of}
+use Rattle.case_reply.specs.CaseJudgement.{settings_of}
 use Rattle.case_notation.specs.Case.{case_of}
-use Rattle.case_run.proofs.Benches.{told_of_bench}
-use Rattle.case_run.proofs.Cases.{judged_as}
-use Rattle.case_run.proofs.judge.judge.Goals as goal
+use Rattle.case_reply.proofs.Benches.{told_of_bench}
+use Rattle.case_reply.proofs.Cases.{judged_as}
+use Rattle.case_reply.proofs.judge.judge.Goals as goal
 
 pub returns-clause-judged : goal.returns-clause-judged
 returns-clause-judged c =

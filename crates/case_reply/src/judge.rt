@@ -2,8 +2,8 @@
 
 ghost use Rattle.std.specs.Prelude.{◌≡◌, [], IfOk, IfErr};
 ghost use Rattle.naga_module.specs.ModuleLaw.{IsToldOfFunctions};
-ghost use Rattle.case_run.specs.CaseJudgement.{IsPlainAnswer, flags_of, settings_of, bench_infos, module_of, stages_of_last};
-ghost use Rattle.case_run.specs.Line.{Replies};
+ghost use Rattle.case_reply.specs.CaseJudgement.{IsPlainAnswer, flags_of, settings_of, bench_infos, module_of, stages_of_last};
+ghost use Rattle.case_reply.specs.Line.{Replies};
 ghost use Rattle.case_notation.specs.Case.{HoldsBlock, case_of};
 ghost use Rattle.case_notation.specs.Sayable.{IsSayable};
 
@@ -101,7 +101,7 @@ pub(crate) fn stages_of_last(infos: &[FunctionInfo]) -> ShaderStages
 
 /// The reply to an input.
 #[tactic(auto, using(crate::proofs::Cases::replying))]
-pub(crate) fn reply_to(alloc: Global, input: &[u8]) -> Reply
+pub fn reply_to(alloc: Global, input: &[u8]) -> Reply
     ensures { Replies input.now result }
 {
     let case = match read_case(alloc, input) {

@@ -1,0 +1,3 @@
+pub mod Benches
+pub mod Cases
+pub mod WorkedLoop

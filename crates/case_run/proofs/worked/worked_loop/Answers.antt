@@ -1,5 +1,0 @@
-use Rattle.case_run.proofs.WorkedLoop.{loop_rows}
-use Rattle.case_run.proofs.worked.worked_loop.Goals as goal
-
-pub returns : goal.returns
-returns c = loop_rows
