@@ -2,8 +2,8 @@
 //! Part of `naga_check`; no promise to users.
 #![tactic(auto)]
 
-pub mod bench_module;
-pub mod faults;
+mod bench_module;
+mod faults;
 pub mod judge;
 pub mod line;
 pub mod worked;

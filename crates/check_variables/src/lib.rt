@@ -1,5 +1,5 @@
 //! The checks of local and global variables, the uses that a global may have at a stage, and which bindings are taken.
-//! Users import these from `naga_rules`.
+//! Users import these from `naga_rules`, but for `bindings`: that is part of the validator, with no promise to users.
 #![tactic(auto)]
 
 pub mod allowed;
