@@ -4,11 +4,8 @@ ghost use Rattle.std.specs.Prelude.{◌≡◌, List, Some, None, option_and_then
 ghost use Rattle.ir_statements.specs.Tree.{Body};
 ghost use Rattle.ir_statements.specs.View.{body_of, no_operands};
 ghost use Rattle.case_notation.specs.CaseBlocks.{block_of};
-ghost use Rattle.case_notation.specs.declared.token.Token as declared;
 ghost use Rattle.case_notation.specs.Feeding.{Ends};
-ghost use Rattle.case_notation.specs.Reading.{reading_of};
 ghost use Rattle.case_notation.specs.Scanning.{SayBody};
-ghost use Rattle.case_notation.specs.Text.{AreTextsOf};
 ghost use Rattle.case_notation.specs.Words.{IsPrintable, words_of};
 
 mod closing;
@@ -254,11 +251,11 @@ impl Reader {
 }
 
 /// The body that the words of a text say, a word at a time.
-fn body_of_text(alloc: Global, bench: Bench, text: &[u8]) -> Result<Block, ReadError>
-    ensures found { IfOk result (λ b. (ts : List declared.Token) × AreTextsOf bench ts (words_of text.now)
-        × (reading_of ts ≡ Some b) × IsPrintable text.now) }
-    ensures none { IsErrOf result ReadError.Unreadable
-        → (ts : List declared.Token) → AreTextsOf bench ts (words_of text.now) → reading_of ts ≡ None }
+pub(crate) fn read_body(alloc: Global, bench: Bench, text: &[u8]) -> Result<Block, ReadError>
+    ensures found { IfOk result (λ b. SayBody bench (words_of text.now) (body_of no_operands b)) }
+    ensures printable { IfOk result (λ _. IsPrintable text.now) }
+    ensures made { IfOk result (λ b. b ≡ block_of (body_of no_operands b)) }
+    ensures none { IsErrOf result ReadError.Unreadable → (b : Body) → SayBody bench (words_of text.now) b → ⊥ }
 {
     let mut reader = Reader::new(alloc);
     let mut rest = text;
@@ -270,14 +267,4 @@ fn body_of_text(alloc: Global, bench: Bench, text: &[u8]) -> Result<Block, ReadE
         reader.step(token)?;
     }
     reader.finish()
-}
-
-/// The body that the words of a text say.
-pub(crate) fn read_body(alloc: Global, bench: Bench, text: &[u8]) -> Result<Block, ReadError>
-    ensures found { IfOk result (λ b. SayBody bench (words_of text.now) (body_of no_operands b)) }
-    ensures printable { IfOk result (λ _. IsPrintable text.now) }
-    ensures made { IfOk result (λ b. b ≡ block_of (body_of no_operands b)) }
-    ensures none { IsErrOf result ReadError.Unreadable → (b : Body) → SayBody bench (words_of text.now) b → ⊥ }
-{
-    body_of_text(alloc, bench, text)
 }

@@ -19,7 +19,6 @@ use ir_flags::valid::{ShaderStages, SubgroupOperationSet, TypeFlags, ValidationF
 use ir_types::type_info::TypeInfo;
 use naga_layers::plain::Plain;
 use naga_module::check::{Given, check_module};
-use naga_module::laws::module_law;
 use std::alloc::{AllocError, Global};
 
 /// The flags of a case: all but those that its options take away.
@@ -75,7 +74,6 @@ fn judge(alloc: Global, case: Case) -> Result<ModuleInfo, ModuleFault>
     ensures judged { IsPlainAnswer (settings_of (case_of case)) (module_of (case_of case)) result }
     ensures told { IfErr result IsToldOfFunctions }
 {
-    module_law();
     let settings = settings_of(&case);
     let given = given(alloc)?;
     let module = bench_module(alloc, case.bench, case.body)?;

@@ -166,7 +166,8 @@ fn call_result_holds(
     }
 }
 
-/// The refusal of a Call of which a point fails.
+/// The refusal of a Call of which a point fails. The call site comes in its parts: lent, it would be laid into memory at each
+/// Call, also where all points hold.
 #[cold]
 #[inline(never)]
 fn refused_site(

@@ -19,10 +19,41 @@ use Rattle.check_scope.specs.ExpressionTypes.{expression_at, is_of_type, type_at
 
 -- a variable, or an argument
 abbrev pub is_variable : Option Expression → Bool
+is_variable None = false
 is_variable (Some (e.LocalVariable v)) = true
 is_variable (Some (e.GlobalVariable g)) = true
 is_variable (Some (e.FunctionArgument i)) = true
-is_variable _ = false
+is_variable (Some (e.Literal l)) = false
+is_variable (Some (e.Constant h)) = false
+is_variable (Some (e.Override h)) = false
+is_variable (Some (e.ZeroValue ty)) = false
+is_variable (Some (e.Compose ty components)) = false
+is_variable (Some (e.Access base index)) = false
+is_variable (Some (e.AccessIndex base index)) = false
+is_variable (Some (e.Load pointer)) = false
+is_variable (Some (e.CallResult f)) = false
+is_variable (Some (e.AtomicResult ty comparison)) = false
+is_variable (Some (e.WorkGroupUniformLoadResult ty)) = false
+is_variable (Some e.RayQueryProceedResult) = false
+is_variable (Some e.SubgroupBallotResult) = false
+is_variable (Some (e.SubgroupOperationResult ty)) = false
+is_variable (Some (e.Splat detail operands)) = false
+is_variable (Some (e.Swizzle detail operands)) = false
+is_variable (Some (e.ImageSample detail operands)) = false
+is_variable (Some (e.ImageLoad detail operands)) = false
+is_variable (Some (e.ImageQuery detail operands)) = false
+is_variable (Some (e.Unary detail operands)) = false
+is_variable (Some (e.Binary detail operands)) = false
+is_variable (Some (e.Select detail operands)) = false
+is_variable (Some (e.Derivative detail operands)) = false
+is_variable (Some (e.Relational detail operands)) = false
+is_variable (Some (e.Math detail operands)) = false
+is_variable (Some (e.As detail operands)) = false
+is_variable (Some (e.ArrayLength detail operands)) = false
+is_variable (Some (e.RayQueryGetIntersection detail operands)) = false
+is_variable (Some (e.RayQueryVertexPositions detail operands)) = false
+is_variable (Some (e.CooperativeLoad detail operands)) = false
+is_variable (Some (e.CooperativeMultiplyAdd detail operands)) = false
 
 -- an image or a sampler
 abbrev pub is_texture : Option TypeInner → Bool

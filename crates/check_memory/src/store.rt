@@ -140,14 +140,47 @@ fn first_fault_of_store(
 fn is_variable(expression: Option<&Expression>) -> bool
     ensures { result ≡ is_variable (option_copied expression.entry) }
 {
-    matches!(
-        expression,
+    match expression {
+        None => false,
         Some(
             Expression::LocalVariable(_)
-                | Expression::GlobalVariable(_)
-                | Expression::FunctionArgument(_),
-        )
-    )
+            | Expression::GlobalVariable(_)
+            | Expression::FunctionArgument(_),
+        ) => true,
+        Some(
+            Expression::Literal(_)
+            | Expression::Constant(_)
+            | Expression::Override(_)
+            | Expression::ZeroValue(_)
+            | Expression::Compose { .. }
+            | Expression::Access { .. }
+            | Expression::AccessIndex { .. }
+            | Expression::Load { .. }
+            | Expression::CallResult(_)
+            | Expression::AtomicResult { .. }
+            | Expression::WorkGroupUniformLoadResult { .. }
+            | Expression::RayQueryProceedResult
+            | Expression::SubgroupBallotResult
+            | Expression::SubgroupOperationResult { .. }
+            | Expression::Splat { .. }
+            | Expression::Swizzle { .. }
+            | Expression::ImageSample { .. }
+            | Expression::ImageLoad { .. }
+            | Expression::ImageQuery { .. }
+            | Expression::Unary { .. }
+            | Expression::Binary { .. }
+            | Expression::Select { .. }
+            | Expression::Derivative { .. }
+            | Expression::Relational { .. }
+            | Expression::Math { .. }
+            | Expression::As { .. }
+            | Expression::ArrayLength { .. }
+            | Expression::RayQueryGetIntersection { .. }
+            | Expression::RayQueryVertexPositions { .. }
+            | Expression::CooperativeLoad { .. }
+            | Expression::CooperativeMultiplyAdd { .. },
+        ) => false,
+    }
 }
 
 /// Whether a type is that of an image or of a sampler, which is never stored.

@@ -14,9 +14,16 @@ use Rattle.check_resources.specs.Traces.{payload_type_at}
 use Rattle.check_scope.specs.ExpressionTypes.{expression_at}
 
 abbrev pub is_payload_space : AddressSpace → Bool
+is_payload_space space.Function = false
+is_payload_space space.Private = false
+is_payload_space space.WorkGroup = false
+is_payload_space space.Uniform = false
+is_payload_space (space.Storage access) = false
+is_payload_space space.Handle = false
+is_payload_space space.Immediate = false
+is_payload_space space.TaskPayload = false
 is_payload_space space.RayPayload = true
 is_payload_space space.IncomingRayPayload = true
-is_payload_space _ = false
 
 abbrev pub is_global : Option Expression → Bool
 is_global (Some (e.GlobalVariable g)) = true

@@ -5,8 +5,9 @@ ghost use Rattle.std.specs.Option.{option_copied};
 ghost use Rattle.ir_types.specs.Members.{HasNoMembers};
 ghost use Rattle.check_scope.specs.walk.Findings.{RefusesFaultsAlone};
 ghost use Rattle.ir_facts.specs.Answers.{Answers, Finds, FirstOf};
-ghost use Rattle.check_resources.specs.walk.ImageParts.{stored_points, texel_value_points};
-ghost use Rattle.check_resources.specs.ImageStore.{stored_type, image_store_points};
+ghost use Rattle.check_resources.specs.walk.ImageParts.{stored_texel_points, texel_value_points};
+ghost use Rattle.check_resources.specs.Image.{stored_format};
+ghost use Rattle.check_resources.specs.ImageStore.{stored_type, stored_shape, image_store_points};
 ghost use Rattle.check_scope.specs.walk.Place.{place_at};
 ghost use Rattle.check_scope.specs.walk.SeenContext.{context_of};
 ghost use Rattle.check_scope.specs.ExpressionTypes.{type_at};
@@ -29,20 +30,6 @@ use ir_leaves::scalars::{Scalar, VectorSize};
 use ir_types::types::{ImageClass, TypeInner};
 use std::alloc::{AllocError, Global};
 
-/// An image in storage: its shape, and the format of its texels.
-#[derive(Clone, Copy)]
-struct StorageImage {
-    shape: ImageShape,
-    format: StorageFormat,
-}
-
-/// The value that is stored, with its type, for the fault that names it.
-#[derive(Drop)]
-struct StoredValue {
-    handle: Handle<tag::Expression>,
-    ty: Option<TypeInner>,
-}
-
 /// ImageStore: its image, the texel, and the value.
 pub fn check_image_store(
     scope: &ScopeColumn,
@@ -60,11 +47,10 @@ pub fn check_image_store(
 {
     let alloc = scope.allocator();
     let given = type_of(alloc, context, value)?;
-    let stored = StoredValue {
-        handle: value,
-        ty: given,
+    let checked = match check_stored_texel(scope, context, image, texel) {
+        Ok(format) => check_texel_value(scope, context, format, value, given),
+        Err(error) => Err(error),
     };
-    let checked = check_image_store_points(scope, context, image, texel, stored);
     answer(alloc, checked, span)
 }
 
@@ -83,17 +69,16 @@ fn type_of(
     }
 }
 
-/// All that is checked of an image store.
-fn check_image_store_points(
+/// The image and the texel. Returns the format of the image's texels.
+fn check_stored_texel(
     scope: &ScopeColumn,
     context: &BlockContext,
     image: Handle<tag::Expression>,
     texel: Texel,
-    value: StoredValue,
-) -> Result<(), FunctionError>
-    requires { value.ty ≡ type_at (context_of context.now) value.handle }
-    ensures { Finds (FirstOf (image_store_points (context_of context.now) (place_at (known scope.now)) image
-        texel.coordinate texel.array_index value.handle)) result }
+) -> Result<StorageFormat, FunctionError>
+    ensures fault { Finds (FirstOf (stored_texel_points (context_of context.now) (place_at (known scope.now)) image
+        texel.coordinate texel.array_index)) result }
+    ensures format { IfOk result (λ format. format ≡ stored_format (stored_shape (context_of context.now) image).class) }
 {
     let Some(ty) = image_global(context, image) else {
         let error = ExpressionError::ExpectedGlobalVariable;
@@ -119,14 +104,12 @@ fn check_image_store_points(
         let error = ExpressionError::InvalidImageClass(*class);
         return Err(FunctionError::InvalidImageStore(error));
     };
-    let image = StorageImage {
-        shape: ImageShape {
-            dim: *dim,
-            arrayed: *arrayed,
-        },
-        format,
+    let shape = ImageShape {
+        dim: *dim,
+        arrayed: *arrayed,
     };
-    check_stored(scope, context, image, texel, value)
+    check_texel(ImageStatement::Store, scope, context, shape, texel)?;
+    Ok(format)
 }
 
 /// The type of a global, or that of its elements.
@@ -147,47 +130,29 @@ fn stored_type<'a>(
     }
 }
 
-/// The texel and the value.
-#[tactic(auto, using(ir_arena::proofs::Points::first_of_both))]
-fn check_stored(
-    scope: &ScopeColumn,
-    context: &BlockContext,
-    image: StorageImage,
-    texel: Texel,
-    value: StoredValue,
-) -> Result<(), FunctionError>
-    requires { value.ty ≡ type_at (context_of context.now) value.handle }
-    ensures { Finds (FirstOf (stored_points (context_of context.now) (place_at (known scope.now)) image.shape.dim
-        image.shape.arrayed texel.coordinate texel.array_index image.format value.handle)) result }
-{
-    check_texel(ImageStatement::Store, scope, context, image.shape, texel)?;
-    check_texel_value(scope, context, image.format, value)
-}
-
 /// The value: put by every run, and what a texel holds.
 fn check_texel_value(
     scope: &ScopeColumn,
     context: &BlockContext,
     format: StorageFormat,
-    value: StoredValue,
+    value: Handle<tag::Expression>,
+    given: Option<TypeInner>,
 ) -> Result<(), FunctionError>
-    requires { value.ty ≡ type_at (context_of context.now) value.handle }
-    ensures { Finds (FirstOf (texel_value_points (context_of context.now) (place_at (known scope.now)) format
-        value.handle)) result }
+    requires { given ≡ type_at (context_of context.now) value }
+    ensures { Finds (FirstOf (texel_value_points (context_of context.now) (place_at (known scope.now)) format value)) result }
 {
-    let StoredValue { handle, ty } = value;
-    check_use(scope, handle)?;
+    check_use(scope, value)?;
     let expected_ty = TypeInner::Vector {
         size: VectorSize::Quad,
         scalar: Scalar::from(format),
     };
-    match ty {
+    match given {
         Some(actual_ty) => {
             if actual_ty == expected_ty {
                 return Ok(());
             }
             Err(FunctionError::InvalidStoreValue {
-                actual: handle,
+                actual: value,
                 actual_ty,
                 expected_ty,
             })

@@ -91,10 +91,17 @@ fn check_trace_ray_points(
 fn is_payload_space(space: AddressSpace) -> bool
     ensures { result ≡ is_payload_space space }
 {
-    matches!(
-        space,
-        AddressSpace::RayPayload | AddressSpace::IncomingRayPayload
-    )
+    match space {
+        AddressSpace::RayPayload | AddressSpace::IncomingRayPayload => true,
+        AddressSpace::Function
+        | AddressSpace::Private
+        | AddressSpace::WorkGroup
+        | AddressSpace::Uniform
+        | AddressSpace::Storage { .. }
+        | AddressSpace::Handle
+        | AddressSpace::Immediate
+        | AddressSpace::TaskPayload => false,
+    }
 }
 
 /// Whether an expression is a global.

@@ -4,6 +4,6 @@
 
 pub mod rarer;
 pub mod results;
-pub mod stages;
+mod stages;
 pub mod state;
 pub mod statement;

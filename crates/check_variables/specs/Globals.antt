@@ -79,7 +79,13 @@ extra_points capabilities (space.Storage access) ty info =
     (not (access.0 == STORE.0), StorageAddressSpaceWriteOnlyNotSupported) ∷ []
 extra_points capabilities space.Handle ty info = resource_points capabilities ty
 extra_points capabilities space.Immediate ty (Some info) = immediate_points info.immediates_compatibility
-extra_points capabilities _ ty info = []
+extra_points capabilities space.Immediate ty None = []
+extra_points capabilities space.Private ty info = []
+extra_points capabilities space.WorkGroup ty info = []
+extra_points capabilities space.Uniform ty info = []
+extra_points capabilities space.TaskPayload ty info = []
+extra_points capabilities space.RayPayload ty info = []
+extra_points capabilities space.IncomingRayPayload ty info = []
 
 -- what a type can be used for
 abbrev pub seen_flags : Option TypeInfo → TypeFlags

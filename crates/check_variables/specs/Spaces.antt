@@ -57,10 +57,16 @@ row_of space.IncomingRayPayload = unbound AnyLayout (Some RAY_TRACING_PIPELINE) 
 
 -- the spaces that binding arrays lie in
 abbrev pub takes_arrays : AddressSpace → Bool
-takes_arrays (space.Storage access) = true
+takes_arrays space.Function = false
+takes_arrays space.Private = false
+takes_arrays space.WorkGroup = false
 takes_arrays space.Uniform = true
+takes_arrays (space.Storage access) = true
 takes_arrays space.Handle = true
-takes_arrays _ = false
+takes_arrays space.Immediate = false
+takes_arrays space.TaskPayload = false
+takes_arrays space.RayPayload = false
+takes_arrays space.IncomingRayPayload = false
 
 -- what a binding array of images of a class needs
 abbrev pub image_array_needs : ImageClass → Option Capabilities
@@ -78,10 +84,16 @@ resource_array_needs _ = None
 
 -- what a binding array in a space needs
 abbrev pub array_needs : AddressSpace → Option TypeInner → Option Capabilities
-array_needs (space.Storage access) base = Some STORAGE_BUFFER_BINDING_ARRAY
+array_needs space.Function base = None
+array_needs space.Private base = None
+array_needs space.WorkGroup base = None
 array_needs space.Uniform base = Some BUFFER_BINDING_ARRAY
+array_needs (space.Storage access) base = Some STORAGE_BUFFER_BINDING_ARRAY
 array_needs space.Handle base = resource_array_needs base
-array_needs _ base = None
+array_needs space.Immediate base = None
+array_needs space.TaskPayload base = None
+array_needs space.RayPayload base = None
+array_needs space.IncomingRayPayload base = None
 
 -- what lies in space Handle
 abbrev pub is_resource : Option TypeInner → Bool
@@ -111,12 +123,27 @@ format_needs _ = None
 abbrev pub takes_initializers : AddressSpace → Bool
 takes_initializers space.Function = true
 takes_initializers space.Private = true
-takes_initializers _ = false
+takes_initializers space.WorkGroup = false
+takes_initializers space.Uniform = false
+takes_initializers (space.Storage access) = false
+takes_initializers space.Handle = false
+takes_initializers space.Immediate = false
+takes_initializers space.TaskPayload = false
+takes_initializers space.RayPayload = false
+takes_initializers space.IncomingRayPayload = false
 
 -- the space of storage, whatever may be done there
 abbrev pub is_storage : AddressSpace → Bool
+is_storage space.Function = false
+is_storage space.Private = false
+is_storage space.WorkGroup = false
+is_storage space.Uniform = false
 is_storage (space.Storage access) = true
-is_storage _ = false
+is_storage space.Handle = false
+is_storage space.Immediate = false
+is_storage space.TaskPayload = false
+is_storage space.RayPayload = false
+is_storage space.IncomingRayPayload = false
 
 -- the space of task payloads
 abbrev pub is_task_payload : AddressSpace → Bool

@@ -5,7 +5,7 @@ ghost use Rattle.std.specs.Result.{result_err};
 ghost use Rattle.ir_arena.specs.Points.{first_fault};
 ghost use Rattle.ir_types.specs.Types.{NameEachOther, ResolutionFits, inner_at};
 ghost use Rattle.check_variables.specs.Globals.{global_points, array_points, element_of, asked_type, capability_points, good_layout_points, immediate_points, resource_points, place_points, space_points, type_points, decoration_points, variable_points, global_initializer_points};
-ghost use Rattle.check_variables.specs.Spaces.{row_of, resource_array_needs, is_16bit_norm};
+ghost use Rattle.check_variables.specs.Spaces.{row_of, resource_array_needs, is_16bit_norm, is_storage, takes_initializers};
 
 use bitflags::Flags;
 use ir_arena::handle::Handle;
@@ -393,7 +393,7 @@ fn check_decorations(
 ) -> Result<(), GlobalVariableError>
     ensures { result_err result ≡ first_fault (decoration_points capabilities space decorations) }
 {
-    if !decorations.is_empty() && !matches!(space, AddressSpace::Storage { .. }) {
+    if !decorations.is_empty() && !is_storage(space) {
         return Err(GlobalVariableError::InvalidMemoryDecorationsAddressSpace);
     }
     if decorations.contains(MemoryDecorations::COHERENT)
@@ -407,6 +407,24 @@ fn check_decorations(
         return Err(GlobalVariableError::VolatileNotSupported);
     }
     Ok(())
+}
+
+/// Whether a space is that of storage, whatever may be done there.
+fn is_storage(space: AddressSpace) -> bool
+    ensures { result ≡ is_storage space }
+{
+    match space {
+        AddressSpace::Storage { .. } => true,
+        AddressSpace::Function
+        | AddressSpace::Private
+        | AddressSpace::WorkGroup
+        | AddressSpace::Uniform
+        | AddressSpace::Handle
+        | AddressSpace::Immediate
+        | AddressSpace::TaskPayload
+        | AddressSpace::RayPayload
+        | AddressSpace::IncomingRayPayload => false,
+    }
 }
 
 /// An initializer: the space of the variable takes one, its value is known before the pipeline runs, and it has the
@@ -426,7 +444,7 @@ fn check_initializer(
     ensures { result_err result
         ≡ first_fault (global_initializer_points types.now kinds.now global_types.now var.now.space var.now.ty (Some init)) }
 {
-    if !matches!(var.space, AddressSpace::Function | AddressSpace::Private) {
+    if !takes_initializers(var.space) {
         return Err(GlobalVariableError::InitializerNotAllowed(var.space));
     }
     if !kinds.is_const_or_override(init) {
@@ -437,4 +455,21 @@ fn check_initializer(
         return Err(GlobalVariableError::InitializerType);
     }
     Ok(())
+}
+
+/// Whether a global in a space may have an initializer.
+fn takes_initializers(space: AddressSpace) -> bool
+    ensures { result ≡ takes_initializers space }
+{
+    match space {
+        AddressSpace::Function | AddressSpace::Private => true,
+        AddressSpace::WorkGroup
+        | AddressSpace::Uniform
+        | AddressSpace::Storage { .. }
+        | AddressSpace::Handle
+        | AddressSpace::Immediate
+        | AddressSpace::TaskPayload
+        | AddressSpace::RayPayload
+        | AddressSpace::IncomingRayPayload => false,
+    }
 }

@@ -5,7 +5,7 @@
 pub mod form;
 pub mod line;
 pub mod lines;
-pub mod named;
+mod named;
 mod pointer;
 mod untyped;
 pub mod verdict;

@@ -15,4 +15,5 @@ mod types;
 pub use crate::document::{Document, Known};
 pub use crate::id::Id;
 pub use crate::text::{MOST_BYTES, Reading, read_text};
+pub use json::Scratch;
 pub use json_values::{ReadError, Unreadable};

@@ -1,6 +1,6 @@
 //! Reads a text as a document.
 
-ghost use Rattle.std.specs.Prelude.{◌≡◌};
+ghost use Rattle.std.specs.Prelude.{◌≡◌, ◌≤◌, length};
 ghost use Rattle.json_nodes.specs.Nodes.{data_of};
 ghost use Rattle.json_document.specs.Ids.{IsComplete, IsIdOf, id_in};
 ghost use Rattle.json_document.specs.ReadsDocument.{ReadsDocument};
@@ -16,6 +16,9 @@ use std::alloc::Global;
 
 /// The most bytes that a document may have.
 pub const MOST_BYTES: usize = 16777216;
+
+/// The most bytes of a text whose memory is kept for the next one.
+const MOST_KEPT: usize = 1048576;
 
 /// What was read of a text.
 #[derive(Drop)]
@@ -44,24 +47,14 @@ fn read_value(alloc: Global, tree: &Tree) -> Reading
     }
 }
 
-/// Reads a text as a document, and its id.
-///
-/// An Err says where reading stopped and what was expected there, or is out of memory. The text is JSON in UTF-8, of at
-/// most [`MOST_BYTES`] bytes. docs/MODULES.md has its form.
+/// Reads a text of so many bytes at most as a document, and its id.
 #[tactic(auto, using(crate::proofs::Texts::reads_value, crate::proofs::Texts::has_id))]
-pub fn read_text(alloc: Global, text: &[u8]) -> Reading
+fn read_bounded(alloc: Global, text: &[u8], scratch: &mut Scratch) -> Reading
+    requires { length text.now ≤ 16777216 }
     ensures document { ReadsDocument text.now result.document }
     ensures id { IsComplete result.document → IsIdOf text.now result.id }
 {
-    if text.len() > MOST_BYTES {
-        let expected = "a document of at most 16777216 bytes";
-        return Reading {
-            id: None,
-            document: Err(ReadError::expected(alloc, expected)),
-        };
-    }
-    let mut scratch = Scratch::new(alloc);
-    match read_tree(alloc, text, &mut scratch) {
+    match read_tree(alloc, text, scratch) {
         Ok(tree) => read_value(alloc, &tree),
         Err(TextError::Memory) => Reading {
             id: None,
@@ -75,4 +68,27 @@ pub fn read_text(alloc: Global, text: &[u8]) -> Reading
             )),
         },
     }
+}
+
+/// Reads a text as a document, and its id.
+///
+/// An Err says where reading stopped and what was expected there, or is out of memory. The text is JSON in UTF-8, of at
+/// most [`MOST_BYTES`] bytes. docs/MODULES.md has its form. `scratch` is memory that reading needs. What it takes for a
+/// text of at most 1048576 bytes it keeps for the next one.
+pub fn read_text(alloc: Global, text: &[u8], scratch: &mut Scratch) -> Reading
+    ensures document { ReadsDocument text.now result.document }
+    ensures id { IsComplete result.document → IsIdOf text.now result.id }
+{
+    if text.len() > MOST_BYTES {
+        let expected = "a document of at most 16777216 bytes";
+        return Reading {
+            id: None,
+            document: Err(ReadError::expected(alloc, expected)),
+        };
+    }
+    let reading = read_bounded(alloc, text, scratch);
+    if text.len() > MOST_KEPT {
+        *scratch = Scratch::new(alloc);
+    }
+    reading
 }

@@ -2,10 +2,10 @@
 //! Part of `naga_judge`; no promise to users.
 #![tactic(auto)]
 
-pub mod expressions;
-pub mod form_names;
-pub mod forms;
-pub mod literals;
-pub mod named;
+mod expressions;
+mod form_names;
+mod forms;
+mod literals;
+mod named;
 
 pub use crate::expressions::read_expression;

@@ -2,15 +2,15 @@
 //! Part of `naga_judge`; no promise to users.
 #![tactic(auto)]
 
-pub mod built_ins;
-pub mod expression;
-pub mod function;
-pub mod infos;
-pub mod interface;
-pub mod misfits;
-pub mod names;
+mod built_ins;
+mod expression;
+mod function;
+mod infos;
+mod interface;
+mod misfits;
+mod names;
 pub mod parts;
 pub mod sets;
 pub mod to_json;
-pub mod types;
+mod types;
 pub mod writer;

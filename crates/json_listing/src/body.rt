@@ -22,7 +22,7 @@ pub(crate) struct Shown {
 impl Shown {
     /// All statements of a short body. Of a long one those around the position, what holds it, and the statements with these
     /// numbers, with what holds them. An Err is out of memory.
-    pub fn new(
+    pub(crate) fn new(
         alloc: Global,
         nodes: &[Node<'_>],
         position: Option<Position>,
@@ -70,7 +70,7 @@ impl Shown {
     }
 
     /// Whether a statement is written.
-    pub fn has(&self, number: usize) -> bool {
+    pub(crate) fn has(&self, number: usize) -> bool {
         match self.is_shown.as_slice().get(number) {
             Some(is_shown) => *is_shown,
             None => false,

@@ -2,10 +2,10 @@
 //! Part of `naga_judge`; no promise to users.
 #![tactic(auto)]
 
-pub mod body;
-pub mod declarations;
-pub mod kept;
+mod body;
+mod declarations;
+mod kept;
 pub mod listing;
-pub mod marks;
-pub mod why;
-pub mod words;
+mod marks;
+mod why;
+mod words;

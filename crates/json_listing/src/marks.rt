@@ -17,7 +17,7 @@ pub(crate) struct Marks {
 
 impl Marks {
     /// No marks for so many expressions. An Err is out of memory.
-    pub fn new(alloc: Global, count: usize) -> Result<Marks, AllocError> {
+    pub(crate) fn new(alloc: Global, count: usize) -> Result<Marks, AllocError> {
         let mut marked = Vec::with_capacity(alloc, count)?;
         for _ in 0..count {
             marked.push(false)?;
@@ -26,7 +26,7 @@ impl Marks {
     }
 
     /// Whether there is a mark.
-    pub fn has(&self, index: usize) -> bool {
+    pub(crate) fn has(&self, index: usize) -> bool {
         match self.marked.as_slice().get(index) {
             Some(mark) => *mark,
             None => false,
@@ -34,21 +34,21 @@ impl Marks {
     }
 
     /// Marks an expression.
-    pub fn add(&mut self, handle: Handle<tag::Expression>) {
+    pub(crate) fn add(&mut self, handle: Handle<tag::Expression>) {
         if let Some(mark) = self.marked.as_mut_slice().get_mut(handle.index()) {
             *mark = true;
         }
     }
 
     /// Takes the mark of an expression away.
-    pub fn remove(&mut self, handle: Handle<tag::Expression>) {
+    pub(crate) fn remove(&mut self, handle: Handle<tag::Expression>) {
         if let Some(mark) = self.marked.as_mut_slice().get_mut(handle.index()) {
             *mark = false;
         }
     }
 
     /// How many expressions are marked.
-    pub fn count(&self) -> usize {
+    pub(crate) fn count(&self) -> usize {
         let mut count = 0usize;
         for mark in self.marked.as_slice() {
             if *mark {
@@ -59,7 +59,7 @@ impl Marks {
     }
 
     /// The same marks once more. An Err is out of memory.
-    pub fn copy(&self, alloc: Global) -> Result<Marks, AllocError> {
+    pub(crate) fn copy(&self, alloc: Global) -> Result<Marks, AllocError> {
         let mut marked = Vec::with_capacity(alloc, self.marked.len())?;
         for mark in self.marked.as_slice() {
             marked.push(*mark)?;
@@ -87,7 +87,7 @@ impl Marks {
     }
 
     /// Marks what each marked expression is made from, in all steps. Operands are earlier expressions.
-    pub fn close(&mut self, function: &Function) {
+    pub(crate) fn close(&mut self, function: &Function) {
         let expressions = function.expressions.as_slice();
         for index in (0..expressions.len()).rev() {
             if self.has(index) {
@@ -99,7 +99,7 @@ impl Marks {
     }
 
     /// Marks all expressions that a statement names, those of a long Emit too.
-    pub fn add_whole_statement(&mut self, statement: &Statement) {
+    pub(crate) fn add_whole_statement(&mut self, statement: &Statement) {
         match statement {
             Statement::Emit(range) => {
                 for index in range.start..range.end {
@@ -111,7 +111,7 @@ impl Marks {
     }
 
     /// Marks the expressions that a statement names, but those of the statements that it holds, and those of a long Emit.
-    pub fn add_statement(&mut self, statement: &Statement) {
+    pub(crate) fn add_statement(&mut self, statement: &Statement) {
         match statement {
             Statement::Emit(range) => {
                 if range.end.saturating_sub(range.start) <= SHORT_RANGE {
@@ -297,7 +297,7 @@ impl Marks {
     }
 
     /// Marks the expressions of a range that are made from this one.
-    pub fn add_users(
+    pub(crate) fn add_users(
         &mut self,
         function: &Function,
         start: u32,

@@ -63,7 +63,24 @@ pub(crate) fn write_statement<W: fmt::Write>(out: &mut W, statement: &Statement)
             " cases",
         ),
         Statement::Loop { break_if, .. } => write!(out, "Loop {{ break_if: {break_if:?} }}"),
-        leaf => write!(out, "{leaf:?}"),
+        Statement::Break
+        | Statement::Continue
+        | Statement::Return { .. }
+        | Statement::Kill
+        | Statement::ControlBarrier(_)
+        | Statement::MemoryBarrier(_)
+        | Statement::Store { .. }
+        | Statement::ImageStore { .. }
+        | Statement::Atomic { .. }
+        | Statement::ImageAtomic { .. }
+        | Statement::WorkGroupUniformLoad { .. }
+        | Statement::Call { .. }
+        | Statement::RayQuery { .. }
+        | Statement::RayPipelineFunction(_)
+        | Statement::SubgroupBallot { .. }
+        | Statement::SubgroupGather { .. }
+        | Statement::SubgroupCollectiveOperation { .. }
+        | Statement::CooperativeStore { .. } => write!(out, "{statement:?}"),
     }
 }
 

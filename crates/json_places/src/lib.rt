@@ -2,13 +2,13 @@
 //! Part of `naga_judge`; no promise to users.
 #![tactic(auto)]
 
-pub mod found;
+mod found;
 pub mod located;
-pub mod misfits;
+mod misfits;
 pub mod nodes;
 pub mod numbered;
 pub mod parts;
-pub mod place;
+mod place;
 pub mod scope;
 pub mod spot;
 
@@ -17,4 +17,4 @@ pub use crate::misfits::locate_misfit;
 pub use crate::nodes::{Inside, Node, Part, Position, nodes_of};
 pub use crate::place::Place;
 pub use crate::scope::Reason;
-pub use crate::spot::{EntryField, MeshField, Spot};
+pub use crate::spot::{EntryField, Spot};

@@ -2,8 +2,8 @@
 //! Part of `naga_judge`; no promise to users.
 #![tactic(auto)]
 
-pub mod leaves;
-pub mod operations;
-pub mod statements;
+mod leaves;
+mod operations;
+mod statements;
 
 pub use crate::statements::read_body;

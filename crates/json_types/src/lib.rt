@@ -2,9 +2,9 @@
 //! Part of `naga_judge`; no promise to users.
 #![tactic(auto)]
 
-pub mod bindings;
-pub mod images;
-pub mod spaces;
-pub mod types;
+mod bindings;
+mod images;
+mod spaces;
+mod types;
 
 pub use crate::types::Types;

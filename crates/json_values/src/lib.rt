@@ -7,8 +7,8 @@ pub mod expected;
 pub mod from_json;
 pub mod list;
 pub mod number;
-pub mod scalars;
-pub mod set;
+mod scalars;
+mod set;
 pub mod variant;
 
 pub use crate::error::{ReadError, Unreadable};

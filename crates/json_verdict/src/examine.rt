@@ -1,6 +1,6 @@
 //! Judges a text, and finds where its fault stands.
 
-ghost use Rattle.std.specs.Prelude.{◌≡◌, None};
+ghost use Rattle.std.specs.Prelude.{◌≡◌, IsTrue, None};
 ghost use Rattle.ir_arena.specs.Points.{first_fault};
 ghost use Rattle.naga_module.specs.Misfits.{module_points};
 ghost use Rattle.check_faults.specs.declared.module.ModuleFault.TheVariants as faults;
@@ -13,7 +13,7 @@ use crate::basis::Basis;
 use crate::find::locate;
 use ir_module::module::drop_module;
 use json_answers::{Examined, Refused, Verdict, alone};
-use json_document::{Document, Id, ReadError, Reading, read_text};
+use json_document::{Document, Id, ReadError, Reading, Scratch, read_text};
 use json_places::{Found, locate_misfit};
 use naga_below::{Module, Settings};
 use naga_module::{Misfit, ModuleFault};
@@ -45,7 +45,7 @@ fn find(
     locate(alloc, basis, settings, module, fault)
 }
 
-/// A module that is refused with this fault.
+/// A module that is refused with this fault, what doesn't fit, and where the fault stands.
 fn refusal(
     alloc: Global,
     id: Option<Id>,
@@ -53,7 +53,6 @@ fn refusal(
     module: Module,
     basis: &Basis,
     fault: ModuleFault,
-    is_located: bool,
 ) -> Examined
     ensures id { result.id ≡ id }
     ensures verdict { result.verdict ≡ verdicts.Refused fault }
@@ -61,11 +60,7 @@ fn refusal(
         basis.now.given.types.items «module» basis.now.given.global_types.items) }
 {
     let misfit = misfit_of(&module, basis, &fault);
-    let found = if is_located {
-        find(alloc, settings, &module, basis, &fault, &misfit)
-    } else {
-        None
-    };
+    let found = find(alloc, settings, &module, basis, &fault, &misfit);
     Examined {
         id,
         verdict: Verdict::Refused(fault),
@@ -78,14 +73,20 @@ fn refusal(
     }
 }
 
-/// Judges a text, and finds what doesn't fit, and if it is asked for, where the fault of a refused module stands.
+/// Judges a text, and if it is asked for, finds what doesn't fit, and where the fault of a refused module stands. `scratch` is
+/// memory that reading needs, and is kept from text to text.
 #[tactic(auto, using(crate::proofs::Misfits::accepted_judges, crate::proofs::Misfits::refused_judges, crate::proofs::Misfits::memory_judges, crate::proofs::Misfits::accepted_fits, crate::proofs::Misfits::refused_has, crate::proofs::Misfits::unreadable_fits, crate::proofs::Misfits::memory_fits))]
-pub(crate) fn examine_text(alloc: Global, text: &[u8], is_located: bool) -> Examined
+pub(crate) fn examine_text(
+    alloc: Global,
+    text: &[u8],
+    scratch: &mut Scratch,
+    is_located: bool,
+) -> Examined
     ensures judged { Judges text.now result.verdict }
-    ensures misfit { HasMisfit text.now result.verdict result.misfit }
+    ensures misfit { IsTrue is_located → HasMisfit text.now result.verdict result.misfit }
     ensures id { HasItsId text.now result.verdict result.id }
 {
-    let Reading { id, document } = read_text(alloc, text);
+    let Reading { id, document } = read_text(alloc, text, scratch);
     let document = match document {
         Ok(document) => document,
         Err(ReadError::Unreadable(unreadable)) => return alone(id, Verdict::Unreadable(unreadable)),
@@ -109,9 +110,14 @@ pub(crate) fn examine_text(alloc: Global, text: &[u8], is_located: bool) -> Exam
             alone(id, Verdict::Accepted { module, infos })
         }
         Err(fault) => {
-            let examined = refusal(alloc, id, settings, module, &basis, fault, is_located);
+            if is_located {
+                let examined = refusal(alloc, id, settings, module, &basis, fault);
+                drop(basis);
+                return examined;
+            }
             drop(basis);
-            examined
+            drop_module(module);
+            alone(id, Verdict::Refused(fault))
         }
     }
 }
@@ -128,5 +134,5 @@ pub fn examine(alloc: Global, text: &[u8]) -> Examined
     // The id is the one that the text has.
     ensures id { HasItsId text.now result.verdict result.id }
 {
-    examine_text(alloc, text, true)
+    examine_text(alloc, text, &mut Scratch::new(alloc), true)
 }

@@ -7,6 +7,7 @@ ghost use Rattle.json_answers.specs.Status.{status_of};
 use crate::examine::examine_text;
 use json_answers::verdict::drop_refused;
 use json_answers::{Examined, Verdict};
+use json_document::Scratch;
 use std::alloc::Global;
 
 /// Judges a text: reads a document, and judges its module with `check_module` over its facts. Where these are null, that is
@@ -22,7 +23,7 @@ pub fn judge(alloc: Global, text: &[u8]) -> Verdict
         verdict,
         misfit: _,
         refused,
-    } = examine_text(alloc, text, false);
+    } = examine_text(alloc, text, &mut Scratch::new(alloc), false);
     drop(id);
     if let Some(refused) = refused {
         drop_refused(refused);

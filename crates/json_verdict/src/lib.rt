@@ -11,5 +11,6 @@ pub mod run;
 mod stream;
 mod text;
 
+pub use json_answers::line::json_line;
 pub use json_answers::lines::{write_examined, write_lines};
 pub use json_answers::{Examined, Refused, Verdict};

@@ -55,10 +55,10 @@ fn reply<W: Write>(alloc: Global, writer: &mut W, examined: &Examined, form: For
 pub(crate) fn reply_to<W: Write>(
     alloc: Global,
     writer: &mut W,
-    bytes: &Bytes,
+    bytes: &mut Bytes,
     form: Form,
 ) -> io::Result<u8>
-    ensures { IfOk result (λ status. (text : List ℕ) → Holds bytes.now text →
+    ensures { IfOk result (λ status. (text : List ℕ) → Holds bytes.old text →
         Replies form text (W.contents writer.old) (W.contents writer.new) status) }
 {
     let examined = bytes.examine(alloc);

@@ -60,7 +60,7 @@ pub fn run_document<R: Read, W: Write>(
     let mut bytes = Bytes::new(alloc);
     let mut chunk = room();
     read(reader, &mut bytes, &mut chunk)?;
-    let status = reply_to(alloc, writer, &bytes, form)?;
+    let status = reply_to(alloc, writer, &mut bytes, form)?;
     writer.flush()?;
     Ok(status)
 }

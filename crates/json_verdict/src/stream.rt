@@ -55,7 +55,7 @@ impl Stream {
         ensures { OnOk result ((input : List ℕ) (start : Option (List ℕ)) → Follows self.old input start (W.contents writer.old) →
             Follows self.new (input ++ 10 ∷ []) start (W.contents writer.new)) }
     {
-        let status = reply_to(alloc, writer, &self.bytes, Form::Json)?;
+        let status = reply_to(alloc, writer, &mut self.bytes, Form::Json)?;
         self.status = greater(self.status, status);
         self.bytes.clear();
         self.is_begun = false;
@@ -101,7 +101,7 @@ impl Stream {
             RepliesToLines input start (W.contents writer.new) status) }
     {
         if self.is_begun {
-            let status = reply_to(alloc, writer, &self.bytes, Form::Json)?;
+            let status = reply_to(alloc, writer, &mut self.bytes, Form::Json)?;
             return Ok(greater(self.status, status));
         }
         Ok(self.status)

@@ -6,9 +6,9 @@ ghost use Rattle.json_verdict.specs.Judges.{HasMisfit, Judges};
 ghost use Rattle.json_answers.specs.Named.{HasItsId};
 ghost use Rattle.json_verdict.specs.walk.Stream.{Holds};
 
-use crate::examine::examine;
+use crate::examine::examine_text;
 use json_answers::{Examined, Verdict, alone};
-use json_document::MOST_BYTES;
+use json_document::{MOST_BYTES, Scratch};
 use naga_module::ModuleFault;
 use std::alloc::Global;
 
@@ -17,6 +17,8 @@ use std::alloc::Global;
 pub(crate) struct Bytes {
     kept: Vec<u8>,
     is_lost: bool,
+    // what reading needs, kept from text to text for its memory alone
+    scratch: Scratch,
 }
 
 impl Bytes {
@@ -27,6 +29,7 @@ impl Bytes {
         Bytes {
             kept: Vec::new(alloc),
             is_lost: false,
+            scratch: Scratch::new(alloc),
         }
     }
 
@@ -97,15 +100,15 @@ impl Bytes {
     }
 
     /// Judges the text.
-    pub fn examine(&self, alloc: Global) -> Examined
-        ensures judged { (text : List ℕ) → Holds self.now text → Judges text result.verdict }
-        ensures misfit { (text : List ℕ) → Holds self.now text → HasMisfit text result.verdict result.misfit }
-        ensures id { (text : List ℕ) → Holds self.now text → HasItsId text result.verdict result.id }
+    pub fn examine(&mut self, alloc: Global) -> Examined
+        ensures judged { (text : List ℕ) → Holds self.old text → Judges text result.verdict }
+        ensures misfit { (text : List ℕ) → Holds self.old text → HasMisfit text result.verdict result.misfit }
+        ensures id { (text : List ℕ) → Holds self.old text → HasItsId text result.verdict result.id }
     {
         if self.is_lost {
             alone(None, Verdict::Refused(ModuleFault::Memory))
         } else {
-            examine(alloc, self.kept.as_slice())
+            examine_text(alloc, self.kept.as_slice(), &mut self.scratch, true)
         }
     }
 }

@@ -1,4 +1,5 @@
 //! The command line of the program `naga_judge`: its options, and what they ask for.
+//! Part of `naga_judge`; no promise to users.
 #![tactic(auto)]
 
 use clap::{Arg, ArgAction, Command, Error};

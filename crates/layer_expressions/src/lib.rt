@@ -1,16 +1,17 @@
 //! The types of expressions, computed from a module alone, or the rule that one breaks ([`types_of`], [`global_types`]).
+//! Part of `naga_layers`; no promise to users.
 #![tactic(auto)]
 
-pub mod access;
-pub mod images;
-pub mod loading;
-pub mod math;
+mod access;
+mod images;
+mod loading;
+mod math;
 pub mod named;
 pub mod operands;
-pub mod operators;
-pub mod others;
+mod operators;
+mod others;
 pub mod rules;
-pub mod sampling;
+mod sampling;
 pub mod types;
 
 pub use crate::rules::Rule;

@@ -1,4 +1,5 @@
 //! What `detail` says of the expressions that are lists of operands: operators, functions, forms, and which operands there are.
+//! Part of `naga_layers`; no promise to users.
 #![tactic(auto)]
 
 pub mod casts;

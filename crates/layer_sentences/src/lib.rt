@@ -1,10 +1,11 @@
 //! Why an expression has no type, in words for people ([`write_untyped`]).
+//! Part of `naga_judge`; no promise to users.
 #![tactic(auto)]
 
-pub mod binary;
+mod binary;
 pub mod kinds;
-pub mod rules;
-pub mod types;
-pub mod untyped;
+mod rules;
+mod types;
+mod untyped;
 
 pub use crate::untyped::write_untyped;

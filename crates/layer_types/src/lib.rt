@@ -1,12 +1,13 @@
 //! Layouts of types by WGSL's rules: sizes, alignments, and the infos of a module's types ([`type_infos`]).
+//! Part of `naga_layers`; no promise to users.
 #![tactic(auto)]
 
-pub mod arrays;
+mod arrays;
 pub mod infos;
 pub mod leaves;
-pub mod parts;
+mod parts;
 pub mod sizes;
-pub mod structs;
+mod structs;
 
 pub use crate::infos::type_infos;
 pub use crate::sizes::size_of;

@@ -1,4 +1,5 @@
 //! Which globals a function uses, and how: what its expressions and statements do with them, and the functions that it calls.
+//! Part of `naga_layers`; no promise to users.
 #![tactic(auto)]
 
 mod joins;

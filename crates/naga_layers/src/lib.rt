@@ -1,13 +1,13 @@
 //! For users: three lower layers: `Recorded` answers recorded facts, `Typed` computes, `Plain` types the plainest expressions.
 #![tactic(auto)]
 
-pub mod infos;
-pub mod kinds;
-pub mod lent;
+mod infos;
+mod kinds;
+mod lent;
 pub mod plain;
 pub mod recorded;
-pub mod stages;
-pub mod typed;
+mod stages;
+mod typed;
 
 pub use crate::infos::type_infos;
 pub use crate::lent::Lent;

@@ -4,7 +4,7 @@
 
 pub mod check;
 pub mod laws;
-pub mod misfit;
+mod misfit;
 pub mod worked;
 
 pub use crate::check::{Given, check_module};

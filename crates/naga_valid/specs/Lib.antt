@@ -23,3 +23,7 @@ pub use Rattle.check_entry.specs.EntryUses.{only}
 pub use Rattle.check_entry.specs.InterfacePoints.{HasPayloadSizes}
 pub use Rattle.check_laws.specs.EntryJudgement.{AnswersAfter}
 unfoldable pub use Rattle.check_laws.specs.EntryJudgement.{entry_judgement}
+pub use Rattle.check_entry.specs.EntryFaults.{fault_of}
+pub use Rattle.check_laws.specs.Chains.{NoneIsVetted, OneMoreIsVetted, CallsOfFittingAreBelow}
+pub use Rattle.check_laws.specs.FunctionRefusals.{RefusedUseIsWitnessed, RefusedJumpIsStuck}
+pub use Rattle.check_statement.specs.ValidatorParts.{Parts, first_settings, no_traces}

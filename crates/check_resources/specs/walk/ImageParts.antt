@@ -1,5 +1,5 @@
 -- Parts of the check lists of images, as the code checks them: work of lemmas, cited by functions that the validator alone calls.
-use Rattle.std.specs.Prelude.{ℕ, Bool, [], ◌∷◌, ◌++◌, Option}
+use Rattle.std.specs.Prelude.{ℕ, Bool, not, ◌||◌, [], ◌∷◌, ◌++◌, Option, is_some}
 use Rattle.ir_leaves.specs.Formats.{format_scalar}
 use Rattle.ir_types.specs.TypeTests.{is_scalar}
 use Rattle.ir_statements.specs.declared.operations.AtomicFunction.{AtomicFunction}
@@ -13,8 +13,8 @@ use Rattle.ir_errors.specs.declared.function.FunctionError.TheVariants.{InvalidI
 use Rattle.naga_runs.specs.Visits.{Place}
 use Rattle.check_scope.specs.Context.{Context}
 use Rattle.check_resources.specs.ImageAtomic.{change_point, takes_atomics, format_points}
-use Rattle.check_resources.specs.Image.{is_storage_class, stored_format, stored_access, is_coordinate, array_index_points}
-use Rattle.check_resources.specs.ImageStore.{texel_type, is_of_type}
+use Rattle.check_resources.specs.Image.{is_element_at, image_global_at, image_global, is_image, is_storage_class, stored_format, stored_access, is_coordinate, array_index_points}
+use Rattle.check_resources.specs.ImageStore.{is_binding_array, stored_type_at, stored_shape, texel_type, is_of_type, store_point}
 use Rattle.check_scope.specs.ScopePoints.{Points, use_point}
 use Rattle.check_scope.specs.ExpressionTypes.{type_at, named_type_at}
 use Rattle.check_resources.specs.declared.image.ImageStatement.{ImageStatement}
@@ -67,10 +67,16 @@ changed_class_points context place class fun value =
     ∷ change_point (takes_atomics (stored_access class)) (wrong.InvalidImageStorageAccess (stored_access class))
     ∷ changed_format_points context place (stored_format class) fun value
 
--- the texel and the value of an ImageStore
-abbrev pub stored_points : Context → Place → ImageDimension → Bool → ℕ → Option ℕ → StorageFormat → ℕ → Points
-stored_points context place dim arrayed coordinate array_index format value =
-    texel_points by.Store context place dim arrayed coordinate array_index ++ texel_value_points context place format value
+-- the image and the texel of an ImageStore
+abbrev pub stored_texel_points : Context → Place → ℕ → ℕ → Option ℕ → Points
+stored_texel_points context place image coordinate array_index =
+    let global = image_global context image in
+    let shape = stored_shape context image in
+    store_point (is_some (image_global_at context image)) wrong.ExpectedGlobalVariable
+    ∷ store_point (not (is_element_at context image) || is_binding_array context global) (wrong.ExpectedBindingArrayType global)
+    ∷ store_point (is_image (stored_type_at context image)) (wrong.ExpectedImageType global)
+    ∷ store_point (is_storage_class shape.class) (wrong.InvalidImageClass shape.class)
+    ∷ texel_points by.Store context place shape.dim shape.arrayed coordinate array_index
 
 -- the texel of an ImageAtomic, and what is asked behind it
 abbrev pub changed_points : Context →

@@ -2,6 +2,7 @@ use Rattle.case_reply.specs.CaseJudgement.{settings_of}
 use Rattle.case_notation.specs.Case.{case_of}
 use Rattle.case_reply.proofs.Benches.{told_of_bench}
 use Rattle.case_reply.proofs.Cases.{judged_as}
+use Rattle.naga_module.proofs.OnlyFunctions.{functions_alone_are_told}
 use Rattle.case_reply.proofs.judge.judge.Goals as goal
 
 pub returns-clause-judged : goal.returns-clause-judged
@@ -11,5 +12,5 @@ returns-clause-judged c =
 
 pub returns-clause-told : goal.returns-clause-told
 returns-clause-told c =
-    told_of_bench c.module_law.ensures.told (settings_of (case_of c.args.case)) c.args.case.bench c.args.case.body c.requires.sayable c.check_module.result
+    told_of_bench functions_alone_are_told (settings_of (case_of c.args.case)) c.args.case.bench c.args.case.body c.requires.sayable c.check_module.result
     (rw (c.without_mesh_shaders.ensures, c.settings_of-settings.ensures, c.in_ok-given.ensures.0, c.in_ok-given.ensures.1, c.in_ok-module.ensures) at c.check_module.ensures.judged)

@@ -1,7 +1,7 @@
 use Rattle.std.proofs.Common.{length}
 use Rattle.case_notation.specs.Views.{state_of}
 use Rattle.case_notation.proofs.Reading.Fed.{Fed}
-use Rattle.case_notation.proofs.reader.body_of_text.Given as goal
+use Rattle.case_notation.proofs.reader.read_body.Given as goal
 
 abbrev pub invariant-loop-word : goal.invariant-loop-word
 invariant-loop-word l = Fed l.bench l.text (state_of l.reader) l.rest
