@@ -24,7 +24,7 @@ use Rattle.ir_types.specs.declared.types.Type.{«Type» as IrType}
 use Rattle.case_notation.specs.Bench.{names_of, callees_of}
 use Rattle.case_reply.specs.BenchModule.{bench_types, shared_expressions, bench_expressions, bench_locals, bench_function, bench_functions, bench_module, callee_block, callee_function}
 use Rattle.case_notation.specs.CaseBlocks.{list_of}
-use Rattle.check_entry.specs.TypeInfos.{NamesTypes, AreInfosOf}
+use Rattle.check_entry.specs.GivenInfos.{NamesTypes, AreInfosOf}
 use Rattle.ir_facts.specs.declared.valid.settings.Settings.{Settings}
 use Rattle.case_reply.specs.CaseJudgement.{bench_infos, IsPlainAnswer}
 use Rattle.naga_module.specs.ModuleJudgement.{Answer, Fits, first_infos}

@@ -6,6 +6,6 @@ pub mod EntryFaults
 pub mod EntryVaryings
 pub mod Mesh
 pub mod InterfacePoints
-pub mod TypeInfos
+pub mod GivenInfos
 pub mod GlobalPoints
 pub use Rattle.check_entry.specs.InterfacePoints.{HasPayloadSizes}

@@ -5,7 +5,7 @@ ghost use Rattle.ir_facts.specs.Fits.{FitsTypes, FitsEntry};
 ghost use Rattle.ir_facts.specs.FitsBody.{SignatureFits};
 ghost use Rattle.check_entry.specs.EntryFaults.{fault_of};
 ghost use Rattle.check_entry.specs.InterfacePoints.{HasPayloadSizes, used_points};
-ghost use Rattle.check_entry.specs.TypeInfos.{AreInfosOf};
+ghost use Rattle.check_entry.specs.GivenInfos.{AreInfosOf};
 
 mod globals;
 mod mesh;

@@ -32,7 +32,7 @@ use Rattle.check_statement.specs.FunctionJudgement.{FunctionOutcome, body_judgem
 use Rattle.check_statement.specs.Past.{Past, past_of}
 use Rattle.check_scope.specs.Results.{is_to_fill, result_of, fills, filled_before, is_unfilled, filled_points_from, filled_points}
 use Rattle.check_statement.specs.Rules.{points_at, stages_of, stages_behind, stages_left}
-use Rattle.check_statement.specs.Stages.{meet}
+use Rattle.check_statement.specs.StageSets.{meet}
 use Rattle.check_statement.specs.walk.State.{State, seen, kept_rules, begin_state, state_behind, state_left}
 use Rattle.check_scope.specs.ExpressionTypes.{expression_at}
 use Rattle.check_memory.proofs.Atomics.{NamedHolds, atomic_named}

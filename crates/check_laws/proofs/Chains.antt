@@ -38,7 +38,7 @@ use Rattle.check_laws.specs.InOrder.{callee_of, callees_of, called_by, with_info
 use Rattle.check_statement.specs.FunctionJudgement.{FunctionOutcome, context_with, function_judgement}
 use Rattle.check_statement.specs.ValidatorParts.{no_traces}
 use Rattle.check_statement.specs.Rules.{recorded_stages, callee_stages, leaf_stages, stages_of}
-use Rattle.check_statement.specs.Stages.{meet}
+use Rattle.check_statement.specs.StageSets.{meet}
 use Rattle.ir_facts.specs.WhatIsChecked.{checks_blocks, checks_expressions}
 use Rattle.check_scope.specs.declared.trace.TraceState.{TraceState}
 use Rattle.check_laws.proofs.Accepted.{among_all, nodes_are}

@@ -18,7 +18,7 @@ use Rattle.ir_types.specs.declared.typifier.TypeResolution.{TypeResolution}
 use Rattle.ir_facts.specs.Meaning.{Meaning}
 use Rattle.check_variables.specs.AllowedUses.{join}
 use Rattle.check_laws.specs.Accepted.{StagesAreOfAll}
-use Rattle.check_laws.specs.Shapes.{StandsAt, AreWhole}
+use Rattle.check_laws.specs.BodyShapes.{StandsAt, AreWhole}
 use Rattle.check_laws.specs.EntryJudgement.{entry_outcome}
 use Rattle.check_entry.specs.EntryUses.{with_use_of, output_variable_of, with_own_uses, with_uses_at}
 use Rattle.check_entry.specs.EntryVaryings.{are_blend_sources}

@@ -21,8 +21,8 @@ use Rattle.check_statement.specs.ExpressionStages.{with_stages, mask_at, mask_an
 use Rattle.ir_facts.specs.WhatIsChecked.{checks_blocks, checks_expressions}
 use Rattle.check_laws.specs.FunctionLaw.{AcceptedIsSound, AcceptedFillsOnce, AcceptedIsOfAllStages, AcceptedHasNoReturnInContinuing, AcceptedHasWholeSwitches, AcceptedKeepsInfo, AcceptedHasEveryMask, AcceptedStagesAreMet}
 use Rattle.check_statement.specs.FunctionJudgement.{FunctionOutcome, context_with, judged_with, declarations_step, expressions_known, lower_step, function_judgement}
-use Rattle.check_laws.specs.Shapes.{HasWholeSwitches}
-use Rattle.check_statement.specs.Stages.{meet}
+use Rattle.check_laws.specs.BodyShapes.{HasWholeSwitches}
+use Rattle.check_statement.specs.StageSets.{meet}
 use Rattle.check_statement.specs.walk.State.{state_left}
 use Rattle.check_scope.specs.declared.trace.TraceState.{TraceState}
 use Rattle.check_laws.proofs.Accepted.{IsAccepted, accepted, accepted_fills_once, accepted_stages_of_all, accepted_stages_are_met, among_all, among_meet, meet_among_first, meet_among_second}

@@ -33,7 +33,7 @@ use Rattle.check_statement.specs.FunctionJudgement.{body_judgement}
 use Rattle.check_statement.specs.Past.{Past}
 use Rattle.check_scope.specs.ScopePoints.{use_point, may_use}
 use Rattle.check_statement.specs.Rules.{points_at}
-use Rattle.check_laws.specs.Shapes.{StandsAt, is_in_continuing, HasNoReturnInContinuing, IsOfKind, AreWhole, HasWholeSwitches}
+use Rattle.check_laws.specs.BodyShapes.{StandsAt, is_in_continuing, HasNoReturnInContinuing, IsOfKind, AreWhole, HasWholeSwitches}
 use Rattle.check_statement.specs.walk.State.{State, seen, kept_rules, begin_state, state_left, state_behind}
 use Rattle.check_scope.specs.ExpressionTypes.{is_integer, scalar_kind_at}
 use Rattle.check_laws.proofs.Accepted.{all_visits, walked}

@@ -12,7 +12,7 @@ use Rattle.naga_runs.specs.VisitOrder.{positions}
 use Rattle.check_scope.specs.BodyTrees.{body_of}
 use Rattle.check_scope.specs.Results.{is_this}
 use Rattle.check_statement.specs.Rules.{callee_stages, stages_of}
-use Rattle.check_statement.specs.Stages.{meet}
+use Rattle.check_statement.specs.StageSets.{meet}
 
 -- what stands at the positions of a body, in visit order
 abbrev pub nodes_of : Body → List Node

@@ -8,7 +8,7 @@ use Rattle.ir_types.specs.declared.type_info.TypeInfo.{TypeInfo}
 use Rattle.ir_facts.specs.Meaning.{Meaning}
 use Rattle.ir_facts.specs.WhatIsChecked.{checks_blocks, checks_expressions}
 use Rattle.check_laws.specs.Accepted.{ResultsAreFilledOnce, StagesAreOfAll}
-use Rattle.check_laws.specs.Shapes.{HasNoReturnInContinuing, HasWholeSwitches}
+use Rattle.check_laws.specs.BodyShapes.{HasNoReturnInContinuing, HasWholeSwitches}
 use Rattle.check_laws.specs.EntryJudgement.{entry_judgement}
 use Rattle.check_scope.specs.BodyTrees.{body_of}
 use Rattle.check_scope.specs.declared.trace.TraceState.{TraceState}

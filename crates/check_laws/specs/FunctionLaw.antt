@@ -16,7 +16,7 @@ use Rattle.check_scope.specs.Context.{pre_emitted_of}
 use Rattle.check_statement.specs.ExpressionStages.{with_stages, expression_masks}
 use Rattle.ir_facts.specs.WhatIsChecked.{checks_blocks, checks_expressions}
 use Rattle.check_statement.specs.FunctionJudgement.{FunctionOutcome, context_with, lower_step, function_judgement}
-use Rattle.check_laws.specs.Shapes.{HasNoReturnInContinuing, HasWholeSwitches}
+use Rattle.check_laws.specs.BodyShapes.{HasNoReturnInContinuing, HasWholeSwitches}
 use Rattle.check_scope.specs.declared.trace.TraceState.{TraceState}
 
 -- something holds of every function that the judgement accepts where bodies are looked at, of its module, and of what is

@@ -1,5 +1,5 @@
 pub mod Accepted
-pub mod Shapes
+pub mod BodyShapes
 pub mod FunctionLaw
 pub mod FunctionRefusals
 pub mod InOrder

@@ -9,7 +9,7 @@ use Rattle.ir_errors.specs.declared.function.FunctionError.{FunctionError}
 use Rattle.ir_errors.specs.declared.function.FunctionError.TheVariants.{Expression}
 use Rattle.check_scope.specs.Context.{Context}
 use Rattle.ir_facts.specs.WhatIsChecked.{checks_expressions}
-use Rattle.check_statement.specs.Stages.{meet}
+use Rattle.check_statement.specs.StageSets.{meet}
 
 -- an info with these stages
 abbrev pub with_stages : FunctionInfo → ShaderStages → FunctionInfo

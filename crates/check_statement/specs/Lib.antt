@@ -1,4 +1,4 @@
-pub mod Stages
+pub mod StageSets
 pub mod walk
 pub mod Rules
 pub mod Past

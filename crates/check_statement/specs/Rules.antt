@@ -26,7 +26,7 @@ use Rattle.check_memory.specs.Load.{load_points}
 use Rattle.check_scope.specs.ScopePoints.{Points}
 use Rattle.check_resources.specs.RayQuery.{ray_query_points}
 use Rattle.check_resources.specs.RayTrace.{trace_ray_points}
-use Rattle.check_statement.specs.Stages.{meet}
+use Rattle.check_statement.specs.StageSets.{meet}
 use Rattle.check_memory.specs.Store.{store_points}
 use Rattle.check_subgroups.specs.Subgroup.{ballot_points}
 use Rattle.check_subgroups.specs.SubgroupCollective.{collective_points}

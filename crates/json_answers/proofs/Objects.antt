@@ -7,8 +7,8 @@ use Rattle.json.specs.Token as token
 use Rattle.json.specs.Token.{Token}
 use Rattle.json.specs.Tree.{json_tokens}
 use Rattle.json_document.specs.declared.id.Id.{Id}
-use Rattle.json_faults.specs.Form.{Writes, holding}
-use Rattle.json_answers.specs.Named.{id_form, maybe_with_id, opening}
+use Rattle.json_faults.specs.JsonForm.{Writes, holding}
+use Rattle.json_answers.specs.VerdictIds.{id_form, maybe_with_id, opening}
 
 -- it is begun, its value is written, and it ends
 whole : (id : Option Id) (name : List ℕ) (value : Json) (old : List Token)

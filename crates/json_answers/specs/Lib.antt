@@ -1,4 +1,4 @@
-pub mod Named
+pub mod VerdictIds
 pub mod Status
 pub mod Texts
 pub mod VerdictJson

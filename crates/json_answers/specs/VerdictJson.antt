@@ -13,12 +13,12 @@ use Rattle.json_nodes.specs.declared.step.Step.{Step}
 use Rattle.json_nodes.specs.declared.step.Step.TheVariants as steps
 use Rattle.json_values.specs.declared.error.Unreadable.{Unreadable}
 use Rattle.json_faults.specs.Faults.{function_error_form}
-use Rattle.json_faults.specs.Form.{Writes, four_fields, holding, json_text, list_form, number_form, optional, span_form, two_fields}
-use Rattle.json_faults.specs.Infos.{info_form}
+use Rattle.json_faults.specs.JsonForm.{Writes, four_fields, holding, json_text, list_form, number_form, optional, span_form, two_fields}
+use Rattle.json_faults.specs.InfoJson.{info_form}
 use Rattle.json_faults.specs.Interfaces.{entry_error_form, global_error_form}
-use Rattle.json_faults.specs.Misfits.{misfit_form}
-use Rattle.json_faults.specs.Sets.{stages_form}
-use Rattle.json_answers.specs.Named.{maybe_with_id}
+use Rattle.json_faults.specs.MisfitJson.{misfit_form}
+use Rattle.json_faults.specs.SetJson.{stages_form}
+use Rattle.json_answers.specs.VerdictIds.{maybe_with_id}
 use Rattle.json_answers.specs.declared.verdict.Verdict as judge
 use Rattle.json_answers.specs.declared.verdict.Verdict.TheVariants as verdict
 

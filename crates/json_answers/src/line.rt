@@ -1,8 +1,8 @@
 //! Verdicts as JSON.
 
 ghost use Rattle.std.specs.Prelude.{IfOk, string_bytes};
-ghost use Rattle.json_faults.specs.Form.{Writes, list_form, span_form};
-ghost use Rattle.json_answers.specs.Named.{maybe_with_id};
+ghost use Rattle.json_faults.specs.JsonForm.{Writes, list_form, span_form};
+ghost use Rattle.json_answers.specs.VerdictIds.{maybe_with_id};
 ghost use Rattle.json_answers.specs.VerdictJson.{IsJsonOf, WritesFault, WritesPlaced, WritesVerdict, function_form, infos_form, part_form, placed_form, unreadable_at, unreadable_form};
 
 use crate::named::open_named;
@@ -78,7 +78,7 @@ struct Functions<'a>(&'a [FunctionInfo]);
 impl ToJson for Functions<'_> {
     ghost form = { λ functions. list_form function_form functions.0.now };
 
-    #[tactic(auto, unfolding(json_faults::specs::Form::list_form))]
+    #[tactic(auto, unfolding(json_faults::specs::JsonForm::list_form))]
     fn write_json(&self, out: &mut JsonWriter) -> Result<(), AllocError> {
         out.begin_array()?;
         for function in self.0 {

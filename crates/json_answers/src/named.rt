@@ -1,8 +1,8 @@
 //! Ids of documents in their verdicts.
 
 ghost use Rattle.std.specs.Prelude.{◌≡◌, ◌++◌, OnOk};
-ghost use Rattle.json_faults.specs.Form.{Writes};
-ghost use Rattle.json_answers.specs.Named.{id_form, opening};
+ghost use Rattle.json_faults.specs.JsonForm.{Writes};
+ghost use Rattle.json_answers.specs.VerdictIds.{id_form, opening};
 
 use crate::verdict::Verdict;
 use check_faults::ModuleFault;

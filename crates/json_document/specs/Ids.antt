@@ -9,7 +9,7 @@ use Rattle.json_document.specs.declared.id.Id.TheVariants as ids
 use Rattle.json_values.specs.declared.error.ReadError.{ReadError}
 use Rattle.json_values.specs.Failures.{IsUnreadable}
 use Rattle.json_values.specs.Form.{field_of, given}
-use Rattle.json_values.specs.Numbers.{i64_of}
+use Rattle.json_values.specs.ReadNumbers.{i64_of}
 
 abbrev pub id_from : Option (List ℕ) → Data → Option Id
 id_from (Some text) d = Some (ids.Text text)

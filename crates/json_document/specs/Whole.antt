@@ -10,11 +10,11 @@ use Rattle.ir_flags.specs.declared.valid.ValidationFlags.{ValidationFlags}
 use Rattle.ir_module.specs.declared.module.Module.{Module}
 use Rattle.json_document.specs.Ids.{id_in}
 use Rattle.json_values.specs.Form.{field_of, fields_of, given, has_field, list_of, made_of_six, optional, six_fields}
-use Rattle.json_values.specs.Numbers.{u32_of}
+use Rattle.json_values.specs.ReadNumbers.{u32_of}
 use Rattle.json_values.specs.Sets.{capabilities_of, stages_of, subgroup_operations_of, validation_flags_of}
 use Rattle.json_document.specs.Document.Facts.{function_fact_of, mesh_analysis_fact_of, type_info_of}
 use Rattle.json_document.specs.Document.Modules.{module_of}
-use Rattle.json_types.specs.Types.{type_resolution_of}
+use Rattle.json_types.specs.ReadTypes.{type_resolution_of}
 
 -- what is known of a module
 abbrev pub known_of : Data → Option Known

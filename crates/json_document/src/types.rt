@@ -1,9 +1,9 @@
 //! Types, and what they hold, as [`Types`] reads them.
 
 ghost use Rattle.json_types.specs.Bindings.{binding_of};
-ghost use Rattle.json_types.specs.Images.{image_class_of, image_dimension_of, storage_format_of};
-ghost use Rattle.json_types.specs.Spaces.{address_space_of};
-ghost use Rattle.json_types.specs.Types.{type_of, type_resolution_of};
+ghost use Rattle.json_types.specs.ReadImages.{image_class_of, image_dimension_of, storage_format_of};
+ghost use Rattle.json_types.specs.ReadSpaces.{address_space_of};
+ghost use Rattle.json_types.specs.ReadTypes.{type_of, type_resolution_of};
 
 use crate::document::Documents;
 use ir_leaves::{Binding, ImageDimension, StorageFormat};

@@ -15,7 +15,7 @@ use Rattle.ir_module.specs.declared.expressions.Expression.TheVariants as expres
 use Rattle.json_expressions.specs.declared.expressions.ExpressionName.{ExpressionName}
 use Rattle.json_expressions.specs.declared.expressions.ExpressionName.TheVariants as expression_name
 use Rattle.json_values.specs.Form.{given, has_field, list_of, made_of_two, one_field, two_fields}
-use Rattle.json_values.specs.Numbers.{u32_of, u64_of}
+use Rattle.json_values.specs.ReadNumbers.{u32_of, u64_of}
 use Rattle.json_values.specs.Variants.{Variant, plain, holding, variant_of}
 use Rattle.json_expressions.specs.Forms.{named_parts}
 use Rattle.json_expressions.specs.Literals.{literal_by_value}

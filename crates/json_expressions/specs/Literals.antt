@@ -10,7 +10,7 @@ use Rattle.ir_leaves.specs.declared.scalars.ScalarKind.TheVariants as kind
 use Rattle.json_expressions.specs.declared.literals.LiteralName.{LiteralName}
 use Rattle.json_expressions.specs.declared.literals.LiteralName.TheVariants as name
 use Rattle.json_values.specs.Form.{given}
-use Rattle.json_values.specs.Numbers.{i32_of, i64_of, u32_of, u64_of}
+use Rattle.json_values.specs.ReadNumbers.{i32_of, i64_of, u32_of, u64_of}
 use Rattle.json_values.specs.Variants.{either, variant_of}
 
 abbrev pub bit : Bool → ℕ

@@ -60,7 +60,7 @@ const COOPERATIVE_ROWS: [(&str, u32); 2] = [("Eight", 0), ("Sixteen", 6)];
 
 const COOPERATIVE_ROLES: [(&str, u32); 3] = [("A", 0), ("B", 2), ("C", 4)];
 
-/// By their places in layer_forms/specs/Math.
+/// By their places in layer_forms/specs/MathForms.
 const MATH_FUNCTIONS: [(&str, u32); 77] = [
     ("Abs", 0),
     ("Min", 1),

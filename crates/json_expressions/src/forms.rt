@@ -5,7 +5,7 @@ ghost use Rattle.serde_json.specs.Find.{as_bool};
 ghost use Rattle.json_nodes.specs.Fields.{has_no_other};
 ghost use Rattle.json_nodes.specs.Nodes.{data_of, items_of};
 ghost use Rattle.json_values.specs.Form.{has_each, named};
-ghost use Rattle.json_values.specs.Numbers.{u32_of};
+ghost use Rattle.json_values.specs.ReadNumbers.{u32_of};
 ghost use Rattle.json_values.specs.Reads.{ReadsMeaning, rows_of};
 ghost use Rattle.json_expressions.specs.FormNames.{names_of};
 ghost use Rattle.json_expressions.specs.Forms.{count_if, counted, form_of, four_components, four_in, gather_of, level_held, level_of, maybe, maybe_of, names_in, no_parts, operand, parts_from, pattern_of, piece_of, place_of, query_of, two_components, width_from, width_of, with_field, with_operand, with_piece};

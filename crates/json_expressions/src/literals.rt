@@ -5,7 +5,7 @@ ghost use Rattle.std.specs.Prelude.{◌≡◌, option_map};
 ghost use Rattle.serde_json.specs.Find.{as_bool, as_number, to_float};
 ghost use Rattle.json_nodes.specs.Nodes.{data_of};
 ghost use Rattle.json_values.specs.Form.{given};
-ghost use Rattle.json_values.specs.Numbers.{i32_of, i64_of, u32_of};
+ghost use Rattle.json_values.specs.ReadNumbers.{i32_of, i64_of, u32_of};
 ghost use Rattle.json_values.specs.Reads.{ReadsMeaning};
 ghost use Rattle.json_expressions.specs.Literals.{bit, bits_of, double_bits, literal_by_value, literal_held, scalar_of, single_bits};
 

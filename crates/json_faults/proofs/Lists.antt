@@ -6,7 +6,7 @@ use Rattle.bitflags.specs.declared.traits.Flag.{Flag}
 use Rattle.json.specs.Json.{Json}
 use Rattle.json.specs.Token.{Token}
 use Rattle.json.specs.Tree.{json_tokens, items_tokens}
-use Rattle.json_faults.specs.Form.{each}
+use Rattle.json_faults.specs.JsonForm.{each}
 
 -- what is left to write after one item more
 pub list_on : {A : Type 0} (form : A → Json) (old new : List Token) (xs : List A) (x : A) (i : ℕ) (all : List Token) → i < length xs → x ≡ get_or xs i x

@@ -14,10 +14,10 @@ use Rattle.ir_errors.specs.declared.function.LocalVariableError.TheVariants as l
 use Rattle.ir_errors.specs.declared.function.FunctionError.{FunctionError}
 use Rattle.ir_errors.specs.declared.function.FunctionError.TheVariants as functions
 use Rattle.ir_errors.specs.Names.{atomic_error_name, call_error_name, expression_error_name, function_error_name, local_error_name, subgroup_error_name}
-use Rattle.json_faults.specs.Form.{number_form, one_field, optional, three_fields, three_items, two_fields, two_items, variant}
-use Rattle.json_faults.specs.Names.{image_dimension_form, storage_format_form}
-use Rattle.json_faults.specs.Sets.{capabilities_form, storage_access_form, subgroup_operations_form}
-use Rattle.json_faults.specs.Types.{atomic_function_form, image_class_form, space_form, switch_value_form, type_form}
+use Rattle.json_faults.specs.JsonForm.{number_form, one_field, optional, three_fields, three_items, two_fields, two_items, variant}
+use Rattle.json_faults.specs.NameJson.{image_dimension_form, storage_format_form}
+use Rattle.json_faults.specs.SetJson.{capabilities_form, storage_access_form, subgroup_operations_form}
+use Rattle.json_faults.specs.TypeJson.{atomic_function_form, image_class_form, space_form, switch_value_form, type_form}
 
 -- a fault of an expression
 

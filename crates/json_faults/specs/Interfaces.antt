@@ -6,15 +6,15 @@ use Rattle.ir_errors.specs.declared.interface.GlobalVariableError.TheVariants as
 use Rattle.ir_errors.specs.declared.interface.VaryingError.{VaryingError}
 use Rattle.ir_errors.specs.declared.interface.VaryingError.TheVariants as varyings
 use Rattle.ir_errors.specs.Names.{global_error_name, varying_error_name}
-use Rattle.check_faults.specs.Names.{entry_error_name}
+use Rattle.check_faults.specs.EntryErrorNames.{entry_error_name}
 use Rattle.check_faults.specs.declared.entry.EntryPointError.{EntryPointError}
 use Rattle.check_faults.specs.declared.entry.EntryPointError.TheVariants as entries
-use Rattle.json_faults.specs.BuiltIns.{built_in_form}
+use Rattle.json_faults.specs.BuiltInJson.{built_in_form}
 use Rattle.json_faults.specs.Faults.{function_error_form}
-use Rattle.json_faults.specs.Form.{number_form, one_field, three_items, two_fields, two_items, variant}
-use Rattle.json_faults.specs.Names.{interpolation_form, sampling_form, shader_stage_form}
-use Rattle.json_faults.specs.Sets.{capabilities_form, global_use_form, type_flags_form}
-use Rattle.json_faults.specs.Types.{space_form, type_form}
+use Rattle.json_faults.specs.JsonForm.{number_form, one_field, three_items, two_fields, two_items, variant}
+use Rattle.json_faults.specs.NameJson.{interpolation_form, sampling_form, shader_stage_form}
+use Rattle.json_faults.specs.SetJson.{capabilities_form, global_use_form, type_flags_form}
+use Rattle.json_faults.specs.TypeJson.{space_form, type_form}
 
 -- a fault of a global variable
 -- what it holds

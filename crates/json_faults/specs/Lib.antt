@@ -1,9 +1,9 @@
-pub mod Form
-pub mod Sets
-pub mod Names
-pub mod BuiltIns
-pub mod Types
+pub mod JsonForm
+pub mod SetJson
+pub mod NameJson
+pub mod BuiltInJson
+pub mod TypeJson
 pub mod Faults
 pub mod Interfaces
-pub mod Infos
-pub mod Misfits
+pub mod InfoJson
+pub mod MisfitJson

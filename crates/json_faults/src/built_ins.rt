@@ -1,7 +1,7 @@
 //! Built-in inputs and outputs.
 
 ghost use Rattle.std.specs.Prelude.{◌≡◌};
-ghost use Rattle.json_faults.specs.BuiltIns.{built_in_name, built_in_form};
+ghost use Rattle.json_faults.specs.BuiltInJson.{built_in_name, built_in_form};
 
 use crate::parts::holding_field;
 use crate::to_json::ToJson;
@@ -10,7 +10,7 @@ use ir_leaves::BuiltIn;
 use std::alloc::AllocError;
 
 /// The name of a built-in.
-#[tactic(auto, unfolding(crate::specs::BuiltIns::built_in_name))]
+#[tactic(auto, unfolding(crate::specs::BuiltInJson::built_in_name))]
 fn built_in_name(built_in: BuiltIn) -> &'static str
     ensures { result.now ≡ built_in_name built_in }
 {
@@ -70,7 +70,7 @@ fn built_in_name(built_in: BuiltIn) -> &'static str
 impl ToJson for BuiltIn {
     ghost form = { built_in_form };
 
-    #[tactic(auto, unfolding(crate::specs::BuiltIns::built_in_form))]
+    #[tactic(auto, unfolding(crate::specs::BuiltInJson::built_in_form))]
     fn write_json(&self, out: &mut JsonWriter) -> Result<(), AllocError> {
         let variant = built_in_name(*self);
         match self {

@@ -11,7 +11,7 @@ use std::alloc::AllocError;
 impl ToJson for ExpressionError {
     ghost form = { expression_error_form };
 
-    #[tactic(auto, unfolding(crate::specs::Faults::expression_error_form, crate::specs::Faults::expression_error_held, crate::specs::Form::variant))]
+    #[tactic(auto, unfolding(crate::specs::Faults::expression_error_form, crate::specs::Faults::expression_error_held, crate::specs::JsonForm::variant))]
     fn write_json(&self, out: &mut JsonWriter) -> Result<(), AllocError> {
         let variant = self.name();
         match self {

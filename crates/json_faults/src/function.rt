@@ -2,7 +2,7 @@
 
 ghost use Rattle.std.specs.Prelude.{◌≡◌};
 ghost use Rattle.json_faults.specs.Faults.{call_error_form, atomic_error_form, subgroup_error_form, local_error_form, function_error_form};
-ghost use Rattle.json_faults.specs.Form.{number_form};
+ghost use Rattle.json_faults.specs.JsonForm.{number_form};
 
 use crate::parts::{
     holding, holding_field, holding_pair, holding_three, holding_triple, holding_two,
@@ -18,7 +18,7 @@ use std::alloc::AllocError;
 impl ToJson for CallError {
     ghost form = { call_error_form };
 
-    #[tactic(auto, unfolding(crate::specs::Faults::call_error_form, crate::specs::Faults::call_error_held, crate::specs::Form::variant))]
+    #[tactic(auto, unfolding(crate::specs::Faults::call_error_form, crate::specs::Faults::call_error_held, crate::specs::JsonForm::variant))]
     fn write_json(&self, out: &mut JsonWriter) -> Result<(), AllocError> {
         let variant = self.name();
         match self {
@@ -50,7 +50,7 @@ impl ToJson for CallError {
 impl ToJson for AtomicError {
     ghost form = { atomic_error_form };
 
-    #[tactic(auto, unfolding(crate::specs::Faults::atomic_error_form, crate::specs::Faults::atomic_error_held, crate::specs::Form::variant))]
+    #[tactic(auto, unfolding(crate::specs::Faults::atomic_error_form, crate::specs::Faults::atomic_error_held, crate::specs::JsonForm::variant))]
     fn write_json(&self, out: &mut JsonWriter) -> Result<(), AllocError> {
         let variant = self.name();
         match self {
@@ -72,7 +72,7 @@ impl ToJson for AtomicError {
 impl ToJson for SubgroupError {
     ghost form = { subgroup_error_form };
 
-    #[tactic(auto, unfolding(crate::specs::Faults::subgroup_error_form, crate::specs::Faults::subgroup_error_held, crate::specs::Form::variant))]
+    #[tactic(auto, unfolding(crate::specs::Faults::subgroup_error_form, crate::specs::Faults::subgroup_error_held, crate::specs::JsonForm::variant))]
     fn write_json(&self, out: &mut JsonWriter) -> Result<(), AllocError> {
         let variant = self.name();
         match self {
@@ -88,7 +88,7 @@ impl ToJson for SubgroupError {
 impl ToJson for LocalVariableError {
     ghost form = { local_error_form };
 
-    #[tactic(auto, unfolding(crate::specs::Faults::local_error_form, crate::specs::Faults::local_error_held, crate::specs::Form::variant))]
+    #[tactic(auto, unfolding(crate::specs::Faults::local_error_form, crate::specs::Faults::local_error_held, crate::specs::JsonForm::variant))]
     fn write_json(&self, out: &mut JsonWriter) -> Result<(), AllocError> {
         let variant = self.name();
         match self {
@@ -102,7 +102,7 @@ impl ToJson for LocalVariableError {
 impl ToJson for FunctionError {
     ghost form = { function_error_form };
 
-    #[tactic(auto, unfolding(crate::specs::Faults::function_error_form, crate::specs::Faults::function_error_held, crate::specs::Form::variant))]
+    #[tactic(auto, unfolding(crate::specs::Faults::function_error_form, crate::specs::Faults::function_error_held, crate::specs::JsonForm::variant))]
     fn write_json(&self, out: &mut JsonWriter) -> Result<(), AllocError> {
         let variant = self.name();
         match self {

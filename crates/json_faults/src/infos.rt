@@ -1,6 +1,6 @@
 //! What is known of an accepted entry point.
 
-ghost use Rattle.json_faults.specs.Infos.{info_form};
+ghost use Rattle.json_faults.specs.InfoJson.{info_form};
 
 use crate::parts::three_fields;
 use crate::to_json::ToJson;
@@ -11,7 +11,7 @@ use std::alloc::AllocError;
 impl ToJson for FunctionInfo {
     ghost form = { info_form };
 
-    #[tactic(auto, unfolding(crate::specs::Infos::info_form))]
+    #[tactic(auto, unfolding(crate::specs::InfoJson::info_form))]
     fn write_json(&self, out: &mut JsonWriter) -> Result<(), AllocError> {
         three_fields(
             out,

@@ -13,7 +13,7 @@ use std::alloc::AllocError;
 impl ToJson for GlobalVariableError {
     ghost form = { global_error_form };
 
-    #[tactic(auto, unfolding(crate::specs::Interfaces::global_error_form, crate::specs::Interfaces::global_error_held, crate::specs::Form::variant))]
+    #[tactic(auto, unfolding(crate::specs::Interfaces::global_error_form, crate::specs::Interfaces::global_error_held, crate::specs::JsonForm::variant))]
     fn write_json(&self, out: &mut JsonWriter) -> Result<(), AllocError> {
         let variant = self.name();
         match self {
@@ -55,7 +55,7 @@ impl ToJson for GlobalVariableError {
 impl ToJson for VaryingError {
     ghost form = { varying_error_form };
 
-    #[tactic(auto, unfolding(crate::specs::Interfaces::varying_error_form, crate::specs::Interfaces::varying_error_held, crate::specs::Form::variant))]
+    #[tactic(auto, unfolding(crate::specs::Interfaces::varying_error_form, crate::specs::Interfaces::varying_error_held, crate::specs::JsonForm::variant))]
     fn write_json(&self, out: &mut JsonWriter) -> Result<(), AllocError> {
         let variant = self.name();
         match self {
@@ -142,7 +142,7 @@ impl ToJson for VaryingError {
 impl ToJson for EntryPointError {
     ghost form = { entry_error_form };
 
-    #[tactic(auto, unfolding(crate::specs::Interfaces::entry_error_form, crate::specs::Interfaces::entry_error_held, crate::specs::Form::variant))]
+    #[tactic(auto, unfolding(crate::specs::Interfaces::entry_error_form, crate::specs::Interfaces::entry_error_held, crate::specs::JsonForm::variant))]
     fn write_json(&self, out: &mut JsonWriter) -> Result<(), AllocError> {
         let variant = self.name();
         match self {

@@ -1,7 +1,7 @@
 //! What doesn't fit in a module.
 
 ghost use Rattle.std.specs.Prelude.{◌≡◌};
-ghost use Rattle.json_faults.specs.Misfits.{owner_form, type_owner_form, type_field_form, variable_field_form, statement_field_name, statement_field_form, entry_field_name, entry_field_form, place_name, place_form, handle_of_name, handle_of_form, problem_name, problem_form, misfit_form};
+ghost use Rattle.json_faults.specs.MisfitJson.{owner_form, type_owner_form, type_field_form, variable_field_form, statement_field_name, statement_field_form, entry_field_name, entry_field_form, place_name, place_form, handle_of_name, handle_of_form, problem_name, problem_form, misfit_form};
 
 use crate::parts::{
     holding, holding_field, holding_pair, holding_three, holding_triple, holding_two, two_fields,
@@ -17,7 +17,7 @@ use std::alloc::AllocError;
 impl ToJson for Owner {
     ghost form = { owner_form };
 
-    #[tactic(auto, unfolding(crate::specs::Misfits::owner_form))]
+    #[tactic(auto, unfolding(crate::specs::MisfitJson::owner_form))]
     fn write_json(&self, out: &mut JsonWriter) -> Result<(), AllocError> {
         match self {
             Owner::Module => out.string("Module"),
@@ -30,7 +30,7 @@ impl ToJson for Owner {
 impl ToJson for TypeOwner {
     ghost form = { type_owner_form };
 
-    #[tactic(auto, unfolding(crate::specs::Misfits::type_owner_form))]
+    #[tactic(auto, unfolding(crate::specs::MisfitJson::type_owner_form))]
     fn write_json(&self, out: &mut JsonWriter) -> Result<(), AllocError> {
         match self {
             TypeOwner::OfModule(ty) => holding(out, "OfModule", ty),
@@ -46,7 +46,7 @@ impl ToJson for TypeOwner {
 impl ToJson for TypeField {
     ghost form = { type_field_form };
 
-    #[tactic(auto, unfolding(crate::specs::Misfits::type_field_form))]
+    #[tactic(auto, unfolding(crate::specs::MisfitJson::type_field_form))]
     fn write_json(&self, out: &mut JsonWriter) -> Result<(), AllocError> {
         match self {
             TypeField::Whole => out.string("Whole"),
@@ -60,7 +60,7 @@ impl ToJson for TypeField {
 impl ToJson for VariableField {
     ghost form = { variable_field_form };
 
-    #[tactic(auto, unfolding(crate::specs::Misfits::variable_field_form))]
+    #[tactic(auto, unfolding(crate::specs::MisfitJson::variable_field_form))]
     fn write_json(&self, out: &mut JsonWriter) -> Result<(), AllocError> {
         match self {
             VariableField::Ty => out.string("Ty"),
@@ -71,7 +71,7 @@ impl ToJson for VariableField {
 }
 
 /// The name of a field of a statement.
-#[tactic(auto, unfolding(crate::specs::Misfits::statement_field_name))]
+#[tactic(auto, unfolding(crate::specs::MisfitJson::statement_field_name))]
 fn statement_field_name(field: &StatementField) -> &'static str
     ensures { result.now ≡ statement_field_name field.now }
 {
@@ -105,7 +105,7 @@ fn statement_field_name(field: &StatementField) -> &'static str
 impl ToJson for StatementField {
     ghost form = { statement_field_form };
 
-    #[tactic(auto, unfolding(crate::specs::Misfits::statement_field_form))]
+    #[tactic(auto, unfolding(crate::specs::MisfitJson::statement_field_form))]
     fn write_json(&self, out: &mut JsonWriter) -> Result<(), AllocError> {
         match self {
             StatementField::CallArgument(index) => holding(out, "CallArgument", index),
@@ -136,7 +136,7 @@ impl ToJson for StatementField {
 }
 
 /// The name of a field of an entry point.
-#[tactic(auto, unfolding(crate::specs::Misfits::entry_field_name))]
+#[tactic(auto, unfolding(crate::specs::MisfitJson::entry_field_name))]
 fn entry_field_name(field: &EntryField) -> &'static str
     ensures { result.now ≡ entry_field_name field.now }
 {
@@ -153,14 +153,14 @@ fn entry_field_name(field: &EntryField) -> &'static str
 impl ToJson for EntryField {
     ghost form = { entry_field_form };
 
-    #[tactic(auto, unfolding(crate::specs::Misfits::entry_field_form))]
+    #[tactic(auto, unfolding(crate::specs::MisfitJson::entry_field_form))]
     fn write_json(&self, out: &mut JsonWriter) -> Result<(), AllocError> {
         out.string(entry_field_name(self))
     }
 }
 
 /// The name of a place.
-#[tactic(auto, unfolding(crate::specs::Misfits::place_name))]
+#[tactic(auto, unfolding(crate::specs::MisfitJson::place_name))]
 fn place_name(place: &Place) -> &'static str
     ensures { result.now ≡ place_name place.now }
 {
@@ -188,7 +188,7 @@ fn place_name(place: &Place) -> &'static str
 impl ToJson for Place {
     ghost form = { place_form };
 
-    #[tactic(auto, unfolding(crate::specs::Misfits::place_form, crate::specs::Misfits::place_held, crate::specs::Form::variant))]
+    #[tactic(auto, unfolding(crate::specs::MisfitJson::place_form, crate::specs::MisfitJson::place_held, crate::specs::JsonForm::variant))]
     fn write_json(&self, out: &mut JsonWriter) -> Result<(), AllocError> {
         let variant = place_name(self);
         match self {
@@ -218,7 +218,7 @@ impl ToJson for Place {
 }
 
 /// The name of what a handle is of.
-#[tactic(auto, unfolding(crate::specs::Misfits::handle_of_name))]
+#[tactic(auto, unfolding(crate::specs::MisfitJson::handle_of_name))]
 fn handle_of_name(of: &HandleOf) -> &'static str
     ensures { result.now ≡ handle_of_name of.now }
 {
@@ -237,14 +237,14 @@ fn handle_of_name(of: &HandleOf) -> &'static str
 impl ToJson for HandleOf {
     ghost form = { handle_of_form };
 
-    #[tactic(auto, unfolding(crate::specs::Misfits::handle_of_form))]
+    #[tactic(auto, unfolding(crate::specs::MisfitJson::handle_of_form))]
     fn write_json(&self, out: &mut JsonWriter) -> Result<(), AllocError> {
         out.string(handle_of_name(self))
     }
 }
 
 /// The name of a problem.
-#[tactic(auto, unfolding(crate::specs::Misfits::problem_name))]
+#[tactic(auto, unfolding(crate::specs::MisfitJson::problem_name))]
 fn problem_name(problem: &Problem) -> &'static str
     ensures { result.now ≡ problem_name problem.now }
 {
@@ -263,7 +263,7 @@ fn problem_name(problem: &Problem) -> &'static str
 impl ToJson for Problem {
     ghost form = { problem_form };
 
-    #[tactic(auto, unfolding(crate::specs::Misfits::problem_form, crate::specs::Misfits::problem_held, crate::specs::Form::variant))]
+    #[tactic(auto, unfolding(crate::specs::MisfitJson::problem_form, crate::specs::MisfitJson::problem_held, crate::specs::JsonForm::variant))]
     fn write_json(&self, out: &mut JsonWriter) -> Result<(), AllocError> {
         let variant = problem_name(self);
         match self {

@@ -1,7 +1,7 @@
 //! Values that are their names.
 
 ghost use Rattle.std.specs.Prelude.{◌≡◌};
-ghost use Rattle.json_faults.specs.Names.{scalar_kind_name, scalar_kind_form, vector_size_form, image_dimension_form, storage_format_name, storage_format_form, interpolation_form, sampling_name, sampling_form, shader_stage_name, shader_stage_form};
+ghost use Rattle.json_faults.specs.NameJson.{scalar_kind_name, scalar_kind_form, vector_size_form, image_dimension_form, storage_format_name, storage_format_form, interpolation_form, sampling_name, sampling_form, shader_stage_name, shader_stage_form};
 
 use crate::to_json::ToJson;
 use crate::writer::JsonWriter;
@@ -11,7 +11,7 @@ use ir_leaves::{
 use std::alloc::AllocError;
 
 /// The name of a kind of scalars.
-#[tactic(auto, unfolding(crate::specs::Names::scalar_kind_name))]
+#[tactic(auto, unfolding(crate::specs::NameJson::scalar_kind_name))]
 fn scalar_kind_name(kind: ScalarKind) -> &'static str
     ensures { result.now ≡ scalar_kind_name kind }
 {
@@ -28,7 +28,7 @@ fn scalar_kind_name(kind: ScalarKind) -> &'static str
 impl ToJson for ScalarKind {
     ghost form = { scalar_kind_form };
 
-    #[tactic(auto, unfolding(crate::specs::Names::scalar_kind_form))]
+    #[tactic(auto, unfolding(crate::specs::NameJson::scalar_kind_form))]
     fn write_json(&self, out: &mut JsonWriter) -> Result<(), AllocError> {
         out.string(scalar_kind_name(*self))
     }
@@ -37,7 +37,7 @@ impl ToJson for ScalarKind {
 impl ToJson for VectorSize {
     ghost form = { vector_size_form };
 
-    #[tactic(auto, unfolding(crate::specs::Names::vector_size_form))]
+    #[tactic(auto, unfolding(crate::specs::NameJson::vector_size_form))]
     fn write_json(&self, out: &mut JsonWriter) -> Result<(), AllocError> {
         match self {
             VectorSize::Bi => out.string("Bi"),
@@ -50,7 +50,7 @@ impl ToJson for VectorSize {
 impl ToJson for ImageDimension {
     ghost form = { image_dimension_form };
 
-    #[tactic(auto, unfolding(crate::specs::Names::image_dimension_form))]
+    #[tactic(auto, unfolding(crate::specs::NameJson::image_dimension_form))]
     fn write_json(&self, out: &mut JsonWriter) -> Result<(), AllocError> {
         match self {
             ImageDimension::D1 => out.string("D1"),
@@ -62,7 +62,7 @@ impl ToJson for ImageDimension {
 }
 
 /// The name of a format of storage images.
-#[tactic(auto, unfolding(crate::specs::Names::storage_format_name))]
+#[tactic(auto, unfolding(crate::specs::NameJson::storage_format_name))]
 fn storage_format_name(format: StorageFormat) -> &'static str
     ensures { result.now ≡ storage_format_name format }
 {
@@ -114,7 +114,7 @@ fn storage_format_name(format: StorageFormat) -> &'static str
 impl ToJson for StorageFormat {
     ghost form = { storage_format_form };
 
-    #[tactic(auto, unfolding(crate::specs::Names::storage_format_form))]
+    #[tactic(auto, unfolding(crate::specs::NameJson::storage_format_form))]
     fn write_json(&self, out: &mut JsonWriter) -> Result<(), AllocError> {
         out.string(storage_format_name(*self))
     }
@@ -123,7 +123,7 @@ impl ToJson for StorageFormat {
 impl ToJson for Interpolation {
     ghost form = { interpolation_form };
 
-    #[tactic(auto, unfolding(crate::specs::Names::interpolation_form))]
+    #[tactic(auto, unfolding(crate::specs::NameJson::interpolation_form))]
     fn write_json(&self, out: &mut JsonWriter) -> Result<(), AllocError> {
         match self {
             Interpolation::Perspective => out.string("Perspective"),
@@ -135,7 +135,7 @@ impl ToJson for Interpolation {
 }
 
 /// The name of a sampling.
-#[tactic(auto, unfolding(crate::specs::Names::sampling_name))]
+#[tactic(auto, unfolding(crate::specs::NameJson::sampling_name))]
 fn sampling_name(sampling: Sampling) -> &'static str
     ensures { result.now ≡ sampling_name sampling }
 {
@@ -151,14 +151,14 @@ fn sampling_name(sampling: Sampling) -> &'static str
 impl ToJson for Sampling {
     ghost form = { sampling_form };
 
-    #[tactic(auto, unfolding(crate::specs::Names::sampling_form))]
+    #[tactic(auto, unfolding(crate::specs::NameJson::sampling_form))]
     fn write_json(&self, out: &mut JsonWriter) -> Result<(), AllocError> {
         out.string(sampling_name(*self))
     }
 }
 
 /// The name of a stage.
-#[tactic(auto, unfolding(crate::specs::Names::shader_stage_name))]
+#[tactic(auto, unfolding(crate::specs::NameJson::shader_stage_name))]
 fn shader_stage_name(stage: ShaderStage) -> &'static str
     ensures { result.now ≡ shader_stage_name stage }
 {
@@ -178,7 +178,7 @@ fn shader_stage_name(stage: ShaderStage) -> &'static str
 impl ToJson for ShaderStage {
     ghost form = { shader_stage_form };
 
-    #[tactic(auto, unfolding(crate::specs::Names::shader_stage_form))]
+    #[tactic(auto, unfolding(crate::specs::NameJson::shader_stage_form))]
     fn write_json(&self, out: &mut JsonWriter) -> Result<(), AllocError> {
         out.string(shader_stage_name(*self))
     }

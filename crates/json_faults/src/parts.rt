@@ -3,14 +3,14 @@
 ghost use Rattle.std.specs.Prelude.{◌≡◌, ◌++◌, ◌∷◌, OnOk};
 ghost use Rattle.json.specs.Token.{key};
 ghost use Rattle.json.specs.Tree.{json_tokens};
-ghost use Rattle.json_faults.specs.Form.{Writes, holding, one_field, two_fields, three_fields, four_fields, five_fields, two_items, three_items};
+ghost use Rattle.json_faults.specs.JsonForm.{Writes, holding, one_field, two_fields, three_fields, four_fields, five_fields, two_items, three_items};
 
 use crate::to_json::ToJson;
 use crate::writer::JsonWriter;
 use std::alloc::AllocError;
 
 /// A variant that holds one value: `{"NAME":VALUE}`.
-#[tactic(auto, unfolding(crate::specs::Form::holding))]
+#[tactic(auto, unfolding(crate::specs::JsonForm::holding))]
 pub fn holding<A: ToJson>(out: &mut JsonWriter, name: &str, a: &A) -> Result<(), AllocError>
     ensures { Writes result out.old out.new (holding name.now (A.form a.now)) }
 {
@@ -20,7 +20,7 @@ pub fn holding<A: ToJson>(out: &mut JsonWriter, name: &str, a: &A) -> Result<(),
 }
 
 /// A list of two.
-#[tactic(auto, unfolding(crate::specs::Form::two_items))]
+#[tactic(auto, unfolding(crate::specs::JsonForm::two_items))]
 fn two_items<A: ToJson, B: ToJson>(out: &mut JsonWriter, a: &A, b: &B) -> Result<(), AllocError>
     ensures { Writes result out.old out.new (two_items (A.form a.now) (B.form b.now)) }
 {
@@ -31,7 +31,7 @@ fn two_items<A: ToJson, B: ToJson>(out: &mut JsonWriter, a: &A, b: &B) -> Result
 }
 
 /// A variant that holds two values: `{"NAME":[A,B]}`.
-#[tactic(auto, unfolding(crate::specs::Form::holding))]
+#[tactic(auto, unfolding(crate::specs::JsonForm::holding))]
 pub(crate) fn holding_pair<A: ToJson, B: ToJson>(
     out: &mut JsonWriter,
     name: &str,
@@ -46,7 +46,7 @@ pub(crate) fn holding_pair<A: ToJson, B: ToJson>(
 }
 
 /// A list of three.
-#[tactic(auto, unfolding(crate::specs::Form::three_items))]
+#[tactic(auto, unfolding(crate::specs::JsonForm::three_items))]
 fn three_items<A: ToJson, B: ToJson, C: ToJson>(
     out: &mut JsonWriter,
     a: &A,
@@ -63,7 +63,7 @@ fn three_items<A: ToJson, B: ToJson, C: ToJson>(
 }
 
 /// A variant that holds three values: `{"NAME":[A,B,C]}`.
-#[tactic(auto, unfolding(crate::specs::Form::holding))]
+#[tactic(auto, unfolding(crate::specs::JsonForm::holding))]
 pub(crate) fn holding_triple<A: ToJson, B: ToJson, C: ToJson>(
     out: &mut JsonWriter,
     name: &str,
@@ -87,7 +87,7 @@ fn field<A: ToJson>(out: &mut JsonWriter, name: &str, a: &A) -> Result<(), Alloc
 }
 
 /// An object with one field.
-#[tactic(auto, unfolding(crate::specs::Form::one_field))]
+#[tactic(auto, unfolding(crate::specs::JsonForm::one_field))]
 fn one_field<A: ToJson>(out: &mut JsonWriter, name: &str, a: &A) -> Result<(), AllocError>
     ensures { Writes result out.old out.new (one_field name.now (A.form a.now)) }
 {
@@ -97,7 +97,7 @@ fn one_field<A: ToJson>(out: &mut JsonWriter, name: &str, a: &A) -> Result<(), A
 }
 
 /// An object with two fields.
-#[tactic(auto, unfolding(crate::specs::Form::two_fields))]
+#[tactic(auto, unfolding(crate::specs::JsonForm::two_fields))]
 pub fn two_fields<A: ToJson, B: ToJson>(
     out: &mut JsonWriter,
     names: &(&str, &str),
@@ -113,7 +113,7 @@ pub fn two_fields<A: ToJson, B: ToJson>(
 }
 
 /// An object with three fields.
-#[tactic(auto, unfolding(crate::specs::Form::three_fields))]
+#[tactic(auto, unfolding(crate::specs::JsonForm::three_fields))]
 pub(crate) fn three_fields<A: ToJson, B: ToJson, C: ToJson>(
     out: &mut JsonWriter,
     names: &(&str, &str, &str),
@@ -131,7 +131,7 @@ pub(crate) fn three_fields<A: ToJson, B: ToJson, C: ToJson>(
 }
 
 /// An object with four fields.
-#[tactic(auto, unfolding(crate::specs::Form::four_fields))]
+#[tactic(auto, unfolding(crate::specs::JsonForm::four_fields))]
 pub fn four_fields<A: ToJson, B: ToJson, C: ToJson, D: ToJson>(
     out: &mut JsonWriter,
     names: &(&str, &str, &str, &str),
@@ -151,7 +151,7 @@ pub fn four_fields<A: ToJson, B: ToJson, C: ToJson, D: ToJson>(
 }
 
 /// An object with five fields.
-#[tactic(auto, unfolding(crate::specs::Form::five_fields))]
+#[tactic(auto, unfolding(crate::specs::JsonForm::five_fields))]
 fn five_fields<A: ToJson, B: ToJson, C: ToJson, D: ToJson, E: ToJson>(
     out: &mut JsonWriter,
     names: &(&str, &str, &str, &str, &str),
@@ -173,7 +173,7 @@ fn five_fields<A: ToJson, B: ToJson, C: ToJson, D: ToJson, E: ToJson>(
 }
 
 /// A variant with one field: `{"NAME":{"FIELD":VALUE}}`. The variant's name stands first, here and below.
-#[tactic(auto, unfolding(crate::specs::Form::holding))]
+#[tactic(auto, unfolding(crate::specs::JsonForm::holding))]
 pub(crate) fn holding_field<A: ToJson>(
     out: &mut JsonWriter,
     names: &(&str, &str),
@@ -187,7 +187,7 @@ pub(crate) fn holding_field<A: ToJson>(
 }
 
 /// A variant with two fields.
-#[tactic(auto, unfolding(crate::specs::Form::holding))]
+#[tactic(auto, unfolding(crate::specs::JsonForm::holding))]
 pub(crate) fn holding_two<A: ToJson, B: ToJson>(
     out: &mut JsonWriter,
     names: &(&str, &str, &str),
@@ -202,7 +202,7 @@ pub(crate) fn holding_two<A: ToJson, B: ToJson>(
 }
 
 /// A variant with three fields.
-#[tactic(auto, unfolding(crate::specs::Form::holding))]
+#[tactic(auto, unfolding(crate::specs::JsonForm::holding))]
 pub(crate) fn holding_three<A: ToJson, B: ToJson, C: ToJson>(
     out: &mut JsonWriter,
     names: &(&str, &str, &str, &str),
@@ -218,7 +218,7 @@ pub(crate) fn holding_three<A: ToJson, B: ToJson, C: ToJson>(
 }
 
 /// A variant with five fields.
-#[tactic(auto, unfolding(crate::specs::Form::holding))]
+#[tactic(auto, unfolding(crate::specs::JsonForm::holding))]
 pub(crate) fn holding_five<A: ToJson, B: ToJson, C: ToJson, D: ToJson, E: ToJson>(
     out: &mut JsonWriter,
     names: &(&str, &str, &str, &str, &str, &str),

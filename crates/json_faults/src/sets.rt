@@ -1,8 +1,8 @@
 //! Sets of named bits.
 
-ghost use Rattle.json_faults.specs.Form.{Writes};
-ghost use Rattle.json_faults.specs.Sets.{set_form};
-ghost use Rattle.json_faults.specs.Sets as sets;
+ghost use Rattle.json_faults.specs.JsonForm.{Writes};
+ghost use Rattle.json_faults.specs.SetJson.{set_form};
+ghost use Rattle.json_faults.specs.SetJson as sets;
 
 use crate::to_json::ToJson;
 use crate::writer::JsonWriter;
@@ -14,7 +14,7 @@ use std::alloc::AllocError;
 use std::fmt;
 
 /// A list of the names of a set's bits, by ascending bit. The joined name, of several bits, is not written.
-#[tactic(auto, unfolding(crate::specs::Sets::set_form))]
+#[tactic(auto, unfolding(crate::specs::SetJson::set_form))]
 fn write_set<B: Flags + Copy>(out: &mut JsonWriter, set: &B, joined: &str) -> Result<(), AllocError>
     ensures { B.exact → Writes result out.old out.new (set_form joined.now B.table (B.set_of set.now)) }
 {

@@ -1,7 +1,7 @@
 //! What can be written as JSON: numbers, texts, lists.
 
 ghost use Rattle.json.specs.Json.{boolean, string};
-ghost use Rattle.json_faults.specs.Form.{Writes, list_form, number_form, optional, signed_form, span_form, two_items};
+ghost use Rattle.json_faults.specs.JsonForm.{Writes, list_form, number_form, optional, signed_form, span_form, two_items};
 
 use crate::writer::JsonWriter;
 use ir_arena::{Handle, Sequence, Span, tag};
@@ -13,7 +13,7 @@ use std::alloc::AllocError;
 /// What can be written as JSON.
 pub trait ToJson {
     ghost use Rattle.json.specs.Json.{Json};
-    ghost use Rattle.json_faults.specs.Form.{Writes};
+    ghost use Rattle.json_faults.specs.JsonForm.{Writes};
 
     /// The JSON value that is written for it.
     ghost form: { Self → Json };
@@ -164,7 +164,7 @@ impl ToJson for Name {
 impl<T: ToJson> ToJson for Option<T> {
     ghost form = { optional T.form };
 
-    #[tactic(auto, unfolding(crate::specs::Form::optional))]
+    #[tactic(auto, unfolding(crate::specs::JsonForm::optional))]
     fn write_json(&self, out: &mut JsonWriter) -> Result<(), AllocError> {
         match self {
             Some(value) => value.write_json(out),
@@ -174,7 +174,7 @@ impl<T: ToJson> ToJson for Option<T> {
 }
 
 /// A list.
-#[tactic(auto, unfolding(crate::specs::Form::list_form))]
+#[tactic(auto, unfolding(crate::specs::JsonForm::list_form))]
 pub fn write_list<T: ToJson>(out: &mut JsonWriter, items: &[T]) -> Result<(), AllocError>
     ensures { Writes result out.old out.new (list_form T.form items.now) }
 {
@@ -194,7 +194,7 @@ impl<T: ToJson> ToJson for Sequence<T> {
 }
 
 /// Two numbers.
-#[tactic(auto, unfolding(crate::specs::Form::two_items))]
+#[tactic(auto, unfolding(crate::specs::JsonForm::two_items))]
 fn write_two(out: &mut JsonWriter, first: u32, second: u32) -> Result<(), AllocError>
     ensures { Writes result out.old out.new (two_items (number_form first) (number_form second)) }
 {

@@ -1,7 +1,7 @@
 //! Types, and what they are made from.
 
 ghost use Rattle.std.specs.Prelude.{◌≡◌};
-ghost use Rattle.json_faults.specs.Types.{scalar_form, member_form, space_name, space_form, image_class_name, image_class_form, array_size_form, atomic_function_name, atomic_function_form, switch_value_form, binding_form, inner_name, type_form};
+ghost use Rattle.json_faults.specs.TypeJson.{scalar_form, member_form, space_name, space_form, image_class_name, image_class_form, array_size_form, atomic_function_name, atomic_function_form, switch_value_form, binding_form, inner_name, type_form};
 
 use crate::parts::{
     four_fields, holding, holding_field, holding_five, holding_three, holding_two, two_fields,
@@ -16,14 +16,14 @@ use std::alloc::AllocError;
 impl ToJson for Scalar {
     ghost form = { scalar_form };
 
-    #[tactic(auto, unfolding(crate::specs::Types::scalar_form))]
+    #[tactic(auto, unfolding(crate::specs::TypeJson::scalar_form))]
     fn write_json(&self, out: &mut JsonWriter) -> Result<(), AllocError> {
         two_fields(out, &("kind", "width"), &self.kind, &self.width)
     }
 }
 
 /// The name of an address space.
-#[tactic(auto, unfolding(crate::specs::Types::space_name))]
+#[tactic(auto, unfolding(crate::specs::TypeJson::space_name))]
 fn space_name(space: &AddressSpace) -> &'static str
     ensures { result.now ≡ space_name space.now }
 {
@@ -44,7 +44,7 @@ fn space_name(space: &AddressSpace) -> &'static str
 impl ToJson for AddressSpace {
     ghost form = { space_form };
 
-    #[tactic(auto, unfolding(crate::specs::Types::space_form))]
+    #[tactic(auto, unfolding(crate::specs::TypeJson::space_form))]
     fn write_json(&self, out: &mut JsonWriter) -> Result<(), AllocError> {
         match self {
             AddressSpace::Storage { access } => holding_field(out, &("Storage", "access"), access),
@@ -62,7 +62,7 @@ impl ToJson for AddressSpace {
 }
 
 /// The name of a class of images.
-#[tactic(auto, unfolding(crate::specs::Types::image_class_name))]
+#[tactic(auto, unfolding(crate::specs::TypeJson::image_class_name))]
 fn image_class_name(class: &ImageClass) -> &'static str
     ensures { result.now ≡ image_class_name class.now }
 {
@@ -77,7 +77,7 @@ fn image_class_name(class: &ImageClass) -> &'static str
 impl ToJson for ImageClass {
     ghost form = { image_class_form };
 
-    #[tactic(auto, unfolding(crate::specs::Types::image_class_form, crate::specs::Types::image_class_held, crate::specs::Form::variant))]
+    #[tactic(auto, unfolding(crate::specs::TypeJson::image_class_form, crate::specs::TypeJson::image_class_held, crate::specs::JsonForm::variant))]
     fn write_json(&self, out: &mut JsonWriter) -> Result<(), AllocError> {
         let variant = image_class_name(self);
         match self {
@@ -102,7 +102,7 @@ impl ToJson for ImageClass {
 impl ToJson for ArraySize {
     ghost form = { array_size_form };
 
-    #[tactic(auto, unfolding(crate::specs::Types::array_size_form))]
+    #[tactic(auto, unfolding(crate::specs::TypeJson::array_size_form))]
     fn write_json(&self, out: &mut JsonWriter) -> Result<(), AllocError> {
         match self {
             ArraySize::Constant(count) => holding(out, "Constant", &count.get()),
@@ -113,7 +113,7 @@ impl ToJson for ArraySize {
 }
 
 /// The name of an atomic function.
-#[tactic(auto, unfolding(crate::specs::Types::atomic_function_name))]
+#[tactic(auto, unfolding(crate::specs::TypeJson::atomic_function_name))]
 fn atomic_function_name(function: &AtomicFunction) -> &'static str
     ensures { result.now ≡ atomic_function_name function.now }
 {
@@ -132,7 +132,7 @@ fn atomic_function_name(function: &AtomicFunction) -> &'static str
 impl ToJson for AtomicFunction {
     ghost form = { atomic_function_form };
 
-    #[tactic(auto, unfolding(crate::specs::Types::atomic_function_form))]
+    #[tactic(auto, unfolding(crate::specs::TypeJson::atomic_function_form))]
     fn write_json(&self, out: &mut JsonWriter) -> Result<(), AllocError> {
         match self {
             AtomicFunction::Exchange { compare } => holding_field(
@@ -154,7 +154,7 @@ impl ToJson for AtomicFunction {
 impl ToJson for SwitchValue {
     ghost form = { switch_value_form };
 
-    #[tactic(auto, unfolding(crate::specs::Types::switch_value_form))]
+    #[tactic(auto, unfolding(crate::specs::TypeJson::switch_value_form))]
     fn write_json(&self, out: &mut JsonWriter) -> Result<(), AllocError> {
         match self {
             SwitchValue::I32(value) => holding(out, "I32", value),
@@ -167,7 +167,7 @@ impl ToJson for SwitchValue {
 impl ToJson for Binding {
     ghost form = { binding_form };
 
-    #[tactic(auto, unfolding(crate::specs::Types::binding_form))]
+    #[tactic(auto, unfolding(crate::specs::TypeJson::binding_form))]
     fn write_json(&self, out: &mut JsonWriter) -> Result<(), AllocError> {
         match self {
             Binding::BuiltIn(built_in) => holding(out, "BuiltIn", built_in),
@@ -200,7 +200,7 @@ impl ToJson for Binding {
 impl ToJson for StructMember {
     ghost form = { member_form };
 
-    #[tactic(auto, unfolding(crate::specs::Types::member_form))]
+    #[tactic(auto, unfolding(crate::specs::TypeJson::member_form))]
     fn write_json(&self, out: &mut JsonWriter) -> Result<(), AllocError> {
         four_fields(
             out,
@@ -214,7 +214,7 @@ impl ToJson for StructMember {
 }
 
 /// The name of a kind of type.
-#[tactic(auto, unfolding(crate::specs::Types::inner_name))]
+#[tactic(auto, unfolding(crate::specs::TypeJson::inner_name))]
 fn inner_name(inner: &TypeInner) -> &'static str
     ensures { result.now ≡ inner_name inner.now }
 {
@@ -239,7 +239,7 @@ fn inner_name(inner: &TypeInner) -> &'static str
 impl ToJson for TypeInner {
     ghost form = { type_form };
 
-    #[tactic(auto, unfolding(crate::specs::Types::type_form, crate::specs::Types::inner_held))]
+    #[tactic(auto, unfolding(crate::specs::TypeJson::type_form, crate::specs::TypeJson::inner_held))]
     fn write_json(&self, out: &mut JsonWriter) -> Result<(), AllocError> {
         let variant = inner_name(self);
         match self {

@@ -4,7 +4,7 @@ ghost use Rattle.std.specs.Prelude.{◌≡◌, ◌++◌, ◌∷◌, [], OnOk, st
 ghost use Rattle.json.specs.Json.{boolean, null, string};
 ghost use Rattle.json.specs.Print.{print};
 ghost use Rattle.json.specs.Token as tokens;
-ghost use Rattle.json_faults.specs.Form.{Writes, number_form, signed_form};
+ghost use Rattle.json_faults.specs.JsonForm.{Writes, number_form, signed_form};
 
 use json::Writer;
 use std::alloc::{AllocError, Global};

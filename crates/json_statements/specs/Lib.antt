@@ -1,3 +1,3 @@
-pub mod Operations
-pub mod Leaves
+pub mod ReadOperations
+pub mod ReadLeaves
 pub mod Statements

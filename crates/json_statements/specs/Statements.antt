@@ -15,10 +15,10 @@ use Rattle.json_statements.specs.declared.statements.BareName.TheVariants as bar
 use Rattle.json_statements.specs.declared.statements.StatementName.{StatementName}
 use Rattle.json_statements.specs.declared.statements.StatementName.TheVariants as name
 use Rattle.json_values.specs.Form.{field_of, fielded, given, has_field, list_of, optional, two_of}
-use Rattle.json_values.specs.Numbers.{u32_of}
+use Rattle.json_values.specs.ReadNumbers.{u32_of}
 use Rattle.json_values.specs.Variants.{Variant, plain, holding, variant_of}
-use Rattle.json_statements.specs.Leaves.{leaf_from}
-use Rattle.json_statements.specs.Operations.{switch_value_of}
+use Rattle.json_statements.specs.ReadLeaves.{leaf_from}
+use Rattle.json_statements.specs.ReadOperations.{switch_value_of}
 
 abbrev pub span_from : ℕ × ℕ → Span
 span_from ends = record { start = ends.0; end = ends.1 }

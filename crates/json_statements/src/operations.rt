@@ -1,7 +1,7 @@
 //! Operations of atomics, subgroups and rays, and what else statements name.
 
 ghost use Rattle.std.specs.Prelude.{◌≡◌};
-ghost use Rattle.json_statements.specs.Operations.{atomic_function_from, atomic_function_of, collective_operation_of, cooperative_data_of, gather_from, gather_mode_from, gather_mode_of, range_of, ray_pipeline_function_from, ray_pipeline_function_of, ray_query_function_from, ray_query_function_of, subgroup_operation_of, switch_value_from, switch_value_of};
+ghost use Rattle.json_statements.specs.ReadOperations.{atomic_function_from, atomic_function_of, collective_operation_of, cooperative_data_of, gather_from, gather_mode_from, gather_mode_of, range_of, ray_pipeline_function_from, ray_pipeline_function_of, ray_query_function_from, ray_query_function_of, subgroup_operation_of, switch_value_from, switch_value_of};
 
 use crate::statements::Statements;
 use ir_arena::{Handle, Range, tag};

@@ -15,7 +15,7 @@ use Rattle.ir_leaves.specs.declared.bindings.Binding.TheVariants as binding
 use Rattle.json_types.specs.declared.bindings.BindingName.{BindingName}
 use Rattle.json_types.specs.declared.bindings.BindingName.TheVariants as binding_name
 use Rattle.json_values.specs.Form.{five_fields, given, made_of_five, named, one_field, optional}
-use Rattle.json_values.specs.Numbers.{u32_of}
+use Rattle.json_values.specs.ReadNumbers.{u32_of}
 use Rattle.json_values.specs.Variants.{variant_of, either}
 
 -- the built-ins of which no more is said

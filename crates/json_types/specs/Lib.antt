@@ -1,4 +1,4 @@
-pub mod Images
-pub mod Spaces
+pub mod ReadImages
+pub mod ReadSpaces
 pub mod Bindings
-pub mod Types
+pub mod ReadTypes

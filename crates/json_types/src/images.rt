@@ -1,6 +1,6 @@
 //! Images.
 
-ghost use Rattle.json_types.specs.Images.{image_class_from, image_class_of, image_dimension_of, storage_format_of};
+ghost use Rattle.json_types.specs.ReadImages.{image_class_from, image_class_of, image_dimension_of, storage_format_of};
 
 use crate::types::Types;
 use ir_leaves::{ImageDimension, StorageFormat};

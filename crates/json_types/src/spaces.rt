@@ -1,6 +1,6 @@
 //! Address spaces.
 
-ghost use Rattle.json_types.specs.Spaces.{address_space_from, address_space_of};
+ghost use Rattle.json_types.specs.ReadSpaces.{address_space_from, address_space_of};
 
 use crate::types::Types;
 use ir_types::AddressSpace;

@@ -2,7 +2,7 @@
 
 ghost use Rattle.json_nodes.specs.Nodes.{data_of};
 ghost use Rattle.json_values.specs.Reads.{ReadsMeaning};
-ghost use Rattle.json_types.specs.Types.{acceleration_structure_of, array_of, array_size_from, array_size_of, binding_array_of, cooperative_matrix_of, image_of, matrix_of, pointer_of, ray_query_of, sampler_of, struct_member_of, struct_of, type_inner_from, type_inner_of, type_of, type_resolution_from, type_resolution_of, value_pointer_of, vector_of};
+ghost use Rattle.json_types.specs.ReadTypes.{acceleration_structure_of, array_of, array_size_from, array_size_of, binding_array_of, cooperative_matrix_of, image_of, matrix_of, pointer_of, ray_query_of, sampler_of, struct_member_of, struct_of, type_inner_from, type_inner_of, type_of, type_resolution_from, type_resolution_of, value_pointer_of, vector_of};
 
 use ir_types::{ArraySize, StructMember, Type, TypeInner, TypeResolution};
 use json_values::{FromJson, Held, Holding, ReadError, read_either, read_holding};

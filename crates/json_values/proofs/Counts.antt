@@ -2,7 +2,7 @@
 use Rattle.std.proofs.Common.{◌≡◌, ℕ, zero, suc, ◌<◌, Some, ap, arith}
 use Rattle.std.proofs.Props.{props}
 use Rattle.std.specs.declared.num.NonZeroU32.{NonZeroU32}
-use Rattle.json_values.specs.Numbers.{nonzero, above_zero}
+use Rattle.json_values.specs.ReadNumbers.{nonzero, above_zero}
 
 -- a number above 0 has one proof of it
 one_proof : (n : ℕ) (p q : 0 < n) → p ≡ q

@@ -4,6 +4,6 @@ pub mod Variants
 pub mod Reads
 pub mod ReadsFields
 pub mod ReadsVariants
-pub mod Numbers
+pub mod ReadNumbers
 pub mod Sets
 pub mod Scalars

@@ -7,7 +7,7 @@ use Rattle.ir_leaves.specs.declared.scalars.Scalar.{Scalar}
 use Rattle.ir_leaves.specs.declared.scalars.VectorSize.{VectorSize}
 use Rattle.ir_leaves.specs.declared.scalars.VectorSize.TheVariants as vector_size
 use Rattle.json_values.specs.Form.{made_of_two, named, two_fields}
-use Rattle.json_values.specs.Numbers.{u8_of}
+use Rattle.json_values.specs.ReadNumbers.{u8_of}
 
 -- the kinds of scalars
 abbrev pub scalar_kinds : List (List ℕ × ScalarKind)

@@ -3,7 +3,7 @@
 ghost use Rattle.std.specs.Prelude.{◌≡◌};
 ghost use Rattle.serde_json.specs.Find.{as_bool, as_str};
 ghost use Rattle.json_nodes.specs.Nodes.{data_of};
-ghost use Rattle.json_values.specs.Numbers.{u8_of, u32_of, u64_of, i32_of, nonzero_of};
+ghost use Rattle.json_values.specs.ReadNumbers.{u8_of, u32_of, u64_of, i32_of, nonzero_of};
 
 use crate::error::ReadError;
 use crate::from_json::{FromJson, Held};

@@ -8,7 +8,7 @@ use Rattle.json_document.specs.declared.id.Id.{Id}
 use Rattle.json_document.specs.Ids.{HasId, IsIdOf}
 use Rattle.json_document.specs.ReadsDocument.{IsDocument}
 use Rattle.json_verdict.specs.Judges.{HasMisfit, Judges, Refuses}
-use Rattle.json_answers.specs.Named.{HasItsId}
+use Rattle.json_answers.specs.VerdictIds.{HasItsId}
 use Rattle.json_answers.specs.declared.verdict.Verdict as judge
 use Rattle.json_verdict.specs.declared.text.Bytes.{Bytes}
 use Rattle.json_verdict.specs.walk.Stream.{Holds, most}

@@ -6,7 +6,7 @@ use Rattle.check_faults.specs.declared.module.ModuleFault.TheVariants as faults
 use Rattle.json_verdict.proofs.Misfits.{memory_fits}
 use Rattle.json_document.specs.declared.id.Id.{Id}
 use Rattle.json_verdict.specs.Judges.{HasMisfit, Judges}
-use Rattle.json_answers.specs.Named.{HasItsId}
+use Rattle.json_answers.specs.VerdictIds.{HasItsId}
 use Rattle.json_verdict.specs.Runs.{IsReply, Replies}
 use Rattle.json_answers.specs.declared.verdict.Verdict as judge
 use Rattle.json_answers.specs.declared.verdict.Verdict.TheVariants as verdicts

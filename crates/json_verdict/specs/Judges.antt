@@ -7,8 +7,8 @@ use Rattle.ir_types.specs.declared.typifier.TypeResolution.{TypeResolution}
 use Rattle.ir_arena.specs.Points.{first_fault}
 use Rattle.ir_misfits.specs.declared.misfit.Misfit.{Misfit}
 use Rattle.ir_facts.specs.Meaning.{Meaning}
-use Rattle.layer_types.specs.Infos.{infos_from}
-use Rattle.layer_expressions.specs.Types.{global_types}
+use Rattle.layer_types.specs.ComputedInfos.{infos_from}
+use Rattle.layer_expressions.specs.ComputedTypes.{global_types}
 use Rattle.layer_expressions.specs.declared.types.Untyped.{Untyped}
 use Rattle.naga_layers.specs.Typed.Meaning.{typed_meaning}
 use Rattle.naga_module.specs.Misfits.{module_points}

@@ -6,7 +6,7 @@ use Rattle.json_document.specs.declared.id.Id.{Id}
 use Rattle.json_verdict.specs.Judges.{HasMisfit, Judges}
 use Rattle.json_answers.specs.Status.{status_of}
 use Rattle.json_answers.specs.Texts.{IsTextOf}
-use Rattle.json_answers.specs.Named.{HasItsId}
+use Rattle.json_answers.specs.VerdictIds.{HasItsId}
 use Rattle.json_answers.specs.declared.verdict.Verdict as judge
 use Rattle.json_answers.specs.declared.form.Form.{Form}
 use Rattle.json_answers.specs.declared.form.Form.TheVariants as forms

@@ -6,7 +6,7 @@ ghost use Rattle.naga_module.specs.Misfits.{module_points};
 ghost use Rattle.check_faults.specs.declared.module.ModuleFault.TheVariants as faults;
 ghost use Rattle.json_verdict.specs.Basis.{meaning_of};
 ghost use Rattle.json_verdict.specs.Judges.{HasMisfit, Judges};
-ghost use Rattle.json_answers.specs.Named.{HasItsId};
+ghost use Rattle.json_answers.specs.VerdictIds.{HasItsId};
 ghost use Rattle.json_answers.specs.declared.verdict.Verdict.TheVariants as verdicts;
 
 use crate::basis::Basis;

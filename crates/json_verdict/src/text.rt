@@ -3,7 +3,7 @@
 ghost use Rattle.std.specs.Prelude.{◌≡◌, ◌≤◌, ◌+◌, ◌++◌, ◌∷◌, [], ℕ, List, true, false, length};
 ghost use Rattle.std.specs.Bool.{OnTrue};
 ghost use Rattle.json_verdict.specs.Judges.{HasMisfit, Judges};
-ghost use Rattle.json_answers.specs.Named.{HasItsId};
+ghost use Rattle.json_answers.specs.VerdictIds.{HasItsId};
 ghost use Rattle.json_verdict.specs.walk.Stream.{Holds};
 
 use crate::examine::examine_text;

@@ -10,7 +10,7 @@ use Rattle.ir_module.specs.declared.module.Module.{Module}
 use Rattle.ir_types.specs.declared.typifier.TypeResolution.{TypeResolution}
 use Rattle.layer_expressions.specs.declared.rules.Rule.{Rule}
 use Rattle.layer_expressions.specs.declared.types.Untyped.{Untyped}
-use Rattle.layer_expressions.specs.Types.{types_from, type_of, or_untyped}
+use Rattle.layer_expressions.specs.ComputedTypes.{types_from, type_of, or_untyped}
 
 abbrev pub untyped : ℕ → Rule → Untyped
 untyped h broken = record { handle = h; rule = broken }

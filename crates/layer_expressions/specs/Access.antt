@@ -13,7 +13,7 @@ use Rattle.layer_types.specs.Sizes.{components_of}
 use Rattle.layer_expressions.specs.declared.rules.Rule.{Rule}
 use Rattle.layer_expressions.specs.declared.rules.Rule.TheVariants as rule
 use Rattle.layer_shapes.specs.Resolutions.{type_at, pointer_to}
-use Rattle.layer_expressions.specs.Rules.{or_broken}
+use Rattle.layer_expressions.specs.RuleNumbers.{or_broken}
 use Rattle.layer_shapes.specs.Shapes.{is_integer}
 
 -- an item of a value: of an array what it holds, of a matrix a column, of a vector a component

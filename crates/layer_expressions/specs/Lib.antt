@@ -1,5 +1,5 @@
-pub mod Rules
-pub mod Operands
+pub mod RuleNumbers
+pub mod OperandTypes
 pub mod Named
 pub mod Access
 pub mod Operators
@@ -8,4 +8,4 @@ pub mod Images
 pub mod Sampling
 pub mod Loading
 pub mod Others
-pub mod Types
+pub mod ComputedTypes

@@ -15,7 +15,7 @@ use Rattle.ir_types.specs.declared.typifier.TypeResolution.{TypeResolution}
 use Rattle.layer_forms.specs.declared.images.ImageQuery.{ImageQuery}
 use Rattle.layer_forms.specs.declared.images.ImageQuery.TheVariants as query
 use Rattle.layer_forms.specs.declared.images.Loading.{Loading}
-use Rattle.layer_forms.specs.Images.{load_of, queries}
+use Rattle.layer_forms.specs.ImageForms.{load_of, queries}
 use Rattle.layer_expressions.specs.declared.images.Image.{Image}
 use Rattle.layer_expressions.specs.declared.loading.Loaded.{Loaded}
 use Rattle.layer_expressions.specs.declared.rules.Rule.{Rule}
@@ -23,7 +23,7 @@ use Rattle.layer_expressions.specs.declared.rules.Rule.TheVariants as rule
 use Rattle.layer_shapes.specs.declared.shapes.Shape.{Shape}
 use Rattle.layer_shapes.specs.declared.shapes.Shape.TheVariants as shape
 use Rattle.layer_expressions.specs.Images.{is_resource, is_integer_coordinate, is_integer_scalar, has_levels, is_multisampled}
-use Rattle.layer_expressions.specs.Rules.{or_broken}
+use Rattle.layer_expressions.specs.RuleNumbers.{or_broken}
 use Rattle.layer_expressions.specs.Sampling.{ones, shape_if, takes_integer, four_of, image_among}
 use Rattle.layer_shapes.specs.Shapes.{four_bytes}
 

@@ -6,7 +6,7 @@ use Rattle.ir_leaves.specs.declared.scalars.VectorSize.{VectorSize}
 use Rattle.ir_leaves.specs.declared.scalars.VectorSize.TheVariants.{Tri}
 use Rattle.layer_forms.specs.declared.math.MathClass.{MathClass}
 use Rattle.layer_forms.specs.declared.math.MathClass.TheVariants as class
-use Rattle.layer_types.specs.Leaves.{is_number}
+use Rattle.layer_types.specs.LeafInfos.{is_number}
 use Rattle.layer_expressions.specs.declared.operands.Arguments.{Arguments}
 use Rattle.layer_expressions.specs.declared.operands.Arguments.TheVariants.{One, Two, Three, Four}
 use Rattle.layer_shapes.specs.declared.shapes.Shape.{Shape}

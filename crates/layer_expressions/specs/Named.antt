@@ -17,7 +17,7 @@ use Rattle.ir_types.specs.declared.typifier.TypeResolution.{TypeResolution}
 use Rattle.ir_types.specs.declared.typifier.TypeResolution.TheVariants.{Handle, Value}
 use Rattle.layer_expressions.specs.declared.rules.Rule.{Rule}
 use Rattle.layer_expressions.specs.declared.rules.Rule.TheVariants as rule
-use Rattle.layer_expressions.specs.Rules.{or_broken}
+use Rattle.layer_expressions.specs.RuleNumbers.{or_broken}
 use Rattle.layer_shapes.specs.Resolutions.{type_at, pointer_to}
 use Rattle.layer_shapes.specs.Shapes.{four_bytes}
 

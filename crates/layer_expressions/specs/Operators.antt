@@ -16,7 +16,7 @@ use Rattle.layer_forms.specs.declared.operators.UnaryOperator.TheVariants as una
 use Rattle.layer_forms.specs.declared.vectors.Swizzle.{Swizzle}
 use Rattle.layer_forms.specs.declared.vectors.SwizzleComponent.{SwizzleComponent}
 use Rattle.layer_forms.specs.declared.vectors.SwizzleComponent.TheVariants as component
-use Rattle.layer_types.specs.Leaves.{is_known, is_number}
+use Rattle.layer_types.specs.LeafInfos.{is_known, is_number}
 use Rattle.layer_expressions.specs.declared.operands.Arguments.{Arguments}
 use Rattle.layer_expressions.specs.declared.operands.Arguments.TheVariants.{One, Two, Three}
 use Rattle.layer_shapes.specs.declared.shapes.Shape.{Shape}

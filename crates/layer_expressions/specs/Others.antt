@@ -12,8 +12,8 @@ use Rattle.ir_types.specs.declared.typifier.TypeResolution.{TypeResolution}
 use Rattle.ir_types.specs.declared.typifier.TypeResolution.TheVariants.{Value}
 use Rattle.layer_expressions.specs.declared.rules.Rule.{Rule}
 use Rattle.layer_expressions.specs.declared.rules.Rule.TheVariants as rule
-use Rattle.layer_expressions.specs.Operands.{type_of_operand}
-use Rattle.layer_expressions.specs.Rules.{or_broken}
+use Rattle.layer_expressions.specs.OperandTypes.{type_of_operand}
+use Rattle.layer_expressions.specs.RuleNumbers.{or_broken}
 use Rattle.layer_shapes.specs.Shapes.{four_bytes}
 
 abbrev pub is_dynamic_size : ArraySize → Bool

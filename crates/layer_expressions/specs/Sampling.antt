@@ -14,7 +14,7 @@ use Rattle.ir_types.specs.declared.typifier.TypeResolution.{TypeResolution}
 use Rattle.layer_forms.specs.declared.images.LevelKind.{LevelKind}
 use Rattle.layer_forms.specs.declared.images.LevelKind.TheVariants as level
 use Rattle.layer_forms.specs.declared.images.Sampling.{Sampling}
-use Rattle.layer_forms.specs.Images.{sampling_of}
+use Rattle.layer_forms.specs.ImageForms.{sampling_of}
 use Rattle.layer_expressions.specs.declared.images.Image.{Image}
 use Rattle.layer_expressions.specs.declared.rules.Rule.{Rule}
 use Rattle.layer_expressions.specs.declared.rules.Rule.TheVariants as rule
@@ -22,7 +22,7 @@ use Rattle.layer_expressions.specs.declared.sampling.Sampled.{Sampled}
 use Rattle.layer_shapes.specs.declared.shapes.Shape.{Shape}
 use Rattle.layer_shapes.specs.declared.shapes.Shape.TheVariants as shape
 use Rattle.layer_expressions.specs.Images.{image_of, comparison_of, is_resource, is_float_coordinate, is_f32_scalar, is_offset, is_integer_scalar}
-use Rattle.layer_expressions.specs.Operands.{type_of_operand, shape_of_operand}
+use Rattle.layer_expressions.specs.OperandTypes.{type_of_operand, shape_of_operand}
 use Rattle.layer_shapes.specs.Shapes.{four_bytes, is_float}
 
 -- how many operands there are: image, sampler and coordinate, then array index and offset where they are there, those of the

@@ -2,7 +2,7 @@
 
 ghost use Rattle.std.specs.Prelude.{◌≡◌};
 ghost use Rattle.std.specs.Option.{option_copied};
-ghost use Rattle.layer_expressions.specs.Operands.{type_of_operand, shape_of_operand, arguments_of};
+ghost use Rattle.layer_expressions.specs.OperandTypes.{type_of_operand, shape_of_operand, arguments_of};
 
 use ir_arena::handle::Handle;
 use ir_arena::tag;

@@ -1,7 +1,7 @@
 //! The rules that the types of expressions keep, each with its number.
 
 ghost use Rattle.std.specs.Prelude.{◌≡◌};
-ghost use Rattle.layer_expressions.specs.Rules.{number_of};
+ghost use Rattle.layer_expressions.specs.RuleNumbers.{number_of};
 
 /// A rule that an expression breaks, which then has no type.
 #[derive(Clone, Copy, PartialEq, Debug)]

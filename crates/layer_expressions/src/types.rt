@@ -2,7 +2,7 @@
 
 ghost use Rattle.std.specs.Prelude.{◌≡◌, IfOk};
 ghost use Rattle.std.specs.Option.{option_copied};
-ghost use Rattle.layer_expressions.specs.Types.{computed, rule_of, computed_type, shape_value, load_value, named, plain_type, is_computed, is_computing, type_of, types_of, global_types};
+ghost use Rattle.layer_expressions.specs.ComputedTypes.{computed, rule_of, computed_type, shape_value, load_value, named, plain_type, is_computed, is_computing, type_of, types_of, global_types};
 
 use crate::access::{access_index_type, access_type, loaded};
 use crate::loading::{load_type, query_type};
@@ -312,7 +312,7 @@ fn type_of(
 }
 
 /// The type of each of these expressions of a function of these arguments and locals, or the first that has none.
-#[tactic(auto, unfolding(crate::specs::Types::types_from))]
+#[tactic(auto, unfolding(crate::specs::ComputedTypes::types_from))]
 pub fn types_of(
     alloc: Global,
     module: &Module,

@@ -1,5 +1,5 @@
-pub mod Operators
+pub mod OperatorForms
 pub mod Vectors
 pub mod Casts
-pub mod Math
-pub mod Images
+pub mod MathForms
+pub mod ImageForms

@@ -1,7 +1,7 @@
 //! Samples, loads and queries of images.
 
 ghost use Rattle.std.specs.Prelude.{◌≡◌, slice_get};
-ghost use Rattle.layer_forms.specs.Images.{gather_of, levels, flag, sampling_of, load_of, queries};
+ghost use Rattle.layer_forms.specs.ImageForms.{gather_of, levels, flag, sampling_of, load_of, queries};
 
 use crate::vectors::{SwizzleComponent, component_from};
 

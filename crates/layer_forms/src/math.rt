@@ -1,7 +1,7 @@
 //! The functions of `Math`.
 
 ghost use Rattle.std.specs.Prelude.{◌≡◌, slice_get};
-ghost use Rattle.layer_forms.specs.Math.{functions, class_of};
+ghost use Rattle.layer_forms.specs.MathForms.{functions, class_of};
 
 use ir_leaves::scalars::{ScalarKind, VectorSize};
 
@@ -214,7 +214,7 @@ const FUNCTIONS: [MathFunction; 77] = [
 ];
 
 /// The functions by their numbers.
-#[tactic(auto, unfolding(crate::specs::Math::functions))]
+#[tactic(auto, unfolding(crate::specs::MathForms::functions))]
 fn functions<'a>() -> &'a [MathFunction]
     ensures { result.now ≡ functions }
 {

@@ -1,7 +1,7 @@
 //! Operators, derivatives and relational functions.
 
 ghost use Rattle.std.specs.Prelude.{◌≡◌, slice_get};
-ghost use Rattle.layer_forms.specs.Operators.{unary_operators, binary_operators, relational_functions, axes, controls, derivative_of};
+ghost use Rattle.layer_forms.specs.OperatorForms.{unary_operators, binary_operators, relational_functions, axes, controls, derivative_of};
 
 /// What a `Unary` does.
 #[derive(Clone, Copy)]

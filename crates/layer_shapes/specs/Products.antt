@@ -3,7 +3,7 @@ use Rattle.std.specs.Prelude.{Bool, not, ◌&&◌, Option, None, Some, if◌then
 use Rattle.ir_leaves.specs.contracts.scalars.VectorSizePartialEq.TheImpl as size
 use Rattle.ir_leaves.specs.declared.scalars.Scalar.{Scalar}
 use Rattle.ir_leaves.specs.declared.scalars.VectorSize.{VectorSize}
-use Rattle.layer_types.specs.Leaves.{is_number}
+use Rattle.layer_types.specs.LeafInfos.{is_number}
 use Rattle.layer_shapes.specs.declared.shapes.Shape.{Shape}
 use Rattle.layer_shapes.specs.declared.shapes.Shape.TheVariants as shape
 use Rattle.layer_shapes.specs.Shapes.{scalar_of, is_matrix, is_same, is_same_scalar}

@@ -5,7 +5,7 @@ use Rattle.std.proofs.lemmas.Option.{get_or_from_slice_get}
 use Rattle.std.specs.Prelude.{slice_get}
 use Rattle.ir_types.specs.declared.types.Type.{«Type» as IrType}
 use Rattle.ir_types.specs.declared.type_info.TypeInfo.{TypeInfo}
-use Rattle.layer_types.specs.Infos.{infos_from, info_of}
+use Rattle.layer_types.specs.ComputedInfos.{infos_from, info_of}
 
 -- the next type's info goes behind those before it
 pub next_info : (types : List IrType) (infos : List TypeInfo) (ts : List IrType) (i : ℕ) (t : IrType) → i < length ts

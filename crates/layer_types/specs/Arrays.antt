@@ -8,7 +8,7 @@ use Rattle.ir_types.specs.declared.types.ArraySize.TheVariants as size
 use Rattle.ir_types.specs.declared.type_info.Disalignment.{Disalignment}
 use Rattle.ir_types.specs.declared.type_info.TypeInfo.{TypeInfo}
 use Rattle.layer_types.specs.declared.parts.Part.{Part}
-use Rattle.layer_types.specs.Leaves.{all_of}
+use Rattle.layer_types.specs.LeafInfos.{all_of}
 use Rattle.layer_types.specs.Parts.{bad_stride}
 use Rattle.layer_types.specs.Sizes.{is_aligned}
 

@@ -1,6 +1,6 @@
 pub mod Sizes
-pub mod Leaves
+pub mod LeafInfos
 pub mod Parts
 pub mod Arrays
 pub mod Structs
-pub mod Infos
+pub mod ComputedInfos

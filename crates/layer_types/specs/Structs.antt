@@ -13,7 +13,7 @@ use Rattle.ir_types.specs.declared.type_info.ImmediateError.{ImmediateError}
 use Rattle.ir_types.specs.declared.type_info.TypeInfo.{TypeInfo}
 use Rattle.layer_types.specs.declared.parts.Part.{Part}
 use Rattle.layer_types.specs.declared.structs.Laid.{Laid}
-use Rattle.layer_types.specs.Leaves.{all_of, VALUE}
+use Rattle.layer_types.specs.LeafInfos.{all_of, VALUE}
 use Rattle.layer_types.specs.Parts.{bad_offset, too_close, part_of}
 use Rattle.layer_types.specs.Sizes.{is_aligned}
 

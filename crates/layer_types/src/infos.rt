@@ -1,7 +1,7 @@
 //! Infos of a module's types.
 
 ghost use Rattle.std.specs.Prelude.{◌≡◌, [], IfOk};
-ghost use Rattle.layer_types.specs.Infos.{ill_formed, pointer_info, binding_info, own_info, info_of, infos_from};
+ghost use Rattle.layer_types.specs.ComputedInfos.{ill_formed, pointer_info, binding_info, own_info, info_of, infos_from};
 
 use crate::arrays::array_info;
 use crate::leaves::{info, leaf_info, pointer_flags};
@@ -20,7 +20,7 @@ use std::alloc::{AllocError, Global};
 /// The info of each type of a module, by its handle. An Err is out of memory.
 ///
 /// A type that isn't well formed has no flags, and no buffer takes it.
-#[tactic(auto, unfolding(crate::specs::Infos::infos_from))]
+#[tactic(auto, unfolding(crate::specs::ComputedInfos::infos_from))]
 pub fn type_infos(
     alloc: Global,
     types: &UniqueArena<Type>,

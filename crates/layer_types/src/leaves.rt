@@ -1,7 +1,7 @@
 //! Infos of the types that have no parts.
 
 ghost use Rattle.std.specs.Prelude.{◌≡◌};
-ghost use Rattle.layer_types.specs.Leaves.{is_known, is_float, is_atomic, is_number, value_flags, immediate_of, info, of_scalar, pointer_flags, image_info, known_info, leaf_info};
+ghost use Rattle.layer_types.specs.LeafInfos.{is_known, is_float, is_atomic, is_number, value_flags, immediate_of, info, of_scalar, pointer_flags, image_info, known_info, leaf_info};
 
 use crate::sizes::aligned_components_of;
 use ir_flags::valid::TypeFlags;

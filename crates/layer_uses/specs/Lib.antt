@@ -1,4 +1,4 @@
 pub mod Joins
-pub mod Roots
+pub mod GlobalRoots
 pub mod Walk
 pub mod Uses

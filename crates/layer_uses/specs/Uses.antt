@@ -9,7 +9,7 @@ use Rattle.ir_module.specs.declared.functions.Function.{Function}
 use Rattle.ir_module.specs.declared.module.Module.{Module}
 use Rattle.ir_statements.specs.View.{no_operands, body_of}
 use Rattle.layer_uses.specs.Joins.{with_use}
-use Rattle.layer_uses.specs.Roots.{root_at, roots_from}
+use Rattle.layer_uses.specs.GlobalRoots.{root_at, roots_from}
 use Rattle.layer_uses.specs.Walk.{body_uses}
 
 abbrev pub used_operand : List (Option ℕ) → List GlobalUse → Option ℕ → GlobalUse → List GlobalUse

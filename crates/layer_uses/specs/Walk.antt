@@ -17,7 +17,7 @@ use Rattle.ir_statements.specs.Tree.{Stmt, Leaf, Block, Branch, Switch, Loop, Bo
 use Rattle.ir_types.specs.declared.types.AddressSpace.{AddressSpace}
 use Rattle.ir_types.specs.declared.types.AddressSpace.TheVariants as space
 use Rattle.layer_uses.specs.Joins.{with_use, all_joined}
-use Rattle.layer_uses.specs.Roots.{root_at}
+use Rattle.layer_uses.specs.GlobalRoots.{root_at}
 
 -- read and written
 abbrev pub BOTH : GlobalUse

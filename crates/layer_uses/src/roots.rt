@@ -1,7 +1,7 @@
 //! The global that each expression is, or is an item of.
 
 ghost use Rattle.std.specs.Prelude.{◌≡◌, [], IfOk};
-ghost use Rattle.layer_uses.specs.Roots.{root_at, root_of, roots_from};
+ghost use Rattle.layer_uses.specs.GlobalRoots.{root_at, root_of, roots_from};
 
 use ir_arena::handle::Handle;
 use ir_arena::sequence::Sequence;
@@ -66,7 +66,7 @@ fn root_of(earlier: &[Root], expression: &Expression) -> Root
 }
 
 /// The root of each expression.
-#[tactic(auto, unfolding(crate::specs::Roots::roots_from))]
+#[tactic(auto, unfolding(crate::specs::GlobalRoots::roots_from))]
 pub(crate) fn roots_of(
     alloc: Global,
     expressions: &[Expression],

@@ -4,7 +4,7 @@ use Rattle.ir_misfits.specs.declared.misfit.Misfit.{Misfit}
 use Rattle.json_document.specs.declared.id.Id.{Id}
 use Rattle.json_verdict.specs.Judges.{HasMisfit, Judges}
 use Rattle.json_answers.specs.Status.{status_of}
-use Rattle.json_answers.specs.Named.{HasItsId}
+use Rattle.json_answers.specs.VerdictIds.{HasItsId}
 use Rattle.json_answers.specs.declared.verdict.Verdict as judge
 use Rattle.json_answers.specs.declared.verdict.Verdict.TheVariants as verdict
 use Rattle.check_faults.specs.declared.module.ModuleFault.TheVariants as fault

@@ -20,7 +20,7 @@ use Rattle.ir_statements.specs.declared.statements.Statement.{Statement}
 use Rattle.ir_statements.specs.declared.statements.Statement.TheVariants as s
 use Rattle.ir_statements.specs.Tree.{Stmt, Leaf, Block, Branch, Switch, Loop, Body, Done, Then, Cases, NoCase, OneCase}
 use Rattle.layer_uses.specs.Joins.{with_use, joined_at, joined_from}
-use Rattle.layer_uses.specs.Roots.{root_at, roots_from}
+use Rattle.layer_uses.specs.GlobalRoots.{root_at, roots_from}
 use Rattle.layer_uses.specs.Walk.{BOTH, call_use, argument_uses, callee_uses, query_uses, pipeline_uses, leaf_uses, statement_uses, body_uses, cases_uses}
 use Rattle.layer_uses.specs.Uses.{used_operand, operand_use, expression_uses, all_expression_uses, uses_of}
 

@@ -5,5 +5,5 @@ pub mod NamedTypes
 pub mod Plain
 pub mod Recorded
 pub mod Typed
-pub use Rattle.layer_types.specs.Infos.{infos_from}
-pub use Rattle.layer_expressions.specs.Types.{global_types}
+pub use Rattle.layer_types.specs.ComputedInfos.{infos_from}
+pub use Rattle.layer_expressions.specs.ComputedTypes.{global_types}

@@ -12,7 +12,7 @@ use Rattle.ir_module.specs.declared.expressions.Expression.TheVariants as e
 use Rattle.layer_forms.specs.declared.images.LevelKind.{LevelKind}
 use Rattle.layer_forms.specs.declared.images.LevelKind.TheVariants as level
 use Rattle.layer_forms.specs.declared.images.Sampling.{Sampling}
-use Rattle.layer_forms.specs.Images.{sampling_of}
+use Rattle.layer_forms.specs.ImageForms.{sampling_of}
 
 -- a level that depends on neighbors needs the fragment stage
 abbrev pub level_stages : LevelKind → ShaderStages

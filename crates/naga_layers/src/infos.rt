@@ -1,7 +1,7 @@
 //! The infos of a module's types, as `Typed` needs them.
 
 ghost use Rattle.std.specs.Prelude.{◌≡◌, [], IfOk};
-ghost use Rattle.layer_types.specs.Infos.{infos_from};
+ghost use Rattle.layer_types.specs.ComputedInfos.{infos_from};
 
 use ir_arena::sequence::Sequence;
 use ir_module::module::Module;

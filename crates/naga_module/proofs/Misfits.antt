@@ -31,7 +31,7 @@ use Rattle.ir_fits.proofs.ExactEntries.{entry_exact}
 use Rattle.ir_fits.proofs.ExactFunctions.{function_exact}
 use Rattle.ir_facts.specs.Meaning.{Meaning}
 use Rattle.check_entry.specs.InterfacePoints.{HasPayloadSizes}
-use Rattle.check_entry.specs.TypeInfos.{AreInfosOf, NamesTypes}
+use Rattle.check_entry.specs.GivenInfos.{AreInfosOf, NamesTypes}
 use Rattle.naga_module.specs.Misfits.{layout_points, info_points, one_info_each, infos_points, module_function_points, entry_point_points, is_task_payload, size_points, module_points, AllFits}
 use Rattle.naga_module.specs.ModuleJudgement.{first_infos}
 

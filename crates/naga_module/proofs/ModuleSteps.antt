@@ -8,7 +8,7 @@ use Rattle.ir_facts.specs.Meaning.{Meaning}
 use Rattle.ir_facts.specs.Fits.{FitsTypes, FitsGlobals}
 use Rattle.ir_types.specs.declared.typifier.TypeResolution.{TypeResolution}
 use Rattle.check_entry.specs.InterfacePoints.{HasPayloadSizes}
-use Rattle.check_entry.specs.TypeInfos.{AreInfosOf}
+use Rattle.check_entry.specs.GivenInfos.{AreInfosOf}
 use Rattle.check_statement.specs.ValidatorParts.{no_traces}
 use Rattle.check_statement.specs.ValidatorParts.{Parts as Validator}
 use Rattle.check_scope.specs.declared.trace.TraceState.{TraceState}

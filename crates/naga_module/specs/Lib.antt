@@ -12,9 +12,9 @@ pub use Rattle.ir_facts.specs.Meaning.{Meaning}
 pub use Rattle.ir_facts.specs.WhatIsChecked.{checks_blocks, checks_expressions, checks_bindings}
 pub use Rattle.check_statement.specs.FunctionJudgement.{FunctionOutcome}
 unfoldable pub use Rattle.check_statement.specs.FunctionJudgement.{function_judgement}
-pub use Rattle.check_entry.specs.TypeInfos.{AreInfosOf}
+pub use Rattle.check_entry.specs.GivenInfos.{AreInfosOf}
 pub use Rattle.check_laws.specs.Accepted.{nodes_of, callees_filling, atomics_filling, AreFilledOnce, ResultsAreFilledOnce, StagesAreOfAll}
-pub use Rattle.check_laws.specs.Shapes.{StandsAt, is_in_continuing, HasNoReturnInContinuing, HasWholeSwitches}
+pub use Rattle.check_laws.specs.BodyShapes.{StandsAt, is_in_continuing, HasNoReturnInContinuing, HasWholeSwitches}
 pub use Rattle.check_laws.specs.Chains.{Reaches, IsVettedInfo, AreVetted, ChainsKeepTo, infos_below}
 unfoldable pub use Rattle.check_laws.specs.EntryJudgement.{entry_judgement}
 pub use Rattle.check_entry.specs.EntryUses.{only}

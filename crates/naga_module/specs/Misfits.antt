@@ -26,7 +26,7 @@ use Rattle.ir_fits.specs.OfFunctions.{function_points}
 use Rattle.ir_fits.specs.OfEntries.{entry_points}
 use Rattle.ir_facts.specs.Meaning.{Meaning}
 use Rattle.check_entry.specs.InterfacePoints.{HasPayloadSizes}
-use Rattle.check_entry.specs.TypeInfos.{AreInfosOf}
+use Rattle.check_entry.specs.GivenInfos.{AreInfosOf}
 use Rattle.naga_module.specs.ModuleJudgement.{first_infos}
 
 -- of n types: that which makes a layout bad is there

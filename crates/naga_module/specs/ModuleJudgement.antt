@@ -20,7 +20,7 @@ use Rattle.check_laws.specs.EntryJudgement.{entry_judgement}
 use Rattle.check_entry.specs.GlobalPoints.{module_global_points}
 use Rattle.check_laws.specs.InOrder.{with_info}
 use Rattle.check_statement.specs.FunctionJudgement.{function_judgement}
-use Rattle.check_entry.specs.TypeInfos.{AreInfosOf}
+use Rattle.check_entry.specs.GivenInfos.{AreInfosOf}
 use Rattle.check_statement.specs.ValidatorParts.{no_traces}
 use Rattle.check_scope.specs.declared.trace.TraceState.{TraceState}
 use Rattle.check_faults.specs.declared.module.ModuleFault.{ModuleFault}

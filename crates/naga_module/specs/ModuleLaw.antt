@@ -14,7 +14,7 @@ use Rattle.naga_runs.specs.Soundness.{RunsAreSure}
 use Rattle.check_scope.specs.BodyTrees.{body_of}
 use Rattle.check_laws.specs.Accepted.{ResultsAreFilledOnce, StagesAreOfAll}
 use Rattle.check_laws.specs.Chains.{ChainsKeepTo}
-use Rattle.check_laws.specs.Shapes.{HasNoReturnInContinuing, HasWholeSwitches}
+use Rattle.check_laws.specs.BodyShapes.{HasNoReturnInContinuing, HasWholeSwitches}
 use Rattle.check_scope.specs.Context.{pre_emitted_of}
 use Rattle.check_entry.specs.EntryUses.{only}
 use Rattle.ir_facts.specs.WhatIsChecked.{checks_blocks, checks_expressions, checks_bindings}

@@ -5,7 +5,7 @@ ghost use Rattle.naga_module.specs.ModuleJudgement.{Fits, first_infos, IsJudgeme
 ghost use Rattle.naga_module.specs.ModuleInfos.{ModuleIsJudged};
 ghost use Rattle.naga_module.specs.ModuleLaw.{ModuleHolds, ModuleFillsOnce, ModuleBindsApart};
 ghost use Rattle.check_faults.specs.declared.module.ModuleFault.TheVariants as fault;
-ghost use Rattle.check_entry.specs.TypeInfos.{AreInfosOf};
+ghost use Rattle.check_entry.specs.GivenInfos.{AreInfosOf};
 ghost use Rattle.check_statement.specs.ValidatorParts.{no_traces};
 ghost use Rattle.ir_facts.specs.Fits.{FitsTypes, FitsGlobals};
 ghost use Rattle.ir_facts.specs.WhatIsChecked.{checks_blocks, checks_expressions, checks_bindings};

@@ -12,7 +12,7 @@ use Rattle.ir_errors.specs.declared.function.FunctionError.{FunctionError}
 use Rattle.check_scope.specs.Context.{Context}
 use Rattle.ir_facts.specs.WhatIsChecked.{checks_expressions}
 use Rattle.check_statement.specs.ExpressionStages.{with_stages, of_expression, mask_at, stages_from, expressions_step}
-use Rattle.check_statement.specs.Stages.{meet}
+use Rattle.check_statement.specs.StageSets.{meet}
 
 module _ (below : Meaning) (context : Context) (n h : ℕ) (stages : ShaderStages) (whole : Result ShaderStages FunctionError) where
   one_more : h < n → stages_from below context stages h (n - h) ≡ and_then (mask_at below context stages h) (λ mask. stages_from below context (meet stages mask) (h + 1) (n - (h + 1)))

@@ -7,10 +7,10 @@ pub use Rattle.check_laws.specs.Accepted.{ResultsAreFilledOnce, StagesAreOfAll}
 pub use Rattle.check_scope.specs.BodyTrees.{body_of}
 pub use Rattle.check_scope.specs.Context.{pre_emitted_of}
 pub use Rattle.check_laws.specs.FunctionLaw.{AcceptedIsSound, AcceptedFillsOnce, AcceptedIsOfAllStages, AcceptedHasNoReturnInContinuing, AcceptedHasWholeSwitches, AcceptedKeepsInfo, AcceptedHasEveryMask, AcceptedStagesAreMet}
-pub use Rattle.check_laws.specs.Shapes.{HasNoReturnInContinuing, HasWholeSwitches}
+pub use Rattle.check_laws.specs.BodyShapes.{HasNoReturnInContinuing, HasWholeSwitches}
 pub use Rattle.check_laws.specs.Chains.{Reaches, AreVetted, ChainsKeepTo, ChainsAreKept}
 pub use Rattle.check_statement.specs.FunctionJudgement.{FunctionOutcome, outcome_of}
-pub use Rattle.check_entry.specs.TypeInfos.{AreInfosOf}
+pub use Rattle.check_entry.specs.GivenInfos.{AreInfosOf}
 pub use Rattle.ir_facts.specs.WhatIsChecked.{checks_blocks, checks_expressions}
 unfoldable pub use Rattle.check_statement.specs.FunctionJudgement.{function_judgement}
 pub use Rattle.check_laws.specs.EntryChains.{AcceptedEntryIsSound, AcceptedEntryKeepsItsStage}

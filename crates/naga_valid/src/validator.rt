@@ -2,7 +2,7 @@
 
 ghost use Rattle.std.specs.Prelude.{◌≡◌, ◌↔◌, IsTrue, []};
 ghost use Rattle.check_statement.specs.ValidatorParts.{Parts, infos_given, first_settings, no_traces};
-ghost use Rattle.check_entry.specs.TypeInfos.{NamesTypes, AreInfosOf};
+ghost use Rattle.check_entry.specs.GivenInfos.{NamesTypes, AreInfosOf};
 
 mod entry;
 mod entry_point;

@@ -12,7 +12,7 @@ ghost use Rattle.check_varyings.specs.declared.varying.MeshOutputType.TheVariant
 ghost use Rattle.check_entry.specs.EntryFaults.{OfArgument, OfResult, Other, fault_of};
 ghost use Rattle.check_entry.specs.Mesh.{mesh_points};
 ghost use Rattle.check_entry.specs.EntryVaryings.{argument_points, declared_points, has_built_in, is_struct, output_item, outputs_points, place_of, primitive_points, result_parts, result_points, vertex_points};
-ghost use Rattle.check_entry.specs.TypeInfos.{AreInfosOf};
+ghost use Rattle.check_entry.specs.GivenInfos.{AreInfosOf};
 ghost use Rattle.check_faults.specs.declared.entry.EntryPointError.TheVariants as fault;
 ghost use Rattle.ir_facts.specs.Answers.{Answers, FirstOf, read_by};
 

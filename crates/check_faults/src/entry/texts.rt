@@ -1,14 +1,14 @@
 //! The names of the errors of entry points, and what they print.
 
 ghost use Rattle.std.specs.Prelude.{◌≡◌};
-ghost use Rattle.check_faults.specs.Names.{entry_error_name};
+ghost use Rattle.check_faults.specs.EntryErrorNames.{entry_error_name};
 
 use crate::entry::EntryPointError;
 use std::fmt;
 
 impl EntryPointError {
     /// The variant's name, as naga has it.
-    #[tactic(auto, unfolding(crate::specs::Names::entry_error_name))]
+    #[tactic(auto, unfolding(crate::specs::EntryErrorNames::entry_error_name))]
     pub fn name(&self) -> &'static str
         ensures { result.now ≡ entry_error_name self.now }
     {

@@ -14,10 +14,10 @@ use Rattle.ir_module.specs.declared.module.ResourceBinding.{ResourceBinding}
 use Rattle.ir_module.specs.declared.module.EarlyDepthTest.{EarlyDepthTest}
 use Rattle.ir_module.specs.declared.module.EntryPoint.{EntryPoint}
 use Rattle.json_values.specs.Form.{eight_fields, five_fields, made_of_eight, made_of_five, made_of_six, made_of_two, named, one_field, optional, six_fields, three_of, two_fields}
-use Rattle.json_values.specs.Numbers.{u32_of}
+use Rattle.json_values.specs.ReadNumbers.{u32_of}
 use Rattle.json_values.specs.Sets.{memory_decorations_of}
 use Rattle.json_document.specs.Document.Functions.{function_of}
-use Rattle.json_types.specs.Spaces.{address_space_of}
+use Rattle.json_types.specs.ReadSpaces.{address_space_of}
 
 -- the stages
 abbrev pub shader_stages : List (List ℕ × ShaderStage)

@@ -10,10 +10,10 @@ use Rattle.ir_facts.specs.declared.facts.LowerFunctionError.TheVariants as lower
 use Rattle.json_document.specs.declared.errors.LowerErrorName.{LowerErrorName}
 use Rattle.json_document.specs.declared.errors.LowerErrorName.TheVariants as lower_error_name
 use Rattle.json_values.specs.Form.{given, made_of_two, three_of, two_fields, two_of}
-use Rattle.json_values.specs.Numbers.{u32_of}
+use Rattle.json_values.specs.ReadNumbers.{u32_of}
 use Rattle.json_values.specs.Sets.{storage_access_of}
 use Rattle.json_values.specs.Variants.{variant_of, either}
-use Rattle.json_types.specs.Images.{image_class_of, image_dimension_of, storage_format_of}
+use Rattle.json_types.specs.ReadImages.{image_class_of, image_dimension_of, storage_format_of}
 
 -- the faults of expressions of which no more is said
 abbrev pub bare_errors : List (List ℕ × ExpressionError)

@@ -21,12 +21,12 @@ use Rattle.ir_facts.specs.declared.facts.FunctionFact.TheVariants as function_fa
 use Rattle.json_document.specs.declared.facts.FunctionFactName.{FunctionFactName}
 use Rattle.json_document.specs.declared.facts.FunctionFactName.TheVariants as function_fact_name
 use Rattle.json_values.specs.Form.{five_fields, four_fields, given, list_of, made_of_five, made_of_four, made_of_three, named, optional, three_fields, two_of}
-use Rattle.json_values.specs.Numbers.{u32_of}
+use Rattle.json_values.specs.ReadNumbers.{u32_of}
 use Rattle.json_values.specs.Sets.{global_use_of, stages_of, type_flags_of}
 use Rattle.json_values.specs.Variants.{variant_of, either}
 use Rattle.json_document.specs.Document.EntryPoints.{mesh_stage_info_of}
 use Rattle.json_document.specs.Document.Errors.{expression_error_of, lower_function_error_of}
-use Rattle.json_types.specs.Types.{type_resolution_of}
+use Rattle.json_types.specs.ReadTypes.{type_resolution_of}
 
 -- the faults of outputs of mesh shaders
 abbrev pub mesh_faults : List (List ℕ × MeshFault)

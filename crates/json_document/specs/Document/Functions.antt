@@ -7,7 +7,7 @@ use Rattle.ir_module.specs.declared.functions.FunctionArgument.{FunctionArgument
 use Rattle.ir_module.specs.declared.functions.FunctionResult.{FunctionResult}
 use Rattle.ir_module.specs.declared.functions.Function.{Function}
 use Rattle.json_values.specs.Form.{five_fields, list_of, made_of_five, made_of_three, made_of_two, optional, three_fields, two_fields}
-use Rattle.json_values.specs.Numbers.{u32_of}
+use Rattle.json_values.specs.ReadNumbers.{u32_of}
 use Rattle.json_types.specs.Bindings.{binding_of}
 use Rattle.json_expressions.specs.Expressions.{expression_of}
 use Rattle.json_statements.specs.Statements.{block_of}

@@ -8,7 +8,7 @@ use Rattle.json_values.specs.Form.{eight_fields, given, list_of, made_of_eight}
 use Rattle.json_document.specs.Document.EntryPoints.{constant_of, entry_point_of, global_variable_of, override_of, special_types_of}
 use Rattle.json_expressions.specs.Expressions.{expression_of}
 use Rattle.json_document.specs.Document.Functions.{function_of}
-use Rattle.json_types.specs.Types.{type_of}
+use Rattle.json_types.specs.ReadTypes.{type_of}
 
 -- whether one of these types equals it
 abbrev pub is_among : IrType → List IrType → Bool

@@ -35,13 +35,13 @@ use Rattle.layer_expressions.specs.Access.{value_item, pointer_item, item_of, is
 use Rattle.layer_expressions.specs.Loading.{load_type, query_type}
 use Rattle.layer_expressions.specs.Named.{result_type, callee_type, named_type}
 use Rattle.layer_shapes.specs.Resolutions.{type_at, pointer_to}
-use Rattle.layer_expressions.specs.Operands.{arguments_of, type_of_operand}
+use Rattle.layer_expressions.specs.OperandTypes.{arguments_of, type_of_operand}
 use Rattle.layer_expressions.specs.declared.operands.Arguments.{Arguments}
 use Rattle.layer_expressions.specs.Others.{cooperative_load, cooperative_of, length_type, has_length, matrix_of, multiply_add, scalar_behind}
-use Rattle.layer_expressions.specs.Rules.{or_broken}
+use Rattle.layer_expressions.specs.RuleNumbers.{or_broken}
 use Rattle.layer_expressions.specs.Sampling.{sample_type}
 use Rattle.layer_shapes.specs.Shapes.{value_of}
-use Rattle.layer_expressions.specs.Types.{computed, rule_of, some_shape, shape_value, computed_type, load_value, named, is_computed, plain_type, type_of, or_untyped, types_from, types_of}
+use Rattle.layer_expressions.specs.ComputedTypes.{computed, rule_of, some_shape, shape_value, computed_type, load_value, named, is_computed, plain_type, type_of, or_untyped, types_from, types_of}
 use Rattle.naga_layers.specs.Lengths.{uses_of-length}
 use Rattle.naga_layers.specs.NamedTypes.{IsLawful, OfSome, where_some, of_and_then, type_at-lawful, pointer_to-lawful, named_type-lawful}
 use Rattle.naga_layers.specs.Typed.Meaning.{computed_info, info_of_types, with_types}

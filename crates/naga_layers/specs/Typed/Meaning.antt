@@ -13,8 +13,8 @@ use Rattle.ir_types.specs.declared.typifier.TypeResolution.{TypeResolution}
 use Rattle.ir_facts.specs.Meaning.{Meaning}
 use Rattle.ir_errors.specs.declared.function.FunctionError.{FunctionError}
 use Rattle.ir_errors.specs.declared.function.FunctionError.TheVariants.{Expression as InExpression}
-use Rattle.layer_expressions.specs.Rules.{number_of}
-use Rattle.layer_expressions.specs.Types.{types_of}
+use Rattle.layer_expressions.specs.RuleNumbers.{number_of}
+use Rattle.layer_expressions.specs.ComputedTypes.{types_of}
 use Rattle.layer_expressions.specs.declared.types.Untyped.{Untyped}
 use Rattle.layer_types.specs.Sizes.{size_at}
 use Rattle.naga_layers.specs.Kinds.{kinds_from}

@@ -4,7 +4,7 @@ ghost use Rattle.std.specs.Prelude.{◌≡◌, ◌↔◌, [], Ok, IsTrue, OnOk, 
 ghost use Rattle.ir_facts.specs.Fits.{FitsTypes, FitsFunction, FitsEntry};
 ghost use Rattle.naga_module.specs.CodeModule.{EntriesStop};
 ghost use Rattle.naga_module.specs.ModuleJudgement.{EntriesAnswer};
-ghost use Rattle.check_entry.specs.TypeInfos.{AreInfosOf};
+ghost use Rattle.check_entry.specs.GivenInfos.{AreInfosOf};
 ghost use Rattle.check_entry.specs.InterfacePoints.{HasPayloadSizes};
 
 use check_faults::module::ModuleFault;

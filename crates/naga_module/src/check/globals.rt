@@ -4,7 +4,7 @@ ghost use Rattle.std.specs.Prelude.{◌≡◌, ◌⊎◌, Ok, Err, OnOk, IfErr};
 ghost use Rattle.ir_facts.specs.Fits.{FitsTypes, FitsGlobals};
 ghost use Rattle.naga_module.specs.ModuleJudgement.{globals_step};
 ghost use Rattle.check_faults.specs.declared.module.ModuleFault.TheVariants as fault;
-ghost use Rattle.check_entry.specs.TypeInfos.{AreInfosOf};
+ghost use Rattle.check_entry.specs.GivenInfos.{AreInfosOf};
 
 use check_faults::module::ModuleFault;
 use ir_arena::handle::Handle;

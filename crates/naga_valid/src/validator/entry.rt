@@ -8,7 +8,7 @@ ghost use Rattle.check_entry.specs.InterfacePoints.{HasPayloadSizes, interface_p
 ghost use Rattle.check_laws.specs.EntryJudgement.{of_function};
 ghost use Rattle.check_entry.specs.EntryUses.{with_own_uses};
 ghost use Rattle.check_entry.specs.EntryVaryings.{with_blending};
-ghost use Rattle.check_entry.specs.TypeInfos.{AreInfosOf};
+ghost use Rattle.check_entry.specs.GivenInfos.{AreInfosOf};
 ghost use Rattle.check_statement.specs.FunctionJudgement.{FunctionOutcome as Outcome};
 ghost use Rattle.ir_facts.specs.Answers.{Answers, FirstOf, Exactly, read_by, refusal_read_by};
 ghost use Rattle.check_entry.specs.EntryFaults.{fault_of};

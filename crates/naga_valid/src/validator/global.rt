@@ -5,7 +5,7 @@ ghost use Rattle.std.specs.Result.{result_err};
 ghost use Rattle.ir_facts.specs.Fits.{FitsTypes, FitsGlobals};
 ghost use Rattle.ir_arena.specs.Points.{first_fault};
 ghost use Rattle.check_entry.specs.GlobalPoints.{module_global_points};
-ghost use Rattle.check_entry.specs.TypeInfos.{AreInfosOf};
+ghost use Rattle.check_entry.specs.GivenInfos.{AreInfosOf};
 
 use crate::validator::Validator;
 use check_variables::global::check_global;

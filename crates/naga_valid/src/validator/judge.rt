@@ -4,7 +4,7 @@ ghost use Rattle.std.specs.Prelude.{◌≡◌, Ok, OnErr, length};
 ghost use Rattle.ir_facts.specs.Fits.{FitsTypes, FitsFunction};
 ghost use Rattle.ir_facts.specs.Answers.{Answers, Exactly, leaving};
 ghost use Rattle.check_scope.specs.walk.SeenContext.{context_of};
-ghost use Rattle.check_entry.specs.TypeInfos.{AreInfosOf};
+ghost use Rattle.check_entry.specs.GivenInfos.{AreInfosOf};
 ghost use Rattle.check_statement.specs.FunctionJudgement.{lower_step};
 ghost use Rattle.check_statement.specs.walk.AskedContext.{asked_by, judgement_by};
 

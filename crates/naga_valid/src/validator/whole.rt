@@ -8,8 +8,8 @@ ghost use Rattle.check_scope.specs.BodyTrees.{body_of};
 ghost use Rattle.check_scope.specs.Context.{pre_emitted_of};
 ghost use Rattle.ir_facts.specs.WhatIsChecked.{checks_blocks, checks_expressions};
 ghost use Rattle.check_statement.specs.FunctionJudgement.{function_judgement, outcome_of};
-ghost use Rattle.check_entry.specs.TypeInfos.{AreInfosOf};
-ghost use Rattle.check_laws.specs.Shapes.{HasNoReturnInContinuing, HasWholeSwitches};
+ghost use Rattle.check_entry.specs.GivenInfos.{AreInfosOf};
+ghost use Rattle.check_laws.specs.BodyShapes.{HasNoReturnInContinuing, HasWholeSwitches};
 ghost use Rattle.ir_facts.specs.Answers.{Answers, Exactly};
 
 use crate::validator::Validator;

@@ -1,7 +1,7 @@
 use Rattle.std.proofs.Common.{◌++◌, ap, ◌∙◌}
 use Rattle.json.specs.Print.{print}
 use Rattle.json.specs.Tree.{json_tokens}
-use Rattle.json_answers.specs.Named.{maybe_with_id}
+use Rattle.json_answers.specs.VerdictIds.{maybe_with_id}
 use Rattle.json_answers.specs.VerdictJson.{verdict_form}
 use Rattle.json_answers.proofs.line.json_line.Goals as goal
 

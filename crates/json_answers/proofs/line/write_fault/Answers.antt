@@ -1,5 +1,5 @@
 use Rattle.std.proofs.Common.{Some, None}
-use Rattle.json_faults.specs.Form.{optional}
+use Rattle.json_faults.specs.JsonForm.{optional}
 use Rattle.json_answers.proofs.line.write_fault.Goals as goal
 
 pub returns-in-Some : goal.returns-in-Some

@@ -1,7 +1,7 @@
 use Rattle.std.proofs.Common.{◌≡◌, ◌++◌, drop}
 use Rattle.json.specs.Tree.{items_tokens}
 use Rattle.json_faults.proofs.Lists.{rows_of}
-use Rattle.json_faults.specs.Sets.{names_in}
+use Rattle.json_faults.specs.SetJson.{names_in}
 use Rattle.json_faults.proofs.sets.write_set.Given as goal
 
 abbrev pub invariant-loop-flag : goal.invariant-loop-flag

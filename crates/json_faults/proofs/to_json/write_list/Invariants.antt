@@ -1,6 +1,6 @@
 use Rattle.std.proofs.Common.{◌≡◌, ◌++◌, drop}
 use Rattle.json.specs.Tree.{items_tokens}
-use Rattle.json_faults.specs.Form.{each}
+use Rattle.json_faults.specs.JsonForm.{each}
 use Rattle.json_faults.proofs.to_json.write_list.Given as goal
 
 abbrev pub invariant-loop-item : goal.invariant-loop-item

@@ -2,7 +2,7 @@ use Rattle.std.proofs.Common.{◌≡◌, ℕ, List, Result, Err, Ok, sym, ap, �
 use Rattle.std.proofs.lemmas.List.{length-append}
 use Rattle.ir_types.specs.declared.typifier.TypeResolution.{TypeResolution}
 use Rattle.layer_expressions.specs.declared.types.Untyped.{Untyped}
-use Rattle.layer_expressions.specs.Types.{type_of}
+use Rattle.layer_expressions.specs.ComputedTypes.{type_of}
 use Rattle.layer_expressions.proofs.TypesFrom.{untyped, none_here, some_here}
 use Rattle.layer_expressions.proofs.types.types_of.Goals as goal
 

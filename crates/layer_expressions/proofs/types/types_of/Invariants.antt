@@ -1,5 +1,5 @@
 use Rattle.std.proofs.Common.{◌≡◌, drop, length}
-use Rattle.layer_expressions.specs.Types.{types_from, types_of}
+use Rattle.layer_expressions.specs.ComputedTypes.{types_from, types_of}
 use Rattle.layer_expressions.proofs.types.types_of.Given as goal
 
 abbrev pub invariant-loop-index : goal.invariant-loop-index

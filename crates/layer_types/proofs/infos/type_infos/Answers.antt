@@ -1,6 +1,6 @@
 use Rattle.std.proofs.Common.{◌≡◌, length, sym, ◌∙◌, rules}
 use Rattle.std.proofs.lemmas.List.{length-append}
-use Rattle.layer_types.specs.Infos.{info_of}
+use Rattle.layer_types.specs.ComputedInfos.{info_of}
 use Rattle.layer_types.proofs.InfosFrom.{next_info}
 use Rattle.layer_types.proofs.infos.type_infos.Goals as goal
 

@@ -1,5 +1,5 @@
 use Rattle.std.proofs.Common.{◌≡◌, drop, [], length}
-use Rattle.layer_types.specs.Infos.{infos_from}
+use Rattle.layer_types.specs.ComputedInfos.{infos_from}
 use Rattle.layer_types.proofs.infos.type_infos.Given as goal
 
 abbrev pub invariant-loop-index : goal.invariant-loop-index

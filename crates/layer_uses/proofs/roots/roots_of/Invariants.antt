@@ -1,5 +1,5 @@
 use Rattle.std.proofs.Common.{◌≡◌, drop, []}
-use Rattle.layer_uses.specs.Roots.{roots_from}
+use Rattle.layer_uses.specs.GlobalRoots.{roots_from}
 use Rattle.layer_uses.proofs.roots.roots_of.Given as goal
 
 abbrev pub invariant-loop-expression : goal.invariant-loop-expression

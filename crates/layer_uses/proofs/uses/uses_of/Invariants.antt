@@ -1,6 +1,6 @@
 use Rattle.std.proofs.Common.{◌≡◌, drop, [], length, replicate}
 use Rattle.ir_flags.specs.Bits.{NO_USE}
-use Rattle.layer_uses.specs.Roots.{roots_from}
+use Rattle.layer_uses.specs.GlobalRoots.{roots_from}
 use Rattle.layer_uses.specs.Uses.{all_expression_uses}
 use Rattle.layer_uses.proofs.uses.uses_of.Given as goal
 

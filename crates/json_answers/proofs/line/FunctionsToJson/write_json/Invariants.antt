@@ -1,6 +1,6 @@
 use Rattle.std.proofs.Common.{◌≡◌, ◌++◌, drop}
 use Rattle.json.specs.Tree.{items_tokens}
-use Rattle.json_faults.specs.Form.{each}
+use Rattle.json_faults.specs.JsonForm.{each}
 use Rattle.json_answers.specs.VerdictJson.{function_form}
 use Rattle.json_answers.proofs.line.FunctionsToJson.write_json.Given as goal
 

@@ -1,7 +1,7 @@
 use Rattle.std.proofs.Common.{◌∙◌, subst, arith}
 use Rattle.json_verdict.proofs.Kept.{kept_id, kept_judges, kept_misfit}
 use Rattle.json_verdict.specs.Judges.{HasMisfit, Judges}
-use Rattle.json_answers.specs.Named.{HasItsId}
+use Rattle.json_answers.specs.VerdictIds.{HasItsId}
 use Rattle.json_verdict.specs.walk.Stream.{Holds, most}
 use Rattle.json_verdict.proofs.text.Bytes.examine.Goals as goal
 

@@ -8,7 +8,7 @@ use Rattle.check_entry.specs.InterfacePoints.{HasPayloadSizes}
 use Rattle.check_laws.specs.EntryJudgement.{entry_judgement}
 use Rattle.check_statement.specs.FunctionJudgement.{FunctionOutcome}
 use Rattle.check_statement.specs.ValidatorParts.{Parts}
-use Rattle.check_entry.specs.TypeInfos.{AreInfosOf}
+use Rattle.check_entry.specs.GivenInfos.{AreInfosOf}
 use Rattle.naga_module.specs.CodeModule.{EntriesLead, EntriesStop}
 use Rattle.check_faults.specs.declared.module.ModuleFault.TheVariants as fault
 use Rattle.naga_module.proofs.Modules.{entry_unfit, entry_faulty, entry_passes, entries_judged, none_left}

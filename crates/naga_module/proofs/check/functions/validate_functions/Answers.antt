@@ -6,7 +6,7 @@ use Rattle.ir_facts.specs.declared.valid.info.FunctionInfo.{FunctionInfo}
 use Rattle.ir_module.specs.declared.functions.Function.{Function}
 use Rattle.check_statement.specs.FunctionJudgement.{FunctionOutcome, function_judgement}
 use Rattle.check_statement.specs.ValidatorParts.{Parts}
-use Rattle.check_entry.specs.TypeInfos.{AreInfosOf}
+use Rattle.check_entry.specs.GivenInfos.{AreInfosOf}
 use Rattle.naga_module.specs.CodeModule.{Leads, Stops}
 use Rattle.check_faults.specs.declared.module.ModuleFault.TheVariants as fault
 use Rattle.naga_module.proofs.Modules.{function_unfit, function_faulty, function_passes, none_left}

@@ -3,7 +3,7 @@ use Rattle.ir_facts.specs.declared.valid.info.FunctionInfo.{FunctionInfo}
 use Rattle.ir_facts.specs.Answers.{Answers, Exactly}
 use Rattle.check_statement.specs.ExpressionStages.{of_expression}
 use Rattle.check_statement.specs.walk.AskedContext.{asked_context}
-use Rattle.check_statement.specs.Stages.{meet}
+use Rattle.check_statement.specs.StageSets.{meet}
 use Rattle.naga_valid.proofs.ExpressionSteps.{asked_is, step_begins, mask_met, mask_refused, masks_end}
 use Rattle.naga_valid.proofs.validator.Validator.meet_expressions.Goals as goal
 

@@ -8,7 +8,7 @@ use Rattle.ir_types.specs.declared.types.TypeInner.{TypeInner}
 use Rattle.ir_types.specs.declared.types.TypeInner.TheVariants as inner
 use Rattle.ir_types.specs.declared.type_info.TypeInfo.{TypeInfo}
 use Rattle.layer_types.specs.Arrays.{array_info}
-use Rattle.layer_types.specs.Leaves.{info, known_info, leaf_info, pointer_flags}
+use Rattle.layer_types.specs.LeafInfos.{info, known_info, leaf_info, pointer_flags}
 use Rattle.layer_types.specs.Parts.{not_well_formed, part_of}
 use Rattle.layer_types.specs.Structs.{struct_info}
 

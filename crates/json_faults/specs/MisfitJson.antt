@@ -20,7 +20,7 @@ use Rattle.ir_misfits.specs.declared.misfit.HandleOf.TheVariants as handle_ofs
 use Rattle.ir_misfits.specs.declared.misfit.Problem.{Problem}
 use Rattle.ir_misfits.specs.declared.misfit.Problem.TheVariants as problems
 use Rattle.ir_misfits.specs.declared.misfit.Misfit.{Misfit}
-use Rattle.json_faults.specs.Form.{holding, number_form, one_field, three_fields, three_items, two_fields, two_items, variant}
+use Rattle.json_faults.specs.JsonForm.{holding, number_form, one_field, three_fields, three_items, two_fields, two_items, variant}
 
 -- what has expressions: the module its global ones, a function, or the function of an entry point
 unfoldable pub owner_form : Owner → Json

@@ -26,7 +26,7 @@ use Rattle.json_statements.specs.declared.operations.ValueName.{ValueName}
 use Rattle.json_statements.specs.declared.operations.ValueName.TheVariants as value_name
 use Rattle.ir_arena.specs.declared.range.Range.{Range}
 use Rattle.json_values.specs.Form.{given, made_of_three, made_of_two, named, one_field, optional, three_fields, two_fields}
-use Rattle.json_values.specs.Numbers.{i32_of, u32_of}
+use Rattle.json_values.specs.ReadNumbers.{i32_of, u32_of}
 use Rattle.json_values.specs.Variants.{variant_of, either}
 
 -- the atomic operations of which no more is said

@@ -3,7 +3,7 @@ use Rattle.std.specs.Prelude.{ℕ, List, codes}
 use Rattle.json.specs.Json.{Json, boolean, string}
 use Rattle.ir_leaves.specs.declared.built_in.BuiltIn.{BuiltIn}
 use Rattle.ir_leaves.specs.declared.built_in.BuiltIn.TheVariants as built_ins
-use Rattle.json_faults.specs.Form.{holding, one_field}
+use Rattle.json_faults.specs.JsonForm.{holding, one_field}
 
 -- the name of each
 unfoldable pub built_in_name : BuiltIn → List ℕ

@@ -11,8 +11,8 @@ use Rattle.ir_types.specs.declared.types.Type.{«Type» as IrType}
 use Rattle.ir_types.specs.declared.types.TypeInner.{TypeInner}
 use Rattle.ir_types.specs.declared.typifier.TypeResolution.{TypeResolution}
 use Rattle.layer_forms.specs.Casts as casts
-use Rattle.layer_forms.specs.Math.{functions, class_of}
-use Rattle.layer_forms.specs.Operators.{unary_operators, binary_operators, relational_functions, derivative_of}
+use Rattle.layer_forms.specs.MathForms.{functions, class_of}
+use Rattle.layer_forms.specs.OperatorForms.{unary_operators, binary_operators, relational_functions, derivative_of}
 use Rattle.layer_forms.specs.Vectors.{sizes, swizzle_of}
 use Rattle.layer_expressions.specs.declared.operands.Arguments.{Arguments}
 use Rattle.layer_expressions.specs.declared.rules.Rule.{Rule}
@@ -23,10 +23,10 @@ use Rattle.layer_expressions.specs.Access.{access_type, access_index_type, loade
 use Rattle.layer_expressions.specs.Loading.{load_type, query_type}
 use Rattle.layer_expressions.specs.Math.{math_of}
 use Rattle.layer_expressions.specs.Named.{callee_type, named_type}
-use Rattle.layer_expressions.specs.Operands.{arguments_of, type_of_operand}
+use Rattle.layer_expressions.specs.OperandTypes.{arguments_of, type_of_operand}
 use Rattle.layer_expressions.specs.Operators.{binary_of, cast_of, derived, related, selected, splat_of, swizzled, unary_of}
 use Rattle.layer_expressions.specs.Others.{cooperative_load, length_type, multiply_add}
-use Rattle.layer_expressions.specs.Rules.{or_broken}
+use Rattle.layer_expressions.specs.RuleNumbers.{or_broken}
 use Rattle.layer_expressions.specs.Sampling.{sample_type}
 use Rattle.layer_shapes.specs.Shapes.{value_of}
 

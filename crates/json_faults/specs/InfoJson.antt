@@ -2,8 +2,8 @@
 use Rattle.std.specs.Prelude.{codes}
 use Rattle.ir_facts.specs.declared.valid.info.FunctionInfo.{FunctionInfo}
 use Rattle.json.specs.Json.{Json, boolean}
-use Rattle.json_faults.specs.Form.{list_form, three_fields}
-use Rattle.json_faults.specs.Sets.{global_use_form, stages_form}
+use Rattle.json_faults.specs.JsonForm.{list_form, three_fields}
+use Rattle.json_faults.specs.SetJson.{global_use_form, stages_form}
 
 -- the stages that its body could run in, whether it outputs two blend sources, and how it uses each global
 unfoldable pub info_form : FunctionInfo → Json

@@ -17,10 +17,10 @@ use Rattle.ir_leaves.specs.declared.bindings.Binding.{Binding}
 use Rattle.ir_leaves.specs.declared.bindings.Binding.TheVariants as bindings
 use Rattle.ir_types.specs.declared.types.TypeInner.{TypeInner}
 use Rattle.ir_types.specs.declared.types.TypeInner.TheVariants as types
-use Rattle.json_faults.specs.BuiltIns.{built_in_form}
-use Rattle.json_faults.specs.Form.{five_fields, four_fields, holding, list_form, number_form, one_field, optional, signed_form, three_fields, two_fields, variant}
-use Rattle.json_faults.specs.Names.{image_dimension_form, interpolation_form, sampling_form, scalar_kind_form, storage_format_form, vector_size_form}
-use Rattle.json_faults.specs.Sets.{storage_access_form}
+use Rattle.json_faults.specs.BuiltInJson.{built_in_form}
+use Rattle.json_faults.specs.JsonForm.{five_fields, four_fields, holding, list_form, number_form, one_field, optional, signed_form, three_fields, two_fields, variant}
+use Rattle.json_faults.specs.NameJson.{image_dimension_form, interpolation_form, sampling_form, scalar_kind_form, storage_format_form, vector_size_form}
+use Rattle.json_faults.specs.SetJson.{storage_access_form}
 
 -- a scalar: its kind, and its width in bytes
 unfoldable pub scalar_form : Scalar → Json

@@ -6,9 +6,9 @@ use Rattle.json_statements.specs.declared.leaves.LeafName.{LeafName}
 use Rattle.json_statements.specs.declared.leaves.LeafName.TheVariants as leaf_name
 use Rattle.ir_statements.specs.declared.statements.Statement as statement
 use Rattle.json_values.specs.Form.{five_fields, four_fields, list_of, made_of_five, made_of_four, made_of_three, made_of_two, one_field, optional, three_fields, two_fields}
-use Rattle.json_values.specs.Numbers.{u32_of}
+use Rattle.json_values.specs.ReadNumbers.{u32_of}
 use Rattle.json_values.specs.Sets.{barrier_of}
-use Rattle.json_statements.specs.Operations.{atomic_function_of, collective_operation_of, cooperative_data_of, gather_mode_of, range_of, ray_pipeline_function_of, ray_query_function_of, subgroup_operation_of}
+use Rattle.json_statements.specs.ReadOperations.{atomic_function_of, collective_operation_of, cooperative_data_of, gather_mode_of, range_of, ray_pipeline_function_of, ray_query_function_of, subgroup_operation_of}
 
 abbrev pub return_of : Data → Option Statement
 return_of d = option_map statement.Return (one_field (codes "value") (optional u32_of) d)

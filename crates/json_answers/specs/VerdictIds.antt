@@ -7,7 +7,7 @@ use Rattle.json.specs.Tree.{json_tokens}
 use Rattle.json_document.specs.Ids.{IsIdOf}
 use Rattle.json_document.specs.declared.id.Id.{Id}
 use Rattle.json_document.specs.declared.id.Id.TheVariants as ids
-use Rattle.json_faults.specs.Form.{signed_form}
+use Rattle.json_faults.specs.JsonForm.{signed_form}
 use Rattle.json_answers.specs.Status.{status_of}
 use Rattle.json_answers.specs.declared.verdict.Verdict as judge
 

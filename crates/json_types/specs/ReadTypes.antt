@@ -17,12 +17,12 @@ use Rattle.ir_types.specs.declared.typifier.TypeResolution.TheVariants as type_r
 use Rattle.json_types.specs.declared.types.ResolutionName.{ResolutionName}
 use Rattle.json_types.specs.declared.types.ResolutionName.TheVariants as resolution_name
 use Rattle.json_values.specs.Form.{four_fields, given, list_of, made_of_four, made_of_three, made_of_two, one_field, optional, three_fields, two_fields}
-use Rattle.json_values.specs.Numbers.{nonzero_of, u32_of}
+use Rattle.json_values.specs.ReadNumbers.{nonzero_of, u32_of}
 use Rattle.json_values.specs.Variants.{variant_of, either}
 use Rattle.json_types.specs.Bindings.{binding_of}
-use Rattle.json_types.specs.Images.{image_class_of, image_dimension_of}
+use Rattle.json_types.specs.ReadImages.{image_class_of, image_dimension_of}
 use Rattle.json_values.specs.Scalars.{scalar_of, vector_size_of}
-use Rattle.json_types.specs.Spaces.{address_space_of}
+use Rattle.json_types.specs.ReadSpaces.{address_space_of}
 
 -- the size that holds nothing
 abbrev pub array_sizes : List (List ℕ × ArraySize)
